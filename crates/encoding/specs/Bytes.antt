@@ -1,0 +1,20 @@
+-- Numbers as bytes, high byte first (01, "The sheet"), over the width.
+-- Assumes nothing.
+use Prim.Native.Nat.{ℕ, zero, suc, _+_, _*_, _/_, _%_}
+use mathlib.Core.List.{List, [], _∷_, _++_}
+use lib.ListN.{getD}
+
+-- the number in the w bytes of s from index `at` on
+unfoldable pub numberAt : ℕ → List ℕ → ℕ → ℕ
+numberAt zero s at = 0
+numberAt (suc w) s at = numberAt w s at * 256 + getD s (at + w) 0
+
+-- the w bytes of the number v
+unfoldable pub bytesOf : ℕ → ℕ → List ℕ
+bytesOf zero v = []
+bytesOf (suc w) v = bytesOf w (v / 256) ++ (v % 256) ∷ []
+
+-- the bytes of each number of vs in turn, w bytes a number
+unfoldable pub bytesOfEach : ℕ → List ℕ → List ℕ
+bytesOfEach w [] = []
+bytesOfEach w (v ∷ vs) = bytesOf w v ++ bytesOfEach w vs

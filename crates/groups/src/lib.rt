@@ -1,0 +1,1 @@
+// Laws of commutative groups: powers, n-fold products, homomorphisms, extraction and simulation.

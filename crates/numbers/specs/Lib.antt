@@ -1,0 +1,7 @@
+-- Definitions of numbers that the protocol's definitions use.
+pub mod Search
+pub mod Gcd
+pub mod Congruence
+pub mod Inverse
+pub mod Integer
+pub mod Product

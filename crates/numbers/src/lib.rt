@@ -1,0 +1,1 @@
+// Laws of numbers: congruence, powers, bounded search, gcd, inverses, integers as exponents.

@@ -1,0 +1,3 @@
+-- Definitions of refusals and of what a test says.
+pub mod Rule
+pub mod Says

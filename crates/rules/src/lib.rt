@@ -1,0 +1,1 @@
+// Which refusal a call gives, and what a Boolean test says.
