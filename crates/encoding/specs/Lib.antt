@@ -1,3 +1,4 @@
--- Definitions of encodings: lists by index, and numbers as bytes.
+-- Definitions of encodings: lists by index, numbers as bytes, and text.
 pub mod Places
 pub mod Bytes
+pub mod Text

@@ -1,3 +1,4 @@
 -- Definitions of refusals and of what a test says.
 pub mod Rule
+pub mod Answer
 pub mod Says

@@ -1,0 +1,23 @@
+-- Text as bytes: words in ASCII, and numbers in decimal.
+-- Assumes nothing.
+use Prim.Native.Char.{code}
+use Prim.Native.Nat.{ℕ, zero, suc, _+_, _/_, _%_}
+use Prim.Native.String.{String}
+use Prim.Native.String as String
+use mathlib.Core.Bool.{Bool, true, false}
+use mathlib.Core.List.{List, [], _∷_, _++_}
+use lib.Dec.{ltb}
+
+-- the bytes of a word
+unfoldable pub ascii : String → List ℕ
+ascii String.[] = []
+ascii (String._∷_ letter letters) = code letter ∷ ascii letters
+
+-- the digits of n, of which there are at most `most` + 1
+unfoldable pub digits : ℕ → ℕ → List ℕ
+digits zero n = (48 + n % 10) ∷ []
+digits (suc most) n = elim (ltb n 10) [ true ↦ (48 + n) ∷ [] | false ↦ digits most (n / 10) ++ (48 + n % 10) ∷ [] ]
+
+-- the bytes of n in decimal, without leading zeros
+unfoldable pub decimal : ℕ → List ℕ
+decimal n = digits n n

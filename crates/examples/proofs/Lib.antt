@@ -1,0 +1,2 @@
+-- The theorem on the worked examples.
+pub mod Pages

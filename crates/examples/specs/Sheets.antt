@@ -1,0 +1,44 @@
+-- The sheets of the calculator pages, as bytes. Those of one entry stand byte by byte; the others are made by the sheet maker.
+-- Assumes nothing.
+use Prim.Native.Nat.{ℕ, zero, suc}
+use mathlib.Core.List.{List, [], _∷_}
+use lib.ListN.{replicate, take}
+use Rattle.formats.specs.Pattern.{fromPattern}
+use Rattle.formats.specs.Write.{Writing}
+
+-- a sheet of kind 1 with one row and one column, byte by byte, for values below 256
+unfoldable pub smallSheet : ℕ → ℕ → ℕ → ℕ → ℕ → List ℕ
+smallSheet modulus order challenges entry statement =
+    0x48 ∷ 0x4F ∷ 0x4D ∷ 0 ∷ 1 ∷ 1 ∷
+    0 ∷ 0 ∷ 0 ∷ modulus ∷
+    0 ∷ 0 ∷ 0 ∷ order ∷
+    0 ∷ 0 ∷ 0 ∷ challenges ∷
+    1 ∷ 1 ∷
+    0 ∷ 0 ∷ 0 ∷ entry ∷
+    0 ∷ 0 ∷ 0 ∷ statement ∷ []
+
+-- pages A to C and J: m 23, q 11, K 11, entry 2, z 13
+unfoldable pub schnorr : List ℕ
+schnorr = smallSheet 23 11 11 2 13
+
+-- what the sheet maker leaves in a buffer of 64 zeros, cut to the length that it answers
+unfoldable pub madeSheet : ℕ → ℕ → ℕ → ℕ → List ℕ → List ℕ → List ℕ
+madeSheet pattern modulus order challenges values statement =
+    let made : Writing = fromPattern pattern modulus order challenges values statement (replicate 64 0) in
+    take (made .answer .length) (made .buffer)
+
+-- page D: two generators, 2 and 3
+unfoldable pub okamoto : List ℕ
+okamoto = madeSheet 2 23 11 11 (2 ∷ 3 ∷ []) (18 ∷ [])
+
+-- page E: h 2, B 16
+unfoldable pub diffieHellman : List ℕ
+diffieHellman = madeSheet 4 23 11 11 (2 ∷ 16 ∷ []) (13 ∷ 18 ∷ [])
+
+-- page F: g 2, h 3, B 3
+unfoldable pub product : List ℕ
+product = madeSheet 5 23 11 11 (2 ∷ 3 ∷ 3 ∷ []) (12 ∷ 9 ∷ [])
+
+-- page G: m 35, e 5, K 5, z 32
+unfoldable pub root : List ℕ
+root = madeSheet 6 35 5 5 [] (32 ∷ [])

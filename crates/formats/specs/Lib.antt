@@ -1,0 +1,9 @@
+-- Sheets and round files as bytes.
+pub mod Sheet
+pub mod Load
+pub mod Write
+pub mod Encode
+pub mod Pattern
+pub mod RoundFile
+pub mod RoundCalls
+pub mod Append

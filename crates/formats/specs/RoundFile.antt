@@ -1,0 +1,67 @@
+-- The bytes of a round file (01, "A round"): seven bytes and then the records. The width of a stored challenge is a
+-- parameter of the layout.
+-- Assumes nothing.
+use Prim.Native.Nat.{ℕ, _+_, _*_}
+use mathlib.Core.Bool.{Bool, not, _||_}
+use mathlib.Core.List.{List, [], _∷_, _++_}
+use lib.Dec.{eqb, ltb}
+use lib.ListN.{length, take, drop}
+use Rattle.types.specs.declared.Header.{Header}
+use Rattle.types.specs.declared.Round.{Round}
+use Rattle.encoding.specs.Bytes.{numberAt, bytesOf, bytesOfEach}
+use Rattle.encoding.specs.Places.{itemsAt, places, pad8}
+use Rattle.encoding.specs.Text.{ascii}
+use Rattle.sigma.specs.Comparison.{differ}
+
+-- bytes 0..2
+unfoldable pub roundMark : List ℕ
+roundMark = ascii "RND"
+
+-- the version, bytes 3..4
+unfoldable pub fileVersion : List ℕ → ℕ
+fileVersion f = numberAt 2 f 3
+
+-- the round count, bytes 5..6
+unfoldable pub countField : List ℕ → ℕ
+countField f = numberAt 2 f 5
+
+-- the width in bytes of a challenge in a record of version 1
+unfoldable pub challengeWidth : ℕ
+challengeWidth = 4
+
+-- a record's length: t, c and r
+unfoldable pub recordLength : ℕ → Header → ℕ
+recordLength width h = 4 * h .rows + width + 4 * h .columns
+
+-- where record k begins
+unfoldable pub recordStart : ℕ → Header → ℕ → ℕ
+recordStart width h k = 7 + k * recordLength width h
+
+-- the bytes of a record; s places of t and n places of r are read
+unfoldable pub recordBytes : ℕ → Header → Round → List ℕ
+recordBytes width h round =
+    bytesOfEach 4 (places (h .rows) (round .commitment)) ++ bytesOf width (round .challenge) ++
+    bytesOfEach 4 (places (h .columns) (round .response))
+
+-- the part of the file that is record k
+unfoldable pub recordPart : ℕ → Header → List ℕ → ℕ → List ℕ
+recordPart width h f k = take (recordLength width h) (drop (recordStart width h k) f)
+
+-- the values of the record that begins at `at`
+unfoldable pub roundAt : ℕ → Header → List ℕ → ℕ → Round
+roundAt width h f at =
+    record {
+      commitment = pad8 0 (itemsAt (numberAt 4 f) at 4 (h .rows));
+      challenge = numberAt width f (at + 4 * h .rows);
+      response = pad8 0 (itemsAt (numberAt 4 f) (at + 4 * h .rows + width) 4 (h .columns));
+    }
+
+-- under 7 bytes, another mark, a version other than 1, a count above 512 or a length that doesn't fit (12)
+unfoldable pub badFile : Header → List ℕ → Bool
+badFile h f =
+    ltb (length f) 7 || differ 3 f roundMark || not (eqb (fileVersion f) 1) || ltb 512 (countField f) ||
+    not (eqb (length f) (recordStart challengeWidth h (countField f)))
+
+-- the file of no rounds
+unfoldable pub noRounds : List ℕ
+noRounds = roundMark ++ bytesOf 2 1 ++ bytesOf 2 0

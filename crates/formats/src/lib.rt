@@ -1,0 +1,1 @@
+// Sheets and round files as bytes: definitions and their laws.

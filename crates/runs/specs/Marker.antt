@@ -1,0 +1,52 @@
+-- The marker's text (01, "The marker's lines"), as the bytes that it prints.
+-- Assumes nothing.
+use Prim.Native.Nat.{ℕ, suc, zero}
+use mathlib.Core.Bool.{Bool, not, cond}
+use mathlib.Core.List.{List, [], _∷_, _++_, flatten}
+use lib.ListN.{length}
+use Rattle.types.specs.declared.Verdict.{Verdict}
+use Rattle.types.specs.declared.Verdict.the-variants.{Accepted, Rejected, Refused}
+use Rattle.encoding.specs.Places.{tabulate}
+use Rattle.encoding.specs.Text.{ascii, decimal}
+use Rattle.numbers.specs.Search.{any}
+use Rattle.rules.specs.Answer.{unlessRefused}
+use Rattle.formats.specs.Load.{loadRefusal}
+use Rattle.formats.specs.RoundCalls.{countRounds, fetchRound}
+use Rattle.sigma.specs.Answer.{isAccepted}
+use Rattle.runs.specs.Calls.{judgeSheet}
+
+-- a line's end
+unfoldable pub newline : List ℕ
+newline = ascii "\n"
+
+-- a line of a word and a number
+unfoldable pub wordLine : List ℕ → ℕ → List ℕ
+wordLine word n = word ++ ascii " " ++ decimal n ++ newline
+
+-- what a verdict's line says after the round's number
+unfoldable pub verdictText : Verdict → List ℕ
+verdictText Accepted = ascii "accepted"
+verdictText (Rejected row) = ascii "rejected " ++ decimal row
+verdictText (Refused number) = ascii "refused " ++ decimal number
+
+-- the verdict on round k of a file
+unfoldable pub verdictOn : List ℕ → List ℕ → ℕ → Verdict
+verdictOn sheet f k = judgeSheet sheet (fetchRound sheet f k .round)
+
+-- the line of round k
+unfoldable pub roundLine : List ℕ → List ℕ → ℕ → List ℕ
+roundLine sheet f k = decimal k ++ ascii " " ++ verdictText (verdictOn sheet f k) ++ newline
+
+-- the lines of a file that reads: the count, a line per round, and `pass` if every round is accepted
+unfoldable pub roundLines : List ℕ → List ℕ → ℕ → List ℕ
+roundLines sheet f count =
+    wordLine (ascii "rounds") count ++ flatten (tabulate count (roundLine sheet f)) ++
+    cond (any count (λ k. not (isAccepted (verdictOn sheet f k)))) (ascii "fail") (ascii "pass") ++ newline
+
+-- the marker's whole text on a sheet and a round file
+unfoldable pub markerText : List ℕ → List ℕ → List ℕ
+markerText sheet f =
+    unlessRefused (loadRefusal sheet)
+    (unlessRefused (countRounds sheet f .refusal) (roundLines sheet f (countRounds sheet f .count))
+    (wordLine (ascii "file") (countRounds sheet f .refusal)))
+    (wordLine (ascii "sheet") (loadRefusal sheet))

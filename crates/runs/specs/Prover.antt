@@ -1,0 +1,98 @@
+-- Peggy's session (01, "Sessions"; refusals 15 to 17 and 21). Each call hands back the session with some fields changed.
+-- Assumes nothing.
+use Prim.Native.Nat.{ℕ}
+use mathlib.Core.Bool.{Bool, true, false, not, _||_}
+use mathlib.Core.List.{List, [], _∷_, _++_}
+use Rattle.types.specs.declared.Prover.{Prover}
+use Rattle.types.specs.declared.ProverPhase.{ProverPhase}
+use Rattle.types.specs.declared.ProverPhase.the-variants.{New, Committed, Answered, Dropped}
+use Rattle.types.specs.declared.ProverStep.{ProverStep}
+use Rattle.encoding.specs.Places.{pad8, places, zeros8}
+use Rattle.rules.specs.Answer.{unlessRefused}
+use Rattle.rules.specs.Rule.{Rule, _when_, lowest}
+use Rattle.formats.specs.Load.{loadRules}
+use Rattle.formats.specs.Sheet.{instanceOf}
+use Rattle.sigma.specs.Comparison.{differ}
+use Rattle.sigma.specs.Image.{image}
+use Rattle.sigma.specs.Instance.{Instance}
+use Rattle.sigma.specs.Round.{badChallenge, badCoordinates, badWitness, response}
+
+-- a state's place in 01's sentence, from 0
+unfoldable pub proverState : ProverPhase → ℕ
+proverState New = 0
+proverState Committed = 1
+proverState Answered = 2
+proverState Dropped = 3
+
+unfoldable pub isNew : ProverPhase → Bool
+isNew New = true
+isNew Committed = false
+isNew Answered = false
+isNew Dropped = false
+
+unfoldable pub isCommitted : ProverPhase → Bool
+isCommitted New = false
+isCommitted Committed = true
+isCommitted Answered = false
+isCommitted Dropped = false
+
+-- a new session holds zeros
+unfoldable pub newProver : Prover
+newProver = record { phase = New; nonce = zeros8; commitment = zeros8 }
+
+-- the outcome of a call: the changed session and eight values, or the number, the same session and zeros
+unfoldable pub proverStep : ℕ → Prover → Prover → List ℕ → ProverStep
+proverStep refusal before after xs =
+    record {
+      refusal = refusal;
+      session = unlessRefused refusal after before;
+      values = unlessRefused refusal (pad8 0 xs) zeros8;
+    }
+
+unfoldable pub commitRules : Instance → Prover → List ℕ → List Rule
+commitRules i p k = (16 when badCoordinates i k) ∷ (21 when not (isNew (p .phase))) ∷ []
+
+-- after the rules of the sheet: the nonce, read in n places, and its commitment are stored
+unfoldable pub commitAfter : List Rule → Instance → Prover → List ℕ → ProverStep
+commitAfter before i p nonce =
+    let k : List ℕ = places (i .header .columns) nonce in
+    proverStep (lowest (before ++ commitRules i p k)) p
+    (record { phase = Committed; nonce = pad8 0 k; commitment = pad8 0 (image i k) }) (image i k)
+
+-- the held nonce has a slot that is no domain slot, or its image, 0 beyond s, is not the held commitment in all eight places
+unfoldable pub unfitProver : Instance → Prover → Bool
+unfitProver i p =
+    let k : List ℕ = places (i .header .columns) (p .nonce) in
+    badCoordinates i k || differ 8 (pad8 0 (image i k)) (p .commitment)
+
+unfoldable pub respondRules : Instance → Prover → ℕ → List ℕ → List Rule
+respondRules i p c x =
+    (15 when badChallenge i c) ∷
+    (16 when badCoordinates i x) ∷
+    (17 when badWitness i x) ∷
+    (21 when (not (isCommitted (p .phase)) || unfitProver i p)) ∷ []
+
+-- after the rules of the sheet: the response is answered and the nonce set to zeros
+unfoldable pub respondAfter : List Rule → Instance → Prover → ℕ → List ℕ → ProverStep
+respondAfter before i p c witness =
+    let x : List ℕ = places (i .header .columns) witness in
+    proverStep (lowest (before ++ respondRules i p c x)) p
+    (record { phase = Answered; nonce = zeros8; commitment = p .commitment })
+    (response i (places (i .header .columns) (p .nonce)) c x)
+
+unfoldable pub dropRules : Prover → List Rule
+dropRules p = (21 when not (isNew (p .phase) || isCommitted (p .phase))) ∷ []
+
+-- the call that commits to a nonce
+unfoldable pub commit : List ℕ → Prover → List ℕ → ProverStep
+commit sheet p nonce = commitAfter (loadRules sheet) (instanceOf sheet) p nonce
+
+-- the call that responds to a challenge
+unfoldable pub respond : List ℕ → Prover → ℕ → List ℕ → ProverStep
+respond sheet p c witness = respondAfter (loadRules sheet) (instanceOf sheet) p c witness
+
+-- the call that drops a session: the nonce is set to zeros
+unfoldable pub dropSession : Prover → ProverStep
+dropSession p =
+    proverStep (lowest (dropRules p)) p
+    (record { phase = Dropped; nonce = zeros8; commitment = p .commitment }) []

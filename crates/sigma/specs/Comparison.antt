@@ -1,0 +1,22 @@
+-- Two lists of values, row by row.
+-- Assumes nothing.
+use Prim.Native.Nat.{ℕ}
+use mathlib.Core.Bool.{Bool, not, cond}
+use mathlib.Core.List.{List}
+use lib.Dec.{eqb, ltb}
+use lib.ListN.{getD}
+use Rattle.types.specs.declared.Verdict.{Verdict}
+use Rattle.types.specs.declared.Verdict.the-variants.{Accepted, Rejected}
+use Rattle.numbers.specs.Search.{find}
+
+-- the first row below n at which the lists differ, and n where there is none
+unfoldable pub firstDifference : ℕ → List ℕ → List ℕ → ℕ
+firstDifference n xs ys = find (λ r. not (eqb (getD xs r 0) (getD ys r 0))) 0 n
+
+-- whether the lists differ in some row below n
+unfoldable pub differ : ℕ → List ℕ → List ℕ → Bool
+differ n xs ys = ltb (firstDifference n xs ys) n
+
+-- the verdict on two sides of n rows: accepted where all rows agree, else rejected with the first that does not
+unfoldable pub compareSides : ℕ → List ℕ → List ℕ → Verdict
+compareSides n xs ys = cond (differ n xs ys) (Rejected (firstDifference n xs ys)) Accepted

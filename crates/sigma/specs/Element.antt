@@ -1,0 +1,32 @@
+-- Group elements and domain slots (01, "The sheet"), as tests and as facts.
+-- Assumes nothing.
+use Prim.Native.Nat.{ℕ, _%_, _^_, _<_, _≤_}
+use mathlib.Core.Path.{_≡_}
+use mathlib.Core.Logic.{_≢_}
+use mathlib.Core.Bool.{Bool, cond, _&&_}
+use lib.Dec.{eqb, leb, ltb}
+use Rattle.types.specs.declared.Header.{Header}
+use Rattle.numbers.specs.Gcd.{gcd}
+use Rattle.sigma.specs.Instance.{isExponent}
+
+-- v is a group element: from 1 to m − 1, with v^q mod m = 1 in kind 1 and gcd(v, m) = 1 in kind 2
+unfoldable pub isElement : Header → ℕ → Bool
+isElement h v =
+    leb 1 v && ltb v (h .modulus) &&
+    cond (isExponent h) (eqb (v ^ h .order % h .modulus) 1) (eqb (gcd v (h .modulus)) 1)
+
+-- x is a coordinate of the domain, 01's domain slot: from 0 to q − 1 in kind 1, a group element in kind 2
+unfoldable pub isCoordinate : Header → ℕ → Bool
+isCoordinate h x = cond (isExponent h) (ltb x (h .order)) (isElement h x)
+
+-- the fact that v is a group element
+pub record Element (h : Header) (v : ℕ) : Type 0 where
+  pub positive : 1 ≤ v
+  pub below : v < h .modulus
+  pub ordered : h .kind ≡ 1 → v ^ h .order % h .modulus ≡ 1
+  pub coprime : h .kind ≢ 1 → gcd v (h .modulus) ≡ 1
+
+-- the fact that x is a coordinate of the domain
+pub record Coordinate (h : Header) (x : ℕ) : Type 0 where
+  pub reduced : h .kind ≡ 1 → x < h .order
+  pub element : h .kind ≢ 1 → Element h x

@@ -1,0 +1,73 @@
+-- The extractor (01, "A round"; refusals 14 to 16 of both rounds, then 18 to 20): u^a · (r/r′)^b with ℓa + (c − c′)b = 1.
+-- Assumes nothing.
+use Prim.Native.Nat.{ℕ, _+_, _-_, _*_, _%_}
+use mathlib.Core.Bool.{Bool, not, cond, _||_}
+use mathlib.Core.List.{List, [], _∷_, _++_}
+use lib.Dec.{eqb}
+use lib.IntN.{ℤ, pos, _-ℤ_, _*ℤ_}
+use lib.ListN.{getD}
+use Rattle.types.specs.declared.Computed.{Computed}
+use Rattle.types.specs.declared.Header.{Header}
+use Rattle.types.specs.declared.Round.{Round}
+use Rattle.encoding.specs.Places.{tabulate, places}
+use Rattle.numbers.specs.Integer.{residue, power, bezoutLeft, bezoutRight}
+use Rattle.numbers.specs.Inverse.{inverse}
+use Rattle.rules.specs.Rule.{Rule, _when_, lowest}
+use Rattle.sigma.specs.Answer.{isAccepted, computed}
+use Rattle.sigma.specs.Comparison.{differ}
+use Rattle.sigma.specs.Instance.{Instance, isExponent, statementAt}
+use Rattle.sigma.specs.Round.{verdict, badCommitment, badChallenge, badCoordinates}
+
+-- the domain's operation: added mod q in kind 1, multiplied mod m in kind 2
+unfoldable pub combine : Header → ℕ → ℕ → ℕ
+combine h x y = cond (isExponent h) ((x + y) % h .order) (x * y % h .modulus)
+
+-- x / y in the domain
+unfoldable pub divide : Header → ℕ → ℕ → ℕ
+divide h x y = cond (isExponent h) ((x + (h .order - y)) % h .order) (x * inverse (h .modulus) y % h .modulus)
+
+-- x^k in the domain, for an integer k: k·x mod q in kind 1
+unfoldable pub raise : Header → ℕ → ℤ → ℕ
+raise h x k = cond (isExponent h) (residue (h .order) (k *ℤ pos x)) (power (h .modulus) x k)
+
+-- slot j of u: 0 in kind 1, z in kind 2
+unfoldable pub baseSlot : Instance → ℕ → ℕ
+baseSlot i j = cond (isExponent (i .header)) 0 (statementAt i j)
+
+-- 01's formula u^a · (r/r′)^b, slot by slot
+unfoldable pub formula : Instance → ℤ → ℤ → List ℕ → List ℕ → List ℕ
+formula i a b r r′ =
+    tabulate (i .header .columns)
+    (λ j.
+    combine (i .header) (raise (i .header) (baseSlot i j) a)
+    (raise (i .header) (divide (i .header) (getD r j 0) (getD r′ j 0)) b))
+
+-- the formula at the coefficients a and b that belong to the challenges c and c′
+unfoldable pub extracted : Instance → ℕ → List ℕ → ℕ → List ℕ → List ℕ
+extracted i c r c′ r′ =
+    let delta : ℤ = pos c -ℤ pos c′ in
+    formula i (bezoutLeft (i .header .order) delta) (bezoutRight (i .header .order) delta) r r′
+
+-- the rules of the rounds (t, c, r) and (t′, c′, r′), each asked of both rounds before the next
+unfoldable pub extractRules : Instance → List ℕ → ℕ → List ℕ → List ℕ → ℕ → List ℕ → List Rule
+extractRules i t c r t′ c′ r′ =
+    (14 when (badCommitment i t || badCommitment i t′)) ∷
+    (15 when (badChallenge i c || badChallenge i c′)) ∷
+    (16 when (badCoordinates i r || badCoordinates i r′)) ∷
+    (18 when differ (i .header .rows) t t′) ∷
+    (19 when eqb c c′) ∷
+    (20 when (not (isAccepted (verdict i t c r)) || not (isAccepted (verdict i t′ c′ r′)))) ∷ []
+
+-- the witness from two rounds after the rules of the sheet; s places of each commitment and n of each response are read
+unfoldable pub extractAfter : List Rule → Instance → Round → Round → Computed
+extractAfter before i first second =
+    let t : List ℕ = places (i .header .rows) (first .commitment) in
+    let r : List ℕ = places (i .header .columns) (first .response) in
+    let t′ : List ℕ = places (i .header .rows) (second .commitment) in
+    let r′ : List ℕ = places (i .header .columns) (second .response) in
+    computed (lowest (before ++ extractRules i t (first .challenge) r t′ (second .challenge) r′))
+    (extracted i (first .challenge) r (second .challenge) r′)
+
+-- the witness from two rounds of an instance
+unfoldable pub extract : Instance → Round → Round → Computed
+extract i first second = extractAfter [] i first second

@@ -1,0 +1,25 @@
+-- Judging a round (01, "A round"; refusals 14 to 16).
+-- Assumes nothing.
+use Prim.Native.Nat.{ℕ}
+use mathlib.Core.List.{List, [], _∷_, _++_}
+use Rattle.types.specs.declared.Round.{Round}
+use Rattle.types.specs.declared.Verdict.{Verdict}
+use Rattle.encoding.specs.Places.{places}
+use Rattle.rules.specs.Rule.{Rule, _when_, lowest}
+use Rattle.sigma.specs.Answer.{judged}
+use Rattle.sigma.specs.Instance.{Instance}
+use Rattle.sigma.specs.Round.{verdict, badCommitment, badChallenge, badCoordinates}
+
+unfoldable pub judgeRules : Instance → List ℕ → ℕ → List ℕ → List Rule
+judgeRules i t c r = (14 when badCommitment i t) ∷ (15 when badChallenge i c) ∷ (16 when badCoordinates i r) ∷ []
+
+-- the verdict on a round after the rules of the sheet; s places of t and n places of r are read
+unfoldable pub judgeAfter : List Rule → Instance → Round → Verdict
+judgeAfter before i round =
+    let t : List ℕ = places (i .header .rows) (round .commitment) in
+    let r : List ℕ = places (i .header .columns) (round .response) in
+    judged (lowest (before ++ judgeRules i t (round .challenge) r)) (verdict i t (round .challenge) r)
+
+-- the verdict on a round of an instance
+unfoldable pub judge : Instance → Round → Verdict
+judge i round = judgeAfter [] i round

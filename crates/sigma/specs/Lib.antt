@@ -1,0 +1,12 @@
+-- The protocol on values: what 01 says of a sheet's values and of a round.
+pub mod Instance
+pub mod Element
+pub mod Admission
+pub mod Valid
+pub mod Image
+pub mod Comparison
+pub mod Round
+pub mod Answer
+pub mod Judge
+pub mod Simulator
+pub mod Extractor

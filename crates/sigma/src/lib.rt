@@ -1,0 +1,1 @@
+// The protocol on values: definitions and their laws.

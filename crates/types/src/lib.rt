@@ -1,0 +1,115 @@
+// The structs and enums of the calls. There are no functions here, so that the definitions speak of the very records
+// that the code returns. A refusal is its number in 01, and 0 where nothing is refused.
+
+// The fixed fields of a sheet: kind 1 (exponent) or 2 (root), the modulus m, the order q of kind 1 or the exponent e of
+// kind 2, the challenge count K, the rows s and the columns n.
+pub struct Header {
+    pub kind: u32,
+    pub modulus: u32,
+    pub order: u32,
+    pub challenges: u32,
+    pub rows: u32,
+    pub columns: u32,
+}
+
+// What loading a sheet answers, but for the entries, which are an array of arrays and stand beside it.
+pub struct Loaded {
+    pub refusal: u32,
+    pub header: Header,
+    pub statement: [u32; 8],
+}
+
+// A row of the pattern table: rows, columns, how many public values, and the digits, row i, column j at 3 i + j.
+pub struct Pattern {
+    pub rows: u32,
+    pub columns: u32,
+    pub values: u32,
+    pub digits: [u32; 6],
+}
+
+// What a call that writes into a lent buffer answers: the length of what stands in it.
+pub struct Written {
+    pub refusal: u32,
+    pub length: usize,
+}
+
+// A round: commitment t, challenge c and response r.
+pub struct Round {
+    pub commitment: [u32; 8],
+    pub challenge: u32,
+    pub response: [u32; 8],
+}
+
+// How many rounds a round file has.
+pub struct Counted {
+    pub refusal: u32,
+    pub count: u32,
+}
+
+// A round as it stands in a round file.
+pub struct Fetched {
+    pub refusal: u32,
+    pub round: Round,
+}
+
+// What judging a round answers: accepted, rejected with the first differing row, or refused with a number.
+pub enum Verdict {
+    Accepted,
+    Rejected(u32),
+    Refused(u32),
+}
+
+// What simulating answers, a commitment, and what extracting answers, a witness.
+pub struct Computed {
+    pub refusal: u32,
+    pub values: [u32; 8],
+}
+
+// The states of Peggy's session.
+pub enum ProverPhase {
+    New,
+    Committed,
+    Answered,
+    Dropped,
+}
+
+// Peggy's session.
+pub struct Prover {
+    pub phase: ProverPhase,
+    pub nonce: [u32; 8],
+    pub commitment: [u32; 8],
+}
+
+// What a call on Peggy's session answers: the session handed back, and a commitment or a response.
+pub struct ProverStep {
+    pub refusal: u32,
+    pub session: Prover,
+    pub values: [u32; 8],
+}
+
+// The states of Vic's session.
+pub enum VerifierPhase {
+    Waiting,
+    Holding,
+    Asked,
+    Judged,
+}
+
+// Vic's session.
+pub struct Verifier {
+    pub phase: VerifierPhase,
+    pub commitment: [u32; 8],
+    pub challenge: u32,
+}
+
+// What bringing a commitment or a challenge to Vic's session answers.
+pub struct VerifierStep {
+    pub refusal: u32,
+    pub session: Verifier,
+}
+
+// What bringing a response to Vic's session answers.
+pub struct VerifierVerdict {
+    pub verdict: Verdict,
+    pub session: Verifier,
+}
