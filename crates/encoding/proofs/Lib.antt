@@ -1,0 +1,2 @@
+-- Laws of encodings: lists by index, numbers as bytes, replaced bytes.
+pub mod Places
