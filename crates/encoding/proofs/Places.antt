@@ -52,6 +52,11 @@ module _ {ℓ} {A : Type ℓ} where
       ∙ ap (λ (xs : List A). f at ∷ xs)
       (itemsAt-add f (at + step) step m n ∙ ap (λ (a : ℕ). itemsAt f (at + step) step m ++ itemsAt f a step n) e)
 
+  -- one item more, at the end
+  pub itemsAt-suc : (f : ℕ → A) (at step n : ℕ) → itemsAt f at step (suc n) ≡ itemsAt f at step n ++ f (at + step * n) ∷ []
+  unfolding itemsAt
+  itemsAt-suc f at step n = ap (λ (k : ℕ). itemsAt f at step k) (sym (add-one n)) ∙ itemsAt-add f at step n 1
+
   -- ---- a function's first values
 
   -- there are n of them
@@ -77,10 +82,10 @@ module _ {ℓ} {A : Type ℓ} where
 
   -- one value more, at the end: a loop that fills a list from the front
   pub tabulate-suc : (n : ℕ) (f : ℕ → A) → tabulate (suc n) f ≡ tabulate n f ++ f n ∷ []
-  unfolding tabulate itemsAt
+  unfolding tabulate
   tabulate-suc n f =
       let e : 0 + 1 * n ≡ n = omega arith in
-      ap (λ (k : ℕ). itemsAt f 0 1 k) (sym (add-one n)) ∙ itemsAt-add f 0 1 n 1 ∙ ap (λ (k : ℕ). itemsAt f 0 1 n ++ f k ∷ []) e
+      itemsAt-suc f 0 1 n ∙ ap (λ (k : ℕ). itemsAt f 0 1 n ++ f k ∷ []) e
 
   -- a list whose first i elements are a function's first i values, after a store of the next value at place i
   pub tabulate-store : (l : List A) (i : ℕ) (f : ℕ → A) → i < length l → take i l ≡ tabulate i f
