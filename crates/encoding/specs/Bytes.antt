@@ -1,6 +1,6 @@
 -- Numbers as bytes, high byte first (01, "The sheet"), over the width.
 -- Assumes nothing.
-use Prim.Native.Nat.{ℕ, zero, suc, _+_, _*_, _/_, _%_}
+use Prim.Native.Nat.{ℕ, zero, suc, _+_, _*_, _/_, _%_, _<_}
 use mathlib.Core.List.{List, [], _∷_, _++_}
 use lib.ListN.{getD}
 
@@ -18,3 +18,11 @@ bytesOf (suc w) v = bytesOf w (v / 256) ++ (v % 256) ∷ []
 unfoldable pub bytesOfEach : ℕ → List ℕ → List ℕ
 bytesOfEach w [] = []
 bytesOfEach w (v ∷ vs) = bytesOf w v ++ bytesOfEach w vs
+
+-- every number of a list is below the bound (a missing place counts as 0)
+abbrev pub AllBelow : ℕ → List ℕ → Type 0
+AllBelow bound vs = (i : ℕ) → getD vs i 0 < bound
+
+-- every number of a list is a byte
+abbrev pub AllBytes : List ℕ → Type 0
+AllBytes s = AllBelow 256 s

@@ -1,11 +1,11 @@
 -- Refusals. A call's rules stand in a list, and the first that is broken gives the answer's number.
 -- Assumes nothing.
 use mathlib.Core.Path.{_≡_}
-use mathlib.Core.Bool.{Bool, true, false, cond}
+use mathlib.Core.Bool.{Bool, true, false, cond, not, _&&_, _||_}
 use mathlib.Core.List.{List, [], _∷_, map}
 use mathlib.Core.Logic.{_⊎_}
-use Prim.Native.Nat.{ℕ}
-use lib.Dec.{eqb}
+use Prim.Native.Nat.{ℕ, suc}
+use lib.Dec.{eqb, ltb}
 
 infix 10 _when_
 -- a refusal's number and whether its condition holds
@@ -45,3 +45,37 @@ Clear ((n when broken) ∷ rules) = (broken ≡ false) × Clear rules
 abbrev pub First : ℕ → List Rule → Type 0
 First n [] = ⊥
 First n ((m when broken) ∷ rules) = ((broken ≡ true) × (n ≡ m)) ⊎ ((broken ≡ false) × First n rules)
+
+-- n is the number of a rule that applies
+abbrev pub Applies : ℕ → List Rule → Type 0
+Applies n [] = ⊥
+Applies n ((m when broken) ∷ rules) = ((broken ≡ true) × (n ≡ m)) ⊎ Applies n rules
+
+-- every rule has a number above 0, so that 0 can stand for "no rule applies"
+abbrev pub positive : List Rule → Bool
+positive [] = true
+positive ((n when broken) ∷ rules) = ltb 0 n && positive rules
+
+-- n is one of the numbers of a list
+abbrev pub Member : ℕ → List ℕ → Type 0
+Member n [] = ⊥
+Member n (m ∷ ms) = (n ≡ m) ⊎ Member n ms
+
+-- whether n is one of the numbers of a list
+unfoldable pub isMember : ℕ → List ℕ → Bool
+isMember n [] = false
+isMember n (m ∷ ms) = eqb n m || isMember n ms
+
+-- whether no number stands twice in a list
+unfoldable pub isDistinct : List ℕ → Bool
+isDistinct [] = true
+isDistinct (n ∷ ns) = not (isMember n ns) && isDistinct ns
+
+-- how many numbers of a list stand before the first n, all of them where n is none of them
+unfoldable pub positionIn : List ℕ → ℕ → ℕ
+positionIn [] n = 0
+positionIn (m ∷ ms) n = cond (eqb n m) 0 (suc (positionIn ms n))
+
+-- the place of a number in 01's order
+unfoldable pub position : ℕ → ℕ
+position n = positionIn refusalOrder n

@@ -1,0 +1,170 @@
+-- Numbers as bytes, high byte first: what is written is read back, what is read is written back, and a number read
+-- depends on its own bytes alone.
+-- Assumes nothing.
+use Prim.Native.Nat.{ℕ, zero, suc, _+_, _*_, _/_, _%_, _^_, _≤_, _<_}
+use mathlib.Core.Path.{_≡_, refl, sym, ap, ap₂, _∙_}
+use mathlib.Core.List.{List, [], _∷_, _++_, append-assoc}
+use native.Mathlib.Nat.{zero-add, add-zero, mul-zero, mul-suc, mod-eq-of-lt, one-le-pow, pow-suc, pow-zero, mod-one}
+use native.Mathlib.Omega.{arith}
+use lib.Arith.{digits-lt, digits-div, digits-mod, mod-mul}
+use lib.ListN.{length, getD, take, drop, length-append, length-drop, List·getD-append}
+use lib.Seq.{take-suc, take-add, drop-drop, getD-at, getD-take, getD-drop, getD-append-add}
+use Rattle.encoding.specs.Places.{itemsAt}
+use Rattle.encoding.specs.Bytes.{numberAt, bytesOf, bytesOfEach, AllBelow, AllBytes}
+
+-- ---- the bytes of a number
+
+-- a number of width w has w bytes
+pub length-bytesOf : (w v : ℕ) → length (bytesOf w v) ≡ w
+unfolding bytesOf
+length-bytesOf zero v = refl
+length-bytesOf (suc w) v = length-append (bytesOf w (v / 256)) (v % 256 ∷ []) ∙ omega (arith, length-bytesOf w (v / 256))
+
+-- a run of numbers of width w has w bytes for each
+pub length-bytesOfEach : (w : ℕ) (vs : List ℕ) → length (bytesOfEach w vs) ≡ w * length vs
+unfolding bytesOfEach
+length-bytesOfEach w [] = sym (mul-zero w)
+length-bytesOfEach w (v ∷ vs) =
+    length-append (bytesOf w v) (bytesOfEach w vs)
+    ∙ omega (arith, length-bytesOf w v, length-bytesOfEach w vs, mul-suc w (length vs))
+
+-- two lists below a bound, joined
+pub below-append : (bound : ℕ) (xs ys : List ℕ) → AllBelow bound xs → AllBelow bound ys → AllBelow bound (xs ++ ys)
+below-append bound [] ys h k i = k i
+below-append bound (x ∷ xs) ys h k zero = h zero
+below-append bound (x ∷ xs) ys h k (suc i) = below-append bound xs ys (λ j. h (suc j)) k i
+
+-- the bytes of a number are bytes
+pub bytes-bytesOf : (w v : ℕ) → AllBytes (bytesOf w v)
+unfolding bytesOf
+bytes-bytesOf zero v = λ i. omega arith
+bytes-bytesOf (suc w) v = below-append 256 (bytesOf w (v / 256)) (v % 256 ∷ []) (bytes-bytesOf w (v / 256)) last
+  where
+    last : AllBytes (v % 256 ∷ [])
+    last zero = omega arith
+    last (suc i) = omega arith
+
+-- the bytes of a run of numbers are bytes
+pub bytes-bytesOfEach : (w : ℕ) (vs : List ℕ) → AllBytes (bytesOfEach w vs)
+unfolding bytesOfEach
+bytes-bytesOfEach w [] = λ i. omega arith
+bytes-bytesOfEach w (v ∷ vs) = below-append 256 (bytesOf w v) (bytesOfEach w vs) (bytes-bytesOf w v) (bytes-bytesOfEach w vs)
+
+-- a number read from w bytes is below 256 to the power w
+pub numberAt-below : (w : ℕ) (s : List ℕ) (at : ℕ) → AllBytes s → numberAt w s at < 256 ^ w
+unfolding numberAt
+numberAt-below zero s at h = rw (pow-zero 256) (omega arith)
+numberAt-below (suc w) s at h = rw (pow-suc 256 w) (digits-lt (numberAt-below w s at h) (h (at + w)))
+
+-- ---- a number depends on its own bytes alone
+
+-- equal bytes give equal numbers
+pub numberAt-agree : (w : ℕ) (s t : List ℕ) (at at′ : ℕ) → ((k : ℕ) → k < w → getD s (at + k) 0 ≡ getD t (at′ + k) 0)
+    → numberAt w s at ≡ numberAt w t at′
+unfolding numberAt
+numberAt-agree zero s t at at′ h = refl
+numberAt-agree (suc w) s t at at′ h =
+    ap₂ (λ (a b : ℕ). a * 256 + b) (numberAt-agree w s t at at′ (λ k b. h k (omega arith))) (h w (omega arith))
+
+-- a number behind a list
+pub numberAt-behind : (w : ℕ) (xs s : List ℕ) (at : ℕ) → numberAt w (xs ++ s) (length xs + at) ≡ numberAt w s at
+numberAt-behind w xs s at =
+    numberAt-agree w (xs ++ s) s (length xs + at) at
+    (λ k b. ap (λ (i : ℕ). getD (xs ++ s) i 0) (omega arith) ∙ getD-append-add xs s (at + k) 0)
+
+-- a number in front of a list
+pub numberAt-front : (w : ℕ) (s t : List ℕ) (at : ℕ) → at + w ≤ length s → numberAt w (s ++ t) at ≡ numberAt w s at
+numberAt-front w s t at h = numberAt-agree w (s ++ t) s at at (λ k b. List·getD-append s t 0 (at + k) (omega arith))
+
+-- a number of the rest of a list
+pub numberAt-drop : (w k : ℕ) (s : List ℕ) (at : ℕ) → numberAt w (drop k s) at ≡ numberAt w s (k + at)
+numberAt-drop w k s at =
+    numberAt-agree w (drop k s) s at (k + at) (λ i b. getD-drop k s (at + i) 0 ∙ ap (λ (j : ℕ). getD s j 0) (omega arith))
+
+-- a number of the front of a list
+pub numberAt-take : (w k : ℕ) (s : List ℕ) (at : ℕ) → at + w ≤ k → numberAt w (take k s) at ≡ numberAt w s at
+numberAt-take w k s at h = numberAt-agree w (take k s) s at at (λ i b. getD-take k s (at + i) 0 (omega arith))
+
+-- ---- round trips of a number
+
+-- the bytes of a number, read, give the number as far as they reach
+pub numberAt-bytesOf-mod : (w v : ℕ) (xs ys : List ℕ) → numberAt w (xs ++ bytesOf w v ++ ys) (length xs) ≡ v % 256 ^ w
+unfolding numberAt bytesOf
+numberAt-bytesOf-mod zero v xs ys = sym (ap (λ (p : ℕ). v % p) (pow-zero 256) ∙ mod-one v)
+numberAt-bytesOf-mod (suc w) v xs ys =
+    let high = bytesOf w (v / 256) in
+    let e : xs ++ (high ++ v % 256 ∷ []) ++ ys ≡ xs ++ high ++ v % 256 ∷ ys = simp append-assoc in
+    let at-low : length (xs ++ high) ≡ length xs + w = omega (arith, length-append xs high, length-bytesOf w (v / 256)) in
+    ap (λ (s : List ℕ). numberAt (suc w) s (length xs)) e
+    ∙ ap₂ (λ (q r : ℕ). q * 256 + r) (numberAt-bytesOf-mod w (v / 256) xs (v % 256 ∷ ys))
+    (getD-at (xs ++ high) (v % 256) ys 0 (length xs + w) at-low)
+    ∙ sym (ap (λ (p : ℕ). v % p) (pow-suc 256 w) ∙ mod-mul v (one-le-pow w 256 (omega arith)) (omega arith))
+
+-- the bytes of a number that fits them, read, give the number
+pub numberAt-bytesOf : (w v : ℕ) (xs ys : List ℕ) → v < 256 ^ w → numberAt w (xs ++ bytesOf w v ++ ys) (length xs) ≡ v
+numberAt-bytesOf w v xs ys h = numberAt-bytesOf-mod w v xs ys ∙ mod-eq-of-lt h
+
+-- the bytes of a number that was read are those that it was read from
+pub bytesOf-numberAt : (w : ℕ) (s : List ℕ) (at : ℕ) → at + w ≤ length s → AllBytes s → bytesOf w (numberAt w s at) ≡ take w (drop at s)
+unfolding numberAt bytesOf
+bytesOf-numberAt zero s at h b = refl
+bytesOf-numberAt (suc w) s at h b =
+    let high = numberAt w s at in
+    ap₂ (λ (q r : ℕ). bytesOf w q ++ r ∷ []) (digits-div high (b (at + w))) (digits-mod high (b (at + w)))
+    ∙ ap (λ (bs : List ℕ). bs ++ getD s (at + w) 0 ∷ []) (bytesOf-numberAt w s at (omega arith) b)
+    ∙ ap (λ (r : ℕ). take w (drop at s) ++ r ∷ []) (sym (getD-drop at s w 0))
+    ∙ sym (take-suc (drop at s) w 0 (omega (arith, length-drop at s)))
+
+-- two numbers that fit their bytes and have the same bytes are equal
+pub bytesOf-injective : (w u v : ℕ) → u < 256 ^ w → v < 256 ^ w → bytesOf w u ≡ bytesOf w v → u ≡ v
+bytesOf-injective w u v h k e =
+    sym (numberAt-bytesOf w u [] [] h) ∙ ap (λ (bs : List ℕ). numberAt w (bs ++ []) 0) e ∙ numberAt-bytesOf w v [] [] k
+
+-- ---- runs of numbers
+
+-- the bytes of two runs of numbers, joined
+pub bytesOfEach-append : (w : ℕ) (us vs : List ℕ) → bytesOfEach w (us ++ vs) ≡ bytesOfEach w us ++ bytesOfEach w vs
+unfolding bytesOfEach
+bytesOfEach-append w [] vs = refl
+bytesOfEach-append w (u ∷ us) vs =
+    ap (λ (bs : List ℕ). bytesOf w u ++ bs) (bytesOfEach-append w us vs)
+    ∙ sym (append-assoc (bytesOf w u) (bytesOfEach w us) (bytesOfEach w vs))
+
+-- the bytes of a run of numbers that fit them, read, give the numbers
+pub itemsAt-bytesOfEach : (w : ℕ) (vs xs ys : List ℕ) → AllBelow (256 ^ w) vs
+    → itemsAt (numberAt w (xs ++ bytesOfEach w vs ++ ys)) (length xs) w (length vs) ≡ vs
+unfolding itemsAt bytesOfEach
+itemsAt-bytesOfEach w [] xs ys h = refl
+itemsAt-bytesOfEach w (v ∷ vs) xs ys h =
+    let b = bytesOf w v in
+    let bs = bytesOfEach w vs in
+    let e₁ : xs ++ (b ++ bs) ++ ys ≡ xs ++ b ++ (bs ++ ys) = simp append-assoc in
+    let e₂ : xs ++ (b ++ bs) ++ ys ≡ xs ++ b ++ bs ++ ys = simp append-assoc in
+    let next : length xs + w ≡ length (xs ++ b) = omega (arith, length-append xs b, length-bytesOf w v) in
+    ap₂ (λ (u : ℕ) (us : List ℕ). u ∷ us)
+    (ap (λ (s : List ℕ). numberAt w s (length xs)) e₁ ∙ numberAt-bytesOf w v xs (bs ++ ys) (h zero))
+    (ap₂ (λ (s : List ℕ) (at : ℕ). itemsAt (numberAt w s) at w (length vs)) e₂ next
+    ∙ itemsAt-bytesOfEach w vs (xs ++ b) ys (λ i. h (suc i)))
+
+-- the bytes of a run of numbers that were read are those that they were read from
+pub bytesOfEach-itemsAt : (w : ℕ) (s : List ℕ) (at n : ℕ) → at + w * n ≤ length s → AllBytes s
+    → bytesOfEach w (itemsAt (numberAt w s) at w n) ≡ take (w * n) (drop at s)
+unfolding itemsAt bytesOfEach
+bytesOfEach-itemsAt w s at zero h b = rw (mul-zero w)
+bytesOfEach-itemsAt w s at (suc n) h b =
+    let e : w * suc n ≡ w + w * n = omega (arith, mul-suc w n) in
+    ap₂ (λ (us vs : List ℕ). us ++ vs) (bytesOf-numberAt w s at (omega arith) b) (bytesOfEach-itemsAt w s (at + w) n (omega arith) b)
+    ∙ sym (ap (λ (k : ℕ). take k (drop at s)) e ∙ take-add w (w * n) (drop at s)
+    ∙ ap (λ (r : List ℕ). take w (drop at s) ++ take (w * n) r) (drop-drop w at s))
+
+-- ---- numbers of one byte
+
+-- a number of one byte is the byte
+pub numberAt-one : (s : List ℕ) (at : ℕ) → numberAt 1 s at ≡ getD s at 0
+unfolding numberAt
+numberAt-one s at = zero-add (getD s (at + 0) 0) ∙ ap (λ (i : ℕ). getD s i 0) (add-zero at)
+
+-- the one byte of a number
+pub bytesOf-one : (v : ℕ) → bytesOf 1 v ≡ v % 256 ∷ []
+unfolding bytesOf
+bytesOf-one v = refl

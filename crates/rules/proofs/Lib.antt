@@ -1,0 +1,4 @@
+-- Laws of refusals and of what a test says.
+pub mod Says
+pub mod Lowest
+pub mod Order

@@ -1,0 +1,124 @@
+-- The number that a list of rules gives: 0 exactly where no rule applies, else that of the first that applies.
+-- Assumes nothing.
+use Prim.Native.Nat.{ℕ, _<_}
+use mathlib.Core.Path.{_≡_, refl, sym, ap, _∙_}
+use mathlib.Core.Bool.{Bool, true, false, _&&_, false≢true}
+use mathlib.Core.List.{List, [], _∷_, _++_}
+use mathlib.Core.Logic.{_↔_, _⊎_, inl, inr, ⊎-elim}
+use native.Mathlib.Omega.{arith}
+use lib.Dec.{T, ltb, ltb→lt}
+use Rattle.rules.specs.Rule.{Rule, _when_, lowest, numberOf, numbersOf, Clear, First, Applies, positive, Member}
+
+-- a rule that does not apply is passed over
+pub pass : (n : ℕ) (rules : List Rule) {b : Bool} → b ≡ false → lowest ((n when b) ∷ rules) ≡ lowest rules
+unfolding lowest
+pass n rules e = rw e
+
+-- the first rule that applies gives its number
+pub stop : (n : ℕ) (rules : List Rule) {b : Bool} → b ≡ true → lowest ((n when b) ∷ rules) ≡ n
+unfolding lowest
+stop n rules e = rw e
+
+-- where no rule applies, the number is 0
+pub lowest-clear : (rules : List Rule) → Clear rules → lowest rules ≡ 0
+unfolding lowest
+lowest-clear [] c = refl
+lowest-clear ((n when b) ∷ rules) c = pass n rules (c .0) ∙ lowest-clear rules (c .1)
+
+-- a positive number and a list of positive numbers, out of their test
+positive-parts : (n : ℕ) (rules : List Rule) → T (ltb 0 n && positive rules) → (0 < n) × T (positive rules)
+positive-parts n rules = parts (ltb 0 n) (ltb→lt 0 n)
+  where
+    parts : (a : Bool) → (T a → 0 < n) → T (a && positive rules) → (0 < n) × T (positive rules)
+    parts true f p = (f tt, p)
+    parts false f p = absurd p
+
+-- where the numbers are positive and 0 is given, no rule applies
+pub clear-lowest : (rules : List Rule) → T (positive rules) → lowest rules ≡ 0 → Clear rules
+unfolding lowest
+clear-lowest [] p e = tt
+clear-lowest ((n when true) ∷ rules) p e = let h : 0 < n = positive-parts n rules p .0 in absurd (omega arith)
+clear-lowest ((n when false) ∷ rules) p e = (refl, clear-lowest rules (positive-parts n rules p .1) e)
+
+-- the number of the first rule that applies is given
+pub lowest-first : (n : ℕ) (rules : List Rule) → First n rules → lowest rules ≡ n
+lowest-first n [] f = absurd f
+lowest-first n ((m when b) ∷ rules) (inl f) = stop m rules (f .0) ∙ sym (f .1)
+lowest-first n ((m when b) ∷ rules) (inr f) = pass m rules (f .0) ∙ lowest-first n rules (f .1)
+
+-- a number above 0 that is given is that of the first rule that applies
+pub first-lowest : (n : ℕ) (rules : List Rule) → lowest rules ≡ n → 0 < n → First n rules
+unfolding lowest
+first-lowest n [] e h = absurd (omega arith)
+first-lowest n ((m when true) ∷ rules) e h = inl (refl, sym e)
+first-lowest n ((m when false) ∷ rules) e h = inr (refl, first-lowest n rules e h)
+
+-- the first number that applies is one that applies
+pub first-applies : (n : ℕ) (rules : List Rule) → First n rules → Applies n rules
+first-applies n [] f = f
+first-applies n ((m when b) ∷ rules) (inl f) = inl f
+first-applies n ((m when b) ∷ rules) (inr f) = inr (first-applies n rules (f .1))
+
+-- where some rule applies, the number given is that of the first that does
+pub applies-first : (n : ℕ) (rules : List Rule) → Applies n rules → First (lowest rules) rules
+unfolding lowest
+applies-first n [] a = a
+applies-first n ((m when true) ∷ rules) a = inl (refl, refl)
+applies-first n ((m when false) ∷ rules) (inl a) = absurd (false≢true (a .0))
+applies-first n ((m when false) ∷ rules) (inr a) = inr (refl, applies-first n rules a)
+
+-- ---- lists joined
+
+-- where no rule of the first list applies, the second gives the number
+pub lowest-later : (xs ys : List Rule) → Clear xs → lowest (xs ++ ys) ≡ lowest ys
+lowest-later [] ys c = refl
+lowest-later ((n when b) ∷ xs) ys c = pass n (xs ++ ys) (c .0) ∙ lowest-later xs ys (c .1)
+
+-- where the first list gives 0, the second gives the number
+pub lowest-later-zero : (xs ys : List Rule) → T (positive xs) → lowest xs ≡ 0 → lowest (xs ++ ys) ≡ lowest ys
+lowest-later-zero xs ys p e = lowest-later xs ys (clear-lowest xs p e)
+
+-- a number above 0 of the first list is the number of both together
+pub lowest-earlier : (xs ys : List Rule) → 0 < lowest xs → lowest (xs ++ ys) ≡ lowest xs
+unfolding lowest
+lowest-earlier [] ys h = absurd (omega arith)
+lowest-earlier ((n when true) ∷ xs) ys h = refl
+lowest-earlier ((n when false) ∷ xs) ys h = lowest-earlier xs ys h
+
+-- two lists joined are clear exactly where both are
+pub clear-append : (xs ys : List Rule) → Clear (xs ++ ys) ↔ (Clear xs × Clear ys)
+clear-append [] ys = (λ c. (tt, c), λ c. c .1)
+clear-append ((n when b) ∷ xs) ys =
+    let rest = clear-append xs ys in
+    (λ c. ((c .0, rest .0 (c .1) .0), rest .0 (c .1) .1), λ c. (c .0 .0, rest .1 (c .0 .1, c .1)))
+
+-- two lists of positive numbers joined
+pub positive-append : (xs ys : List Rule) → T (positive xs) → T (positive ys) → T (positive (xs ++ ys))
+positive-append [] ys p q = q
+positive-append ((n when b) ∷ xs) ys p q = join (ltb 0 n) (λ r. positive-append xs ys r q) p
+  where
+    join : (a : Bool) → (T (positive xs) → T (positive (xs ++ ys))) → T (a && positive xs) → T (a && positive (xs ++ ys))
+    join true f r = f r
+    join false f r = r
+
+-- the numbers of two lists joined
+pub numbersOf-append : (xs ys : List Rule) → numbersOf (xs ++ ys) ≡ numbersOf xs ++ numbersOf ys
+unfolding numbersOf
+numbersOf-append [] ys = refl
+numbersOf-append (x ∷ xs) ys = ap (λ (ns : List ℕ). numberOf x ∷ ns) (numbersOf-append xs ys)
+
+-- ---- the numbers of a list
+
+-- a number that applies is one of the list's numbers
+pub applies-member : (n : ℕ) (rules : List Rule) → Applies n rules → Member n (numbersOf rules)
+unfolding numbersOf numberOf
+applies-member n [] a = a
+applies-member n ((m when b) ∷ rules) (inl a) = inl (a .1)
+applies-member n ((m when b) ∷ rules) (inr a) = inr (applies-member n rules a)
+
+-- the number given is 0 or one of the list's numbers
+pub lowest-member : (rules : List Rule) → (lowest rules ≡ 0) ⊎ Member (lowest rules) (numbersOf rules)
+unfolding lowest numbersOf numberOf
+lowest-member [] = inl refl
+lowest-member ((n when true) ∷ rules) = inr (inl refl)
+lowest-member ((n when false) ∷ rules) = ⊎-elim (λ e. inl e) (λ m. inr (inr m)) (lowest-member rules)
