@@ -6,3 +6,6 @@ pub mod Difference
 pub mod Gcd
 pub mod Inverse
 pub mod Product
+pub mod Integer
+pub mod Coprime
+pub mod Exponent
