@@ -3,7 +3,8 @@
 use mathlib.Core.Path.{_≡_, refl, sym, _∙_, ap, ap₂}
 use mathlib.Core.Logic.{_↔_}
 use Prim.Native.Nat.{ℕ, zero, suc, _+_, _*_, _/_, _%_, _^_, _<_, _∣_}
-use native.Mathlib.Nat.{add-mod, mod-mod, zero-mod, mod-zero, mod-add-div, add-mul-mod-self-left, mod-eq-of-lt, dvd-iff-mod-eq-zero, mul-comm, mul-assoc, one-mul, pow-zero, pow-suc, add-assoc}
+use native.Mathlib.Nat.{add-mod, mod-mod, zero-mod, mod-zero, mod-add-div, add-mul-mod-self-left, mod-eq-of-lt, dvd-iff-mod-eq-zero}
+use native.Mathlib.Nat.{mul-comm, one-mul, pow-zero, pow-suc}
 use native.Mathlib.Omega.{arith}
 use Rattle.numbers.specs.Congruence.{Cong}
 use Rattle.numbers.specs.Inverse.{Inverses}
@@ -16,8 +17,8 @@ cong-refl m a = record { same = refl }
 pub cong-sym : {m a b : ℕ} → Cong m a b → Cong m b a
 cong-sym h = record { same = sym (h .same) }
 
-infixl 5 _then_
 -- congruences follow one another
+infixl 5 _then_
 pub _then_ : {m a b c : ℕ} → Cong m a b → Cong m b c → Cong m a c
 g then h = record { same = g .same ∙ h .same }
 
@@ -76,8 +77,8 @@ pub cong-one : (m a : ℕ) → a % m ≡ 1 → Cong m a 1
 cong-one m a e = record { same = sym (mod-mod a m) ∙ ap (λ (x : ℕ). x % m) e }
 
 -- a number congruent to 1 has the remainder 1
-pub mod-one-of : {m a : ℕ} → 1 < m → Cong m a 1 → a % m ≡ 1
-mod-one-of l h = h .same ∙ mod-eq-of-lt l
+pub mod-is-one : {m a : ℕ} → 1 < m → Cong m a 1 → a % m ≡ 1
+mod-is-one l h = h .same ∙ mod-eq-of-lt l
 
 -- a summand may be cancelled
 pub cong-add-cancel : (m a b c : ℕ) → Cong m (a + c) (b + c) → Cong m a b
@@ -87,20 +88,14 @@ cong-add-cancel zero a b c h =
 cong-add-cancel (suc n) a b c h = cong-sym (whole a) then cong-add h (cong-refl (suc n) (n * c)) then whole b
   where
     whole : (x : ℕ) → Cong (suc n) (x + c + n * c) x
-    whole x = cong-of-equal (suc n) (regroup x) then cong-add-multiple (suc n) x c
-      where
-        regroup : (x : ℕ) → x + c + n * c ≡ x + suc n * c
-        regroup x = omega arith
+    whole x = cong-of-equal (suc n) {b = x + suc n * c} (omega arith) then cong-add-multiple (suc n) x c
 
 -- a factor that has an inverse may be cancelled
 pub cong-mul-cancel : {m v w : ℕ} → Inverses m v w → (a b : ℕ) → Cong m (v * a) (v * b) → Cong m a b
 cong-mul-cancel {m} {v} {w} inv a b h = cong-sym (back a) then cong-mul (cong-refl m w) h then back b
   where
-    regroup : (x : ℕ) → w * (v * x) ≡ v * w * x
-    regroup x = omega arith
-
     back : (x : ℕ) → Cong m (w * (v * x)) x
-    back x = cong-of-equal m (regroup x) then cong-mul (inv .one) (cong-refl m x) then cong-of-equal m (one-mul x)
+    back x = cong-of-equal m {b = v * w * x} (omega arith) then cong-mul (inv .one) (cong-refl m x) then cong-of-equal m (one-mul x)
 
 -- the first factor of a product may be reduced
 pub mod-mul-left : (m a b : ℕ) → a % m * b % m ≡ a * b % m

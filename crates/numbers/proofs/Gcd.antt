@@ -2,12 +2,13 @@
 -- Assumes nothing.
 use mathlib.Core.Path.{_≡_, refl, sym, _∙_, ap}
 use mathlib.Core.Bool.{Bool, true, false}
-use mathlib.Core.Logic.{_⊎_, inl, inr, _↔_}
-use Prim.Native.Nat.{ℕ, zero, suc, _+_, _-_, _*_, _/_, _%_, _≤_, _<_, _∣_}
-use native.Mathlib.Nat.{mod-lt, mod-add-div, eq-zero-or-pos, dvd-refl, dvd-zero, dvd-antisymm, dvd-mod-iff, eq-one-of-dvd-one, le-dest, le-trans, le-add-left, le-add-right, le-mul-of-pos-right, mul-zero}
+use mathlib.Core.Logic.{inl, inr, _↔_}
+use Prim.Native.Nat.{ℕ, zero, suc, _+_, _*_, _/_, _%_, _<_, _∣_}
+use native.Mathlib.Nat.{mod-lt, mod-add-div, eq-zero-or-pos, le-dest, le-trans, le-add-left, le-add-right, le-mul-of-pos-right}
+use native.Mathlib.Nat.{dvd-refl, dvd-zero, dvd-antisymm, dvd-mod-iff, eq-one-of-dvd-one}
 use native.Mathlib.Omega.{arith}
 use lib.Dec.{eqb}
-use lib.IntN.{ℤ, pos, negsuc, negℤ, _+ℤ_, _*ℤ_}
+use lib.IntN.{ℤ, pos, negℤ, _+ℤ_, _*ℤ_}
 use borrow.Author.Tests.{eqb-true, eqb-false}
 use Rattle.numbers.specs.Gcd.{euclid, gcd, IsGcd}
 use Rattle.numbers.proofs.Difference.{Difference, pos-difference, neg-difference, difference-same, difference-add, difference-mul}
@@ -102,8 +103,8 @@ bezout-integer a b = elim (eq-zero-or-pos a) [
   | inl none ↦ (pos 0, pos 1, ap pos (omega (arith, ap (λ (z : ℕ). gcd z b) none, gcd-comm 0 b, gcd-zero b)))
   | inr some ↦
       let (x, y, e) = bezout a b some in
-      let left : Difference (pos (a * x)) (a * x) 0 = pos-difference (a * x) _ _ (omega arith) in
-      let right : Difference (pos b *ℤ negℤ (pos y)) _ _ =
-      difference-mul (pos b) (negℤ (pos y)) b 0 0 y (pos-difference b _ _ (omega arith)) (neg-difference y _ _ (omega arith)) in
-      (pos x, negℤ (pos y), difference-same (difference-add _ _ _ _ _ _ left right) (pos-difference (gcd a b) _ _ (omega arith)))
+      let left : Difference (pos (a * x)) (a * x) 0 = pos-difference (omega arith) in
+      let factor : Difference (pos b) b 0 = pos-difference (omega arith) in
+      let right : Difference (negℤ (pos y)) 0 y = neg-difference y (omega arith) in
+      (pos x, negℤ (pos y), difference-same (difference-add left (difference-mul factor right)) (pos-difference (omega arith)))
 ]

@@ -1,10 +1,11 @@
 -- Laws of inverses modulo m: which numbers have one, that they have only one, and that `inverse` finds it.
 -- Assumes nothing.
-use mathlib.Core.Path.{_≡_, refl, sym, _∙_, ap}
-use mathlib.Core.Bool.{Bool, true, false, true≢false}
-use mathlib.Core.Logic.{_⊎_, inl, inr, _↔_}
-use Prim.Native.Nat.{ℕ, zero, suc, _+_, _*_, _%_, _^_, _≤_, _<_, _∣_}
-use native.Mathlib.Nat.{add-comm, mul-comm, mul-mul-mul-comm, mod-lt, mod-one, eq-zero-or-pos, dvd-mod-iff, dvd-mul-right-of-dvd, eq-one-of-dvd-one, mul-zero, zero-mod}
+use mathlib.Core.Path.{_≡_, sym, _∙_, ap}
+use mathlib.Core.Bool.{Bool, true, true≢false}
+use mathlib.Core.Logic.{inl, inr}
+use Prim.Native.Nat.{ℕ, _*_, _%_, _^_, _<_, _∣_}
+use native.Mathlib.Nat.{add-comm, mul-comm, mul-zero, mul-mul-mul-comm, mod-lt, mod-one, zero-mod, eq-zero-or-pos}
+use native.Mathlib.Nat.{dvd-mod-iff, dvd-mul-right-of-dvd, eq-one-of-dvd-one}
 use native.Mathlib.Decide.{decLt}
 use native.Mathlib.Omega.{arith}
 use lib.Dec.{eqb}
@@ -13,8 +14,9 @@ use Rattle.numbers.specs.Search.{find}
 use Rattle.numbers.specs.Congruence.{Cong}
 use Rattle.numbers.specs.Gcd.{gcd}
 use Rattle.numbers.specs.Inverse.{inverse, Inverses}
-use Rattle.numbers.proofs.Search.{find-within, find-holds, find-first}
-use Rattle.numbers.proofs.Congruence.{cong-refl, cong-sym, _then_, cong-of-equal, cong-mod, cong-add-multiple, cong-mul, cong-pow, cong-below, cong-one, mod-one-of, cong-mul-cancel, mod-mul-right}
+use Rattle.numbers.proofs.Search.{find-holds, find-first}
+use Rattle.numbers.proofs.Congruence.{cong-refl, cong-sym, _then_, cong-of-equal, cong-mod, cong-one, cong-below}
+use Rattle.numbers.proofs.Congruence.{cong-add-multiple, cong-mul, cong-pow, cong-mul-cancel, mod-is-one, mod-mul-right}
 use Rattle.numbers.proofs.Powers.{mul-pow, one-pow}
 use Rattle.numbers.proofs.Gcd.{gcd-one, gcd-comm, gcd-zero, bezout}
 
@@ -53,8 +55,8 @@ inverses-coprime {m} {v} {w} h = gcd-one v m .1 only
 pub inverses-positive : {m v w : ℕ} → 1 < m → Inverses m v w → 0 < w % m
 inverses-positive {m} {v} {w} big h = elim (eq-zero-or-pos (w % m)) [
   | inl none ↦
-      let vanishes : v * w % m ≡ 0 = sym (mod-mul-right m v w) ∙ ap (λ (x : ℕ). v * x % m) none ∙ ap (λ (x : ℕ). x % m) (mul-zero v) ∙ zero-mod m in
-      absurd (omega (arith, mod-one-of big (h .one)))
+      let vanishes : v * w % m ≡ 0 = sym (mod-mul-right m v w) ∙ rw (none, mul-zero v) (zero-mod m) in
+      absurd (omega (arith, mod-is-one big (h .one)))
   | inr some ↦ some
 ]
 
@@ -74,7 +76,7 @@ search-ends : (m v w : ℕ) → 1 < m → Inverses m v w → inverse m v < m
 unfolding inverse
 search-ends m v w big h =
     let test : ℕ → Bool = λ x. eqb (v * x % m) 1 in
-    let holds : test (w % m) ≡ true = eq-eqb _ 1 (mod-mul-right m v w ∙ mod-one-of big (h .one)) in
+    let holds : test (w % m) ≡ true = eq-eqb _ 1 (mod-mul-right m v w ∙ mod-is-one big (h .one)) in
     let below : w % m < m = mod-lt w (omega arith) in
     elim (decLt (find test 0 m) m) [
       | yes ends ↦ ends

@@ -1,6 +1,6 @@
 -- Laws of products over an index.
 -- Assumes nothing.
-use mathlib.Core.Path.{_≡_, refl, sym, _∙_, ap, ap₂}
+use mathlib.Core.Path.{_≡_, refl, _∙_, ap, ap₂}
 use Prim.Native.Nat.{ℕ, zero, suc, _*_, _^_, _<_}
 use native.Mathlib.Nat.{mul-one, mul-mul-mul-comm}
 use native.Mathlib.Omega.{arith}

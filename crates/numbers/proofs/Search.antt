@@ -2,7 +2,7 @@
 -- Assumes nothing.
 use mathlib.Core.Path.{_≡_, refl, sym, _∙_, ap}
 use mathlib.Core.Bool.{Bool, true, false, true≢false}
-use mathlib.Core.Logic.{_⊎_, inl, inr, _↔_}
+use mathlib.Core.Logic.{inl, inr, _↔_}
 use Prim.Native.Nat.{ℕ, zero, suc, _+_, _≤_, _<_}
 use native.Mathlib.Nat.{eq-or-lt-of-le}
 use native.Mathlib.Decide.{decLt}
@@ -26,27 +26,27 @@ unfolding find
 find-on p from n e = rw (e, find)
 
 -- the two ways in which a search through at least one place can go
-data Step (p : ℕ → Bool) (from n : ℕ) : Type 0 where
-  here : p from ≡ true → find p from (suc n) ≡ from → Step p from n
-  on : p from ≡ false → find p from (suc n) ≡ find p (suc from) n → Step p from n
+data FirstPlace (p : ℕ → Bool) (from n : ℕ) : Type 0 where
+  here : p from ≡ true → find p from (suc n) ≡ from → FirstPlace p from n
+  on : p from ≡ false → find p from (suc n) ≡ find p (suc from) n → FirstPlace p from n
 
 -- a search through at least one place goes in one of the two ways
-step : (p : ℕ → Bool) (from n : ℕ) → Step p from n
-step p from n = go (p from) refl
+first-place : (p : ℕ → Bool) (from n : ℕ) → FirstPlace p from n
+first-place p from n = go (p from) refl
   where
-    go : (b : Bool) → p from ≡ b → Step p from n
+    go : (b : Bool) → p from ≡ b → FirstPlace p from n
     go true e = here e (find-here p from n e)
     go false e = on e (find-on p from n e)
 
 -- a search ends within the places searched, or just behind them
 pub find-within : (p : ℕ → Bool) (from n : ℕ) → (from ≤ find p from n) × (find p from n ≤ from + n)
 find-within p from zero = omega (arith, find-end p from)
-find-within p from (suc n) = elim (step p from n) [ here e f ↦ omega arith | on e f ↦ omega (arith, find-within p (suc from) n) ]
+find-within p from (suc n) = elim (first-place p from n) [ here e f ↦ omega arith | on e f ↦ omega (arith, find-within p (suc from) n) ]
 
 -- where a search ends within the places searched, the test holds
 pub find-holds : (p : ℕ → Bool) (from n : ℕ) → find p from n < from + n → p (find p from n) ≡ true
 find-holds p from zero h = absurd (omega (arith, find-end p from))
-find-holds p from (suc n) h = elim (step p from n) [
+find-holds p from (suc n) h = elim (first-place p from n) [
   | here e f ↦ ap p f ∙ e
   | on e f ↦ ap p f ∙ find-holds p (suc from) n (omega arith)
 ]
@@ -54,14 +54,14 @@ find-holds p from (suc n) h = elim (step p from n) [
 -- before the place where a search ends, the test fails
 pub find-first : (p : ℕ → Bool) (from n i : ℕ) → from ≤ i → i < find p from n → p i ≡ false
 find-first p from zero i h k = absurd (omega (arith, find-end p from))
-find-first p from (suc n) i h k = elim (step p from n) [
+find-first p from (suc n) i h k = elim (first-place p from n) [
   | here e f ↦ absurd (omega arith)
   | on e f ↦ elim (eq-or-lt-of-le h) [ inl same ↦ ap p (sym same) ∙ e | inr later ↦ find-first p (suc from) n i later (omega arith) ]
 ]
 
 -- a test does not both pass and fail
-pass-or-fail : (b : Bool) → b ≡ true → b ≡ false → ⊥
-pass-or-fail b t f = true≢false (sym t ∙ f)
+not-both : (b : Bool) → b ≡ true → b ≡ false → ⊥
+not-both b t f = true≢false (sym t ∙ f)
 
 -- a search ends behind the places searched exactly if the test fails at each of them
 pub find-none : (p : ℕ → Bool) (from n : ℕ)
@@ -71,7 +71,7 @@ find-none p from n = (found-none, none-found)
     found-none : ((i : ℕ) → from ≤ i → i < from + n → p i ≡ false) → find p from n ≡ from + n
     found-none fails = elim (eq-or-lt-of-le (find-within p from n .1)) [
       | inl same ↦ same
-      | inr less ↦ absurd (pass-or-fail _ (find-holds p from n less) (fails (find p from n) (find-within p from n .0) less))
+      | inr less ↦ absurd (not-both _ (find-holds p from n less) (fails (find p from n) (find-within p from n .0) less))
     ]
 
     none-found : find p from n ≡ from + n → (i : ℕ) → from ≤ i → i < from + n → p i ≡ false
@@ -81,9 +81,9 @@ find-none p from n = (found-none, none-found)
 pub find-is : (p : ℕ → Bool) (from n k : ℕ) → from ≤ k → k < from + n → p k ≡ true
     → ((i : ℕ) → from ≤ i → i < k → p i ≡ false) → find p from n ≡ k
 find-is p from n k h l holds fails = elim (decLt k (find p from n)) [
-  | yes after ↦ absurd (pass-or-fail _ holds (find-first p from n k h after))
+  | yes after ↦ absurd (not-both _ holds (find-first p from n k h after))
   | no notAfter ↦ elim (decLt (find p from n) k) [
-    | yes before ↦ absurd (pass-or-fail _ (find-holds p from n (omega arith)) (fails _ (find-within p from n .0) before))
+    | yes before ↦ absurd (not-both _ (find-holds p from n (omega arith)) (fails _ (find-within p from n .0) before))
     | no notBefore ↦ omega arith
   ]
 ]
@@ -94,7 +94,7 @@ find-agree p q from zero same = find-end p from ∙ sym (find-end q from)
 find-agree p q from (suc n) same =
     let at-first : p from ≡ q from = same from (omega arith) (omega arith) in
     let later : find p (suc from) n ≡ find q (suc from) n = find-agree p q (suc from) n (λ i h k. same i (omega arith) (omega arith)) in
-    elim (step p from n) [
+    elim (first-place p from n) [
       | here e f ↦ f ∙ sym (find-here q from n (sym at-first ∙ e))
       | on e f ↦ f ∙ later ∙ sym (find-on q from n (sym at-first ∙ e))
     ]
@@ -111,7 +111,7 @@ pub any-of : (n : ℕ) (p : ℕ → Bool) (j : ℕ) → j < n → p j ≡ true �
 unfolding any
 any-of n p j h holds = elim (decLt (find p 0 n) n) [
   | yes below ↦ lt-ltb _ _ below
-  | no notBelow ↦ absurd (pass-or-fail _ holds (find-first p 0 n j (omega arith) (omega arith)))
+  | no notBelow ↦ absurd (not-both _ holds (find-first p 0 n j (omega arith) (omega arith)))
 ]
 
 -- no test below n passes exactly if each of them fails
