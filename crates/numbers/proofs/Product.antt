@@ -1,0 +1,60 @@
+-- Laws of products over an index.
+-- Assumes nothing.
+use mathlib.Core.Path.{_≡_, refl, _∙_, ap, ap₂}
+use Prim.Native.Nat.{ℕ, zero, suc, _*_, _^_, _<_}
+use native.Mathlib.Nat.{mul-one, mul-mul-mul-comm}
+use native.Mathlib.Omega.{arith}
+use Rattle.numbers.specs.Congruence.{Cong}
+use Rattle.numbers.specs.Inverse.{Inverses}
+use Rattle.numbers.specs.Product.{product}
+use Rattle.numbers.proofs.Congruence.{cong-refl, cong-mul}
+use Rattle.numbers.proofs.Powers.{mul-pow, one-pow}
+use Rattle.numbers.proofs.Inverse.{inverses-mul}
+
+-- the product of no factors
+pub product-zero : (f : ℕ → ℕ) → product 0 f ≡ 1
+unfolding product
+product-zero f = refl
+
+-- the product of one more factor
+pub product-suc : (n : ℕ) (f : ℕ → ℕ) → product (suc n) f ≡ product n f * f n
+unfolding product
+product-suc n f = refl
+
+-- factors that are equal below n have equal products
+pub product-agree : (n : ℕ) (f g : ℕ → ℕ) → ((j : ℕ) → j < n → f j ≡ g j) → product n f ≡ product n g
+unfolding product
+product-agree zero f g same = refl
+product-agree (suc n) f g same =
+    ap₂ (λ (x y : ℕ). x * y) (product-agree n f g (λ j h. same j (omega arith))) (same n (omega arith))
+
+-- factors that are congruent below n have congruent products
+pub product-cong : (m n : ℕ) (f g : ℕ → ℕ) → ((j : ℕ) → j < n → Cong m (f j) (g j)) → Cong m (product n f) (product n g)
+unfolding product
+product-cong m zero f g same = cong-refl m 1
+product-cong m (suc n) f g same = cong-mul (product-cong m n f g (λ j h. same j (omega arith))) (same n (omega arith))
+
+-- the product of products, factor by factor
+pub product-mul : (n : ℕ) (f g : ℕ → ℕ) → product n (λ j. f j * g j) ≡ product n f * product n g
+unfolding product
+product-mul zero f g = refl
+product-mul (suc n) f g =
+    ap (λ (x : ℕ). x * (f n * g n)) (product-mul n f g) ∙ mul-mul-mul-comm (product n f) (product n g) (f n) (g n)
+
+-- the power of a product, factor by factor
+pub product-pow : (n : ℕ) (f : ℕ → ℕ) (k : ℕ) → product n f ^ k ≡ product n (λ j. f j ^ k)
+unfolding product
+product-pow zero f k = one-pow k
+product-pow (suc n) f k = mul-pow (product n f) (f n) k ∙ ap (λ (x : ℕ). x * f n ^ k) (product-pow n f k)
+
+-- factors of 1 have the product 1
+pub product-one : (n : ℕ) → product n (λ j. 1) ≡ 1
+unfolding product
+product-one zero = refl
+product-one (suc n) = mul-one (product n (λ j. 1)) ∙ product-one n
+
+-- the product of the inverses inverts the product
+pub product-inverses : (m n : ℕ) (f g : ℕ → ℕ) → ((j : ℕ) → j < n → Inverses m (f j) (g j)) → Inverses m (product n f) (product n g)
+unfolding product
+product-inverses m zero f g inv = record { one = cong-refl m 1 }
+product-inverses m (suc n) f g inv = inverses-mul (product-inverses m n f g (λ j h. inv j (omega arith))) (inv n (omega arith))
