@@ -1,0 +1,1 @@
+-- Laws of groups, of Maurer's protocol round and of enumerations.
