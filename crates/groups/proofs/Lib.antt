@@ -1,1 +1,5 @@
--- Laws of groups, of Maurer's protocol round and of enumerations.
+-- Laws of groups, their powers and homomorphisms; extraction and simulation of Maurer's round; enumerations.
+pub mod Groups
+pub mod Powers
+pub mod Extraction
+pub mod Simulation
