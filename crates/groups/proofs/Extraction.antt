@@ -1,7 +1,7 @@
 -- Maurer's Theorem 3 (2015): two accepted rounds with one commitment give a witness by the formula u^a · (r / r′)^b.
 -- Where also (r / r′)^ℓ = u^(c − c′), the witness depends neither on the choice of a and b nor on the order of the rounds.
 -- Assumes nothing.
-use mathlib.Core.Path.{_≡_, _∙_}
+use mathlib.Core.Path.{_≡_}
 use Prim.Native.Nat.{ℕ}
 use lib.IntN.{ℤ, pos, _-ℤ_, _*ℤ_}
 use Rattle.groups.specs.Group.{Group, power, quotient}

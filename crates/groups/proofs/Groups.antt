@@ -1,6 +1,6 @@
 -- Laws of a commutative group that follow from its axioms.
 -- Assumes nothing.
-use mathlib.Core.Path.{_≡_, refl, sym, ap, _∙_}
+use mathlib.Core.Path.{_≡_, sym, ap, _∙_}
 use Rattle.groups.specs.Group.{Group, quotient}
 
 module _ {A : Type 0} (G : Group A) where
@@ -35,10 +35,6 @@ module _ {A : Type 0} (G : Group A) where
   -- whatever gives the unit with x is the inverse of x
   pub inverse-unique : (x y : A) → y · x ≡ unit → y ≡ inverse x
   inverse-unique x y p = cancel-right y (inverse x) x (p ∙ sym (G .inverse-left x))
-
-  -- the inverse of the unit is the unit
-  pub inverse-of-unit : inverse unit ≡ unit
-  inverse-of-unit = sym (inverse-unique unit unit (G .unit-left unit))
 
   -- the inverse of a product is the product of the inverses
   pub inverse-of-product : (x y : A) → inverse (x · y) ≡ inverse x · inverse y

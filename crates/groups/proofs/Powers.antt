@@ -7,7 +7,7 @@ use lib.IntN.{*ℤ-zero, *ℤ-comm, sucℤ-*ℤ, predℤ-*ℤ}
 use Rattle.groups.specs.Group.{Group, repeated, powerWith, power, quotient}
 use Rattle.groups.specs.Homomorphism.{Homomorphism}
 use Rattle.groups.proofs.Groups.{unit-right, divide-multiply, multiply-divide, cancel-right, interchange}
-use Rattle.groups.proofs.Groups.{inverse-unique, inverse-of-unit, inverse-of-product}
+use Rattle.groups.proofs.Groups.{inverse-unique, inverse-of-product}
 
 -- what holds at 0 and is kept by one step up and by one step down holds at every integer
 pub integer-steps : (P : ℤ → Type 0) → P (pos 0) → ((k : ℤ) → P k → P (sucℤ k)) → ((k : ℤ) → P k → P (predℤ k)) → (k : ℤ) → P k
@@ -59,10 +59,11 @@ module _ {A : Type 0} (G : Group A) where
 
   -- (x^j)^k = x^(j · k)
   pub power-power : (x : A) (j k : ℤ) → power G (power G x j) k ≡ power G x (j *ℤ k)
+  unfolding quotient
   power-power x j = integer-steps (λ k. power G (power G x j) k ≡ power G x (j *ℤ k))
       (cc (power-zero (power G x j), *ℤ-zero j, power-zero x))
       (λ k h. cc (power-suc (power G x j) k, *ℤ-comm j (sucℤ k), sucℤ-*ℤ k j, *ℤ-comm k j, power-sum x (j *ℤ k) j))
-      (λ k h. cc (power-pred (power G x j) k, *ℤ-comm j (predℤ k), predℤ-*ℤ k j, *ℤ-comm k j, power-sum x (j *ℤ k) (negℤ j), power-negation x j))
+      (λ k h. cc (power-pred (power G x j) k, *ℤ-comm j (predℤ k), predℤ-*ℤ k j, *ℤ-comm k j, power-difference x (j *ℤ k) j))
 
   -- (x^j)^k = (x^k)^j
   pub power-swap : (x : A) (j k : ℤ) → power G (power G x j) k ≡ power G (power G x k) j
@@ -73,7 +74,13 @@ module _ {A : Type 0} (G : Group A) where
   power-of-product x y = integer-steps (λ k. power G (x · y) k ≡ power G x k · power G y k)
       (cc (power-zero (x · y), power-zero x, power-zero y, G .unit-left unit))
       (λ k h. cc (power-suc (x · y) k, power-suc x k, power-suc y k, interchange G (power G x k) (power G y k) x y))
-      (λ k h. cc (power-pred (x · y) k, power-pred x k, power-pred y k, inverse-of-product G x y, interchange G (power G x k) (power G y k) (inverse x) (inverse y)))
+      (λ k h. cc (
+        power-pred (x · y) k,
+        power-pred x k,
+        power-pred y k,
+        inverse-of-product G x y,
+        interchange G (power G x k) (power G y k) (inverse x) (inverse y),
+      ))
 
   -- a power of the unit is the unit
   pub power-of-unit : (k : ℤ) → power G unit k ≡ unit
