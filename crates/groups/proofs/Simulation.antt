@@ -10,6 +10,11 @@ use Rattle.groups.specs.Round.{Round, Accepts, response, simulated, simu
 use Rattle.groups.proofs.Groups.{multiply-divide, divide-multiply, cancel-right}
 use Rattle.groups.proofs.Powers.{power-negation, preserves-power, preserves-quotient}
 
+-- the nonce r / x^c has the response r
+pub nonce-response : {A : Type 0} (G : Group A) (x : A) (c : ℕ) (r : A) → response G x c (quotient G r (power G x (pos c))) ≡ r
+unfolding response quotient
+nonce-response G x c r = divide-multiply G r (power G x (pos c))
+
 module _ {A B : Type 0} {G : Group A} {H : Group B} (f : Homomorphism G H) (z : B) (c : ℕ) where
   -- the simulator's commitment makes the round accepted
   pub simulated-accepted : (r : A) → Accepts f z (simulated f z c r) c r
@@ -43,11 +48,6 @@ module _ {A B : Type 0} {G : Group A} {H : Group B} (f : Homomorphism G H) (z : 
     nonce-image t r accepted =
         cc (preserves-quotient f r (power G x (pos c)), preserves-power f x (pos c), multiply-divide H t (power H z (pos c)))
 
-    -- the nonce r / x^c has the response r
-    pub nonce-response : (r : A) → response G x c (quotient G r (power G x (pos c))) ≡ r
-    unfolding response quotient
-    nonce-response r = divide-multiply G r (power G x (pos c))
-
     -- the honest rounds of a witness over all nonces are the accepted rounds with challenge c, each once
     pub honest-rounds : MeetsEachOnce f z c (honestRound f x c)
     unfolding honestRound response
@@ -56,7 +56,7 @@ module _ {A B : Type 0} {G : Group A} {H : Group B} (f : Homomorphism G H) (z : 
       accepted = honest-accepted;
       met = λ t r accepted. (
         quotient G r (power G x (pos c)),
-        λ i. record { commitment = nonce-image t r accepted i; challenge = c; response = nonce-response r i },
+        λ i. record { commitment = nonce-image t r accepted i; challenge = c; response = nonce-response G x c r i },
       );
       once = λ k k′ same. cancel-right G k k′ (power G x (pos c)) (ap (λ (round : Round A B). round .response) same);
     }
