@@ -2,3 +2,4 @@
 pub mod Says
 pub mod Lowest
 pub mod Order
+pub mod Condition

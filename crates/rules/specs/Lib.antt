@@ -2,3 +2,4 @@
 pub mod Rule
 pub mod Answer
 pub mod Says
+pub mod Condition
