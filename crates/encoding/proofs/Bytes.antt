@@ -9,7 +9,7 @@ use native.Mathlib.Omega.{arith}
 use lib.Arith.{digits-lt, digits-div, digits-mod, mod-mul}
 use lib.ListN.{length, getD, take, drop, length-append, length-drop, List·getD-append}
 use lib.Seq.{take-suc, take-add, drop-drop, getD-at, getD-take, getD-drop, getD-append-add}
-use Rattle.encoding.specs.Places.{itemsAt}
+use Rattle.lists.specs.Places.{itemsAt}
 use Rattle.encoding.specs.Bytes.{numberAt, bytesOf, bytesOfEach, AllBelow, AllBytes}
 
 -- ---- the bytes of a number

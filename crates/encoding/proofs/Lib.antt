@@ -1,4 +1,3 @@
--- Laws of encodings: lists by index, numbers as bytes, replaced bytes.
-pub mod Places
+-- Laws of encodings: numbers as bytes, replaced bytes.
 pub mod Bytes
 pub mod Replaced

@@ -1,4 +1,3 @@
--- Definitions of encodings: lists by index, numbers as bytes, and text.
-pub mod Places
+-- Definitions of encodings: numbers as bytes, and text.
 pub mod Bytes
 pub mod Text

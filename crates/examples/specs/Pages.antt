@@ -6,7 +6,7 @@ use mathlib.Core.List.{List, [], _∷_, _++_}
 use Rattle.types.specs.declared.ProverStep.{ProverStep}
 use Rattle.types.specs.declared.Round.{Round}
 use Rattle.types.specs.declared.Verifier.{Verifier}
-use Rattle.encoding.specs.Places.{places}
+use Rattle.lists.specs.Places.{places}
 use Rattle.examples.specs.Sheets.{smallSheet, schnorr, okamoto, diffieHellman, product, root}
 use Rattle.formats.specs.Load.{loadRefusal}
 use Rattle.formats.specs.Sheet.{headerOf}

@@ -5,7 +5,7 @@ use mathlib.Core.Bool.{cond}
 use mathlib.Core.List.{List, [], _∷_, _++_, flatten}
 use lib.ListN.{getD}
 use Rattle.encoding.specs.Bytes.{bytesOf, bytesOfEach}
-use Rattle.encoding.specs.Places.{tabulate, places}
+use Rattle.lists.specs.Places.{tabulate, places}
 use Rattle.rules.specs.Rule.{Rule, _when_, lowest}
 use Rattle.sigma.specs.Admission.{headerRules, elementRules}
 use Rattle.sigma.specs.Instance.{Instance, isExponent, entry}

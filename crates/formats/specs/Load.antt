@@ -7,7 +7,7 @@ use lib.Dec.{eqb, ltb}
 use lib.ListN.{length}
 use Rattle.types.specs.declared.Header.{Header}
 use Rattle.types.specs.declared.Loaded.{Loaded}
-use Rattle.encoding.specs.Places.{zeros8}
+use Rattle.lists.specs.Places.{zeros8}
 use Rattle.rules.specs.Answer.{unlessRefused}
 use Rattle.rules.specs.Rule.{Rule, _when_, lowest}
 use Rattle.sigma.specs.Admission.{headerRules, elementRules}

@@ -7,7 +7,7 @@ use lib.Dec.{eqb, ltb}
 use lib.ListN.{length, getD}
 use Rattle.types.specs.declared.Header.{Header}
 use Rattle.types.specs.declared.Pattern.{Pattern}
-use Rattle.encoding.specs.Places.{tabulate, pad8, zeros8}
+use Rattle.lists.specs.Places.{tabulate, pad8, zeros8}
 use Rattle.numbers.specs.Search.{any}
 use Rattle.rules.specs.Rule.{Rule, _when_, lowest}
 use Rattle.sigma.specs.Admission.{badModulus, badOrder, badCount, badStatement}

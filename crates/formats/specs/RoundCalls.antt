@@ -8,7 +8,7 @@ use Rattle.types.specs.declared.Counted.{Counted}
 use Rattle.types.specs.declared.Fetched.{Fetched}
 use Rattle.types.specs.declared.Header.{Header}
 use Rattle.types.specs.declared.Round.{Round}
-use Rattle.encoding.specs.Places.{zeros8}
+use Rattle.lists.specs.Places.{zeros8}
 use Rattle.rules.specs.Answer.{unlessRefused}
 use Rattle.rules.specs.Rule.{Rule, _when_, lowest}
 use Rattle.formats.specs.Load.{loadRules}

@@ -9,7 +9,7 @@ use lib.ListN.{length, take, drop}
 use Rattle.types.specs.declared.Header.{Header}
 use Rattle.types.specs.declared.Round.{Round}
 use Rattle.encoding.specs.Bytes.{numberAt, bytesOf, bytesOfEach}
-use Rattle.encoding.specs.Places.{itemsAt, places, pad8}
+use Rattle.lists.specs.Places.{itemsAt, places, pad8}
 use Rattle.encoding.specs.Text.{ascii}
 use Rattle.sigma.specs.Comparison.{differ}
 

@@ -6,7 +6,7 @@ use mathlib.Core.List.{List}
 use lib.ListN.{replicate}
 use Rattle.types.specs.declared.Header.{Header}
 use Rattle.encoding.specs.Bytes.{numberAt}
-use Rattle.encoding.specs.Places.{itemsAt, pad8, zeros8}
+use Rattle.lists.specs.Places.{itemsAt, pad8, zeros8}
 use Rattle.encoding.specs.Text.{ascii}
 use Rattle.sigma.specs.Instance.{Instance, isExponent}
 

@@ -9,8 +9,9 @@ use native.Mathlib.Omega.{arith}
 use lib.IntN.{ℤ}
 use lib.ListN.{length, getD, replicate, length-map, length-replicate, getD-replicate}
 use Rattle.groups.specs.Group.{Group, powerWith}
-use Rattle.groups.specs.Each.{Each, each-length, each-at, each-from, each-proposition, same-values}
-use Rattle.groups.specs.Each.{length-zipWith, value-zipWith, value-map}
+use Rattle.lists.specs.Each.{Each}
+use Rattle.lists.proofs.Each.{each-length, each-at, each-from, each-proposition, same-values}
+use Rattle.lists.proofs.Each.{length-zipWith, value-zipWith, value-map}
 
 -- a number that satisfies P
 abbrev pub Number : (ℕ → Type 0) → Type 0

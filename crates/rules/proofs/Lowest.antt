@@ -7,7 +7,8 @@ use mathlib.Core.List.{List, [], _∷_, _++_}
 use mathlib.Core.Logic.{_↔_, _⊎_, inl, inr, ⊎-elim}
 use native.Mathlib.Omega.{arith}
 use lib.Dec.{T, ltb, ltb→lt}
-use Rattle.rules.specs.Rule.{Rule, _when_, lowest, numberOf, numbersOf, Clear, First, Applies, positive, Member}
+use Rattle.rules.specs.Rule.{Rule, _when_, lowest, numberOf, numbersOf, Clear, First, Applies, positive}
+use Rattle.lists.specs.Member.{Member}
 
 -- a rule that does not apply is passed over
 pub pass : (n : ℕ) (rules : List Rule) {b : Bool} → b ≡ false → lowest ((n when b) ∷ rules) ≡ lowest rules

@@ -8,8 +8,10 @@ use mathlib.Core.List.{List, [], _∷_}
 use mathlib.Core.Logic.{_⊎_, inl, inr, ⊎-elim}
 use lib.Dec.{eqb}
 use borrow.Author.Tests.{eqb-true, eq-eqb, ne-eqb}
-use Rattle.rules.specs.Rule.{Rule, _when_, lowest, numberOf, numbersOf, refusalOrder, isSublist}
-use Rattle.rules.specs.Rule.{First, Applies, Member, isMember, isDistinct, positionIn, position}
+use Rattle.rules.specs.Rule.{Rule, _when_, lowest, numberOf, numbersOf}
+use Rattle.rules.specs.Rule.{First, Applies}
+use Rattle.rules.specs.Order.{refusalOrder, isSublist, isMember, isDistinct, positionIn, position}
+use Rattle.lists.specs.Member.{Member}
 use Rattle.rules.specs.Says.{Says}
 use Rattle.rules.proofs.Says.{says-true, says-equal, says-or, says-and, says-not, says-cond}
 use Rattle.rules.proofs.Lowest.{first-applies, applies-first, applies-member}

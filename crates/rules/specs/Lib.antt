@@ -1,5 +1,6 @@
 -- Definitions of refusals and of what a test says.
 pub mod Rule
+pub mod Order
 pub mod Answer
 pub mod Says
 pub mod Condition

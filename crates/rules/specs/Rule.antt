@@ -25,17 +25,6 @@ numberOf (n when broken) = n
 unfoldable pub numbersOf : List Rule → List ℕ
 numbersOf rules = map numberOf rules
 
--- 01's numbers in their order ("Turned back"): the earliest that applies is given
-unfoldable pub refusalOrder : List ℕ
-refusalOrder =
-    1 ∷ 2 ∷ 3 ∷ 4 ∷ 5 ∷ 6 ∷ 7 ∷ 8 ∷ 9 ∷ 10 ∷ 11 ∷ 12 ∷ 13 ∷ 14 ∷ 15 ∷ 16 ∷ 17 ∷ 18 ∷ 19 ∷ 20 ∷ 21 ∷ 22 ∷ []
-
--- whether xs is left when some elements of ys are taken away
-unfoldable pub isSublist : List ℕ → List ℕ → Bool
-isSublist [] ys = true
-isSublist (x ∷ xs) [] = false
-isSublist (x ∷ xs) (y ∷ ys) = cond (eqb x y) (isSublist xs ys) (isSublist (x ∷ xs) ys)
-
 -- no rule of the list applies
 abbrev pub Clear : List Rule → Type 0
 Clear [] = Unit {0}
@@ -55,27 +44,3 @@ Applies n ((m when broken) ∷ rules) = ((broken ≡ true) × (n ≡ m)) ⊎ App
 abbrev pub positive : List Rule → Bool
 positive [] = true
 positive ((n when broken) ∷ rules) = ltb 0 n && positive rules
-
--- n is one of the numbers of a list
-abbrev pub Member : ℕ → List ℕ → Type 0
-Member n [] = ⊥
-Member n (m ∷ ms) = (n ≡ m) ⊎ Member n ms
-
--- whether n is one of the numbers of a list
-unfoldable pub isMember : ℕ → List ℕ → Bool
-isMember n [] = false
-isMember n (m ∷ ms) = eqb n m || isMember n ms
-
--- whether no number stands twice in a list
-unfoldable pub isDistinct : List ℕ → Bool
-isDistinct [] = true
-isDistinct (n ∷ ns) = not (isMember n ns) && isDistinct ns
-
--- how many numbers of a list stand before the first n, all of them where n is none of them
-unfoldable pub positionIn : List ℕ → ℕ → ℕ
-positionIn [] n = 0
-positionIn (m ∷ ms) n = cond (eqb n m) 0 (suc (positionIn ms n))
-
--- the place of a number in 01's order
-unfoldable pub position : ℕ → ℕ
-position n = positionIn refusalOrder n

@@ -6,7 +6,7 @@ use mathlib.Core.List.{List, [], _∷_, _++_, flatten}
 use lib.ListN.{length}
 use Rattle.types.specs.declared.Verdict.{Verdict}
 use Rattle.types.specs.declared.Verdict.the-variants.{Accepted, Rejected, Refused}
-use Rattle.encoding.specs.Places.{tabulate}
+use Rattle.lists.specs.Places.{tabulate}
 use Rattle.encoding.specs.Text.{ascii, decimal}
 use Rattle.numbers.specs.Search.{any}
 use Rattle.rules.specs.Answer.{unlessRefused}

@@ -7,7 +7,7 @@ use Rattle.types.specs.declared.Prover.{Prover}
 use Rattle.types.specs.declared.ProverPhase.{ProverPhase}
 use Rattle.types.specs.declared.ProverPhase.the-variants.{New, Committed, Answered, Dropped}
 use Rattle.types.specs.declared.ProverStep.{ProverStep}
-use Rattle.encoding.specs.Places.{pad8, places, zeros8}
+use Rattle.lists.specs.Places.{pad8, places, zeros8}
 use Rattle.rules.specs.Answer.{unlessRefused}
 use Rattle.rules.specs.Rule.{Rule, _when_, lowest}
 use Rattle.formats.specs.Load.{loadRules}

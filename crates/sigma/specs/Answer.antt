@@ -6,7 +6,7 @@ use mathlib.Core.List.{List, [], _∷_}
 use Rattle.types.specs.declared.Computed.{Computed}
 use Rattle.types.specs.declared.Verdict.{Verdict}
 use Rattle.types.specs.declared.Verdict.the-variants.{Accepted, Rejected, Refused}
-use Rattle.encoding.specs.Places.{pad8, zeros8}
+use Rattle.lists.specs.Places.{pad8, zeros8}
 use Rattle.rules.specs.Answer.{unlessRefused}
 
 -- a refusal's number, 0 for none, and the values of the answer; the number is the whole of a refused answer

@@ -9,7 +9,7 @@ use lib.ListN.{getD}
 use Rattle.types.specs.declared.Computed.{Computed}
 use Rattle.types.specs.declared.Header.{Header}
 use Rattle.types.specs.declared.Round.{Round}
-use Rattle.encoding.specs.Places.{tabulate, places}
+use Rattle.lists.specs.Places.{tabulate, places}
 use Rattle.numbers.specs.Integer.{residue, power, bezoutLeft, bezoutRight}
 use Rattle.numbers.specs.Inverse.{inverse}
 use Rattle.rules.specs.Rule.{Rule, _when_, lowest}

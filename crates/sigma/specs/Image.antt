@@ -4,7 +4,7 @@ use Prim.Native.Nat.{ℕ, _%_, _^_}
 use mathlib.Core.Bool.{cond}
 use mathlib.Core.List.{List}
 use lib.ListN.{getD}
-use Rattle.encoding.specs.Places.{tabulate}
+use Rattle.lists.specs.Places.{tabulate}
 use Rattle.numbers.specs.Product.{product}
 use Rattle.sigma.specs.Instance.{Instance, isExponent, entry}
 

@@ -4,7 +4,7 @@ use Prim.Native.Nat.{ℕ}
 use mathlib.Core.List.{List, [], _∷_, _++_}
 use Rattle.types.specs.declared.Round.{Round}
 use Rattle.types.specs.declared.Verdict.{Verdict}
-use Rattle.encoding.specs.Places.{places}
+use Rattle.lists.specs.Places.{places}
 use Rattle.rules.specs.Rule.{Rule, _when_, lowest}
 use Rattle.sigma.specs.Answer.{judged}
 use Rattle.sigma.specs.Instance.{Instance}

@@ -7,7 +7,7 @@ use lib.Dec.{leb}
 use lib.ListN.{getD}
 use Rattle.types.specs.declared.Header.{Header}
 use Rattle.types.specs.declared.Verdict.{Verdict}
-use Rattle.encoding.specs.Places.{tabulate}
+use Rattle.lists.specs.Places.{tabulate}
 use Rattle.numbers.specs.Search.{any}
 use Rattle.sigma.specs.Instance.{Instance, isExponent, statementAt}
 use Rattle.sigma.specs.Element.{isElement, isCoordinate}

@@ -4,7 +4,7 @@ use Prim.Native.Nat.{ℕ, _*_, _%_}
 use mathlib.Core.List.{List, [], _∷_, _++_}
 use lib.IntN.{pos, negℤ}
 use Rattle.types.specs.declared.Computed.{Computed}
-use Rattle.encoding.specs.Places.{tabulate, places}
+use Rattle.lists.specs.Places.{tabulate, places}
 use Rattle.numbers.specs.Integer.{power}
 use Rattle.rules.specs.Rule.{Rule, _when_, lowest}
 use Rattle.sigma.specs.Answer.{computed}

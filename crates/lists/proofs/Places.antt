@@ -10,7 +10,7 @@ use native.Mathlib.Omega.{arith}
 use lib.ListN.{length, getD, take, set, replicate, length-append, length-replicate, getD-replicate}
 use lib.ListN.{List·getD-append, List·getD-eq-default}
 use lib.Seq.{ext-getD, getD-take, getD-append-add, take-suc-set, set-at, append-snoc}
-use Rattle.encoding.specs.Places.{itemsAt, tabulate, places, pad8, zeros8}
+use Rattle.lists.specs.Places.{itemsAt, tabulate, places, pad8, zeros8}
 
 -- ---- items at a stride
 

@@ -3,7 +3,7 @@
 use mathlib.Core.Path.{_≡_, refl, sym, ap, subst}
 use mathlib.Core.Logic.{_⊎_, inl, inr, ⊎-elim}
 use mathlib.Core.List.{List, [], _∷_, _++_, map, flatMap}
-use Rattle.groups.specs.Enumeration.{Member, EachOnce}
+use Rattle.lists.specs.Member.{Member, EachOnce}
 
 module _ {A : Type 0} where
   -- a member of the first list is a member of the joined list

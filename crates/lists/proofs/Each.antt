@@ -1,4 +1,4 @@
--- Lists of n numbers that satisfy a predicate, and the values of lists that are mapped or joined slot by slot.
+-- The values of lists of n numbers that satisfy a predicate, and of lists that are mapped or joined slot by slot.
 -- Assumes nothing.
 use mathlib.Core.Path.{_≡_, refl, ap, _∙_, sym}
 use mathlib.Core.HLevel.{Unit-prop, ⊥-prop, ×-prop}
@@ -7,13 +7,7 @@ use Prim.Native.Nat.{ℕ, zero, suc, _<_}
 use native.Mathlib.Omega.{arith}
 use lib.ListN.{length, getD}
 use lib.Seq.{ext-getD}
-
--- the list has n numbers, and each satisfies P
-abbrev pub Each : (ℕ → Type 0) → ℕ → List ℕ → Type 0
-Each P zero [] = Unit {0}
-Each P zero (x ∷ xs) = ⊥
-Each P (suc n) [] = ⊥
-Each P (suc n) (x ∷ xs) = P x × Each P n xs
+use Rattle.lists.specs.Each.{Each}
 
 module _ (P : ℕ → Type 0) where
   -- a list of n numbers has length n

@@ -4,9 +4,10 @@ use mathlib.Core.Path.{refl, sym, subst, _∙_}
 use mathlib.Core.Logic.{inl, inr}
 use mathlib.Core.List.{List, [], _∷_, head-eq-of-cons-eq, tail-eq-of-cons-eq}
 use Prim.Native.Nat.{ℕ, zero, suc}
-use Rattle.groups.specs.Each.{Each}
-use Rattle.groups.specs.Enumeration.{Member, EachOnce, choices}
-use Rattle.groups.proofs.Members.{member-map, member-of-map, each-once-map, member-flatMap, member-of-flatMap, each-once-flatMap}
+use Rattle.lists.specs.Each.{Each}
+use Rattle.lists.specs.Choices.{choices}
+use Rattle.lists.specs.Member.{Member, EachOnce}
+use Rattle.lists.proofs.Member.{member-map, member-of-map, each-once-map, member-flatMap, member-of-flatMap, each-once-flatMap}
 
 -- every list of n numbers that satisfy P is a choice, where every number that satisfies P is a value
 pub choices-complete : (P : ℕ → Type 0) (values : List ℕ) → ((v : ℕ) → P v → Member v values)

@@ -1,0 +1,5 @@
+-- Laws of lists.
+pub mod Places
+pub mod Each
+pub mod Member
+pub mod Choices

@@ -1,0 +1,36 @@
+-- The order of 01's numbers: "lowest" is the earliest there, and each call's rules are a sublist.
+-- Assumes nothing.
+use mathlib.Core.Bool.{Bool, true, false, cond, not, _&&_, _||_}
+use mathlib.Core.List.{List, [], _∷_}
+use Prim.Native.Nat.{ℕ, suc}
+use lib.Dec.{eqb}
+
+-- 01's numbers in their order ("Turned back"): the earliest that applies is given
+unfoldable pub refusalOrder : List ℕ
+refusalOrder =
+    1 ∷ 2 ∷ 3 ∷ 4 ∷ 5 ∷ 6 ∷ 7 ∷ 8 ∷ 9 ∷ 10 ∷ 11 ∷ 12 ∷ 13 ∷ 14 ∷ 15 ∷ 16 ∷ 17 ∷ 18 ∷ 19 ∷ 20 ∷ 21 ∷ 22 ∷ []
+
+-- whether xs is left when some elements of ys are taken away
+unfoldable pub isSublist : List ℕ → List ℕ → Bool
+isSublist [] ys = true
+isSublist (x ∷ xs) [] = false
+isSublist (x ∷ xs) (y ∷ ys) = cond (eqb x y) (isSublist xs ys) (isSublist (x ∷ xs) ys)
+
+-- whether n is one of the numbers of a list
+unfoldable pub isMember : ℕ → List ℕ → Bool
+isMember n [] = false
+isMember n (m ∷ ms) = eqb n m || isMember n ms
+
+-- whether no number stands twice in a list
+unfoldable pub isDistinct : List ℕ → Bool
+isDistinct [] = true
+isDistinct (n ∷ ns) = not (isMember n ns) && isDistinct ns
+
+-- how many numbers of a list stand before the first n, all of them where n is none of them
+unfoldable pub positionIn : List ℕ → ℕ → ℕ
+positionIn [] n = 0
+positionIn (m ∷ ms) n = cond (eqb n m) 0 (suc (positionIn ms n))
+
+-- the place of a number in 01's order
+unfoldable pub position : ℕ → ℕ
+position n = positionIn refusalOrder n
