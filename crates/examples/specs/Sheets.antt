@@ -1,6 +1,6 @@
 -- The sheets of the calculator pages, as bytes. Those of one entry stand byte by byte; the others are made by the sheet maker.
 -- Assumes nothing.
-use Prim.Native.Nat.{ℕ, zero, suc}
+use Prim.Native.Nat.{ℕ}
 use mathlib.Core.List.{List, [], _∷_}
 use lib.ListN.{replicate, take}
 use Rattle.formats.specs.Pattern.{fromPattern}

@@ -3,7 +3,6 @@
 use Prim.Native.Nat.{ℕ}
 use mathlib.Core.Bool.{cond}
 use mathlib.Core.List.{List, [], _∷_, _++_, flatten}
-use lib.ListN.{getD}
 use Rattle.encoding.specs.Bytes.{bytesOf, bytesOfEach}
 use Rattle.lists.specs.Places.{tabulate, places}
 use Rattle.rules.specs.Rule.{Rule, _when_, lowest}

@@ -1,7 +1,7 @@
 -- The bytes of a sheet (01, "The sheet"), read as values.
 -- Assumes nothing.
 use Prim.Native.Nat.{ℕ, _+_, _*_}
-use mathlib.Core.Bool.{Bool, cond}
+use mathlib.Core.Bool.{cond}
 use mathlib.Core.List.{List}
 use lib.ListN.{replicate}
 use Rattle.types.specs.declared.Header.{Header}

@@ -1,7 +1,7 @@
 -- The greatest common divisor, by Euclid's algorithm, and what the words mean.
 -- Assumes nothing.
 use Prim.Native.Nat.{ℕ, zero, suc, _%_, _∣_}
-use mathlib.Core.Bool.{Bool, true, false}
+use mathlib.Core.Bool.{true, false}
 use lib.Dec.{eqb}
 
 -- Euclid's algorithm in at most n steps

@@ -1,9 +1,8 @@
 -- The marker's text (01, "The marker's lines"), as the bytes that it prints.
 -- Assumes nothing.
-use Prim.Native.Nat.{ℕ, suc, zero}
-use mathlib.Core.Bool.{Bool, not, cond}
-use mathlib.Core.List.{List, [], _∷_, _++_, flatten}
-use lib.ListN.{length}
+use Prim.Native.Nat.{ℕ}
+use mathlib.Core.Bool.{not, cond}
+use mathlib.Core.List.{List, _++_, flatten}
 use Rattle.types.specs.declared.Verdict.{Verdict}
 use Rattle.types.specs.declared.Verdict.the-variants.{Accepted, Rejected, Refused}
 use Rattle.lists.specs.Places.{tabulate}

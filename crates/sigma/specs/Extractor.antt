@@ -1,7 +1,7 @@
 -- The extractor (01, "A round"; refusals 14 to 16 of both rounds, then 18 to 20): u^a · (r/r′)^b with ℓa + (c − c′)b = 1.
 -- Assumes nothing.
 use Prim.Native.Nat.{ℕ, _+_, _-_, _*_, _%_}
-use mathlib.Core.Bool.{Bool, not, cond, _||_}
+use mathlib.Core.Bool.{not, cond, _||_}
 use mathlib.Core.List.{List, [], _∷_, _++_}
 use lib.Dec.{eqb}
 use lib.IntN.{ℤ, pos, _-ℤ_, _*ℤ_}
