@@ -3,6 +3,7 @@ pub mod Instance
 pub mod Element
 pub mod Admission
 pub mod Valid
+pub mod Reads
 pub mod Image
 pub mod Comparison
 pub mod Round

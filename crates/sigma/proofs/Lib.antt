@@ -1,0 +1,6 @@
+-- Laws of the protocol on values: what each test says, what a call answers, and what it reads.
+pub mod Values
+pub mod Tests
+pub mod Passed
+pub mod ByKind
+pub mod Valid
