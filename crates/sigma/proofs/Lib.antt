@@ -4,3 +4,7 @@ pub mod Tests
 pub mod Passed
 pub mod ByKind
 pub mod Valid
+pub mod Answer
+pub mod Order
+pub mod Unread
+pub mod Verdict
