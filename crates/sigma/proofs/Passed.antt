@@ -11,12 +11,15 @@ use borrow.Author.Tests.{leb-false, lt-leb, ltb-false, le-ltb}
 use Rattle.types.specs.declared.Header.{Header}
 use Rattle.rules.proofs.Says.{says-equal, says-or, says-false}
 use Rattle.sigma.specs.Instance.{Instance, entry, statementAt}
-use Rattle.sigma.specs.Element.{Element, Coordinate}
+use Rattle.sigma.specs.Element.{Element}
 use Rattle.sigma.specs.Image.{rowImage, image}
 use Rattle.sigma.specs.Admission.{badKind, badModulus, badOrder, badSize, badCount, badEntries, badStatement}
+use Rattle.sigma.specs.Meaning.{Elements, Coordinates}
 use Rattle.sigma.specs.Round.{badCommitment, badChallenge, badCoordinates, badWitness}
 use Rattle.sigma.proofs.Values.{image-at}
-use Rattle.sigma.proofs.Tests.{says-passes, says-stable, all-pass, says-element, says-coordinate, differ-false}
+use Rattle.sigma.proofs.Calculus.{says-passes, says-stable, all-pass}
+use Rattle.sigma.proofs.Comparison.{differ-false}
+use Rattle.sigma.proofs.Tests.{says-element, says-coordinate}
 use Rattle.sigma.proofs.Tests.{says-badSize, says-badCount, says-badEntries}
 
 -- ---- the fixed fields
@@ -88,7 +91,7 @@ module _ (i : Instance) where
   -- ---- what a call brings
 
   -- not 14: every value of a commitment is a group element
-  pub commitment-passes : (t : List ℕ) → (badCommitment i t ≡ false) ↔ ((r : ℕ) → r < i .header .rows → Element (i .header) (getD t r 0))
+  pub commitment-passes : (t : List ℕ) → (badCommitment i t ≡ false) ↔ Elements i t
   unfolding badCommitment
   commitment-passes t = all-pass _ _ _ (λ r. says-element (i .header) (getD t r 0))
 
@@ -98,7 +101,7 @@ module _ (i : Instance) where
   challenge-passes c = (leb-false (i .header .challenges) c, lt-leb (i .header .challenges) c)
 
   -- not 16: every slot is a coordinate of the domain
-  pub coordinates-pass : (x : List ℕ) → (badCoordinates i x ≡ false) ↔ ((j : ℕ) → j < i .header .columns → Coordinate (i .header) (getD x j 0))
+  pub coordinates-pass : (x : List ℕ) → (badCoordinates i x ≡ false) ↔ Coordinates i x
   unfolding badCoordinates
   coordinates-pass x = all-pass _ _ _ (λ j. says-coordinate (i .header) (getD x j 0))
 

@@ -1,61 +1,31 @@
 -- What each test says: it is true exactly when 01's condition, written with order, equality and divisibility, holds.
 -- Assumes nothing.
-use Prim.Native.Nat.{ℕ, _+_, _-_, _%_, _<_, _≤_, _∣_}
+use Prim.Native.Nat.{ℕ, _-_, _%_, _<_, _≤_, _∣_}
 use mathlib.Core.Path.{_≡_, refl, sym, _∙_}
-use mathlib.Core.Logic.{_↔_, _≢_, _⊎_, ⊎-elim}
+use mathlib.Core.Logic.{_≢_, _⊎_}
 use mathlib.Core.Bool.{Bool, true, false, cond, not, _||_, or-assoc, false≢true}
 use mathlib.Core.List.{List}
-use native.Mathlib.Nat.{dvd-of-mod-eq-zero, mod-eq-zero-of-dvd}
 use native.Mathlib.Decide.{decLt}
 use native.Mathlib.Omega.{arith}
 use lib.Dec.{eqb, ltb}
 use lib.ListN.{getD}
-use borrow.Author.Tests.{ltb-true, lt-ltb, not-false}
+use borrow.Author.Tests.{ltb-true, lt-ltb}
 use Rattle.types.specs.declared.Header.{Header}
 use Rattle.types.specs.declared.Verdict.{Verdict}
 use Rattle.types.specs.declared.Verdict.the-variants.{Accepted, Rejected, Refused}
-use Rattle.numbers.specs.Search.{find, any}
-use Rattle.numbers.specs.Gcd.{gcd}
-use Rattle.numbers.proofs.Search.{find-within, find-holds, find-first, find-is, any-true, any-of, any-false}
+use Rattle.numbers.specs.Search.{find}
+use Rattle.numbers.proofs.Search.{find-within, find-holds, find-first}
 use Rattle.rules.specs.Says.{Says}
-use Rattle.rules.proofs.Says.{says-less, says-at-most, says-equal, says-or, says-and, says-not, says-iff, says-false, says-decides}
+use Rattle.rules.proofs.Says.{says-less, says-at-most, says-equal, says-or, says-and, says-not, says-iff, says-false}
 use Rattle.sigma.specs.Instance.{Instance, isExponent, entry, statementAt}
 use Rattle.sigma.specs.Element.{isElement, isCoordinate, Element, Coordinate}
 use Rattle.sigma.specs.Admission.{firstDivisor, badKind, badModulus, badOrder, badSize, badCount, badEntries, badStatement}
-use Rattle.sigma.specs.Comparison.{firstDifference, differ}
 use Rattle.sigma.specs.Image.{rowImage, image}
 use Rattle.sigma.specs.Round.{badCommitment, badChallenge, badCoordinates, badWitness}
 use Rattle.sigma.specs.Answer.{isAccepted}
-use Rattle.sigma.specs.Reads.{Agree}
+use Rattle.sigma.proofs.Calculus.{says-any, says-divides}
+use Rattle.sigma.proofs.Comparison.{says-differ}
 use Rattle.sigma.proofs.Values.{image-at}
-
--- ---- tests of any kind
-
--- the opposite of a test is false exactly when the fact holds
-pub says-passes : {t : Bool} {P : Type 0} → Says t P → (not t ≡ false) ↔ P
-says-passes {t} s = (λ e. s .sound (not-false t e), λ x. rw (s .complete x))
-
--- a fact that a test says holds where it cannot fail
-pub says-stable : {t : Bool} {P : Type 0} → Says t P → ¬ (¬ P) → P
-says-stable s n = ⊎-elim (λ x. x) (λ y. absurd (n y)) (says-decides s)
-
--- a search below n ends with an index that has the property
-pub says-any : (n : ℕ) (p : ℕ → Bool) (P : ℕ → Type 0) → ((j : ℕ) → Says (p j) (P j)) → Says (any n p) ((j : ℕ) × (j < n) × P j)
-says-any n p P s = record {
-  sound = λ e. let (j, h, t) = any-true n p e in (j, h, s j .sound t);
-  complete = λ x. any-of n p (x .0) (x .1) (s (x .0) .complete (x .2));
-}
-
--- no index below n fails exactly when all have the property
-pub all-pass : (n : ℕ) (p : ℕ → Bool) (P : ℕ → Type 0) → ((j : ℕ) → Says (p j) (P j))
-    → (any n (λ j. not (p j)) ≡ false) ↔ ((j : ℕ) → j < n → P j)
-all-pass n p P s =
-    let fails = any-false n (λ j. not (p j)) in
-    (λ e j h. says-passes (s j) .0 (fails .0 e j h), λ f. fails .1 (λ j h. says-passes (s j) .1 (f j h)))
-
--- the remainder's test says divisibility
-pub says-divides : (d n : ℕ) → Says (eqb (n % d) 0) (d ∣ n)
-says-divides d n = says-iff (says-equal (n % d) 0) (dvd-of-mod-eq-zero d, mod-eq-zero-of-dvd d)
 
 -- ---- group elements and coordinates
 
@@ -91,51 +61,6 @@ unfolding isCoordinate
 says-coordinate h x =
     says-iff (says-kind h (says-less x (h .order)) (says-element h x))
     (λ f. record { reduced = f .0; element = f .1 }, λ c. (c .reduced, c .element))
-
--- ---- lists compared row by row
-
--- a row's test says that the lists differ there
-says-differs : (xs ys : List ℕ) (r : ℕ) → Says (not (eqb (getD xs r 0) (getD ys r 0))) (getD xs r 0 ≢ getD ys r 0)
-says-differs xs ys r = says-not (says-equal (getD xs r 0) (getD ys r 0))
-
--- the lists differ in some row below n
-pub says-differ : (n : ℕ) (xs ys : List ℕ) → Says (differ n xs ys) ((r : ℕ) × (r < n) × (getD xs r 0 ≢ getD ys r 0))
-unfolding differ firstDifference any
-says-differ n xs ys = says-any n _ (λ r. getD xs r 0 ≢ getD ys r 0) (says-differs xs ys)
-
--- the lists agree in every row below n
-pub differ-false : (n : ℕ) (xs ys : List ℕ) → (differ n xs ys ≡ false) ↔ Agree n xs ys
-unfolding differ firstDifference any
-differ-false n xs ys =
-    all-pass n (λ r. eqb (getD xs r 0) (getD ys r 0)) (λ r. getD xs r 0 ≡ getD ys r 0) (λ r. says-equal (getD xs r 0) (getD ys r 0))
-
--- the first differing row is a row, or n
-pub first-difference-within : (n : ℕ) (xs ys : List ℕ) → firstDifference n xs ys ≤ n
-unfolding firstDifference
-first-difference-within n xs ys = omega (arith, find-within (λ r. not (eqb (getD xs r 0) (getD ys r 0))) 0 n)
-
--- all rows before the first differing row agree
-pub first-difference-before : (n : ℕ) (xs ys : List ℕ) → Agree (firstDifference n xs ys) xs ys
-unfolding firstDifference
-first-difference-before n xs ys r h =
-    says-passes (says-equal (getD xs r 0) (getD ys r 0)) .0
-    (find-first (λ k. not (eqb (getD xs k 0) (getD ys k 0))) 0 n r (omega arith) h)
-
--- the first differing row differs, if it is a row
-pub first-difference-differs : (n : ℕ) (xs ys : List ℕ) → firstDifference n xs ys < n
-    → getD xs (firstDifference n xs ys) 0 ≢ getD ys (firstDifference n xs ys) 0
-unfolding firstDifference
-first-difference-differs n xs ys h =
-    says-differs xs ys _ .sound (find-holds (λ r. not (eqb (getD xs r 0) (getD ys r 0))) 0 n (omega arith))
-
--- a row that differs, with all rows before it agreeing, is the first differing row
-pub first-difference-is : (n : ℕ) (xs ys : List ℕ) (row : ℕ) → row < n → getD xs row 0 ≢ getD ys row 0 → Agree row xs ys
-    → firstDifference n xs ys ≡ row
-unfolding firstDifference
-first-difference-is n xs ys row h different before =
-    find-is (λ r. not (eqb (getD xs r 0) (getD ys r 0))) 0 n row (omega arith) (omega arith)
-    (says-differs xs ys row .complete different)
-    (λ r from below. says-passes (says-equal (getD xs r 0) (getD ys r 0)) .1 (before r below))
 
 -- ---- the fixed fields (4 to 8)
 
@@ -183,7 +108,9 @@ says-divisor order challenges = record { sound = found; complete = met }
     met : (d : ℕ) × (2 ≤ d) × (d < challenges) × (d ∣ order) → ltb (find divides 2 (challenges - 2)) challenges ≡ true
     met (d, low, below, whole) = elim (decLt (find divides 2 (challenges - 2)) challenges) [
       | yes within ↦ lt-ltb _ _ within
-      | no beyond ↦ absurd (false≢true (sym (find-first divides 2 (challenges - 2) d low (omega arith)) ∙ says-divides d order .complete whole))
+      | no beyond ↦
+          let passed = find-first divides 2 (challenges - 2) d low (omega arith) in
+          absurd (false≢true (sym passed ∙ says-divides d order .complete whole))
     ]
 
 -- 8: K is below 2 or above 65,536, or some d with 2 ≤ d < K divides ℓ
@@ -198,21 +125,24 @@ says-badCount h =
 
 -- 10: in kind 1 some entry is no group element
 pub says-badEntries : (i : Instance) → Says (badEntries i)
-    ((i .header .kind ≡ 1) × ((r : ℕ) × (r < i .header .rows) × ((c : ℕ) × (c < i .header .columns) × (¬ Element (i .header) (entry i r c)))))
+    ((i .header .kind ≡ 1)
+    × ((r : ℕ) × (r < i .header .rows) × ((c : ℕ) × (c < i .header .columns) × (¬ Element (i .header) (entry i r c)))))
 unfolding badEntries
 says-badEntries i =
     says-and (says-exponent (i .header))
     (says-any _ _ _ (λ r. says-any _ _ _ (λ c. says-not (says-element (i .header) (entry i r c)))))
 
 -- 11: some statement value is no group element
-pub says-badStatement : (i : Instance) → Says (badStatement i) ((r : ℕ) × (r < i .header .rows) × (¬ Element (i .header) (statementAt i r)))
+pub says-badStatement : (i : Instance) → Says (badStatement i)
+    ((r : ℕ) × (r < i .header .rows) × (¬ Element (i .header) (statementAt i r)))
 unfolding badStatement
 says-badStatement i = says-any _ _ _ (λ r. says-not (says-element (i .header) (statementAt i r)))
 
 -- ---- what a call brings (14 to 17) and the extractor's verdicts (20)
 
 -- 14: some value of a commitment is no group element
-pub says-badCommitment : (i : Instance) (t : List ℕ) → Says (badCommitment i t) ((r : ℕ) × (r < i .header .rows) × (¬ Element (i .header) (getD t r 0)))
+pub says-badCommitment : (i : Instance) (t : List ℕ) → Says (badCommitment i t)
+    ((r : ℕ) × (r < i .header .rows) × (¬ Element (i .header) (getD t r 0)))
 unfolding badCommitment
 says-badCommitment i t = says-any _ _ _ (λ r. says-not (says-element (i .header) (getD t r 0)))
 
@@ -222,12 +152,14 @@ unfolding badChallenge
 says-badChallenge i c = says-at-most (i .header .challenges) c
 
 -- 16: some slot is no coordinate of the domain
-pub says-badCoordinates : (i : Instance) (x : List ℕ) → Says (badCoordinates i x) ((j : ℕ) × (j < i .header .columns) × (¬ Coordinate (i .header) (getD x j 0)))
+pub says-badCoordinates : (i : Instance) (x : List ℕ) → Says (badCoordinates i x)
+    ((j : ℕ) × (j < i .header .columns) × (¬ Coordinate (i .header) (getD x j 0)))
 unfolding badCoordinates
 says-badCoordinates i x = says-any _ _ _ (λ j. says-not (says-coordinate (i .header) (getD x j 0)))
 
 -- 17: some row of the witness's image is not the statement's value
-pub says-badWitness : (i : Instance) (x : List ℕ) → Says (badWitness i x) ((r : ℕ) × (r < i .header .rows) × (rowImage i x r ≢ statementAt i r))
+pub says-badWitness : (i : Instance) (x : List ℕ) → Says (badWitness i x)
+    ((r : ℕ) × (r < i .header .rows) × (rowImage i x r ≢ statementAt i r))
 unfolding badWitness statementAt
 says-badWitness i x =
     says-iff (says-differ (i .header .rows) (image i x) (i .statement))

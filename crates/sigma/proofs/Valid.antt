@@ -14,7 +14,8 @@ use Rattle.rules.proofs.Lowest.{lowest-clear, clear-lowest, clear-append}
 use Rattle.sigma.specs.Instance.{Instance}
 use Rattle.sigma.specs.Admission.{headerRules, elementRules}
 use Rattle.sigma.specs.Valid.{Valid}
-use Rattle.sigma.proofs.Passed.{kind-passes, modulus-passes, order-passes, size-passes, count-passes, entries-pass, statement-passes}
+use Rattle.sigma.proofs.Passed.{kind-passes, modulus-passes, order-passes, size-passes, count-passes}
+use Rattle.sigma.proofs.Passed.{entries-pass, statement-passes}
 
 -- the numbers of the fixed fields' rules are positive
 pub header-positive : (h : Header) → T (positive (headerRules h))

@@ -52,6 +52,7 @@ module _ (i : Instance) where
 
   -- row `row` of a simulated commitment
   pub simulated-at : (c : ℕ) (r : List ℕ) (row : ℕ) → row < i .header .rows
-      → getD (simulated i c r) row 0 ≡ rowImage i r row * power (i .header .modulus) (statementAt i row) (negℤ (pos c)) % i .header .modulus
+      → getD (simulated i c r) row 0
+      ≡ rowImage i r row * power (i .header .modulus) (statementAt i row) (negℤ (pos c)) % i .header .modulus
   unfolding simulated
   simulated-at c r row h = getD-tabulate _ _ row 0 h
