@@ -20,7 +20,7 @@ says-passes {t} s = (λ e. s .sound (not-false t e), λ x. rw (s .complete x))
 pub says-stable : {t : Bool} {P : Type 0} → Says t P → ¬ (¬ P) → P
 says-stable s n = ⊎-elim (λ x. x) (λ y. absurd (n y)) (says-decides s)
 
--- two tests fail together exactly when both fail
+-- the test of one or the other is false exactly when both are
 pub both-fail : (a b : Bool) → ((a || b) ≡ false) ↔ ((a ≡ false) × (b ≡ false))
 both-fail true b = (λ e. absurd (true≢false e), λ x. x .0)
 both-fail false b = (λ e. (refl, e), λ x. x .1)

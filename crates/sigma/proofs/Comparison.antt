@@ -16,6 +16,7 @@ use Rattle.rules.specs.Says.{Says}
 use Rattle.rules.proofs.Says.{says-equal, says-not}
 use Rattle.sigma.specs.Comparison.{firstDifference, differ, compareSides}
 use Rattle.sigma.specs.Reads.{Agree}
+use Rattle.sigma.proofs.Answer.{accepted-not-refused, rejected-not-refused}
 use Rattle.sigma.proofs.Calculus.{says-passes, says-any, all-pass}
 
 -- ---- where they differ
@@ -65,11 +66,12 @@ first-difference-is n xs ys row h different before =
 
 -- ---- the verdict on them
 
--- the choice between rejected and accepted
+-- between rejected and accepted, accepted is chosen only where the test is false
 choice-accepted : (b : Bool) (row : ℕ) → cond b (Rejected row) Accepted ≡ Accepted → b ≡ false
 choice-accepted true row e = cc
 choice-accepted false row e = refl
 
+-- and rejected only where it is true, with that row
 choice-rejected : (b : Bool) (row row′ : ℕ) → cond b (Rejected row) Accepted ≡ Rejected row′ → (b ≡ true) × (row ≡ row′)
 choice-rejected true row row′ e = (refl, cc)
 choice-rejected false row row′ e = (cc, cc)
@@ -103,5 +105,5 @@ module _ (n : ℕ) (xs ys : List ℕ) where
   compare-not-refused k = never (differ n xs ys)
     where
       never : (b : Bool) → cond b (Rejected (firstDifference n xs ys)) Accepted ≢ Refused k
-      never true e = let z : _≡_ {A = ℕ} 0 1 = cc in omega arith
-      never false e = let z : _≡_ {A = ℕ} 0 1 = cc in omega arith
+      never true = rejected-not-refused (firstDifference n xs ys) k
+      never false = accepted-not-refused k

@@ -66,6 +66,21 @@ extract-order i t c r t′ c′ r′ = refl
 
 -- ---- no number is 0
 
+-- the numbers of the fixed fields' rules are positive
+pub header-positive : (h : Header) → T (positive (headerRules h))
+unfolding headerRules
+header-positive h = tt
+
+-- the numbers of the elements' rules are positive
+pub element-positive : (i : Instance) → T (positive (elementRules i))
+unfolding elementRules
+element-positive i = tt
+
+-- the numbers of both are positive
+pub value-positive : (i : Instance) → T (positive (headerRules (i .header) ++ elementRules i))
+unfolding headerRules elementRules
+value-positive i = tt
+
 -- the numbers of judging are positive
 pub judge-positive : (i : Instance) (t : List ℕ) (c : ℕ) (r : List ℕ) → T (positive (judgeRules i t c r))
 unfolding judgeRules

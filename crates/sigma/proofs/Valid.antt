@@ -2,35 +2,23 @@
 -- Assumes nothing.
 use Prim.Native.Nat.{ℕ, _<_, _≤_}
 use mathlib.Core.Path.{_≡_}
-use mathlib.Core.Logic.{_↔_, _≢_, ⊎-elim}
+use mathlib.Core.Logic.{_↔_, _≢_, inl, inr, ⊎-elim}
 use mathlib.Core.List.{_++_}
 use native.Mathlib.Nat.{dvd-refl}
 use native.Mathlib.Decide.{decLt}
 use native.Mathlib.Omega.{arith}
-use lib.Dec.{T}
-use Rattle.types.specs.declared.Header.{Header}
-use Rattle.rules.specs.Rule.{lowest, Clear, positive}
+use Rattle.numbers.specs.Gcd.{gcd}
+use Rattle.numbers.proofs.Powers.{order-inverses}
+use Rattle.numbers.proofs.Inverse.{inverses-coprime}
+use Rattle.rules.specs.Rule.{lowest, Clear}
 use Rattle.rules.proofs.Lowest.{lowest-clear, clear-lowest, clear-append}
 use Rattle.sigma.specs.Instance.{Instance}
+use Rattle.sigma.specs.Element.{Element}
 use Rattle.sigma.specs.Admission.{headerRules, elementRules}
 use Rattle.sigma.specs.Valid.{Valid}
+use Rattle.sigma.proofs.Order.{value-positive}
 use Rattle.sigma.proofs.Passed.{kind-passes, modulus-passes, order-passes, size-passes, count-passes}
 use Rattle.sigma.proofs.Passed.{entries-pass, statement-passes}
-
--- the numbers of the fixed fields' rules are positive
-pub header-positive : (h : Header) → T (positive (headerRules h))
-unfolding headerRules
-header-positive h = tt
-
--- the numbers of the elements' rules are positive
-pub element-positive : (i : Instance) → T (positive (elementRules i))
-unfolding elementRules
-element-positive i = tt
-
--- the numbers of both are positive
-pub value-positive : (i : Instance) → T (positive (headerRules (i .header) ++ elementRules i))
-unfolding headerRules elementRules
-value-positive i = tt
 
 module _ (i : Instance) where
   -- no rule of the sheet's values applies exactly when the instance is Valid
@@ -98,3 +86,10 @@ module _ {i : Instance} (v : Valid i) where
   -- an instance that is not of kind 1 is of kind 2
   pub valid-kind : i .header .kind ≢ 1 → i .header .kind ≡ 2
   valid-kind n = ⊎-elim (λ e. absurd (n e)) (λ e. e) (v .kind)
+
+  -- in both kinds a group element has no divisor in common with the modulus
+  pub valid-coprime : (x : ℕ) → Element (i .header) x → gcd x (i .header .modulus) ≡ 1
+  valid-coprime x e = elim (v .kind) [
+    | inl first ↦ inverses-coprime (order-inverses (i .header .modulus) (i .header .order) x valid-order (e .ordered first))
+    | inr second ↦ e .coprime (λ (first : i .header .kind ≡ 1). omega arith)
+  ]
