@@ -3,6 +3,8 @@ pub mod Instance
 pub mod Element
 pub mod Admission
 pub mod Valid
+pub mod Reads
+pub mod Meaning
 pub mod Image
 pub mod Comparison
 pub mod Round

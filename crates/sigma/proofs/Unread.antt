@@ -1,0 +1,153 @@
+-- A call's outcome depends only on the places that 01 reads: rounds that are the same there give the same answer.
+-- Assumes nothing.
+use Prim.Native.Nat.{ℕ, _*_, _%_, _^_, _<_}
+use mathlib.Core.Path.{_≡_, refl, sym, ap, ap₂, _∙_, subst}
+use mathlib.Core.Logic.{inl, inr}
+use mathlib.Core.List.{List}
+use native.Mathlib.Omega.{arith}
+use lib.ListN.{getD}
+use Rattle.types.specs.declared.Header.{Header}
+use Rattle.types.specs.declared.Round.{Round}
+use Rattle.numbers.proofs.Product.{product-agree}
+use Rattle.encoding.specs.Places.{places}
+use Rattle.encoding.proofs.Places.{places-agree, getD-places}
+use Rattle.rules.specs.Rule.{Rule}
+use Rattle.rules.proofs.Says.{says-decides}
+use Rattle.sigma.specs.Instance.{Instance, entry, statementAt}
+use Rattle.sigma.specs.Element.{Element, Coordinate}
+use Rattle.sigma.specs.Valid.{Valid}
+use Rattle.sigma.specs.Image.{rowImage}
+use Rattle.sigma.specs.Reads.{Agree, SameRound, readRound}
+use Rattle.sigma.specs.Meaning.{RowHolds, Holds, FailsFirst, Elements, Coordinates, Fits, Extracts}
+use Rattle.sigma.specs.Judge.{judgeAfter}
+use Rattle.sigma.specs.Simulator.{simulateAfter}
+use Rattle.sigma.specs.Extractor.{extractAfter}
+use Rattle.sigma.proofs.Tests.{says-exponent}
+use Rattle.sigma.proofs.ByKind.{rowImage-exponent, rowImage-root}
+use Rattle.sigma.proofs.Valid.{valid-kind}
+
+-- ---- rounds
+
+-- a round is the same as itself
+pub same-round-refl : (h : Header) (round : Round) → SameRound h round round
+same-round-refl h round = record { commitment = λ j b. refl; challenge = refl; response = λ j b. refl }
+
+module _ {h : Header} {round round′ : Round} (s : SameRound h round round′) where
+  -- the same rounds, the other way round
+  pub same-round-sym : SameRound h round′ round
+  same-round-sym = record {
+    commitment = λ j b. sym (s .commitment j b);
+    challenge = sym (s .challenge);
+    response = λ j b. sym (s .response j b);
+  }
+
+  -- the same rounds follow one another
+  pub same-round-trans : {round″ : Round} → SameRound h round′ round″ → SameRound h round round″
+  same-round-trans t = record {
+    commitment = λ j b. s .commitment j b ∙ t .commitment j b;
+    challenge = s .challenge ∙ t .challenge;
+    response = λ j b. s .response j b ∙ t .response j b;
+  }
+
+  -- what is read of their commitments is the same
+  pub same-commitment : places (h .rows) (round .commitment) ≡ places (h .rows) (round′ .commitment)
+  same-commitment = places-agree (h .rows) (round .commitment) (round′ .commitment) (s .commitment)
+
+  -- what is read of their responses is the same
+  pub same-response : places (h .columns) (round .response) ≡ places (h .columns) (round′ .response)
+  same-response = places-agree (h .columns) (round .response) (round′ .response) (s .response)
+
+-- what is read of a round is the same round
+pub same-round-of-read : (h : Header) (round : Round) → SameRound h (readRound h round) round
+same-round-of-read h round = record {
+  commitment = getD-places (h .rows) (round .commitment);
+  challenge = refl;
+  response = getD-places (h .columns) (round .response);
+}
+
+-- ---- facts
+
+-- a row of [x] reads n places of x; in kind 2 there are as many rows
+pub rowImage-agree : {i : Instance} → Valid i → (x x′ : List ℕ) → Agree (i .header .columns) x x′
+    → (row : ℕ) → row < i .header .rows → rowImage i x row ≡ rowImage i x′ row
+rowImage-agree {i} v x x′ a row h = elim (says-decides (says-exponent (i .header))) [
+  | inl e ↦
+      let powers = product-agree (i .header .columns) (λ c. entry i row c ^ getD x c 0) (λ c. entry i row c ^ getD x′ c 0)
+      (λ c b. ap (λ (k : ℕ). entry i row c ^ k) (a c b)) in
+      rowImage-exponent i e x row ∙ ap (λ (k : ℕ). k % i .header .modulus) powers ∙ sym (rowImage-exponent i e x′ row)
+  | inr n ↦
+      let same : getD x row 0 ≡ getD x′ row 0 = a row (omega (arith, v .square (valid-kind v n))) in
+      rowImage-root i n x row ∙ ap (λ (k : ℕ). k ^ i .header .order % i .header .modulus) same ∙ sym (rowImage-root i n x′ row)
+]
+
+-- whether all values are group elements depends only on the places that are read
+pub elements-agree : (i : Instance) (t t′ : List ℕ) → Agree (i .header .rows) t t′ → Elements i t → Elements i t′
+elements-agree i t t′ a f row h = subst (λ (v : ℕ). Element (i .header) v) (a row h) (f row h)
+
+-- whether all slots are coordinates depends only on the places that are read
+pub coordinates-agree : (i : Instance) (x x′ : List ℕ) → Agree (i .header .columns) x x′ → Coordinates i x → Coordinates i x′
+coordinates-agree i x x′ a f j h = subst (λ (v : ℕ). Coordinate (i .header) v) (a j h) (f j h)
+
+module _ (i : Instance) {round round′ : Round} (s : SameRound (i .header) round round′) where
+  -- what fits depends only on the places that are read
+  pub fits-same : Fits i round → Fits i round′
+  fits-same f = record {
+    commitment = elements-agree i (round .commitment) (round′ .commitment) (s .commitment) (f .commitment);
+    challenge = rw (s .challenge) at (f .challenge);
+    response = coordinates-agree i (round .response) (round′ .response) (s .response) (f .response);
+  }
+
+  -- so does the equation in a row
+  pub row-same : Valid i → (row : ℕ) → row < i .header .rows → RowHolds i round row → RowHolds i round′ row
+  row-same v row h e =
+      sym (rowImage-agree v (round .response) (round′ .response) (s .response) row h) ∙ e
+      ∙ ap₂ (λ (u c : ℕ). u * statementAt i row ^ c % i .header .modulus) (s .commitment row h) (s .challenge)
+
+  -- so does the equation in every row
+  pub holds-same : Valid i → Holds i round → Holds i round′
+  holds-same v f row h = row-same v row h (f row h)
+
+-- so does the first row in which the equation fails
+pub fails-same : (i : Instance) {round round′ : Round} → SameRound (i .header) round round′ → Valid i → (row : ℕ)
+    → FailsFirst i round row → FailsFirst i round′ row
+fails-same i s v row f = record {
+  inside = f .inside;
+  fails = λ x. f .fails (row-same i (same-round-sym s) v row (f .inside) x);
+  before = λ k h. row-same i s v k (omega arith) (f .before k h);
+}
+
+-- so does what the extractor asks for
+pub extracts-same : (i : Instance) {first first′ second second′ : Round}
+    → SameRound (i .header) first first′ → SameRound (i .header) second second′ → Valid i
+    → Extracts i first second → Extracts i first′ second′
+extracts-same i s t v x = record {
+  first-fits = fits-same i s (x .first-fits);
+  second-fits = fits-same i t (x .second-fits);
+  commitments = λ j h. sym (s .commitment j h) ∙ x .commitments j h ∙ t .commitment j h;
+  challenges = λ e. x .challenges (s .challenge ∙ e ∙ sym (t .challenge));
+  first-holds = holds-same i s v (x .first-holds);
+  second-holds = holds-same i t v (x .second-holds);
+}
+
+-- ---- the calls
+
+module _ (before : List Rule) (i : Instance) where
+  -- judging
+  pub judgeAfter-same : {round round′ : Round} → SameRound (i .header) round round′
+      → judgeAfter before i round ≡ judgeAfter before i round′
+  unfolding judgeAfter
+  judgeAfter-same s = cc (same-commitment s, same-response s, s .challenge)
+
+  -- simulating
+  pub simulateAfter-same : (c : ℕ) (r r′ : List ℕ) → Agree (i .header .columns) r r′
+      → simulateAfter before i c r ≡ simulateAfter before i c r′
+  unfolding simulateAfter
+  simulateAfter-same c r r′ a = rw (places-agree (i .header .columns) r r′ a)
+
+  -- extracting
+  pub extractAfter-same : {first first′ second second′ : Round}
+      → SameRound (i .header) first first′ → SameRound (i .header) second second′
+      → extractAfter before i first second ≡ extractAfter before i first′ second′
+  unfolding extractAfter
+  extractAfter-same s t =
+      cc (same-commitment s, same-response s, s .challenge, same-commitment t, same-response t, t .challenge)

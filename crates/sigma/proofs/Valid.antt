@@ -1,0 +1,95 @@
+-- The rules of the sheet's values turn an instance back exactly when it is not Valid, and what a Valid instance has.
+-- Assumes nothing.
+use Prim.Native.Nat.{ℕ, _<_, _≤_}
+use mathlib.Core.Path.{_≡_}
+use mathlib.Core.Logic.{_↔_, _≢_, inl, inr, ⊎-elim}
+use mathlib.Core.List.{_++_}
+use native.Mathlib.Nat.{dvd-refl}
+use native.Mathlib.Decide.{decLt}
+use native.Mathlib.Omega.{arith}
+use Rattle.numbers.specs.Gcd.{gcd}
+use Rattle.numbers.proofs.Powers.{order-inverses}
+use Rattle.numbers.proofs.Inverse.{inverses-coprime}
+use Rattle.rules.specs.Rule.{lowest, Clear}
+use Rattle.rules.proofs.Lowest.{lowest-clear, clear-lowest, clear-append}
+use Rattle.sigma.specs.Instance.{Instance}
+use Rattle.sigma.specs.Element.{Element}
+use Rattle.sigma.specs.Admission.{headerRules, elementRules}
+use Rattle.sigma.specs.Valid.{Valid}
+use Rattle.sigma.proofs.Order.{value-positive}
+use Rattle.sigma.proofs.Passed.{kind-passes, modulus-passes, order-passes, size-passes, count-passes}
+use Rattle.sigma.proofs.Passed.{entries-pass, statement-passes}
+
+module _ (i : Instance) where
+  -- no rule of the sheet's values applies exactly when the instance is Valid
+  pub clear-valid : (Clear (headerRules (i .header)) × Clear (elementRules i)) ↔ Valid i
+  unfolding headerRules elementRules
+  clear-valid =
+      let h = i .header in (
+        λ ((kind, (modulus, (order, (size, (count, none))))), (entries, (statement, none′))).
+            let sized = size-passes h .0 size in
+            let counted = count-passes h .0 count in
+            record {
+              kind = kind-passes h .0 kind;
+              modulus = modulus-passes h .0 modulus;
+              order = order-passes h .0 order;
+              some-row = sized .0;
+              few-rows = sized .1;
+              some-column = sized .2;
+              few-columns = sized .3;
+              square = sized .4;
+              some-challenges = counted .0;
+              few-challenges = counted .1;
+              no-divisor = counted .2;
+              entries = entries-pass i .0 entries;
+              statement = statement-passes i .0 statement;
+            },
+        λ v.
+            let size = size-passes h .1 (v .some-row, v .few-rows, v .some-column, v .few-columns, v .square) in
+            let count = count-passes h .1 (v .some-challenges, v .few-challenges, v .no-divisor) in (
+              (kind-passes h .1 (v .kind), (modulus-passes h .1 (v .modulus), (order-passes h .1 (v .order), (size, (count, tt))))),
+              (entries-pass i .1 (v .entries), (statement-passes i .1 (v .statement), tt)),
+            ),
+      )
+
+  -- the rules of the sheet's values give 0 exactly when the instance is Valid
+  pub lowest-valid : (lowest (headerRules (i .header) ++ elementRules i) ≡ 0) ↔ Valid i
+  lowest-valid =
+      let rules = headerRules (i .header) ++ elementRules i in
+      let parts = clear-append (headerRules (i .header)) (elementRules i) in (
+        λ e. clear-valid .0 (parts .0 (clear-lowest rules (value-positive i) e)),
+        λ v. lowest-clear rules (parts .1 (clear-valid .1 v)),
+      )
+
+-- ---- what a Valid instance has
+
+module _ {i : Instance} (v : Valid i) where
+  -- the modulus is above 1
+  pub valid-modulus : 1 < i .header .modulus
+  valid-modulus = omega arith
+
+  -- ℓ is above 0
+  pub valid-order : 0 < i .header .order
+  valid-order = omega arith
+
+  -- K is at most ℓ, which divides itself
+  pub valid-challenges : i .header .challenges ≤ i .header .order
+  valid-challenges = elim (decLt (i .header .order) (i .header .challenges)) [
+    | yes below ↦ absurd (v .no-divisor (i .header .order) (v .order) below (dvd-refl (i .header .order)))
+    | no above ↦ omega arith
+  ]
+
+  -- a challenge is below ℓ
+  pub valid-challenge : (c : ℕ) → c < i .header .challenges → c < i .header .order
+  valid-challenge c h = omega (arith, valid-challenges)
+
+  -- an instance that is not of kind 1 is of kind 2
+  pub valid-kind : i .header .kind ≢ 1 → i .header .kind ≡ 2
+  valid-kind n = ⊎-elim (λ e. absurd (n e)) (λ e. e) (v .kind)
+
+  -- in both kinds a group element has no divisor in common with the modulus
+  pub valid-coprime : (x : ℕ) → Element (i .header) x → gcd x (i .header .modulus) ≡ 1
+  valid-coprime x e = elim (v .kind) [
+    | inl first ↦ inverses-coprime (order-inverses (i .header .modulus) (i .header .order) x valid-order (e .ordered first))
+    | inr second ↦ e .coprime (λ (first : i .header .kind ≡ 1). omega arith)
+  ]

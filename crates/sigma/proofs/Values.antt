@@ -1,0 +1,58 @@
+-- What stands in each place of the lists that a round is made of.
+-- Assumes nothing.
+use Prim.Native.Nat.{ℕ, _*_, _%_, _^_, _<_}
+use mathlib.Core.Path.{_≡_}
+use mathlib.Core.List.{List}
+use lib.IntN.{pos, negℤ}
+use lib.ListN.{length, getD}
+use Rattle.encoding.proofs.Places.{length-tabulate, getD-tabulate}
+use Rattle.numbers.specs.Integer.{power}
+use Rattle.sigma.specs.Instance.{Instance, statementAt}
+use Rattle.sigma.specs.Image.{rowImage, image}
+use Rattle.sigma.specs.Round.{responseSlot, response, otherSide}
+use Rattle.sigma.specs.Simulator.{simulated}
+
+module _ (i : Instance) where
+  -- [x] has a value for each row
+  pub length-image : (x : List ℕ) → length (image i x) ≡ i .header .rows
+  unfolding image
+  length-image x = length-tabulate _ _
+
+  -- row r of [x]
+  pub image-at : (x : List ℕ) (r : ℕ) → r < i .header .rows → getD (image i x) r 0 ≡ rowImage i x r
+  unfolding image
+  image-at x r h = getD-tabulate _ _ r 0 h
+
+  -- t · z^c has a value for each row
+  pub length-other-side : (t : List ℕ) (c : ℕ) → length (otherSide i t c) ≡ i .header .rows
+  unfolding otherSide
+  length-other-side t c = length-tabulate _ _
+
+  -- row r of t · z^c
+  pub other-side-at : (t : List ℕ) (c r : ℕ) → r < i .header .rows
+      → getD (otherSide i t c) r 0 ≡ getD t r 0 * statementAt i r ^ c % i .header .modulus
+  unfolding otherSide
+  other-side-at t c r h = getD-tabulate _ _ r 0 h
+
+  -- a response has a value for each column
+  pub length-response : (k : List ℕ) (c : ℕ) (x : List ℕ) → length (response i k c x) ≡ i .header .columns
+  unfolding response
+  length-response k c x = length-tabulate _ _
+
+  -- slot j of a response
+  pub response-at : (k : List ℕ) (c : ℕ) (x : List ℕ) (j : ℕ) → j < i .header .columns
+      → getD (response i k c x) j 0 ≡ responseSlot (i .header) (getD k j 0) c (getD x j 0)
+  unfolding response
+  response-at k c x j h = getD-tabulate _ _ j 0 h
+
+  -- a simulated commitment has a value for each row
+  pub length-simulated : (c : ℕ) (r : List ℕ) → length (simulated i c r) ≡ i .header .rows
+  unfolding simulated
+  length-simulated c r = length-tabulate _ _
+
+  -- row `row` of a simulated commitment
+  pub simulated-at : (c : ℕ) (r : List ℕ) (row : ℕ) → row < i .header .rows
+      → getD (simulated i c r) row 0
+      ≡ rowImage i r row * power (i .header .modulus) (statementAt i row) (negℤ (pos c)) % i .header .modulus
+  unfolding simulated
+  simulated-at c r row h = getD-tabulate _ _ row 0 h

@@ -1,0 +1,27 @@
+-- The places of arrays that 01 reads ("where a call is handed eight places, those beyond s or n are not read").
+-- Assumes nothing.
+use Prim.Native.Nat.{ℕ, _<_}
+use mathlib.Core.Path.{_≡_}
+use mathlib.Core.List.{List}
+use lib.ListN.{getD}
+use Rattle.types.specs.declared.Header.{Header}
+use Rattle.types.specs.declared.Round.{Round}
+use Rattle.encoding.specs.Places.{places}
+
+-- two arrays agree in their first n places
+abbrev pub Agree : ℕ → List ℕ → List ℕ → Type 0
+Agree n xs ys = (j : ℕ) → j < n → getD xs j 0 ≡ getD ys j 0
+
+-- a round of its three values
+abbrev pub roundOf : List ℕ → ℕ → List ℕ → Round
+roundOf t c r = record { commitment = t; challenge = c; response = r }
+
+-- what is read of a round: s places of t, c, and n places of r
+abbrev pub readRound : Header → Round → Round
+readRound h round = roundOf (places (h .rows) (round .commitment)) (round .challenge) (places (h .columns) (round .response))
+
+-- two rounds are the same: all their t, c and r are equal, unread places being no part of them
+pub record SameRound (h : Header) (round round′ : Round) : Type 0 where
+  pub commitment : Agree (h .rows) (round .commitment) (round′ .commitment)
+  pub challenge : round .challenge ≡ round′ .challenge
+  pub response : Agree (h .columns) (round .response) (round′ .response)
