@@ -4,7 +4,7 @@ use Prim.Native.Nat.{ℕ, zero, suc, _+_, _*_, _/_, _%_, _<_}
 use mathlib.Core.List.{List, [], _∷_, _++_}
 use lib.ListN.{getD}
 
--- the number in the w bytes of s from index `at` on
+-- the number in the w bytes of s from index `at` on; a place beyond the end counts as 0
 unfoldable pub numberAt : ℕ → List ℕ → ℕ → ℕ
 numberAt zero s at = 0
 numberAt (suc w) s at = numberAt w s at * 256 + getD s (at + w) 0

@@ -13,11 +13,11 @@ unfoldable pub ascii : String → List ℕ
 ascii String.[] = []
 ascii (String._∷_ letter letters) = code letter ∷ ascii letters
 
--- the digits of n, of which there are at most `most` + 1
+-- the digits of n, cut to the last `most` + 1
 unfoldable pub digits : ℕ → ℕ → List ℕ
 digits zero n = (48 + n % 10) ∷ []
 digits (suc most) n = elim (ltb n 10) [ true ↦ (48 + n) ∷ [] | false ↦ digits most (n / 10) ++ (48 + n % 10) ∷ [] ]
 
--- the bytes of n in decimal, without leading zeros
+-- the bytes of n in decimal, without leading zeros; a number has at most as many digits as its value, or one
 unfoldable pub decimal : ℕ → List ℕ
 decimal n = digits n n

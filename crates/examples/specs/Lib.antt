@@ -1,4 +1,4 @@
 -- 01's calculator pages.
 pub mod Sheets
 pub mod Pages
-pub mod Term
+pub mod MarkerExample

@@ -1,16 +1,26 @@
--- The starred pages as one table: what the definitions give beside what the page prints.
+-- The starred pages and the marker's example as one table: what the definitions give beside what 01 prints.
 -- Assumes nothing.
 use Prim.Native.Nat.{ℕ}
 use Prim.Native.String.{String}
 use mathlib.Core.List.{List, [], _∷_, _++_}
+use lib.ListN.{replicate, take}
 use Rattle.types.specs.declared.ProverStep.{ProverStep}
 use Rattle.types.specs.declared.Round.{Round}
 use Rattle.types.specs.declared.Verifier.{Verifier}
 use Rattle.lists.specs.Places.{places}
-use Rattle.examples.specs.Sheets.{smallSheet, schnorr, okamoto, diffieHellman, product, root}
+use Rattle.examples.specs.MarkerExample.{exampleFile, exampleText}
+use Rattle.examples.specs.Sheets.{
+  smallSheet,
+  schnorrSheet,
+  okamotoSheet,
+  diffieHellmanSheet,
+  productSheet,
+  rootSheet,
+}
 use Rattle.formats.specs.Load.{loadRefusal}
 use Rattle.formats.specs.Sheet.{headerOf}
-use Rattle.runs.specs.Calls.{judgeSheet, simulateSheet, extractSheet}
+use Rattle.runs.specs.Calls.{judgeRound, simulateCommitment, extractWitness}
+use Rattle.runs.specs.Marker.{markerText}
 use Rattle.runs.specs.Prover.{newProver, commit, respond}
 use Rattle.runs.specs.Verifier.{newVerifier, takeCommitment, takeChallenge, takeResponse}
 use Rattle.sigma.specs.Answer.{outcome}
@@ -21,54 +31,62 @@ pub record Page : Type 0 where
   pub given : List ℕ
   pub printed : List ℕ
 
+-- an array of eight places; those beyond the values hold 99, which no call may read
+unfoldable pub array : List ℕ → List ℕ
+array values = take 8 (values ++ replicate 8 99)
+
 -- a round of one row and one column
 unfoldable pub roundOf : ℕ → ℕ → ℕ → Round
-roundOf t c r = record { commitment = t ∷ []; challenge = c; response = r ∷ [] }
+roundOf t c r = record { commitment = array (t ∷ []); challenge = c; response = array (r ∷ []) }
 
 -- a run of both sessions: Peggy commits, Vic takes the commitment and the challenge, Peggy responds, Vic judges.
--- The commitment, the response and the verdict's values
+-- The commitment, the response and the verdict's values, of which the last 1 is accepted
 unfoldable pub run : List ℕ → List ℕ → List ℕ → ℕ → List ℕ
 run sheet witness nonce c =
-    let committed : ProverStep = commit sheet newProver nonce in
+    let committed : ProverStep = commit sheet newProver (array nonce) in
     let holding : Verifier = takeCommitment sheet newVerifier (committed .values) .session in
     let asked : Verifier = takeChallenge sheet holding c .session in
-    let responded : ProverStep = respond sheet (committed .session) c witness in
+    let responded : ProverStep = respond sheet (committed .session) c (array witness) in
     places (headerOf sheet .rows) (committed .values) ++ places (headerOf sheet .columns) (responded .values) ++
     outcome (takeResponse sheet asked (responded .values) .verdict) .values
 
 -- the witness that two rounds give, and that the same rounds give when swapped
 unfoldable pub bothWays : List ℕ → Round → Round → List ℕ
 bothWays sheet first second =
-    places (headerOf sheet .columns) (extractSheet sheet first second .values) ++
-    places (headerOf sheet .columns) (extractSheet sheet second first .values)
+    places (headerOf sheet .columns) (extractWitness sheet first second .values) ++
+    places (headerOf sheet .columns) (extractWitness sheet second first .values)
 
--- the number that judging a round of one row and one column is refused with
+-- the number that judging a round is refused with, 0 where it is not
 unfoldable pub judgedNumber : List ℕ → Round → ℕ
-judgedNumber sheet round = outcome (judgeSheet sheet round) .number
+judgedNumber sheet round = outcome (judgeRound sheet round) .number
 
--- the starred pages, A to J; the last 1 of a run is the verdict accepted
+-- the starred pages, A to J, and the marker's example
 unfoldable pub pages : List Page
 pages =
-    record { letter = "A"; given = run schnorr (7 ∷ []) (5 ∷ []) 3; printed = 9 ∷ 4 ∷ 1 ∷ [] } ∷
-    record { letter = "B"; given = bothWays schnorr (roundOf 9 3 4) (roundOf 9 1 1); printed = 7 ∷ 7 ∷ [] } ∷
-    record { letter = "C"; given = places 1 (simulateSheet schnorr 3 (0 ∷ []) .values); printed = 2 ∷ [] } ∷
+    record { letter = "A"; given = run schnorrSheet (7 ∷ []) (5 ∷ []) 3; printed = 9 ∷ 4 ∷ 1 ∷ [] } ∷
+    record { letter = "B"; given = bothWays schnorrSheet (roundOf 9 3 4) (roundOf 9 1 1); printed = 7 ∷ 7 ∷ [] } ∷
+    record {
+      letter = "C";
+      given = places 1 (simulateCommitment schnorrSheet 3 (array (0 ∷ [])) .values);
+      printed = 2 ∷ [];
+    } ∷
     record {
       letter = "D";
-      given = run okamoto (1 ∷ 2 ∷ []) (0 ∷ 0 ∷ []) 1 ++ run okamoto (6 ∷ 0 ∷ []) (6 ∷ 2 ∷ []) 1;
+      given = run okamotoSheet (1 ∷ 2 ∷ []) (0 ∷ 0 ∷ []) 1 ++ run okamotoSheet (6 ∷ 0 ∷ []) (6 ∷ 2 ∷ []) 1;
       printed = 1 ∷ 1 ∷ 2 ∷ 1 ∷ 1 ∷ 1 ∷ 2 ∷ 1 ∷ [];
     } ∷
-    record { letter = "E"; given = run diffieHellman (7 ∷ []) (5 ∷ []) 3; printed = 9 ∷ 6 ∷ 4 ∷ 1 ∷ [] } ∷
+    record { letter = "E"; given = run diffieHellmanSheet (7 ∷ []) (5 ∷ []) 3; printed = 9 ∷ 6 ∷ 4 ∷ 1 ∷ [] } ∷
     record {
       letter = "F";
-      given = places 2 (commit product newProver (2 ∷ 1 ∷ 0 ∷ []) .values);
+      given = places 2 (commit productSheet newProver (array (2 ∷ 1 ∷ 0 ∷ [])) .values);
       printed = 12 ∷ 9 ∷ [];
     } ∷
     record {
       letter = "G";
-      given = run root (2 ∷ []) (3 ∷ []) 1 ++ run root (2 ∷ []) (3 ∷ []) 3;
+      given = run rootSheet (2 ∷ []) (3 ∷ []) 1 ++ run rootSheet (2 ∷ []) (3 ∷ []) 3;
       printed = 33 ∷ 6 ∷ 1 ∷ 33 ∷ 24 ∷ 1 ∷ [];
     } ∷
-    record { letter = "H"; given = bothWays root (roundOf 33 1 6) (roundOf 33 3 24); printed = 2 ∷ 2 ∷ [] } ∷
+    record { letter = "H"; given = bothWays rootSheet (roundOf 33 1 6) (roundOf 33 3 24); printed = 2 ∷ 2 ∷ [] } ∷
     record {
       letter = "I";
       given =
@@ -79,7 +97,8 @@ pages =
     record {
       letter = "J";
       given =
-          judgedNumber schnorr (roundOf 5 0 0) ∷ judgedNumber schnorr (roundOf 9 0 10) ∷
-          judgedNumber schnorr (roundOf 9 0 11) ∷ [];
+          judgedNumber schnorrSheet (roundOf 5 0 0) ∷ judgedNumber schnorrSheet (roundOf 9 0 10) ∷
+          judgedNumber schnorrSheet (roundOf 9 0 11) ∷ [];
       printed = 14 ∷ 0 ∷ 16 ∷ [];
-    } ∷ []
+    } ∷
+    record { letter = "marker"; given = markerText schnorrSheet exampleFile; printed = exampleText } ∷ []

@@ -18,8 +18,8 @@ smallSheet modulus order challenges entry statement =
     0 ∷ 0 ∷ 0 ∷ statement ∷ []
 
 -- pages A to C and J: m 23, q 11, K 11, entry 2, z 13
-unfoldable pub schnorr : List ℕ
-schnorr = smallSheet 23 11 11 2 13
+unfoldable pub schnorrSheet : List ℕ
+schnorrSheet = smallSheet 23 11 11 2 13
 
 -- what the sheet maker leaves in a buffer of 64 zeros, cut to the length that it answers
 unfoldable pub madeSheet : ℕ → ℕ → ℕ → ℕ → List ℕ → List ℕ → List ℕ
@@ -28,17 +28,17 @@ madeSheet pattern modulus order challenges values statement =
     take (made .answer .length) (made .buffer)
 
 -- page D: two generators, 2 and 3
-unfoldable pub okamoto : List ℕ
-okamoto = madeSheet 2 23 11 11 (2 ∷ 3 ∷ []) (18 ∷ [])
+unfoldable pub okamotoSheet : List ℕ
+okamotoSheet = madeSheet 2 23 11 11 (2 ∷ 3 ∷ []) (18 ∷ [])
 
 -- page E: h 2, B 16
-unfoldable pub diffieHellman : List ℕ
-diffieHellman = madeSheet 4 23 11 11 (2 ∷ 16 ∷ []) (13 ∷ 18 ∷ [])
+unfoldable pub diffieHellmanSheet : List ℕ
+diffieHellmanSheet = madeSheet 4 23 11 11 (2 ∷ 16 ∷ []) (13 ∷ 18 ∷ [])
 
 -- page F: g 2, h 3, B 3
-unfoldable pub product : List ℕ
-product = madeSheet 5 23 11 11 (2 ∷ 3 ∷ 3 ∷ []) (12 ∷ 9 ∷ [])
+unfoldable pub productSheet : List ℕ
+productSheet = madeSheet 5 23 11 11 (2 ∷ 3 ∷ 3 ∷ []) (12 ∷ 9 ∷ [])
 
 -- page G: m 35, e 5, K 5, z 32
-unfoldable pub root : List ℕ
-root = madeSheet 6 35 5 5 [] (32 ∷ [])
+unfoldable pub rootSheet : List ℕ
+rootSheet = madeSheet 6 35 5 5 [] (32 ∷ [])

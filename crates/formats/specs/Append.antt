@@ -31,6 +31,7 @@ unfoldable pub badInUse : Header → List ℕ → ℕ → Bool
 badInUse h buffer used =
     ltb (length buffer) used || badFile h (take used buffer) || leb 512 (countField (take used buffer))
 
+-- the rules of the bytes in use and the buffer
 unfoldable pub appendRules : Header → List ℕ → ℕ → List Rule
 appendRules h buffer used =
     (12 when badInUse h buffer used) ∷ (22 when short buffer (used + recordLength challengeWidth h)) ∷ []

@@ -13,22 +13,23 @@ use Rattle.formats.specs.Write.{Writing, short, writtenAtStart}
 
 -- the entries that a sheet stores, row by row; none in kind 2
 unfoldable pub storedEntries : Instance → List ℕ
-storedEntries i =
-    cond (isExponent (i .header))
-    (flatten (tabulate (i .header .rows) (λ r. tabulate (i .header .columns) (entry i r)))) []
+storedEntries inst =
+    cond (isExponent (inst .header))
+    (flatten (tabulate (inst .header .rows) (λ i. tabulate (inst .header .columns) (entry inst i)))) []
 
 -- the sheet of an instance; entries and statement are read within rows and columns
 unfoldable pub sheetOf : Instance → List ℕ
-sheetOf i =
-    sheetMark ++ bytesOf 2 1 ++ bytesOf 1 (i .header .kind) ++ bytesOf 4 (i .header .modulus) ++
-    bytesOf 4 (i .header .order) ++ bytesOf 4 (i .header .challenges) ++ bytesOf 1 (i .header .rows) ++
-    bytesOf 1 (i .header .columns) ++ bytesOfEach 4 (storedEntries i) ++
-    bytesOfEach 4 (places (i .header .rows) (i .statement))
+sheetOf inst =
+    sheetMark ++ bytesOf 2 1 ++ bytesOf 1 (inst .header .kind) ++ bytesOf 4 (inst .header .modulus) ++
+    bytesOf 4 (inst .header .order) ++ bytesOf 4 (inst .header .challenges) ++ bytesOf 1 (inst .header .rows) ++
+    bytesOf 1 (inst .header .columns) ++ bytesOfEach 4 (storedEntries inst) ++
+    bytesOfEach 4 (places (inst .header .rows) (inst .statement))
 
+-- the rules of any values and the buffer
 unfoldable pub encodeRules : Instance → List ℕ → List Rule
-encodeRules i buffer =
-    headerRules (i .header) ++ elementRules i ++ (22 when short buffer (sheetLength (i .header))) ∷ []
+encodeRules inst buffer =
+    headerRules (inst .header) ++ elementRules inst ++ (22 when short buffer (sheetLength (inst .header))) ∷ []
 
 -- the second writer: the sheet of any values, as the loader gives them
 unfoldable pub encode : Instance → List ℕ → Writing
-encode i buffer = writtenAtStart (lowest (encodeRules i buffer)) (sheetOf i) buffer
+encode inst buffer = writtenAtStart (lowest (encodeRules inst buffer)) (sheetOf inst) buffer

@@ -61,6 +61,6 @@ load s =
       statement = unlessRefused (loadRefusal s) (statementOf s (headerOf s)) zeros8;
     }
 
--- the call that gives a sheet's entries, all 0 where it is refused
+-- the call that gives a sheet's entries, all 0 where it is refused; `load` of the same bytes gives the number
 unfoldable pub loadEntries : List ℕ → List (List ℕ)
 loadEntries s = unlessRefused (loadRefusal s) (entriesOf s (headerOf s)) zeros64

@@ -8,10 +8,9 @@ use lib.ListN.{length, getD}
 use Rattle.types.specs.declared.Header.{Header}
 use Rattle.types.specs.declared.Pattern.{Pattern}
 use Rattle.lists.specs.Places.{tabulate, pad8, zeros8}
-use Rattle.numbers.specs.Search.{any}
 use Rattle.rules.specs.Rule.{Rule, _when_, lowest}
 use Rattle.sigma.specs.Admission.{badModulus, badOrder, badCount, badStatement}
-use Rattle.sigma.specs.Element.{isElement}
+use Rattle.sigma.specs.Element.{someNonElement}
 use Rattle.sigma.specs.Instance.{Instance}
 use Rattle.formats.specs.Encode.{sheetOf}
 use Rattle.formats.specs.Sheet.{sheetLength, zeros64}
@@ -27,7 +26,7 @@ patterns =
     record { rows = 2; columns = 3; values = 3; digits = 1 ∷ 2 ∷ 0 ∷ 3 ∷ 0 ∷ 2 ∷ [] } ∷
     record { rows = 1; columns = 1; values = 0; digits = 0 ∷ 0 ∷ 0 ∷ 0 ∷ 0 ∷ 0 ∷ [] } ∷ []
 
--- the pattern of a number from 1 to 6
+-- the pattern of a number from 1 to 6; for any other number 1 is given
 unfoldable pub patternOf : ℕ → Pattern
 patternOf number = getD patterns (number - 1) (record { rows = 0; columns = 0; values = 0; digits = [] })
 
@@ -40,7 +39,7 @@ unfoldable pub patternEntries : Pattern → List ℕ → List (List ℕ)
 patternEntries p values =
     pad8 zeros8
     (tabulate (p .rows)
-    (λ r. pad8 0 (tabulate (p .columns) (λ c. entryOf values (getD (p .digits) (3 * r + c) 0)))))
+    (λ i. pad8 0 (tabulate (p .columns) (λ j. entryOf values (getD (p .digits) (3 * i + j) 0)))))
 
 -- the fixed fields of a made sheet; pattern 6 is of kind 2
 unfoldable pub madeHeader : ℕ → ℕ → ℕ → ℕ → Header
@@ -71,20 +70,21 @@ badPattern number values statement =
 
 -- some public value is no group element (10)
 unfoldable pub badValues : Header → List ℕ → Bool
-badValues h values = any (length values) (λ j. not (isElement h (getD values j 0)))
+badValues h values = someNonElement h (length values) values
 
+-- the maker's rules
 unfoldable pub makeRules : ℕ → List ℕ → List ℕ → Instance → List ℕ → List Rule
-makeRules number values statement i buffer =
+makeRules number values statement inst buffer =
     (1 when badPattern number values statement) ∷
-    (5 when badModulus (i .header)) ∷
-    (6 when badOrder (i .header)) ∷
-    (8 when badCount (i .header)) ∷
-    (10 when badValues (i .header) values) ∷
-    (11 when badStatement i) ∷
-    (22 when short buffer (sheetLength (i .header))) ∷ []
+    (5 when badModulus (inst .header)) ∷
+    (6 when badOrder (inst .header)) ∷
+    (8 when badCount (inst .header)) ∷
+    (10 when badValues (inst .header) values) ∷
+    (11 when badStatement inst) ∷
+    (22 when short buffer (sheetLength (inst .header))) ∷ []
 
 -- the sheet maker: the sheet of a pattern
 unfoldable pub fromPattern : ℕ → ℕ → ℕ → ℕ → List ℕ → List ℕ → List ℕ → Writing
 fromPattern number modulus order challenges values statement buffer =
-    let i : Instance = made number modulus order challenges values statement in
-    writtenAtStart (lowest (makeRules number values statement i buffer)) (sheetOf i) buffer
+    let inst : Instance = made number modulus order challenges values statement in
+    writtenAtStart (lowest (makeRules number values statement inst buffer)) (sheetOf inst) buffer

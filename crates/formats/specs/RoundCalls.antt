@@ -30,6 +30,7 @@ fileRules h f = (12 when badFile h f) ∷ []
 unfoldable pub badNumber : List ℕ → ℕ → Bool
 badNumber f k = leb (countField f) k
 
+-- the rules of a file and a round number
 unfoldable pub roundRules : Header → List ℕ → ℕ → List Rule
 roundRules h f k = fileRules h f ++ (13 when badNumber f k) ∷ []
 

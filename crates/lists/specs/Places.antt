@@ -17,7 +17,7 @@ tabulate n f = itemsAt f 0 1 n
 unfoldable pub places : ℕ → List ℕ → List ℕ
 places n xs = tabulate n (λ j. getD xs j 0)
 
--- xs made eight long, with d in the places beyond
+-- a list of at most eight made eight long, with d in the places beyond
 unfoldable pub pad8 {ℓ} : {A : Type ℓ} → A → List A → List A
 pad8 d xs = xs ++ replicate (8 - length xs) d
 

@@ -12,13 +12,13 @@ use Rattle.sigma.specs.Judge.{judgeAfter}
 use Rattle.sigma.specs.Simulator.{simulateAfter}
 
 -- the call that judges a round
-unfoldable pub judgeSheet : List ℕ → Round → Verdict
-judgeSheet sheet round = judgeAfter (loadRules sheet) (instanceOf sheet) round
+unfoldable pub judgeRound : List ℕ → Round → Verdict
+judgeRound sheet round = judgeAfter (loadRules sheet) (instanceOf sheet) round
 
 -- the call that simulates a commitment
-unfoldable pub simulateSheet : List ℕ → ℕ → List ℕ → Computed
-simulateSheet sheet c r = simulateAfter (loadRules sheet) (instanceOf sheet) c r
+unfoldable pub simulateCommitment : List ℕ → ℕ → List ℕ → Computed
+simulateCommitment sheet c r = simulateAfter (loadRules sheet) (instanceOf sheet) c r
 
 -- the call that extracts a witness
-unfoldable pub extractSheet : List ℕ → Round → Round → Computed
-extractSheet sheet first second = extractAfter (loadRules sheet) (instanceOf sheet) first second
+unfoldable pub extractWitness : List ℕ → Round → Round → Computed
+extractWitness sheet first second = extractAfter (loadRules sheet) (instanceOf sheet) first second

@@ -2,7 +2,7 @@
 -- Assumes nothing.
 use Prim.Native.Nat.{ℕ}
 use mathlib.Core.Bool.{not, cond}
-use mathlib.Core.List.{List, _++_, flatten}
+use mathlib.Core.List.{List, [], _∷_, _++_, flatten}
 use Rattle.types.specs.declared.Verdict.{Verdict}
 use Rattle.types.specs.declared.Verdict.the-variants.{Accepted, Rejected, Refused}
 use Rattle.lists.specs.Places.{tabulate}
@@ -12,11 +12,11 @@ use Rattle.rules.specs.Answer.{unlessRefused}
 use Rattle.formats.specs.Load.{loadRefusal}
 use Rattle.formats.specs.RoundCalls.{countRounds, fetchRound}
 use Rattle.sigma.specs.Answer.{isAccepted}
-use Rattle.runs.specs.Calls.{judgeSheet}
+use Rattle.runs.specs.Calls.{judgeRound}
 
 -- a line's end
 unfoldable pub newline : List ℕ
-newline = ascii "\n"
+newline = 0x0A ∷ []
 
 -- a line of a word and a number
 unfoldable pub wordLine : List ℕ → ℕ → List ℕ
@@ -30,7 +30,7 @@ verdictText (Refused number) = ascii "refused " ++ decimal number
 
 -- the verdict on round k of a file
 unfoldable pub verdictOn : List ℕ → List ℕ → ℕ → Verdict
-verdictOn sheet f k = judgeSheet sheet (fetchRound sheet f k .round)
+verdictOn sheet f k = judgeRound sheet (fetchRound sheet f k .round)
 
 -- the line of round k
 unfoldable pub roundLine : List ℕ → List ℕ → ℕ → List ℕ

@@ -12,6 +12,7 @@ use Rattle.rules.specs.Answer.{unlessRefused}
 use Rattle.rules.specs.Rule.{Rule, _when_, lowest}
 use Rattle.formats.specs.Load.{loadRules}
 use Rattle.formats.specs.Sheet.{instanceOf}
+use Rattle.sigma.specs.Answer.{eightPlaces}
 use Rattle.sigma.specs.Comparison.{differ}
 use Rattle.sigma.specs.Image.{image}
 use Rattle.sigma.specs.Instance.{Instance}
@@ -24,12 +25,14 @@ proverState Committed = 1
 proverState Answered = 2
 proverState Dropped = 3
 
+-- whether the session is New
 unfoldable pub isNew : ProverPhase → Bool
 isNew New = true
 isNew Committed = false
 isNew Answered = false
 isNew Dropped = false
 
+-- whether the session is Committed
 unfoldable pub isCommitted : ProverPhase → Bool
 isCommitted New = false
 isCommitted Committed = true
@@ -46,40 +49,43 @@ proverStep refusal before after xs =
     record {
       refusal = refusal;
       session = unlessRefused refusal after before;
-      values = unlessRefused refusal (pad8 0 xs) zeros8;
+      values = eightPlaces refusal xs;
     }
 
+-- the rules of a nonce and the state
 unfoldable pub commitRules : Instance → Prover → List ℕ → List Rule
-commitRules i p k = (16 when badCoordinates i k) ∷ (21 when not (isNew (p .phase))) ∷ []
+commitRules inst p k = (16 when badCoordinates inst k) ∷ (21 when not (isNew (p .phase))) ∷ []
 
 -- after the rules of the sheet: the nonce, read in n places, and its commitment are stored
 unfoldable pub commitAfter : List Rule → Instance → Prover → List ℕ → ProverStep
-commitAfter before i p nonce =
-    let k : List ℕ = places (i .header .columns) nonce in
-    proverStep (lowest (before ++ commitRules i p k)) p
-    (record { phase = Committed; nonce = pad8 0 k; commitment = pad8 0 (image i k) }) (image i k)
+commitAfter before inst p nonce =
+    let k : List ℕ = places (inst .header .columns) nonce in
+    proverStep (lowest (before ++ commitRules inst p k)) p
+    (record { phase = Committed; nonce = pad8 0 k; commitment = pad8 0 (image inst k) }) (image inst k)
 
 -- the held nonce has a slot that is no domain slot, or its image, 0 beyond s, is not the held commitment in all eight places
 unfoldable pub unfitProver : Instance → Prover → Bool
-unfitProver i p =
-    let k : List ℕ = places (i .header .columns) (p .nonce) in
-    badCoordinates i k || differ 8 (pad8 0 (image i k)) (p .commitment)
+unfitProver inst p =
+    let k : List ℕ = places (inst .header .columns) (p .nonce) in
+    badCoordinates inst k || differ 8 (pad8 0 (image inst k)) (p .commitment)
 
+-- the rules of a challenge, a witness and the session
 unfoldable pub respondRules : Instance → Prover → ℕ → List ℕ → List Rule
-respondRules i p c x =
-    (15 when badChallenge i c) ∷
-    (16 when badCoordinates i x) ∷
-    (17 when badWitness i x) ∷
-    (21 when (not (isCommitted (p .phase)) || unfitProver i p)) ∷ []
+respondRules inst p c x =
+    (15 when badChallenge inst c) ∷
+    (16 when badCoordinates inst x) ∷
+    (17 when badWitness inst x) ∷
+    (21 when (not (isCommitted (p .phase)) || unfitProver inst p)) ∷ []
 
 -- after the rules of the sheet: the response is answered and the nonce set to zeros
 unfoldable pub respondAfter : List Rule → Instance → Prover → ℕ → List ℕ → ProverStep
-respondAfter before i p c witness =
-    let x : List ℕ = places (i .header .columns) witness in
-    proverStep (lowest (before ++ respondRules i p c x)) p
+respondAfter before inst p c witness =
+    let x : List ℕ = places (inst .header .columns) witness in
+    proverStep (lowest (before ++ respondRules inst p c x)) p
     (record { phase = Answered; nonce = zeros8; commitment = p .commitment })
-    (response i (places (i .header .columns) (p .nonce)) c x)
+    (response inst (places (inst .header .columns) (p .nonce)) c x)
 
+-- the rule of the state
 unfoldable pub dropRules : Prover → List Rule
 dropRules p = (21 when not (isNew (p .phase) || isCommitted (p .phase))) ∷ []
 

@@ -24,18 +24,21 @@ verifierState Holding = 1
 verifierState Asked = 2
 verifierState Judged = 3
 
+-- whether the session is Waiting
 unfoldable pub isWaiting : VerifierPhase → Bool
 isWaiting Waiting = true
 isWaiting Holding = false
 isWaiting Asked = false
 isWaiting Judged = false
 
+-- whether the session is Holding
 unfoldable pub isHolding : VerifierPhase → Bool
 isHolding Waiting = false
 isHolding Holding = true
 isHolding Asked = false
 isHolding Judged = false
 
+-- whether the session is Asked
 unfoldable pub isAsked : VerifierPhase → Bool
 isAsked Waiting = false
 isAsked Holding = false
@@ -52,41 +55,44 @@ verifierStep refusal before after = record { refusal = refusal; session = unless
 
 -- the held commitment, read in s places, has a value that is no group element
 unfoldable pub unfitCommitment : Instance → Verifier → Bool
-unfitCommitment i v = badCommitment i (places (i .header .rows) (v .commitment))
+unfitCommitment inst v = badCommitment inst (places (inst .header .rows) (v .commitment))
 
+-- the rules of a commitment and the state
 unfoldable pub takeCommitmentRules : Instance → Verifier → List ℕ → List Rule
-takeCommitmentRules i v t = (14 when badCommitment i t) ∷ (21 when not (isWaiting (v .phase))) ∷ []
+takeCommitmentRules inst v t = (14 when badCommitment inst t) ∷ (21 when not (isWaiting (v .phase))) ∷ []
 
 -- after the rules of the sheet: the commitment is stored, read in s places
 unfoldable pub takeCommitmentAfter : List Rule → Instance → Verifier → List ℕ → VerifierStep
-takeCommitmentAfter before i v commitment =
-    let t : List ℕ = places (i .header .rows) commitment in
-    verifierStep (lowest (before ++ takeCommitmentRules i v t)) v
+takeCommitmentAfter before inst v commitment =
+    let t : List ℕ = places (inst .header .rows) commitment in
+    verifierStep (lowest (before ++ takeCommitmentRules inst v t)) v
     (record { phase = Holding; commitment = pad8 0 t; challenge = v .challenge })
 
+-- the rules of a challenge and the session
 unfoldable pub takeChallengeRules : Instance → Verifier → ℕ → List Rule
-takeChallengeRules i v c =
-    (15 when badChallenge i c) ∷ (21 when (not (isHolding (v .phase)) || unfitCommitment i v)) ∷ []
+takeChallengeRules inst v c =
+    (15 when badChallenge inst c) ∷ (21 when (not (isHolding (v .phase)) || unfitCommitment inst v)) ∷ []
 
 -- after the rules of the sheet: the challenge is stored
 unfoldable pub takeChallengeAfter : List Rule → Instance → Verifier → ℕ → VerifierStep
-takeChallengeAfter before i v c =
-    verifierStep (lowest (before ++ takeChallengeRules i v c)) v
+takeChallengeAfter before inst v c =
+    verifierStep (lowest (before ++ takeChallengeRules inst v c)) v
     (record { phase = Asked; commitment = v .commitment; challenge = c })
 
+-- the rules of a response and the session
 unfoldable pub takeResponseRules : Instance → Verifier → List ℕ → List Rule
-takeResponseRules i v r =
-    (16 when badCoordinates i r) ∷
-    (21 when (not (isAsked (v .phase)) || unfitCommitment i v || badChallenge i (v .challenge))) ∷ []
+takeResponseRules inst v r =
+    (16 when badCoordinates inst r) ∷
+    (21 when (not (isAsked (v .phase)) || unfitCommitment inst v || badChallenge inst (v .challenge))) ∷ []
 
 -- after the rules of the sheet: the verdict on the held commitment and challenge and the response; no response is stored
 unfoldable pub takeResponseAfter : List Rule → Instance → Verifier → List ℕ → VerifierVerdict
-takeResponseAfter before i v response =
-    let r : List ℕ = places (i .header .columns) response in
-    let refusal : ℕ = lowest (before ++ takeResponseRules i v r) in
+takeResponseAfter before inst v response =
+    let r : List ℕ = places (inst .header .columns) response in
+    let refusal : ℕ = lowest (before ++ takeResponseRules inst v r) in
     record {
       verdict =
-          judged refusal (verdict i (places (i .header .rows) (v .commitment)) (v .challenge) r);
+          judged refusal (verdict inst (places (inst .header .rows) (v .commitment)) (v .challenge) r);
       session =
           unlessRefused refusal
           (record { phase = Judged; commitment = v .commitment; challenge = v .challenge }) v;

@@ -5,7 +5,7 @@ use mathlib.Core.Path.{_≡_}
 use mathlib.Core.List.{List}
 use Rattle.types.specs.declared.Round.{Round}
 use Rattle.types.specs.declared.Verdict.the-variants.{Refused}
-use Rattle.encoding.specs.Places.{zeros8}
+use Rattle.lists.specs.Places.{zeros8}
 use Rattle.rules.specs.Rule.{Rule, lowest, Clear}
 use Rattle.rules.proofs.Lowest.{lowest-later, lowest-earlier}
 use Rattle.sigma.specs.Instance.{Instance}

@@ -8,9 +8,9 @@ use native.Mathlib.Omega.{arith}
 use borrow.Author.Tests.{ne-eqb}
 use Rattle.types.specs.declared.Verdict.{Verdict}
 use Rattle.types.specs.declared.Verdict.the-variants.{Accepted, Rejected, Refused}
-use Rattle.encoding.specs.Places.{pad8, zeros8}
+use Rattle.lists.specs.Places.{pad8, zeros8}
 use Rattle.rules.specs.Answer.{unlessRefused}
-use Rattle.sigma.specs.Answer.{Outcome, outcome, judged, computed}
+use Rattle.sigma.specs.Answer.{Outcome, outcome, judged, eightPlaces, computed}
 
 -- two verdicts with the same outcome are the same
 pub outcome-injective : (v w : Verdict) → outcome v ≡ outcome w → v ≡ w
@@ -76,12 +76,12 @@ judged-refused (suc n) v k u =
 
 -- values that nothing refuses
 pub computed-zero : (xs : List ℕ) → computed 0 xs ≡ record { refusal = 0; values = pad8 0 xs }
-unfolding computed
+unfolding computed eightPlaces
 computed-zero xs = rw (unlessRefused-zero (pad8 0 xs) zeros8)
 
 -- values that are refused
 pub computed-positive : (n : ℕ) (xs : List ℕ) → 0 < n → computed n xs ≡ record { refusal = n; values = zeros8 }
-unfolding computed
+unfolding computed eightPlaces
 computed-positive n xs h = rw (unlessRefused-positive (pad8 0 xs) zeros8 n h)
 
 -- the number of the refusal

@@ -14,8 +14,8 @@ use Rattle.numbers.specs.Product.{product}
 use Rattle.rules.proofs.Says.{says-false}
 use Rattle.sigma.specs.Instance.{Instance, isExponent, entry, statementAt}
 use Rattle.sigma.specs.Image.{rowImage}
-use Rattle.sigma.specs.Round.{responseSlot}
-use Rattle.sigma.specs.Extractor.{combine, divide, raise, baseSlot}
+use Rattle.sigma.specs.Round.{responseCoordinate}
+use Rattle.sigma.specs.Extractor.{combine, divide, raise, baseCoordinate}
 use Rattle.sigma.proofs.Tests.{says-exponent}
 
 -- the test of the kind is true in kind 1
@@ -30,9 +30,9 @@ root-kind h = says-false (says-exponent h) .1
 
 module _ (h : Header) (e : h .kind ≡ 1) where
   -- a slot of the response is k + c·x mod q
-  pub responseSlot-exponent : (k c x : ℕ) → responseSlot h k c x ≡ (k + c * x) % h .order
-  unfolding responseSlot
-  responseSlot-exponent k c x = rw (exponent-kind h e)
+  pub responseCoordinate-exponent : (k c x : ℕ) → responseCoordinate h k c x ≡ (k + c * x) % h .order
+  unfolding responseCoordinate
+  responseCoordinate-exponent k c x = rw (exponent-kind h e)
 
   -- the domain's operation is the sum mod q
   pub combine-exponent : (x y : ℕ) → combine h x y ≡ (x + y) % h .order
@@ -57,17 +57,17 @@ module _ (i : Instance) (e : i .header .kind ≡ 1) where
   rowImage-exponent x r = rw (exponent-kind (i .header) e)
 
   -- u is all zeros
-  pub baseSlot-exponent : (j : ℕ) → baseSlot i j ≡ 0
-  unfolding baseSlot
-  baseSlot-exponent j = rw (exponent-kind (i .header) e)
+  pub baseCoordinate-exponent : (j : ℕ) → baseCoordinate i j ≡ 0
+  unfolding baseCoordinate
+  baseCoordinate-exponent j = rw (exponent-kind (i .header) e)
 
 -- ---- kind 2
 
 module _ (h : Header) (e : h .kind ≢ 1) where
   -- a slot of the response is k·x^c mod m
-  pub responseSlot-root : (k c x : ℕ) → responseSlot h k c x ≡ k * x ^ c % h .modulus
-  unfolding responseSlot
-  responseSlot-root k c x = rw (root-kind h e)
+  pub responseCoordinate-root : (k c x : ℕ) → responseCoordinate h k c x ≡ k * x ^ c % h .modulus
+  unfolding responseCoordinate
+  responseCoordinate-root k c x = rw (root-kind h e)
 
   -- the domain's operation is the product mod m
   pub combine-root : (x y : ℕ) → combine h x y ≡ x * y % h .modulus
@@ -91,6 +91,6 @@ module _ (i : Instance) (e : i .header .kind ≢ 1) where
   rowImage-root x r = rw (root-kind (i .header) e)
 
   -- u is the statement
-  pub baseSlot-root : (j : ℕ) → baseSlot i j ≡ statementAt i j
-  unfolding baseSlot
-  baseSlot-root j = rw (root-kind (i .header) e)
+  pub baseCoordinate-root : (j : ℕ) → baseCoordinate i j ≡ statementAt i j
+  unfolding baseCoordinate
+  baseCoordinate-root j = rw (root-kind (i .header) e)

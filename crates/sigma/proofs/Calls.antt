@@ -9,8 +9,8 @@ use lib.Dec.{T}
 use Rattle.types.specs.declared.Round.{Round}
 use Rattle.types.specs.declared.Verdict.{Verdict}
 use Rattle.types.specs.declared.Verdict.the-variants.{Accepted, Rejected, Refused}
-use Rattle.encoding.specs.Places.{places, pad8}
-use Rattle.encoding.proofs.Places.{getD-places}
+use Rattle.lists.specs.Places.{places, pad8}
+use Rattle.lists.proofs.Places.{getD-places}
 use Rattle.rules.specs.Rule.{Rule, lowest, Clear, positive}
 use Rattle.rules.proofs.Says.{says-false, says-equal}
 use Rattle.rules.proofs.Lowest.{lowest-clear, clear-lowest}

@@ -8,16 +8,16 @@ use native.Mathlib.Nat.{mod-lt, mod-eq-of-lt, zero-mod, zero-add}
 use native.Mathlib.Omega.{arith}
 use lib.IntN.{ℤ, pos, _-ℤ_, _*ℤ_, *ℤ-zero, -ℤ-+ℤ-cancel}
 use lib.ListN.{length, getD}
-use Rattle.encoding.proofs.Places.{length-tabulate, getD-tabulate}
+use Rattle.lists.proofs.Places.{length-tabulate, getD-tabulate}
 use Rattle.numbers.specs.Integer.{residue, power}
 use Rattle.numbers.specs.Inverse.{inverse}
 use Rattle.numbers.proofs.Congruence.{_then_, cong-refl, cong-mod, cong-add, cong-of-equal, cong-add-multiple}
 use Rattle.numbers.proofs.Difference.{Difference}
 use Rattle.numbers.proofs.Integer.{residue-pos, residue-below, residue-is, residue-mul}
 use Rattle.sigma.specs.Instance.{Instance, statementAt}
-use Rattle.sigma.specs.Extractor.{combine, divide, raise, baseSlot, formula}
-use Rattle.sigma.proofs.ByKind.{combine-exponent, divide-exponent, raise-exponent, baseSlot-exponent}
-use Rattle.sigma.proofs.ByKind.{combine-root, divide-root, raise-root, baseSlot-root}
+use Rattle.sigma.specs.Extractor.{combine, divide, raise, baseCoordinate, formula}
+use Rattle.sigma.proofs.ByKind.{combine-exponent, divide-exponent, raise-exponent, baseCoordinate-exponent}
+use Rattle.sigma.proofs.ByKind.{combine-root, divide-root, raise-root, baseCoordinate-root}
 
 -- the difference mod q, made of natural numbers
 pub residue-subtract : (q x y : ℕ) → y < q → residue q (pos x -ℤ pos y) ≡ (x + (q - y)) % q
@@ -43,7 +43,7 @@ module _ (i : Instance) (a b : ℤ) (r r′ : List ℕ) where
   -- slot j of the formula
   pub formula-at : (j : ℕ) → j < i .header .columns
       → getD (formula i a b r r′) j 0
-      ≡ combine (i .header) (raise (i .header) (baseSlot i j) a) (raise (i .header) (divide (i .header) (getD r j 0) (getD r′ j 0)) b)
+      ≡ combine (i .header) (raise (i .header) (baseCoordinate i j) a) (raise (i .header) (divide (i .header) (getD r j 0) (getD r′ j 0)) b)
   unfolding formula
   formula-at j h = getD-tabulate _ _ j 0 h
 
@@ -55,8 +55,8 @@ module _ (i : Instance) (a b : ℤ) (r r′ : List ℕ) where
       let x = getD r j 0 in
       let y = getD r′ j 0 in
       let some : 0 < q = omega arith in
-      let base : raise (i .header) (baseSlot i j) a ≡ 0 =
-      raise-exponent (i .header) e (baseSlot i j) a ∙ rw (baseSlot-exponent i e j, *ℤ-zero a) (residue-pos q 0 ∙ zero-mod q) in
+      let base : raise (i .header) (baseCoordinate i j) a ≡ 0 =
+      raise-exponent (i .header) e (baseCoordinate i j) a ∙ rw (baseCoordinate-exponent i e j, *ℤ-zero a) (residue-pos q 0 ∙ zero-mod q) in
       let quotient : raise (i .header) (divide (i .header) x y) b ≡ residue q (b *ℤ (pos x -ℤ pos y)) =
       raise-exponent (i .header) e (divide (i .header) x y) b
       ∙ ap (λ (d : ℕ). residue q (b *ℤ pos d)) (divide-exponent (i .header) e x y ∙ sym (residue-subtract q x y l))
@@ -71,4 +71,4 @@ module _ (i : Instance) (a b : ℤ) (r r′ : List ℕ) where
       * power (i .header .modulus) (getD r j 0 * inverse (i .header .modulus) (getD r′ j 0) % i .header .modulus) b % i .header .modulus
   formula-root j n h =
       formula-at j h
-      ∙ simp (combine-root (i .header) n, raise-root (i .header) n, divide-root (i .header) n, baseSlot-root i n)
+      ∙ simp (combine-root (i .header) n, raise-root (i .header) n, divide-root (i .header) n, baseCoordinate-root i n)

@@ -6,7 +6,8 @@ use mathlib.Core.Bool.{true}
 use mathlib.Core.List.{List, [], _∷_, _++_}
 use lib.Dec.{T}
 use Rattle.types.specs.declared.Header.{Header}
-use Rattle.rules.specs.Rule.{numberOf, numbersOf, refusalOrder, isSublist, positive}
+use Rattle.rules.specs.Rule.{numberOf, numbersOf, positive}
+use Rattle.rules.specs.Order.{refusalOrder, isSublist}
 use Rattle.sigma.specs.Instance.{Instance}
 use Rattle.sigma.specs.Admission.{headerRules, elementRules}
 use Rattle.sigma.specs.Judge.{judgeRules}

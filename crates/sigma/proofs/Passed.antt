@@ -11,7 +11,7 @@ use borrow.Author.Tests.{leb-false, lt-leb, ltb-false, le-ltb}
 use Rattle.types.specs.declared.Header.{Header}
 use Rattle.rules.proofs.Says.{says-equal, says-or, says-false}
 use Rattle.sigma.specs.Instance.{Instance, entry, statementAt}
-use Rattle.sigma.specs.Element.{Element}
+use Rattle.sigma.specs.Element.{someNonElement, Element}
 use Rattle.sigma.specs.Image.{rowImage, image}
 use Rattle.sigma.specs.Admission.{badKind, badModulus, badOrder, badSize, badCount, badEntries, badStatement}
 use Rattle.sigma.specs.Meaning.{Elements, Coordinates}
@@ -85,14 +85,14 @@ module _ (i : Instance) where
 
   -- not 11: every statement value is a group element
   pub statement-passes : (badStatement i ≡ false) ↔ ((r : ℕ) → r < i .header .rows → Element (i .header) (statementAt i r))
-  unfolding badStatement
+  unfolding badStatement someNonElement statementAt
   statement-passes = all-pass _ _ _ (λ r. says-element (i .header) (statementAt i r))
 
   -- ---- what a call brings
 
   -- not 14: every value of a commitment is a group element
   pub commitment-passes : (t : List ℕ) → (badCommitment i t ≡ false) ↔ Elements i t
-  unfolding badCommitment
+  unfolding badCommitment someNonElement
   commitment-passes t = all-pass _ _ _ (λ r. says-element (i .header) (getD t r 0))
 
   -- not 15: the challenge is below K

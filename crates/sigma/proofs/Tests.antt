@@ -18,7 +18,7 @@ use Rattle.numbers.proofs.Search.{find-within, find-holds, find-first}
 use Rattle.rules.specs.Says.{Says}
 use Rattle.rules.proofs.Says.{says-less, says-at-most, says-equal, says-or, says-and, says-not, says-iff, says-false}
 use Rattle.sigma.specs.Instance.{Instance, isExponent, entry, statementAt}
-use Rattle.sigma.specs.Element.{isElement, isCoordinate, Element, Coordinate}
+use Rattle.sigma.specs.Element.{isElement, someNonElement, isCoordinate, Element, Coordinate}
 use Rattle.sigma.specs.Admission.{firstDivisor, badKind, badModulus, badOrder, badSize, badCount, badEntries, badStatement}
 use Rattle.sigma.specs.Image.{rowImage, image}
 use Rattle.sigma.specs.Round.{badCommitment, badChallenge, badCoordinates, badWitness}
@@ -132,11 +132,17 @@ says-badEntries i =
     says-and (says-exponent (i .header))
     (says-any _ _ _ (λ r. says-any _ _ _ (λ c. says-not (says-element (i .header) (entry i r c)))))
 
+-- some value among the first n is no group element
+pub says-someNonElement : (h : Header) (n : ℕ) (vs : List ℕ)
+    → Says (someNonElement h n vs) ((i : ℕ) × (i < n) × (¬ Element h (getD vs i 0)))
+unfolding someNonElement
+says-someNonElement h n vs = says-any _ _ _ (λ i. says-not (says-element h (getD vs i 0)))
+
 -- 11: some statement value is no group element
 pub says-badStatement : (i : Instance) → Says (badStatement i)
     ((r : ℕ) × (r < i .header .rows) × (¬ Element (i .header) (statementAt i r)))
-unfolding badStatement
-says-badStatement i = says-any _ _ _ (λ r. says-not (says-element (i .header) (statementAt i r)))
+unfolding badStatement statementAt
+says-badStatement i = says-someNonElement (i .header) (i .header .rows) (i .statement)
 
 -- ---- what a call brings (14 to 17) and the extractor's verdicts (20)
 
@@ -144,7 +150,7 @@ says-badStatement i = says-any _ _ _ (λ r. says-not (says-element (i .header) (
 pub says-badCommitment : (i : Instance) (t : List ℕ) → Says (badCommitment i t)
     ((r : ℕ) × (r < i .header .rows) × (¬ Element (i .header) (getD t r 0)))
 unfolding badCommitment
-says-badCommitment i t = says-any _ _ _ (λ r. says-not (says-element (i .header) (getD t r 0)))
+says-badCommitment i t = says-someNonElement (i .header) (i .header .rows) t
 
 -- 15: the challenge is K or more
 pub says-badChallenge : (i : Instance) (c : ℕ) → Says (badChallenge i c) (i .header .challenges ≤ c)

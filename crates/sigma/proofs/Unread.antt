@@ -9,8 +9,8 @@ use lib.ListN.{getD}
 use Rattle.types.specs.declared.Header.{Header}
 use Rattle.types.specs.declared.Round.{Round}
 use Rattle.numbers.proofs.Product.{product-agree}
-use Rattle.encoding.specs.Places.{places}
-use Rattle.encoding.proofs.Places.{places-agree, getD-places}
+use Rattle.lists.specs.Places.{places}
+use Rattle.lists.proofs.Places.{places-agree, getD-places}
 use Rattle.rules.specs.Rule.{Rule}
 use Rattle.rules.proofs.Says.{says-decides}
 use Rattle.sigma.specs.Instance.{Instance, entry, statementAt}

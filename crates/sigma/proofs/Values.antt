@@ -5,11 +5,11 @@ use mathlib.Core.Path.{_≡_}
 use mathlib.Core.List.{List}
 use lib.IntN.{pos, negℤ}
 use lib.ListN.{length, getD}
-use Rattle.encoding.proofs.Places.{length-tabulate, getD-tabulate}
+use Rattle.lists.proofs.Places.{length-tabulate, getD-tabulate}
 use Rattle.numbers.specs.Integer.{power}
 use Rattle.sigma.specs.Instance.{Instance, statementAt}
 use Rattle.sigma.specs.Image.{rowImage, image}
-use Rattle.sigma.specs.Round.{responseSlot, response, otherSide}
+use Rattle.sigma.specs.Round.{responseCoordinate, response, expectedImage}
 use Rattle.sigma.specs.Simulator.{simulated}
 
 module _ (i : Instance) where
@@ -24,15 +24,15 @@ module _ (i : Instance) where
   image-at x r h = getD-tabulate _ _ r 0 h
 
   -- t · z^c has a value for each row
-  pub length-other-side : (t : List ℕ) (c : ℕ) → length (otherSide i t c) ≡ i .header .rows
-  unfolding otherSide
-  length-other-side t c = length-tabulate _ _
+  pub length-expected-image : (t : List ℕ) (c : ℕ) → length (expectedImage i t c) ≡ i .header .rows
+  unfolding expectedImage
+  length-expected-image t c = length-tabulate _ _
 
   -- row r of t · z^c
-  pub other-side-at : (t : List ℕ) (c r : ℕ) → r < i .header .rows
-      → getD (otherSide i t c) r 0 ≡ getD t r 0 * statementAt i r ^ c % i .header .modulus
-  unfolding otherSide
-  other-side-at t c r h = getD-tabulate _ _ r 0 h
+  pub expected-image-at : (t : List ℕ) (c r : ℕ) → r < i .header .rows
+      → getD (expectedImage i t c) r 0 ≡ getD t r 0 * statementAt i r ^ c % i .header .modulus
+  unfolding expectedImage
+  expected-image-at t c r h = getD-tabulate _ _ r 0 h
 
   -- a response has a value for each column
   pub length-response : (k : List ℕ) (c : ℕ) (x : List ℕ) → length (response i k c x) ≡ i .header .columns
@@ -41,7 +41,7 @@ module _ (i : Instance) where
 
   -- slot j of a response
   pub response-at : (k : List ℕ) (c : ℕ) (x : List ℕ) (j : ℕ) → j < i .header .columns
-      → getD (response i k c x) j 0 ≡ responseSlot (i .header) (getD k j 0) c (getD x j 0)
+      → getD (response i k c x) j 0 ≡ responseCoordinate (i .header) (getD k j 0) c (getD x j 0)
   unfolding response
   response-at k c x j h = getD-tabulate _ _ j 0 h
 

@@ -10,32 +10,32 @@ use Rattle.types.specs.declared.Verdict.{Verdict}
 use Rattle.types.specs.declared.Verdict.the-variants.{Accepted, Rejected, Refused}
 use Rattle.sigma.specs.Instance.{Instance}
 use Rattle.sigma.specs.Image.{image}
-use Rattle.sigma.specs.Round.{otherSide, verdict}
+use Rattle.sigma.specs.Round.{expectedImage, verdict}
 use Rattle.sigma.specs.Reads.{roundOf}
 use Rattle.sigma.specs.Meaning.{RowHolds, Holds, FailsFirst}
-use Rattle.sigma.proofs.Values.{image-at, other-side-at}
+use Rattle.sigma.proofs.Values.{image-at, expected-image-at}
 use Rattle.sigma.proofs.Comparison.{compare-accepted, compare-rejected, compare-not-refused}
 
 module _ (i : Instance) (t : List ℕ) (c : ℕ) (r : List ℕ) where
   -- the two sides agree in a row exactly when 01's equation holds there
-  row-holds : (row : ℕ) → row < i .header .rows → (getD (image i r) row 0 ≡ getD (otherSide i t c) row 0) ↔ RowHolds i (roundOf t c r) row
+  row-holds : (row : ℕ) → row < i .header .rows → (getD (image i r) row 0 ≡ getD (expectedImage i t c) row 0) ↔ RowHolds i (roundOf t c r) row
   row-holds row h =
       let left = image-at i r row h in
-      let right = other-side-at i t c row h in
+      let right = expected-image-at i t c row h in
       (λ e. sym left ∙ e ∙ right, λ e. left ∙ e ∙ sym right)
 
   -- a round is accepted exactly when 01's equation holds in every row
   pub verdict-accepted : (verdict i t c r ≡ Accepted) ↔ Holds i (roundOf t c r)
   unfolding verdict
   verdict-accepted =
-      let agree = compare-accepted (i .header .rows) (image i r) (otherSide i t c) in
+      let agree = compare-accepted (i .header .rows) (image i r) (expectedImage i t c) in
       (λ e row h. row-holds row h .0 (agree .0 e row h), λ f. agree .1 (λ row h. row-holds row h .1 (f row h)))
 
   -- a round is rejected with exactly the first row in which 01's equation fails
   pub verdict-rejected : (row : ℕ) → (verdict i t c r ≡ Rejected row) ↔ FailsFirst i (roundOf t c r) row
   unfolding verdict
   verdict-rejected row =
-      let first = compare-rejected (i .header .rows) (image i r) (otherSide i t c) row in (
+      let first = compare-rejected (i .header .rows) (image i r) (expectedImage i t c) row in (
         λ e. let (h, different, before) = first .0 e in record {
           inside = h;
           fails = λ x. different (row-holds row h .1 x);
@@ -47,7 +47,7 @@ module _ (i : Instance) (t : List ℕ) (c : ℕ) (r : List ℕ) where
   -- a verdict on values is never a refusal
   pub verdict-not-refused : (n : ℕ) → verdict i t c r ≢ Refused n
   unfolding verdict
-  verdict-not-refused n = compare-not-refused (i .header .rows) (image i r) (otherSide i t c) n
+  verdict-not-refused n = compare-not-refused (i .header .rows) (image i r) (expectedImage i t c) n
 
   -- a round is accepted, or rejected with some row
   pub verdict-decided : Holds i (roundOf t c r) ⊎ ((row : ℕ) × FailsFirst i (roundOf t c r) row)

@@ -7,10 +7,10 @@ use lib.Dec.{eqb, ltb}
 use Rattle.types.specs.declared.Header.{Header}
 use Rattle.numbers.specs.Search.{find, any}
 use Rattle.rules.specs.Rule.{Rule, _when_}
-use Rattle.sigma.specs.Instance.{Instance, isExponent, entry, statementAt}
-use Rattle.sigma.specs.Element.{isElement}
+use Rattle.sigma.specs.Instance.{Instance, isExponent, entry}
+use Rattle.sigma.specs.Element.{isElement, someNonElement}
 
--- the first d with 2 ≤ d < K that divides ℓ, and K where there is none
+-- the first d with 2 ≤ d < K that divides ℓ, and K where there is none (for a K of at least 2)
 unfoldable pub firstDivisor : ℕ → ℕ → ℕ
 firstDivisor order challenges = find (λ d. eqb (order % d) 0) 2 (challenges - 2)
 
@@ -40,13 +40,13 @@ badCount h =
 
 -- some entry is no group element; a sheet of kind 2 has no entries
 unfoldable pub badEntries : Instance → Bool
-badEntries i =
-    isExponent (i .header) &&
-    any (i .header .rows) (λ r. any (i .header .columns) (λ c. not (isElement (i .header) (entry i r c))))
+badEntries inst =
+    isExponent (inst .header) &&
+    any (inst .header .rows) (λ i. any (inst .header .columns) (λ j. not (isElement (inst .header) (entry inst i j))))
 
 -- some statement value is no group element
 unfoldable pub badStatement : Instance → Bool
-badStatement i = any (i .header .rows) (λ r. not (isElement (i .header) (statementAt i r)))
+badStatement inst = someNonElement (inst .header) (inst .header .rows) (inst .statement)
 
 -- the rules of the fixed fields
 unfoldable pub headerRules : Header → List Rule
@@ -55,4 +55,4 @@ headerRules h =
 
 -- the rules of the entries and the statement
 unfoldable pub elementRules : Instance → List Rule
-elementRules i = (10 when badEntries i) ∷ (11 when badStatement i) ∷ []
+elementRules inst = (10 when badEntries inst) ∷ (11 when badStatement inst) ∷ []

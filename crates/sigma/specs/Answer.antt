@@ -30,6 +30,10 @@ isAccepted (Refused number) = false
 unfoldable pub judged : ℕ → Verdict → Verdict
 judged refusal v = unlessRefused refusal v (Refused refusal)
 
--- values in eight places, 0 beyond them, or the refusal beside eight zeros
+-- values in eight places, 0 beyond them; zeros where the call is refused
+unfoldable pub eightPlaces : ℕ → List ℕ → List ℕ
+eightPlaces refusal xs = unlessRefused refusal (pad8 0 xs) zeros8
+
+-- the answer of a call that computes values
 unfoldable pub computed : ℕ → List ℕ → Computed
-computed refusal xs = record { refusal = refusal; values = unlessRefused refusal (pad8 0 xs) zeros8 }
+computed refusal xs = record { refusal = refusal; values = eightPlaces refusal xs }

@@ -1,4 +1,4 @@
--- Two lists of values, row by row.
+-- Two lists of values, place by place.
 -- Assumes nothing.
 use Prim.Native.Nat.{ℕ}
 use mathlib.Core.Bool.{Bool, not, cond}
@@ -9,11 +9,11 @@ use Rattle.types.specs.declared.Verdict.{Verdict}
 use Rattle.types.specs.declared.Verdict.the-variants.{Accepted, Rejected}
 use Rattle.numbers.specs.Search.{find}
 
--- the first row below n at which the lists differ, and n where there is none
+-- the first place below n at which the lists differ, and n where there is none
 unfoldable pub firstDifference : ℕ → List ℕ → List ℕ → ℕ
-firstDifference n xs ys = find (λ r. not (eqb (getD xs r 0) (getD ys r 0))) 0 n
+firstDifference n xs ys = find (λ i. not (eqb (getD xs i 0) (getD ys i 0))) 0 n
 
--- whether the lists differ in some row below n
+-- whether the lists differ at some place below n
 unfoldable pub differ : ℕ → List ℕ → List ℕ → Bool
 differ n xs ys = ltb (firstDifference n xs ys) n
 

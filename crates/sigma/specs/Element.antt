@@ -3,10 +3,13 @@
 use Prim.Native.Nat.{ℕ, _%_, _^_, _<_, _≤_}
 use mathlib.Core.Path.{_≡_}
 use mathlib.Core.Logic.{_≢_}
-use mathlib.Core.Bool.{Bool, cond, _&&_}
+use mathlib.Core.Bool.{Bool, cond, not, _&&_}
+use mathlib.Core.List.{List}
 use lib.Dec.{eqb, leb, ltb}
+use lib.ListN.{getD}
 use Rattle.types.specs.declared.Header.{Header}
 use Rattle.numbers.specs.Gcd.{gcd}
+use Rattle.numbers.specs.Search.{any}
 use Rattle.sigma.specs.Instance.{isExponent}
 
 -- v is a group element: from 1 to m − 1, with v^q mod m = 1 in kind 1 and gcd(v, m) = 1 in kind 2
@@ -14,6 +17,10 @@ unfoldable pub isElement : Header → ℕ → Bool
 isElement h v =
     leb 1 v && ltb v (h .modulus) &&
     cond (isExponent h) (eqb (v ^ h .order % h .modulus) 1) (eqb (gcd v (h .modulus)) 1)
+
+-- some value among the first n is no group element
+unfoldable pub someNonElement : Header → ℕ → List ℕ → Bool
+someNonElement h n vs = any n (λ i. not (isElement h (getD vs i 0)))
 
 -- x is a coordinate of the domain, 01's domain slot: from 0 to q − 1 in kind 1, a group element in kind 2
 unfoldable pub isCoordinate : Header → ℕ → Bool

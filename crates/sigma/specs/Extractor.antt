@@ -30,44 +30,44 @@ divide h x y = cond (isExponent h) ((x + (h .order - y)) % h .order) (x * invers
 unfoldable pub raise : Header → ℕ → ℤ → ℕ
 raise h x k = cond (isExponent h) (residue (h .order) (k *ℤ pos x)) (power (h .modulus) x k)
 
--- slot j of u: 0 in kind 1, z in kind 2
-unfoldable pub baseSlot : Instance → ℕ → ℕ
-baseSlot i j = cond (isExponent (i .header)) 0 (statementAt i j)
+-- coordinate j of u: 0 in kind 1, z in kind 2
+unfoldable pub baseCoordinate : Instance → ℕ → ℕ
+baseCoordinate inst j = cond (isExponent (inst .header)) 0 (statementAt inst j)
 
 -- 01's formula u^a · (r/r′)^b, slot by slot
 unfoldable pub formula : Instance → ℤ → ℤ → List ℕ → List ℕ → List ℕ
-formula i a b r r′ =
-    tabulate (i .header .columns)
+formula inst a b r r′ =
+    tabulate (inst .header .columns)
     (λ j.
-    combine (i .header) (raise (i .header) (baseSlot i j) a)
-    (raise (i .header) (divide (i .header) (getD r j 0) (getD r′ j 0)) b))
+    combine (inst .header) (raise (inst .header) (baseCoordinate inst j) a)
+    (raise (inst .header) (divide (inst .header) (getD r j 0) (getD r′ j 0)) b))
 
 -- the formula at the coefficients a and b that belong to the challenges c and c′
 unfoldable pub extracted : Instance → ℕ → List ℕ → ℕ → List ℕ → List ℕ
-extracted i c r c′ r′ =
+extracted inst c r c′ r′ =
     let delta : ℤ = pos c -ℤ pos c′ in
-    formula i (bezoutLeft (i .header .order) delta) (bezoutRight (i .header .order) delta) r r′
+    formula inst (bezoutLeft (inst .header .order) delta) (bezoutRight (inst .header .order) delta) r r′
 
 -- the rules of the rounds (t, c, r) and (t′, c′, r′), each asked of both rounds before the next
 unfoldable pub extractRules : Instance → List ℕ → ℕ → List ℕ → List ℕ → ℕ → List ℕ → List Rule
-extractRules i t c r t′ c′ r′ =
-    (14 when (badCommitment i t || badCommitment i t′)) ∷
-    (15 when (badChallenge i c || badChallenge i c′)) ∷
-    (16 when (badCoordinates i r || badCoordinates i r′)) ∷
-    (18 when differ (i .header .rows) t t′) ∷
+extractRules inst t c r t′ c′ r′ =
+    (14 when (badCommitment inst t || badCommitment inst t′)) ∷
+    (15 when (badChallenge inst c || badChallenge inst c′)) ∷
+    (16 when (badCoordinates inst r || badCoordinates inst r′)) ∷
+    (18 when differ (inst .header .rows) t t′) ∷
     (19 when eqb c c′) ∷
-    (20 when (not (isAccepted (verdict i t c r)) || not (isAccepted (verdict i t′ c′ r′)))) ∷ []
+    (20 when (not (isAccepted (verdict inst t c r)) || not (isAccepted (verdict inst t′ c′ r′)))) ∷ []
 
 -- the witness from two rounds after the rules of the sheet; s places of each commitment and n of each response are read
 unfoldable pub extractAfter : List Rule → Instance → Round → Round → Computed
-extractAfter before i first second =
-    let t : List ℕ = places (i .header .rows) (first .commitment) in
-    let r : List ℕ = places (i .header .columns) (first .response) in
-    let t′ : List ℕ = places (i .header .rows) (second .commitment) in
-    let r′ : List ℕ = places (i .header .columns) (second .response) in
-    computed (lowest (before ++ extractRules i t (first .challenge) r t′ (second .challenge) r′))
-    (extracted i (first .challenge) r (second .challenge) r′)
+extractAfter before inst first second =
+    let t : List ℕ = places (inst .header .rows) (first .commitment) in
+    let r : List ℕ = places (inst .header .columns) (first .response) in
+    let t′ : List ℕ = places (inst .header .rows) (second .commitment) in
+    let r′ : List ℕ = places (inst .header .columns) (second .response) in
+    computed (lowest (before ++ extractRules inst t (first .challenge) r t′ (second .challenge) r′))
+    (extracted inst (first .challenge) r (second .challenge) r′)
 
--- the witness from two rounds of an instance
+-- the witness from two rounds of a Valid instance, for callers that have loaded the sheet
 unfoldable pub extract : Instance → Round → Round → Computed
-extract i first second = extractAfter [] i first second
+extract inst first second = extractAfter [] inst first second

@@ -8,13 +8,13 @@ use Rattle.lists.specs.Places.{tabulate}
 use Rattle.numbers.specs.Product.{product}
 use Rattle.sigma.specs.Instance.{Instance, isExponent, entry}
 
--- row r of [x]: in kind 1 the product over c of (entry r,c)^(x_c) mod m, in kind 2 x_r^e mod m
+-- row i of [x]: in kind 1 the product over j of (entry i,j)^(x_j) mod m, in kind 2 x_i^e mod m
 unfoldable pub rowImage : Instance → List ℕ → ℕ → ℕ
-rowImage i x r =
-    cond (isExponent (i .header))
-    (product (i .header .columns) (λ c. entry i r c ^ getD x c 0) % i .header .modulus)
-    (getD x r 0 ^ i .header .order % i .header .modulus)
+rowImage inst x i =
+    cond (isExponent (inst .header))
+    (product (inst .header .columns) (λ j. entry inst i j ^ getD x j 0) % inst .header .modulus)
+    (getD x i 0 ^ inst .header .order % inst .header .modulus)
 
 -- [x], a value for each row
 unfoldable pub image : Instance → List ℕ → List ℕ
-image i x = tabulate (i .header .rows) (rowImage i x)
+image inst x = tabulate (inst .header .rows) (rowImage inst x)

@@ -17,10 +17,10 @@ pub record Instance : Type 0 where
 unfoldable pub isExponent : Header → Bool
 isExponent h = eqb (h .kind) 1
 
--- the entry in row r and column c
+-- the entry in row i and column j
 unfoldable pub entry : Instance → ℕ → ℕ → ℕ
-entry i r c = getD (getD (i .entries) r []) c 0
+entry inst i j = getD (getD (inst .entries) i []) j 0
 
--- the statement's value in row r
+-- the statement's value in row i
 unfoldable pub statementAt : Instance → ℕ → ℕ
-statementAt i r = getD (i .statement) r 0
+statementAt inst i = getD (inst .statement) i 0

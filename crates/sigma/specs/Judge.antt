@@ -10,16 +10,17 @@ use Rattle.sigma.specs.Answer.{judged}
 use Rattle.sigma.specs.Instance.{Instance}
 use Rattle.sigma.specs.Round.{verdict, badCommitment, badChallenge, badCoordinates}
 
+-- the rules of a round
 unfoldable pub judgeRules : Instance → List ℕ → ℕ → List ℕ → List Rule
-judgeRules i t c r = (14 when badCommitment i t) ∷ (15 when badChallenge i c) ∷ (16 when badCoordinates i r) ∷ []
+judgeRules inst t c r = (14 when badCommitment inst t) ∷ (15 when badChallenge inst c) ∷ (16 when badCoordinates inst r) ∷ []
 
 -- the verdict on a round after the rules of the sheet; s places of t and n places of r are read
 unfoldable pub judgeAfter : List Rule → Instance → Round → Verdict
-judgeAfter before i round =
-    let t : List ℕ = places (i .header .rows) (round .commitment) in
-    let r : List ℕ = places (i .header .columns) (round .response) in
-    judged (lowest (before ++ judgeRules i t (round .challenge) r)) (verdict i t (round .challenge) r)
+judgeAfter before inst round =
+    let t : List ℕ = places (inst .header .rows) (round .commitment) in
+    let r : List ℕ = places (inst .header .columns) (round .response) in
+    judged (lowest (before ++ judgeRules inst t (round .challenge) r)) (verdict inst t (round .challenge) r)
 
--- the verdict on a round of an instance
+-- the verdict on a round of a Valid instance, for callers that have loaded the sheet
 unfoldable pub judge : Instance → Round → Verdict
-judge i round = judgeAfter [] i round
+judge inst round = judgeAfter [] inst round

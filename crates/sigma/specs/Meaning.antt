@@ -13,38 +13,38 @@ use Rattle.sigma.specs.Reads.{Agree}
 
 -- the two sides of one row agree: [r]_i = t_i · z_i^c mod m
 abbrev pub RowHolds : Instance → Round → ℕ → Type 0
-RowHolds i round row =
-    rowImage i (round .response) row ≡ getD (round .commitment) row 0 * statementAt i row ^ round .challenge % i .header .modulus
+RowHolds inst round row =
+    rowImage inst (round .response) row ≡ getD (round .commitment) row 0 * statementAt inst row ^ round .challenge % inst .header .modulus
 
 -- the two sides of every row agree
 abbrev pub Holds : Instance → Round → Type 0
-Holds i round = (row : ℕ) → row < i .header .rows → RowHolds i round row
+Holds inst round = (row : ℕ) → row < inst .header .rows → RowHolds inst round row
 
 -- `row` is the first row, from 0, whose two sides differ
-pub record FailsFirst (i : Instance) (round : Round) (row : ℕ) : Type 0 where
-  pub inside : row < i .header .rows
-  pub fails : ¬ RowHolds i round row
-  pub before : (k : ℕ) → k < row → RowHolds i round k
+pub record FailsFirst (inst : Instance) (round : Round) (row : ℕ) : Type 0 where
+  pub inside : row < inst .header .rows
+  pub fails : ¬ RowHolds inst round row
+  pub before : (k : ℕ) → k < row → RowHolds inst round k
 
 -- every value is a group element (14)
 abbrev pub Elements : Instance → List ℕ → Type 0
-Elements i t = (row : ℕ) → row < i .header .rows → Element (i .header) (getD t row 0)
+Elements inst t = (row : ℕ) → row < inst .header .rows → Element (inst .header) (getD t row 0)
 
 -- every slot is a coordinate of the domain (16)
 abbrev pub Coordinates : Instance → List ℕ → Type 0
-Coordinates i x = (j : ℕ) → j < i .header .columns → Coordinate (i .header) (getD x j 0)
+Coordinates inst x = (j : ℕ) → j < inst .header .columns → Coordinate (inst .header) (getD x j 0)
 
 -- what 14 to 16 ask of a round
-pub record Fits (i : Instance) (round : Round) : Type 0 where
-  pub commitment : Elements i (round .commitment)
-  pub challenge : round .challenge < i .header .challenges
-  pub response : Coordinates i (round .response)
+pub record Fits (inst : Instance) (round : Round) : Type 0 where
+  pub commitment : Elements inst (round .commitment)
+  pub challenge : round .challenge < inst .header .challenges
+  pub response : Coordinates inst (round .response)
 
 -- what 14 to 16 and 18 to 20 ask of the extractor's two rounds
-pub record Extracts (i : Instance) (first second : Round) : Type 0 where
-  pub first-fits : Fits i first
-  pub second-fits : Fits i second
-  pub commitments : Agree (i .header .rows) (first .commitment) (second .commitment)
+pub record Extracts (inst : Instance) (first second : Round) : Type 0 where
+  pub first-fits : Fits inst first
+  pub second-fits : Fits inst second
+  pub commitments : Agree (inst .header .rows) (first .commitment) (second .commitment)
   pub challenges : first .challenge ≢ second .challenge
-  pub first-holds : Holds i first
-  pub second-holds : Holds i second
+  pub first-holds : Holds inst first
+  pub second-holds : Holds inst second

@@ -6,7 +6,7 @@ use mathlib.Core.List.{List}
 use lib.ListN.{getD}
 use Rattle.types.specs.declared.Header.{Header}
 use Rattle.types.specs.declared.Round.{Round}
-use Rattle.encoding.specs.Places.{places}
+use Rattle.lists.specs.Places.{places}
 
 -- two arrays agree in their first n places
 abbrev pub Agree : ℕ → List ℕ → List ℕ → Type 0

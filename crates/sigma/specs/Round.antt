@@ -10,38 +10,38 @@ use Rattle.types.specs.declared.Verdict.{Verdict}
 use Rattle.lists.specs.Places.{tabulate}
 use Rattle.numbers.specs.Search.{any}
 use Rattle.sigma.specs.Instance.{Instance, isExponent, statementAt}
-use Rattle.sigma.specs.Element.{isElement, isCoordinate}
+use Rattle.sigma.specs.Element.{someNonElement, isCoordinate}
 use Rattle.sigma.specs.Image.{image}
 use Rattle.sigma.specs.Comparison.{differ, compareSides}
 
--- a slot of the response: k + c·x mod q in kind 1, k·x^c mod m in kind 2
-unfoldable pub responseSlot : Header → ℕ → ℕ → ℕ → ℕ
-responseSlot h k c x = cond (isExponent h) ((k + c * x) % h .order) (k * x ^ c % h .modulus)
+-- a coordinate of the response: k + c·x mod q in kind 1, k·x^c mod m in kind 2
+unfoldable pub responseCoordinate : Header → ℕ → ℕ → ℕ → ℕ
+responseCoordinate h k c x = cond (isExponent h) ((k + c * x) % h .order) (k * x ^ c % h .modulus)
 
 -- the response to challenge c, of nonce k and witness x
 unfoldable pub response : Instance → List ℕ → ℕ → List ℕ → List ℕ
-response i k c x = tabulate (i .header .columns) (λ j. responseSlot (i .header) (getD k j 0) c (getD x j 0))
+response inst k c x = tabulate (inst .header .columns) (λ j. responseCoordinate (inst .header) (getD k j 0) c (getD x j 0))
 
--- the side t · z^c, a value for each row
-unfoldable pub otherSide : Instance → List ℕ → ℕ → List ℕ
-otherSide i t c = tabulate (i .header .rows) (λ r. getD t r 0 * statementAt i r ^ c % i .header .modulus)
+-- what [r] has to be, t · z^c, a value for each row
+unfoldable pub expectedImage : Instance → List ℕ → ℕ → List ℕ
+expectedImage inst t c = tabulate (inst .header .rows) (λ i. getD t i 0 * statementAt inst i ^ c % inst .header .modulus)
 
 -- the verdict: accepted where [r] and t · z^c agree in every row
 unfoldable pub verdict : Instance → List ℕ → ℕ → List ℕ → Verdict
-verdict i t c r = compareSides (i .header .rows) (image i r) (otherSide i t c)
+verdict inst t c r = compareSides (inst .header .rows) (image inst r) (expectedImage inst t c)
 
 -- some value of a commitment is no group element (14)
 unfoldable pub badCommitment : Instance → List ℕ → Bool
-badCommitment i t = any (i .header .rows) (λ r. not (isElement (i .header) (getD t r 0)))
+badCommitment inst t = someNonElement (inst .header) (inst .header .rows) t
 
 -- the challenge is K or more (15)
 unfoldable pub badChallenge : Instance → ℕ → Bool
-badChallenge i c = leb (i .header .challenges) c
+badChallenge inst c = leb (inst .header .challenges) c
 
 -- some slot of a witness, nonce or response is no domain slot (16)
 unfoldable pub badCoordinates : Instance → List ℕ → Bool
-badCoordinates i x = any (i .header .columns) (λ j. not (isCoordinate (i .header) (getD x j 0)))
+badCoordinates inst x = any (inst .header .columns) (λ j. not (isCoordinate (inst .header) (getD x j 0)))
 
 -- the witness's image is not the statement (17)
 unfoldable pub badWitness : Instance → List ℕ → Bool
-badWitness i x = differ (i .header .rows) (image i x) (i .statement)
+badWitness inst x = differ (inst .header .rows) (image inst x) (inst .statement)

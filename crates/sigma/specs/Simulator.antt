@@ -14,19 +14,20 @@ use Rattle.sigma.specs.Round.{badChallenge, badCoordinates}
 
 -- the simulated commitment t = [r] · z^(−c), a value for each row
 unfoldable pub simulated : Instance → ℕ → List ℕ → List ℕ
-simulated i c r =
-    tabulate (i .header .rows)
-    (λ row. rowImage i r row * power (i .header .modulus) (statementAt i row) (negℤ (pos c)) % i .header .modulus)
+simulated inst c r =
+    tabulate (inst .header .rows)
+    (λ i. rowImage inst r i * power (inst .header .modulus) (statementAt inst i) (negℤ (pos c)) % inst .header .modulus)
 
+-- the rules of a challenge and a response
 unfoldable pub simulateRules : Instance → ℕ → List ℕ → List Rule
-simulateRules i c r = (15 when badChallenge i c) ∷ (16 when badCoordinates i r) ∷ []
+simulateRules inst c r = (15 when badChallenge inst c) ∷ (16 when badCoordinates inst r) ∷ []
 
 -- the simulated commitment after the rules of the sheet; n places of r are read
 unfoldable pub simulateAfter : List Rule → Instance → ℕ → List ℕ → Computed
-simulateAfter before i c response =
-    let r : List ℕ = places (i .header .columns) response in
-    computed (lowest (before ++ simulateRules i c r)) (simulated i c r)
+simulateAfter before inst c response =
+    let r : List ℕ = places (inst .header .columns) response in
+    computed (lowest (before ++ simulateRules inst c r)) (simulated inst c r)
 
--- the simulated commitment of an instance
+-- the simulated commitment of a Valid instance, for callers that have loaded the sheet
 unfoldable pub simulate : Instance → ℕ → List ℕ → Computed
-simulate i c response = simulateAfter [] i c response
+simulate inst c response = simulateAfter [] inst c response

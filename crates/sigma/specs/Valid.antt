@@ -1,4 +1,4 @@
--- The facts of an instance that is not turned back.
+-- The facts of a sheet that loads, on its values (01, "Turned back", 4 to 8, 10 and 11).
 -- Assumes nothing.
 use Prim.Native.Nat.{ℕ, _<_, _≤_, _∣_}
 use mathlib.Core.Path.{_≡_}
@@ -6,19 +6,20 @@ use mathlib.Core.Logic.{_⊎_}
 use Rattle.sigma.specs.Instance.{Instance, entry, statementAt}
 use Rattle.sigma.specs.Element.{Element}
 
-pub record Valid (i : Instance) : Type 0 where
-  pub kind : (i .header .kind ≡ 1) ⊎ (i .header .kind ≡ 2)
-  pub modulus : 3 ≤ i .header .modulus
-  pub order : 2 ≤ i .header .order
-  pub some-row : 1 ≤ i .header .rows
-  pub few-rows : i .header .rows ≤ 8
-  pub some-column : 1 ≤ i .header .columns
-  pub few-columns : i .header .columns ≤ 8
-  pub square : i .header .kind ≡ 2 → i .header .rows ≡ i .header .columns
-  pub some-challenges : 2 ≤ i .header .challenges
-  pub few-challenges : i .header .challenges ≤ 65536
-  pub no-divisor : (d : ℕ) → 2 ≤ d → d < i .header .challenges → ¬ (d ∣ i .header .order)
+-- none of 4 to 8, 10 and 11 applies to the instance
+pub record Valid (inst : Instance) : Type 0 where
+  pub kind : (inst .header .kind ≡ 1) ⊎ (inst .header .kind ≡ 2)
+  pub modulus : 3 ≤ inst .header .modulus
+  pub order : 2 ≤ inst .header .order
+  pub some-row : 1 ≤ inst .header .rows
+  pub few-rows : inst .header .rows ≤ 8
+  pub some-column : 1 ≤ inst .header .columns
+  pub few-columns : inst .header .columns ≤ 8
+  pub square : inst .header .kind ≡ 2 → inst .header .rows ≡ inst .header .columns
+  pub some-challenges : 2 ≤ inst .header .challenges
+  pub few-challenges : inst .header .challenges ≤ 65536
+  pub no-divisor : (d : ℕ) → 2 ≤ d → d < inst .header .challenges → ¬ (d ∣ inst .header .order)
   pub entries :
-      i .header .kind ≡ 1 →
-      (r c : ℕ) → r < i .header .rows → c < i .header .columns → Element (i .header) (entry i r c)
-  pub statement : (r : ℕ) → r < i .header .rows → Element (i .header) (statementAt i r)
+      inst .header .kind ≡ 1 →
+      (i j : ℕ) → i < inst .header .rows → j < inst .header .columns → Element (inst .header) (entry inst i j)
+  pub statement : (i : ℕ) → i < inst .header .rows → Element (inst .header) (statementAt inst i)
