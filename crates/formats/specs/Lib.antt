@@ -7,3 +7,4 @@ pub mod Pattern
 pub mod RoundFile
 pub mod RoundCalls
 pub mod Append
+pub mod Refusals

@@ -2,4 +2,5 @@
 pub mod Calls
 pub mod Prover
 pub mod Verifier
+pub mod Refusals
 pub mod Marker

@@ -7,6 +7,7 @@ pub mod Comparison
 pub mod Values
 pub mod Tests
 pub mod Passed
+pub mod Refusals
 pub mod Valid
 pub mod ByKind
 pub mod Unread

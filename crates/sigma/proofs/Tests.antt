@@ -23,6 +23,8 @@ use Rattle.sigma.specs.Admission.{firstDivisor, badKind, badModulus, bad
 use Rattle.sigma.specs.Image.{rowImage, image}
 use Rattle.sigma.specs.Round.{badCommitment, badChallenge, badCoordinates, badWitness}
 use Rattle.sigma.specs.Answer.{isAccepted}
+use Rattle.sigma.specs.Refusals.{Refusal4, Refusal5, Refusal6, Refusal7, Refusal8, Refusal10, Refusal11}
+use Rattle.sigma.specs.Refusals.{SomeNonElement, Refusal14, Refusal15, Refusal16, Refusal17}
 use Rattle.sigma.proofs.Calculus.{says-any, says-divides}
 use Rattle.sigma.proofs.Comparison.{says-differ}
 use Rattle.sigma.proofs.Values.{image-at}
@@ -65,23 +67,22 @@ says-coordinate h x =
 -- ---- the fixed fields (4 to 8)
 
 -- 4: the kind is neither 1 nor 2
-pub says-badKind : (h : Header) → Says (badKind h) (¬ ((h .kind ≡ 1) ⊎ (h .kind ≡ 2)))
+pub says-badKind : (h : Header) → Says (badKind h) (Refusal4 h)
 unfolding badKind
 says-badKind h = says-not (says-or (says-equal (h .kind) 1) (says-equal (h .kind) 2))
 
 -- 5: the modulus is below 3
-pub says-badModulus : (h : Header) → Says (badModulus h) (h .modulus < 3)
+pub says-badModulus : (h : Header) → Says (badModulus h) (Refusal5 h)
 unfolding badModulus
 says-badModulus h = says-less (h .modulus) 3
 
 -- 6: ℓ is below 2
-pub says-badOrder : (h : Header) → Says (badOrder h) (h .order < 2)
+pub says-badOrder : (h : Header) → Says (badOrder h) (Refusal6 h)
 unfolding badOrder
 says-badOrder h = says-less (h .order) 2
 
 -- 7: rows or columns lie outside 1 to 8, or differ in kind 2
-pub says-badSize : (h : Header) → Says (badSize h)
-    ((h .rows < 1) ⊎ (8 < h .rows) ⊎ (h .columns < 1) ⊎ (8 < h .columns) ⊎ ((h .kind ≡ 2) × (h .rows ≢ h .columns)))
+pub says-badSize : (h : Header) → Says (badSize h) (Refusal7 h)
 unfolding badSize
 says-badSize h =
     simp or-assoc
@@ -114,8 +115,7 @@ says-divisor order challenges = record { sound = found; complete = met }
     ]
 
 -- 8: K is below 2 or above 65,536, or some d with 2 ≤ d < K divides ℓ
-pub says-badCount : (h : Header) → Says (badCount h)
-    ((h .challenges < 2) ⊎ (65536 < h .challenges) ⊎ ((d : ℕ) × (2 ≤ d) × (d < h .challenges) × (d ∣ h .order)))
+pub says-badCount : (h : Header) → Says (badCount h) (Refusal8 h)
 unfolding badCount
 says-badCount h =
     simp or-assoc
@@ -124,9 +124,7 @@ says-badCount h =
 -- ---- the entries and the statement (10 and 11)
 
 -- 10: in kind 1 some entry is no group element
-pub says-badEntries : (i : Instance) → Says (badEntries i)
-    ((i .header .kind ≡ 1)
-    × ((r : ℕ) × (r < i .header .rows) × ((c : ℕ) × (c < i .header .columns) × (¬ Element (i .header) (entry i r c)))))
+pub says-badEntries : (i : Instance) → Says (badEntries i) (Refusal10 i)
 unfolding badEntries
 says-badEntries i =
     says-and (says-exponent (i .header))
@@ -134,38 +132,34 @@ says-badEntries i =
 
 -- some value among the first n is no group element
 pub says-someNonElement : (h : Header) (n : ℕ) (vs : List ℕ)
-    → Says (someNonElement h n vs) ((i : ℕ) × (i < n) × (¬ Element h (getD vs i 0)))
+    → Says (someNonElement h n vs) (SomeNonElement h n vs)
 unfolding someNonElement
 says-someNonElement h n vs = says-any _ _ _ (λ i. says-not (says-element h (getD vs i 0)))
 
 -- 11: some statement value is no group element
-pub says-badStatement : (i : Instance) → Says (badStatement i)
-    ((r : ℕ) × (r < i .header .rows) × (¬ Element (i .header) (statementAt i r)))
-unfolding badStatement statementAt
+pub says-badStatement : (i : Instance) → Says (badStatement i) (Refusal11 i)
+unfolding badStatement
 says-badStatement i = says-someNonElement (i .header) (i .header .rows) (i .statement)
 
 -- ---- what a call brings (14 to 17) and the extractor's verdicts (20)
 
 -- 14: some value of a commitment is no group element
-pub says-badCommitment : (i : Instance) (t : List ℕ) → Says (badCommitment i t)
-    ((r : ℕ) × (r < i .header .rows) × (¬ Element (i .header) (getD t r 0)))
+pub says-badCommitment : (i : Instance) (t : List ℕ) → Says (badCommitment i t) (Refusal14 i t)
 unfolding badCommitment
 says-badCommitment i t = says-someNonElement (i .header) (i .header .rows) t
 
 -- 15: the challenge is K or more
-pub says-badChallenge : (i : Instance) (c : ℕ) → Says (badChallenge i c) (i .header .challenges ≤ c)
+pub says-badChallenge : (i : Instance) (c : ℕ) → Says (badChallenge i c) (Refusal15 i c)
 unfolding badChallenge
 says-badChallenge i c = says-at-most (i .header .challenges) c
 
 -- 16: some slot is no coordinate of the domain
-pub says-badCoordinates : (i : Instance) (x : List ℕ) → Says (badCoordinates i x)
-    ((j : ℕ) × (j < i .header .columns) × (¬ Coordinate (i .header) (getD x j 0)))
+pub says-badCoordinates : (i : Instance) (x : List ℕ) → Says (badCoordinates i x) (Refusal16 i x)
 unfolding badCoordinates
 says-badCoordinates i x = says-any _ _ _ (λ j. says-not (says-coordinate (i .header) (getD x j 0)))
 
 -- 17: some row of the witness's image is not the statement's value
-pub says-badWitness : (i : Instance) (x : List ℕ) → Says (badWitness i x)
-    ((r : ℕ) × (r < i .header .rows) × (rowImage i x r ≢ statementAt i r))
+pub says-badWitness : (i : Instance) (x : List ℕ) → Says (badWitness i x) (Refusal17 i x)
 unfolding badWitness statementAt
 says-badWitness i x =
     says-iff (says-differ (i .header .rows) (image i x) (i .statement))

@@ -4,6 +4,7 @@ pub mod Element
 pub mod Admission
 pub mod Valid
 pub mod Reads
+pub mod Refusals
 pub mod Meaning
 pub mod Image
 pub mod Comparison

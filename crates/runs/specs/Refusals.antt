@@ -1,0 +1,58 @@
+-- The conditions of 01's refusal 21 as facts, and which conditions each call on a session asks, in order.
+-- Assumes nothing.
+use Prim.Native.Nat.{ℕ, _<_}
+use mathlib.Core.Path.{_≡_}
+use mathlib.Core.Logic.{_⊎_, _≢_}
+use mathlib.Core.List.{List, [], _∷_}
+use lib.ListN.{getD}
+use Rattle.types.specs.declared.Prover.{Prover}
+use Rattle.types.specs.declared.ProverPhase.the-variants.{New, Committed}
+use Rattle.types.specs.declared.Verifier.{Verifier}
+use Rattle.types.specs.declared.VerifierPhase.the-variants.{Waiting, Holding, Asked}
+use Rattle.lists.specs.Places.{pad8, places}
+use Rattle.rules.specs.Condition.{Condition, _if_}
+use Rattle.sigma.specs.Image.{image}
+use Rattle.sigma.specs.Instance.{Instance}
+use Rattle.sigma.specs.Refusals.{Refusal14, Refusal15, Refusal16, Refusal17}
+
+-- a held nonce slot is no domain slot, or the nonce's image, 0 beyond s, is not the held commitment in all eight places
+abbrev pub UnfitProver : Instance → Prover → Type 0
+UnfitProver inst p =
+    Refusal16 inst (places (inst .header .columns) (p .nonce)) ⊎
+    ((i : ℕ) × (i < 8) ×
+    (getD (pad8 0 (image inst (places (inst .header .columns) (p .nonce)))) i 0 ≢ getD (p .commitment) i 0))
+
+-- a held commitment value is no group element
+abbrev pub UnfitCommitment : Instance → Verifier → Type 0
+UnfitCommitment inst v = Refusal14 inst (places (inst .header .rows) (v .commitment))
+
+-- committing
+abbrev pub commitConditions : Instance → Prover → List ℕ → List Condition
+commitConditions inst p k = (16 if Refusal16 inst k) ∷ (21 if (p .phase ≢ New)) ∷ []
+
+-- responding
+abbrev pub respondConditions : Instance → Prover → ℕ → List ℕ → List Condition
+respondConditions inst p c x =
+    (15 if Refusal15 inst c) ∷
+    (16 if Refusal16 inst x) ∷
+    (17 if Refusal17 inst x) ∷
+    (21 if ((p .phase ≢ Committed) ⊎ UnfitProver inst p)) ∷ []
+
+-- dropping
+abbrev pub dropConditions : Prover → List Condition
+dropConditions p = (21 if ((p .phase ≢ New) × (p .phase ≢ Committed))) ∷ []
+
+-- Vic's commitment
+abbrev pub takeCommitmentConditions : Instance → Verifier → List ℕ → List Condition
+takeCommitmentConditions inst v t = (14 if Refusal14 inst t) ∷ (21 if (v .phase ≢ Waiting)) ∷ []
+
+-- Vic's challenge
+abbrev pub takeChallengeConditions : Instance → Verifier → ℕ → List Condition
+takeChallengeConditions inst v c =
+    (15 if Refusal15 inst c) ∷ (21 if ((v .phase ≢ Holding) ⊎ UnfitCommitment inst v)) ∷ []
+
+-- Vic's response
+abbrev pub takeResponseConditions : Instance → Verifier → List ℕ → List Condition
+takeResponseConditions inst v r =
+    (16 if Refusal16 inst r) ∷
+    (21 if ((v .phase ≢ Asked) ⊎ UnfitCommitment inst v ⊎ Refusal15 inst (v .challenge))) ∷ []
