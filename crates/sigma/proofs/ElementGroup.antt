@@ -55,6 +55,15 @@ module _ (h : Header) (big : 1 < h .modulus) (some : 0 < h .order) where
     coprime = λ n. coprime;
   }
 
+  -- in kind 1 a number below m whose power q is 1 is a group element
+  pub element-by-order : h .kind ≡ 1 → (v : ℕ) → v < h .modulus → Cong (h .modulus) (v ^ h .order) 1 → Element h v
+  element-by-order e v below one =
+      element-from v below (inverses-coprime (order-inverses (h .modulus) (h .order) v some (mod-is-one big one))) (λ e′. one)
+
+  -- in kind 2 a number below m and coprime to it is a group element
+  pub element-by-gcd : h .kind ≢ 1 → (v : ℕ) → v < h .modulus → gcd v (h .modulus) ≡ 1 → Element h v
+  element-by-gcd n v below coprime = element-from v below coprime (λ e. absurd (n e))
+
   -- the power q of a group element of kind 1 is 1
   pub element-order : (v : ℕ) → Element h v → h .kind ≡ 1 → Cong (h .modulus) (v ^ h .order) 1
   element-order v x e = cong-one (h .modulus) _ (x .ordered e)

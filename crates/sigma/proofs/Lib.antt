@@ -17,3 +17,4 @@ pub mod Unread
 pub mod Verdict
 pub mod Calls
 pub mod Formula
+pub mod Homomorphism
