@@ -68,6 +68,20 @@ module _ (h : Header) where
   pub coordinate-root : h .kind ≢ 1 → (x : ℕ) → Element h x → Coordinate h x
   coordinate-root n x y = record { reduced = λ e. absurd (n e); element = λ n′. y }
 
+module _ (h : Header) where
+  -- a quotient is the product with the opposite
+  pub divide-combine : (x y : ℕ) → divide h x y ≡ combine h x (opposite h y)
+  unfolding divide combine opposite
+  divide-combine x y =
+      by-kind h (λ e. rw (exponent-kind h e) (sym (add-mod-mod x (h .order - y) (h .order)))) (λ n. rw (root-kind h n))
+
+  -- a coordinate of the response combines the nonce with the witness's power
+  pub response-combine : (k c x : ℕ) → responseCoordinate h k c x ≡ combine h k (raise h x (pos c))
+  unfolding responseCoordinate combine raise
+  response-combine k c x =
+      by-kind h (λ e. rw (exponent-kind h e, residue-pos) (sym (add-mod-mod k (c * x) (h .order))))
+      (λ n. rw (root-kind h n, power-pos) (sym (mod-mul-right (h .modulus) k (x ^ c))))
+
 module _ (h : Header) (big : 1 < h .modulus) (some : 0 < h .order) where
   -- two coordinates combine to one
   pub combine-in : (x y : ℕ) → Coordinate h x → Coordinate h y → Coordinate h (combine h x y)
@@ -151,16 +165,3 @@ module _ (h : Header) (big : 1 < h .modulus) (some : 0 < h .order) where
       ∙ residue-power (h .order) some x (a .reduced e) k ∙ sym (raise-exponent h e x k))
       (λ n. (λ i. powerWith (λ y z. combine-root h n y z i) (neutral-root h n i) (λ y. opposite-root h n y i) x k)
       ∙ element-power h big some x k ∙ sym (raise-root h n x k))
-
-  -- a quotient is the product with the opposite
-  pub divide-combine : (x y : ℕ) → divide h x y ≡ combine h x (opposite h y)
-  unfolding divide combine opposite
-  divide-combine x y =
-      by-kind h (λ e. rw (exponent-kind h e) (sym (add-mod-mod x (h .order - y) (h .order)))) (λ n. rw (root-kind h n))
-
-  -- a coordinate of the response combines the nonce with the witness's power
-  pub response-combine : (k c x : ℕ) → responseCoordinate h k c x ≡ combine h k (raise h x (pos c))
-  unfolding responseCoordinate combine raise
-  response-combine k c x =
-      by-kind h (λ e. rw (exponent-kind h e, residue-pos) (sym (add-mod-mod k (c * x) (h .order))))
-      (λ n. rw (root-kind h n, power-pos) (sym (mod-mul-right (h .modulus) k (x ^ c))))

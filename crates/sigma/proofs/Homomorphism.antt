@@ -34,6 +34,14 @@ use Rattle.sigma.proofs.ElementGroup.{element-order, element-by-order, 
 use Rattle.sigma.proofs.Valid.{valid-modulus, valid-order, valid-kind, valid-coprime}
 use Rattle.sigma.proofs.Values.{length-image, image-at}
 
+-- n coordinates, as a type
+abbrev pub Domain : Instance → Type 0
+Domain inst = Vector (Coordinate (inst .header)) (inst .header .columns)
+
+-- s group elements, as a type
+abbrev pub Codomain : Instance → Type 0
+Codomain inst = Vector (Element (inst .header)) (inst .header .rows)
+
 -- a power of a power, the exponents exchanged
 pow-swap : (a i j : ℕ) → (a ^ i) ^ j ≡ (a ^ j) ^ i
 pow-swap a i j = sym (pow-mul a i j) ∙ ap (λ (k : ℕ). a ^ k) (mul-comm i j) ∙ pow-mul a j i
@@ -125,32 +133,32 @@ module _ {inst : Instance} (v : Valid inst) where
       (λ n. root-row-combine v n i h x y z (slots i (row-column v n i h)))
 
   -- the group of n coordinates
-  abbrev pub domain : Group (Vector (Coordinate (inst .header)) (inst .header .columns))
-  domain = vectorGroup (coordinatesOf v) (inst .header .columns)
+  abbrev pub domainGroup : Group (Domain inst)
+  domainGroup = vectorGroup (coordinatesOf v) (inst .header .columns)
 
   -- the group of s group elements
-  abbrev pub codomain : Group (Vector (Element (inst .header)) (inst .header .rows))
-  codomain = vectorGroup (elementsOf v) (inst .header .rows)
+  abbrev pub codomainGroup : Group (Codomain inst)
+  codomainGroup = vectorGroup (elementsOf v) (inst .header .rows)
 
   -- [x] of n coordinates, as s group elements
-  unfoldable pub imageOf : Vector (Coordinate (inst .header)) (inst .header .columns) → Vector (Element (inst .header)) (inst .header .rows)
+  unfoldable pub imageOf : Domain inst → Codomain inst
   imageOf x = (image inst (x .0), image-in (x .0) (x .1))
 
   -- row i of it
-  pub imageOf-at : (x : Vector (Coordinate (inst .header)) (inst .header .columns)) (i : ℕ) → i < inst .header .rows
+  pub imageOf-at : (x : Domain inst) (i : ℕ) → i < inst .header .rows
       → getD ((imageOf x) .0) i 0 ≡ rowImage inst (x .0) i
   unfolding imageOf
   imageOf-at x i h = image-at inst (x .0) i h
 
   -- [x y] = [x] · [y]
-  pub image-product : (x y : Vector (Coordinate (inst .header)) (inst .header .columns))
-      → imageOf (domain .product x y) ≡ codomain .product (imageOf x) (imageOf y)
+  pub image-product : (x y : Domain inst)
+      → imageOf (domainGroup .product x y) ≡ codomainGroup .product (imageOf x) (imageOf y)
   unfolding coordinatesOf coordinateGroup elementsOf elementGroup
   image-product x y = same-slots (elementsOf v) (inst .header .rows) _ _ (λ i h.
-      rw (value-of-product (elementsOf v) (inst .header .rows) (imageOf x) (imageOf y) i h, imageOf-at (domain .product x y) i h)
+      rw (value-of-product (elementsOf v) (inst .header .rows) (imageOf x) (imageOf y) i h, imageOf-at (domainGroup .product x y) i h)
       (row-combine (x .0) (y .0) _ (value-of-product (coordinatesOf v) (inst .header .columns) x y) i h
       ∙ sym (ap₂ (λ (a b : ℕ). a * b % inst .header .modulus) (imageOf-at x i h) (imageOf-at y i h))))
 
   -- the image as a homomorphism
-  unfoldable pub homomorphism : GroupHomomorphism domain codomain
+  unfoldable pub homomorphism : GroupHomomorphism domainGroup codomainGroup
   homomorphism = record { map = imageOf; preserves = image-product }

@@ -18,3 +18,6 @@ pub mod Verdict
 pub mod Calls
 pub mod Formula
 pub mod Homomorphism
+pub mod Maurer
+pub mod Simulator
+pub mod Prover
