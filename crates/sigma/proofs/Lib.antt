@@ -8,9 +8,16 @@ pub mod Values
 pub mod Tests
 pub mod Passed
 pub mod Refusals
-pub mod Valid
 pub mod ByKind
+pub mod ElementGroup
+pub mod ResidueGroup
+pub mod CoordinateGroup
+pub mod Valid
 pub mod Unread
 pub mod Verdict
 pub mod Calls
 pub mod Formula
+pub mod Homomorphism
+pub mod Maurer
+pub mod Simulator
+pub mod Prover

@@ -13,3 +13,4 @@ pub mod Answer
 pub mod Judge
 pub mod Simulator
 pub mod Extractor
+pub mod Knowledge
