@@ -3,3 +3,6 @@ pub mod Tests
 pub mod Refusals
 pub mod Order
 pub mod Loads
+pub mod Files
+pub mod After
+pub mod Unread

@@ -4,7 +4,7 @@ use Prim.Native.Nat.{ℕ, _<_, _≤_}
 use mathlib.Core.Path.{_≡_, refl, sym, ap, _∙_}
 use mathlib.Core.Logic.{_↔_, Iff·trans}
 use mathlib.Core.Bool.{false}
-use mathlib.Core.List.{List, [], _∷_, _++_}
+use mathlib.Core.List.{List, [], _∷_}
 use native.Mathlib.Omega.{arith}
 use lib.Dec.{ltb}
 use lib.ListN.{length, getD, take}
@@ -13,7 +13,7 @@ use borrow.Author.Tests.{ltb-false, le-ltb}
 use Rattle.types.specs.declared.Header.{Header}
 use Rattle.encoding.specs.Text.{ascii}
 use Rattle.lists.specs.Places.{zeros8}
-use Rattle.rules.specs.Rule.{_when_, lowest, Clear}
+use Rattle.rules.specs.Rule.{_when_, Clear}
 use Rattle.rules.proofs.Lowest.{clear-append, clear-lowest, lowest-clear}
 use Rattle.rules.proofs.Says.{says-equal}
 use Rattle.sigma.specs.Admission.{headerRules, elementRules}
@@ -36,15 +36,7 @@ use Rattle.formats.specs.Load.{
   loadEntries,
 }
 use Rattle.formats.specs.Meaning.{Loads}
-use Rattle.formats.specs.Sheet.{
-  sheetMark,
-  versionOf,
-  headerOf,
-  entryCount,
-  sheetLength,
-  zeros64,
-  instanceOf,
-}
+use Rattle.formats.specs.Sheet.{sheetMark, versionOf, headerOf, sheetLength, zeros64, instanceOf}
 use Rattle.formats.proofs.Order.{load-positive}
 
 -- a list begins with n values exactly where it agrees with them in n places
