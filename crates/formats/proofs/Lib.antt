@@ -6,3 +6,5 @@ pub mod Loads
 pub mod Files
 pub mod After
 pub mod Unread
+pub mod Writing
+pub mod Appending

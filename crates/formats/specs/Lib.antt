@@ -9,3 +9,4 @@ pub mod RoundCalls
 pub mod Append
 pub mod Refusals
 pub mod Meaning
+pub mod Outcome
