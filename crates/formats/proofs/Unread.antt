@@ -1,0 +1,121 @@
+-- A writing call's outcome depends only on the places that 01 reads: values that are the same there give the same bytes.
+-- Assumes nothing.
+use Prim.Native.Nat.{ℕ}
+use mathlib.Core.Path.{_≡_, refl, ap, _∙_}
+use mathlib.Core.Logic.{inl, inr}
+use mathlib.Core.Bool.{Bool, not, cond, _&&_}
+use mathlib.Core.List.{List, [], flatten}
+use Rattle.types.specs.declared.Header.{Header}
+use Rattle.types.specs.declared.Round.{Round}
+use Rattle.lists.specs.Places.{tabulate}
+use Rattle.lists.proofs.Places.{tabulate-agree, places-agree}
+use Rattle.numbers.specs.Search.{any}
+use Rattle.numbers.proofs.Search.{any-agree}
+use Rattle.rules.specs.Rule.{Rule}
+use Rattle.rules.proofs.Says.{says-decides}
+use Rattle.sigma.specs.Admission.{badEntries, badStatement, elementRules}
+use Rattle.sigma.specs.Element.{isElement, someNonElement}
+use Rattle.sigma.specs.Instance.{Instance, isExponent, entry}
+use Rattle.sigma.specs.Reads.{Agree, SameRound}
+use Rattle.sigma.proofs.ByKind.{root-kind}
+use Rattle.sigma.proofs.Tests.{says-exponent}
+use Rattle.sigma.proofs.Unread.{same-commitment, same-response}
+use Rattle.formats.specs.Append.{appended, appendAfter, append}
+use Rattle.formats.specs.Encode.{storedEntries, sheetOf, encodeRules, encode}
+use Rattle.formats.specs.Load.{loadRules}
+use Rattle.formats.specs.Meaning.{SameInstance}
+use Rattle.formats.specs.RoundFile.{recordBytes}
+use Rattle.formats.specs.Sheet.{headerOf}
+
+-- some value among the first n is no group element: only n values are read
+pub someNonElement-agree : (h : Header) (n : ℕ) (vs ws : List ℕ) → Agree n vs ws → someNonElement h n vs ≡ someNonElement h n ws
+unfolding someNonElement
+someNonElement-agree h n vs ws a = any-agree n _ _ (λ j b. ap (λ (v : ℕ). not (isElement h v)) (a j b))
+
+module _ (h : Header) (es es′ : List (List ℕ)) (z z′ : List ℕ) where
+  -- the first values
+  abbrev first : Instance
+  first = record { header = h; entries = es; statement = z }
+
+  -- the second values, with the same header
+  abbrev second : Instance
+  second = record { header = h; entries = es′; statement = z′ }
+
+  module _ (s : SameInstance first second) where
+    -- 10 is the same for both
+    badEntries-same : badEntries first ≡ badEntries second
+    unfolding badEntries
+    badEntries-same = elim (says-decides (says-exponent h)) [
+      | inl e ↦
+          let rows =
+          any-agree (h .rows) (λ r. any (h .columns) (λ c. not (isElement h (entry first r c))))
+          (λ r. any (h .columns) (λ c. not (isElement h (entry second r c))))
+          (λ r a. any-agree (h .columns) _ _ (λ c b. ap (λ (v : ℕ). not (isElement h v)) (s .entries e r c a b))) in
+          ap (λ (found : Bool). isExponent h && found) rows
+      | inr n ↦ rw (root-kind h n)
+    ]
+
+    -- 11 is the same for both
+    badStatement-same : badStatement first ≡ badStatement second
+    unfolding badStatement
+    badStatement-same = someNonElement-agree h (h .rows) z z′ (s .statement)
+
+    -- both store the same entries
+    storedEntries-same : storedEntries first ≡ storedEntries second
+    unfolding storedEntries
+    storedEntries-same = elim (says-decides (says-exponent h)) [
+      | inl e ↦
+          let rows =
+          tabulate-agree (h .rows) (λ r. tabulate (h .columns) (entry first r)) (λ r. tabulate (h .columns) (entry second r))
+          (λ r a. tabulate-agree (h .columns) (entry first r) (entry second r) (λ c b. s .entries e r c a b)) in
+          ap (λ (es : List (List ℕ)). cond (isExponent h) (flatten es) []) rows
+      | inr n ↦ rw (root-kind h n)
+    ]
+
+    -- both have the same sheet
+    sheet-same-header : sheetOf first ≡ sheetOf second
+    unfolding sheetOf
+    sheet-same-header = rw (storedEntries-same, places-agree (h .rows) z z′ (s .statement))
+
+    -- both are written or refused in the same way
+    encode-same-header : (buffer : List ℕ) → encode first buffer ≡ encode second buffer
+    unfolding encode encodeRules elementRules
+    encode-same-header buffer = rw (sheet-same-header, badEntries-same, badStatement-same)
+
+-- the same values, where the header is the same by a path
+aligned : {i i′ : Instance} → SameInstance i i′
+    → SameInstance i (record { header = i .header; entries = i′ .entries; statement = i′ .statement })
+unfolding entry
+aligned s = record { header = refl; entries = s .entries; statement = s .statement }
+
+-- the second writer reads the header, in kind 1 the entries within rows and columns, and s places of the statement
+pub encode-same : {i i′ : Instance} → SameInstance i i′ → (buffer : List ℕ) → encode i buffer ≡ encode i′ buffer
+encode-same {i} {i′} s buffer =
+    encode-same-header (i .header) (i .entries) (i′ .entries) (i .statement) (i′ .statement) (aligned s) buffer
+    ∙ ap (λ (h : Header). encode (record { header = h; entries = i′ .entries; statement = i′ .statement }) buffer) (s .header)
+
+-- so does a sheet's layout
+pub sheetOf-same : {i i′ : Instance} → SameInstance i i′ → sheetOf i ≡ sheetOf i′
+sheetOf-same {i} {i′} s =
+    sheet-same-header (i .header) (i .entries) (i′ .entries) (i .statement) (i′ .statement) (aligned s)
+    ∙ ap (λ (h : Header). sheetOf (record { header = h; entries = i′ .entries; statement = i′ .statement })) (s .header)
+
+-- ---- records
+
+-- a record holds s places of t, c, and n places of r
+pub recordBytes-same : (width : ℕ) (h : Header) {round round′ : Round} → SameRound h round round′
+    → recordBytes width h round ≡ recordBytes width h round′
+unfolding recordBytes
+recordBytes-same width h s = rw (same-commitment s, same-response s, s .challenge)
+
+-- the record writer, after the rules of the sheet
+pub appendAfter-same : (before : List Rule) (h : Header) (buffer : List ℕ) (used : ℕ) {round round′ : Round}
+    → SameRound h round round′ → appendAfter before h buffer used round ≡ appendAfter before h buffer used round′
+unfolding appendAfter appended
+appendAfter-same before h buffer used s = rw (recordBytes-same _ h s)
+
+-- the record writer
+pub append-same : (sheet buffer : List ℕ) (used : ℕ) {round round′ : Round}
+    → SameRound (headerOf sheet) round round′ → append sheet buffer used round ≡ append sheet buffer used round′
+unfolding append
+append-same sheet buffer used s = appendAfter-same (loadRules sheet) (headerOf sheet) buffer used s
