@@ -4,3 +4,5 @@ pub mod Refusals
 pub mod Order
 pub mod Outcome
 pub mod After
+pub mod Unread
+pub mod Run
