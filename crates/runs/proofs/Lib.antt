@@ -6,3 +6,5 @@ pub mod Outcome
 pub mod After
 pub mod Unread
 pub mod Run
+pub mod ProverSteps
+pub mod VerifierSteps

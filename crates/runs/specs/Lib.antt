@@ -4,6 +4,7 @@ pub mod Prover
 pub mod Verifier
 pub mod Refusals
 pub mod Reads
+pub mod Meaning
 pub mod Run
 pub mod ProverCalls
 pub mod VerifierCalls
