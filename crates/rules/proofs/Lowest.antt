@@ -102,6 +102,15 @@ positive-append ((n when b) ∷ xs) ys p q = join (ltb 0 n) (λ r. positive-appe
     join true f r = f r
     join false f r = r
 
+-- two lists of positive numbers joined give 0 exactly where the first gives 0 and no rule of the second applies
+pub lowest-append-zero : (xs ys : List Rule) → T (positive xs) → T (positive ys)
+    → (lowest (xs ++ ys) ≡ 0) ↔ ((lowest xs ≡ 0) × Clear ys)
+lowest-append-zero xs ys p q =
+    let both = clear-append xs ys in (
+      λ e. let c = both .0 (clear-lowest (xs ++ ys) (positive-append xs ys p q) e) in (lowest-clear xs (c .0), c .1),
+      λ c. lowest-later-zero xs ys p (c .0) ∙ lowest-clear ys (c .1),
+    )
+
 -- the numbers of two lists joined
 pub numbersOf-append : (xs ys : List Rule) → numbersOf (xs ++ ys) ≡ numbersOf xs ++ numbersOf ys
 unfolding numbersOf

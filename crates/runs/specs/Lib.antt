@@ -3,4 +3,9 @@ pub mod Calls
 pub mod Prover
 pub mod Verifier
 pub mod Refusals
+pub mod Reads
+pub mod Meaning
+pub mod Run
+pub mod ProverCalls
+pub mod VerifierCalls
 pub mod Marker

@@ -1,0 +1,189 @@
+-- What each call on Peggy's session does (01, "Sessions"): when it is not refused, what it then gives, and that a refused call
+-- hands back the same session.
+-- Assumes nothing.
+use Prim.Native.Nat.{ℕ, _<_}
+use mathlib.Core.Path.{_≡_, refl}
+use mathlib.Core.Logic.{_↔_, Iff·rfl, Iff·trans, Iff·and}
+use mathlib.Core.Bool.{false, not}
+use mathlib.Core.List.{List, _++_}
+use lib.Dec.{T}
+use Rattle.types.specs.declared.Prover.{Prover}
+use Rattle.types.specs.declared.ProverPhase.the-variants.{Committed, Answered, Dropped}
+use Rattle.lists.specs.Places.{pad8, places, zeros8}
+use Rattle.rules.specs.Rule.{Rule, lowest, Clear, positive}
+use Rattle.rules.proofs.Says.{says-or}
+use Rattle.rules.proofs.Lowest.{clear-lowest, lowest-clear, lowest-append-zero}
+use Rattle.sigma.specs.Image.{image}
+use Rattle.sigma.specs.Instance.{Instance}
+use Rattle.sigma.specs.Meaning.{Coordinates}
+use Rattle.sigma.specs.Reads.{Agree}
+use Rattle.sigma.specs.Round.{badCoordinates, response}
+use Rattle.sigma.proofs.Calculus.{says-passes, both-fail}
+use Rattle.sigma.proofs.Comparison.{differ-false}
+use Rattle.sigma.proofs.Passed.{challenge-passes, coordinates-pass, witness-passes}
+use Rattle.runs.specs.Meaning.{Commits, Responds, Drops}
+use Rattle.runs.specs.Prover.{isCommitted, unfitProver, proverStep}
+use Rattle.runs.specs.Prover.{commitRules, commitAfter, respondRules, respondAfter, dropRules, dropSession}
+use Rattle.runs.proofs.Order.{commit-positive, respond-positive, drop-positive}
+use Rattle.runs.proofs.Outcome.{proverStep-positive, proverStep-given}
+use Rattle.runs.proofs.Tests.{says-new, says-committed}
+
+-- ---- when no rule of a call applies
+
+-- committing
+pub commit-clear : (inst : Instance) (p : Prover) (k : List ℕ) → Clear (commitRules inst p k) ↔ Commits inst p k
+unfolding commitRules
+commit-clear inst p k =
+    let slots = coordinates-pass inst k in
+    let phase = says-passes (says-new (p .phase)) in (
+      λ (a, (b, none)). record { nonce = slots .0 a; phase = phase .0 b },
+      λ x. (slots .1 (x .nonce), (phase .1 (x .phase), tt)),
+    )
+
+-- what Peggy holds fits
+unfit-passes : (inst : Instance) (p : Prover) → (unfitProver inst p ≡ false)
+    ↔ (Coordinates inst (places (inst .header .columns) (p .nonce))
+    × Agree 8 (pad8 0 (image inst (places (inst .header .columns) (p .nonce)))) (p .commitment))
+unfolding unfitProver
+unfit-passes inst p = Iff·trans (both-fail (badCoordinates inst _) _) (Iff·and (coordinates-pass inst _) (differ-false 8 _ (p .commitment)))
+
+-- responding
+pub respond-clear : (inst : Instance) (p : Prover) (c : ℕ) (x : List ℕ) → Clear (respondRules inst p c x) ↔ Responds inst p c x
+unfolding respondRules
+respond-clear inst p c x =
+    let below = challenge-passes inst c in
+    let slots = coordinates-pass inst x in
+    let image = witness-passes inst x in
+    let state = both-fail (not (isCommitted (p .phase))) (unfitProver inst p) in
+    let phase = says-passes (says-committed (p .phase)) in
+    let held = unfit-passes inst p in (
+      λ (a, (b, (d, (e, none)))). record {
+        challenge = below .0 a;
+        witness = record { slots = slots .0 b; image = image .0 d };
+        phase = phase .0 (state .0 e .0);
+        nonce = held .0 (state .0 e .1) .0;
+        commitment = held .0 (state .0 e .1) .1;
+      },
+      λ f. (
+        below .1 (f .challenge),
+        (
+          slots .1 (f .witness .slots),
+          (
+            image .1 (f .witness .image),
+            (state .1 (phase .1 (f .phase), held .1 (f .nonce, f .commitment)), tt),
+          ),
+        ),
+      ),
+    )
+
+-- dropping
+pub drop-clear : (p : Prover) → Clear (dropRules p) ↔ Drops p
+unfolding dropRules
+drop-clear p =
+    let phase = says-passes (says-or (says-new (p .phase)) (says-committed (p .phase))) in
+    (λ (a, none). phase .0 a, λ d. (phase .1 d, tt))
+
+-- ---- committing
+
+module _ (before : List Rule) (inst : Instance) (p : Prover) (nonce : List ℕ) where
+  -- the number is what the rules give
+  pub commitAfter-refusal : commitAfter before inst p nonce .refusal
+      ≡ lowest (before ++ commitRules inst p (places (inst .header .columns) nonce))
+  unfolding commitAfter proverStep
+  commitAfter-refusal = refl
+
+  -- committing is not refused exactly in New, for a nonce of domain slots
+  pub commitAfter-runs : T (positive before)
+      → (commitAfter before inst p nonce .refusal ≡ 0)
+      ↔ ((lowest before ≡ 0) × Commits inst p (places (inst .header .columns) nonce))
+  commitAfter-runs safe =
+      let k = places (inst .header .columns) nonce in
+      rw commitAfter-refusal
+      (Iff·trans (lowest-append-zero before (commitRules inst p k) safe (commit-positive inst p k)) (Iff·and Iff·rfl (commit-clear inst p k)))
+
+  -- it stores the nonce and its commitment, and answers the commitment
+  pub commitAfter-given : commitAfter before inst p nonce .refusal ≡ 0
+      → commitAfter before inst p nonce
+      ≡ record {
+        refusal = 0;
+        session =
+            record {
+              phase = Committed;
+              nonce = pad8 0 (places (inst .header .columns) nonce);
+              commitment = pad8 0 (image inst (places (inst .header .columns) nonce));
+            };
+        values = pad8 0 (image inst (places (inst .header .columns) nonce));
+      }
+  unfolding commitAfter
+  commitAfter-given = proverStep-given _ p _ _
+
+  -- a refused call leaves the session
+  pub commitAfter-kept : 0 < commitAfter before inst p nonce .refusal
+      → commitAfter before inst p nonce
+      ≡ record { refusal = commitAfter before inst p nonce .refusal; session = p; values = zeros8 }
+  unfolding commitAfter proverStep
+  commitAfter-kept = proverStep-positive _ p _ _
+
+-- ---- responding
+
+module _ (before : List Rule) (inst : Instance) (p : Prover) (c : ℕ) (witness : List ℕ) where
+  -- the number is what the rules give
+  pub respondAfter-refusal : respondAfter before inst p c witness .refusal
+      ≡ lowest (before ++ respondRules inst p c (places (inst .header .columns) witness))
+  unfolding respondAfter proverStep
+  respondAfter-refusal = refl
+
+  -- responding is not refused exactly in Committed, with held values that fit, for a challenge below K and a witness
+  pub respondAfter-runs : T (positive before)
+      → (respondAfter before inst p c witness .refusal ≡ 0)
+      ↔ ((lowest before ≡ 0) × Responds inst p c (places (inst .header .columns) witness))
+  respondAfter-runs safe =
+      let x = places (inst .header .columns) witness in
+      rw respondAfter-refusal
+      (Iff·trans (lowest-append-zero before (respondRules inst p c x) safe (respond-positive inst p c x))
+      (Iff·and Iff·rfl (respond-clear inst p c x)))
+
+  -- it answers the response, sets the nonce to zeros and keeps the commitment
+  pub respondAfter-given : respondAfter before inst p c witness .refusal ≡ 0
+      → respondAfter before inst p c witness
+      ≡ record {
+        refusal = 0;
+        session = record { phase = Answered; nonce = zeros8; commitment = p .commitment };
+        values =
+            pad8 0
+            (response inst (places (inst .header .columns) (p .nonce)) c (places (inst .header .columns) witness));
+      }
+  unfolding respondAfter
+  respondAfter-given = proverStep-given _ p _ _
+
+  -- a refused call leaves the session
+  pub respondAfter-kept : 0 < respondAfter before inst p c witness .refusal
+      → respondAfter before inst p c witness
+      ≡ record { refusal = respondAfter before inst p c witness .refusal; session = p; values = zeros8 }
+  unfolding respondAfter proverStep
+  respondAfter-kept = proverStep-positive _ p _ _
+
+-- ---- dropping
+
+module _ (p : Prover) where
+  -- dropping is not refused exactly in New and in Committed
+  pub drop-runs : (dropSession p .refusal ≡ 0) ↔ Drops p
+  unfolding dropSession proverStep
+  drop-runs = Iff·trans (clear-lowest (dropRules p) (drop-positive p), lowest-clear (dropRules p)) (drop-clear p)
+
+  -- it sets the nonce to zeros and keeps the commitment
+  pub drop-given : dropSession p .refusal ≡ 0
+      → dropSession p
+      ≡ record {
+        refusal = 0;
+        session = record { phase = Dropped; nonce = zeros8; commitment = p .commitment };
+        values = zeros8;
+      }
+  unfolding dropSession pad8 zeros8
+  drop-given = proverStep-given _ p _ _
+
+  -- a refused call leaves the session
+  pub drop-kept : 0 < dropSession p .refusal
+      → dropSession p ≡ record { refusal = dropSession p .refusal; session = p; values = zeros8 }
+  unfolding dropSession proverStep
+  drop-kept = proverStep-positive _ p _ _

@@ -1,0 +1,85 @@
+-- Each list of rules tests 01's conditions, so that the number it gives is that of the first condition that holds.
+-- Assumes nothing.
+use Prim.Native.Nat.{ℕ}
+use mathlib.Core.Path.{_≡_, refl}
+use mathlib.Core.Bool.{or-assoc}
+use mathlib.Core.Logic.{_↔_, _≢_, _⊎_, inl, inr, ⊎-elim}
+use mathlib.Core.List.{List}
+use Rattle.types.specs.declared.Prover.{Prover}
+use Rattle.types.specs.declared.ProverPhase.the-variants.{New, Committed}
+use Rattle.types.specs.declared.Verifier.{Verifier}
+use Rattle.rules.specs.Condition.{Tests}
+use Rattle.rules.proofs.Says.{says-not, says-or, says-iff}
+use Rattle.sigma.specs.Instance.{Instance}
+use Rattle.sigma.proofs.Tests.{says-badCommitment, says-badChallenge, says-badCoordinates, says-badWitness}
+use Rattle.runs.specs.Prover.{commitRules, respondRules, dropRules}
+use Rattle.runs.specs.Refusals.{
+  commitConditions,
+  respondConditions,
+  dropConditions,
+  takeCommitmentConditions,
+  takeChallengeConditions,
+  takeResponseConditions,
+}
+use Rattle.runs.specs.Verifier.{takeCommitmentRules, takeChallengeRules, takeResponseRules}
+use Rattle.runs.proofs.Tests.{says-new, says-committed, says-waiting, says-holding, says-asked}
+use Rattle.runs.proofs.Tests.{says-unfitProver, says-unfitCommitment}
+
+-- committing: 16 and 21
+pub commit-tests : (inst : Instance) (p : Prover) (k : List ℕ) → Tests (commitRules inst p k) (commitConditions inst p k)
+unfolding commitRules
+commit-tests inst p k = (refl, says-badCoordinates inst k, (refl, says-not (says-new (p .phase)), tt))
+
+-- responding: 15 to 17 and 21
+pub respond-tests : (inst : Instance) (p : Prover) (c : ℕ) (x : List ℕ) → Tests (respondRules inst p c x) (respondConditions inst p c x)
+unfolding respondRules
+respond-tests inst p c x = (
+  refl,
+  says-badChallenge inst c,
+  (
+    refl,
+    says-badCoordinates inst x,
+    (
+      refl,
+      says-badWitness inst x,
+      (refl, says-or (says-not (says-committed (p .phase))) (says-unfitProver inst p), tt),
+    ),
+  ),
+)
+
+-- dropping: 21
+pub drop-tests : (p : Prover) → Tests (dropRules p) (dropConditions p)
+unfolding dropRules
+drop-tests p =
+    let neither : ¬ ((p .phase ≡ New) ⊎ (p .phase ≡ Committed)) ↔ ((p .phase ≢ New) × (p .phase ≢ Committed)) =
+    (λ n. (λ e. n (inl e), λ e. n (inr e)), λ n. ⊎-elim (n .0) (n .1)) in
+    (refl, says-iff (says-not (says-or (says-new (p .phase)) (says-committed (p .phase)))) neither, tt)
+
+-- Vic's commitment: 14 and 21
+pub takeCommitment-tests : (inst : Instance) (v : Verifier) (t : List ℕ)
+    → Tests (takeCommitmentRules inst v t) (takeCommitmentConditions inst v t)
+unfolding takeCommitmentRules
+takeCommitment-tests inst v t = (refl, says-badCommitment inst t, (refl, says-not (says-waiting (v .phase)), tt))
+
+-- Vic's challenge: 15 and 21
+pub takeChallenge-tests : (inst : Instance) (v : Verifier) (c : ℕ)
+    → Tests (takeChallengeRules inst v c) (takeChallengeConditions inst v c)
+unfolding takeChallengeRules
+takeChallenge-tests inst v c =
+    (refl, says-badChallenge inst c, (refl, says-or (says-not (says-holding (v .phase))) (says-unfitCommitment inst v), tt))
+
+-- Vic's response: 16 and 21
+pub takeResponse-tests : (inst : Instance) (v : Verifier) (r : List ℕ)
+    → Tests (takeResponseRules inst v r) (takeResponseConditions inst v r)
+unfolding takeResponseRules
+takeResponse-tests inst v r = (
+  refl,
+  says-badCoordinates inst r,
+  (
+    refl,
+    simp or-assoc
+        (says-or (says-not (says-asked (v .phase)))
+        (says-or (says-unfitCommitment inst v) (says-badChallenge inst (v .challenge)))),
+    tt,
+  ),
+)

@@ -1,0 +1,122 @@
+-- A call's outcome depends only on what 01 reads of the arrays and of the session that it is handed.
+-- Assumes nothing.
+use Prim.Native.Nat.{ℕ}
+use mathlib.Core.Path.{_≡_, sym, _∙_}
+use mathlib.Core.List.{List}
+use Rattle.types.specs.declared.Prover.{Prover}
+use Rattle.types.specs.declared.Verifier.{Verifier}
+use Rattle.lists.specs.Places.{places}
+use Rattle.lists.proofs.Places.{places-agree}
+use Rattle.rules.specs.Rule.{Rule}
+use Rattle.rules.proofs.Says.{says-iff, says-same}
+use Rattle.sigma.specs.Comparison.{differ}
+use Rattle.sigma.specs.Instance.{Instance}
+use Rattle.sigma.specs.Reads.{Agree}
+use Rattle.sigma.proofs.Comparison.{says-differ}
+use Rattle.runs.specs.Prover.{proverStep, unfitProver, commitRules, respondRules, dropRules, commitAfter, respondAfter, dropSession}
+use Rattle.runs.specs.Reads.{SameProver, SameVerifier}
+use Rattle.runs.specs.Verifier.{
+  verifierStep,
+  unfitCommitment,
+  takeCommitmentRules,
+  takeChallengeRules,
+  takeResponseRules,
+  takeCommitmentAfter,
+  takeChallengeAfter,
+  takeResponseAfter,
+}
+
+-- ---- what a call brings
+
+module _ (before : List Rule) (inst : Instance) where
+  -- committing reads n places of the nonce
+  pub commitAfter-same : (p : Prover) (k k′ : List ℕ) → Agree (inst .header .columns) k k′
+      → commitAfter before inst p k ≡ commitAfter before inst p k′
+  unfolding commitAfter
+  commitAfter-same p k k′ a = rw (places-agree (inst .header .columns) k k′ a)
+
+  -- responding reads n places of the witness
+  pub respondAfter-same : (p : Prover) (c : ℕ) (x x′ : List ℕ) → Agree (inst .header .columns) x x′
+      → respondAfter before inst p c x ≡ respondAfter before inst p c x′
+  unfolding respondAfter
+  respondAfter-same p c x x′ a = rw (places-agree (inst .header .columns) x x′ a)
+
+  -- Vic's commitment call reads s places of the commitment
+  pub takeCommitmentAfter-same : (v : Verifier) (t t′ : List ℕ) → Agree (inst .header .rows) t t′
+      → takeCommitmentAfter before inst v t ≡ takeCommitmentAfter before inst v t′
+  unfolding takeCommitmentAfter
+  takeCommitmentAfter-same v t t′ a = rw (places-agree (inst .header .rows) t t′ a)
+
+  -- Vic's response call reads n places of the response
+  pub takeResponseAfter-same : (v : Verifier) (r r′ : List ℕ) → Agree (inst .header .columns) r r′
+      → takeResponseAfter before inst v r ≡ takeResponseAfter before inst v r′
+  unfolding takeResponseAfter
+  takeResponseAfter-same v r r′ a = rw (places-agree (inst .header .columns) r r′ a)
+
+-- ---- what Peggy holds
+
+-- a list's difference from another is that from any list that agrees with the other there
+differ-same : (n : ℕ) (xs ys ys′ : List ℕ) → Agree n ys ys′ → differ n xs ys ≡ differ n xs ys′
+differ-same n xs ys ys′ a =
+    says-same (says-differ n xs ys)
+    (says-iff (says-differ n xs ys′)
+    (λ (i, h, d). (i, h, λ e. d (e ∙ a i h)), λ (i, h, d). (i, h, λ e. d (e ∙ sym (a i h)))))
+
+-- whether what Peggy holds fits depends on what is read of it
+pub unfitProver-same : (inst : Instance) (p p′ : Prover) → SameProver (inst .header) p p′ → unfitProver inst p ≡ unfitProver inst p′
+unfolding unfitProver
+unfitProver-same inst p p′ s =
+    let nonce = places-agree (inst .header .columns) (p .nonce) (p′ .nonce) (s .nonce) in
+    rw (nonce, differ-same 8 _ (p .commitment) (p′ .commitment) (s .commitment))
+
+-- dropping reads the state alone
+pub dropSession-held : (p p′ : Prover) → p .phase ≡ p′ .phase
+    → (dropSession p .refusal ≡ dropSession p′ .refusal) × (dropSession p .values ≡ dropSession p′ .values)
+unfolding dropSession proverStep dropRules
+dropSession-held p p′ e = (rw e, rw e)
+
+module _ (before : List Rule) (inst : Instance) (p p′ : Prover) where
+  -- committing reads the state alone
+  pub commitAfter-held : p .phase ≡ p′ .phase → (k : List ℕ)
+      → (commitAfter before inst p k .refusal ≡ commitAfter before inst p′ k .refusal)
+      × (commitAfter before inst p k .values ≡ commitAfter before inst p′ k .values)
+  unfolding commitAfter proverStep commitRules
+  commitAfter-held e k = (rw e, rw e)
+
+  -- responding reads the state, n places of the nonce and all of the commitment
+  pub respondAfter-held : SameProver (inst .header) p p′ → (c : ℕ) (x : List ℕ)
+      → (respondAfter before inst p c x .refusal ≡ respondAfter before inst p′ c x .refusal)
+      × (respondAfter before inst p c x .values ≡ respondAfter before inst p′ c x .values)
+  unfolding respondAfter proverStep respondRules
+  respondAfter-held s c x =
+      let nonce = places-agree (inst .header .columns) (p .nonce) (p′ .nonce) (s .nonce) in
+      (rw (unfitProver-same inst p p′ s, s .phase), rw (unfitProver-same inst p p′ s, nonce, s .phase))
+
+-- ---- what Vic holds
+
+-- whether the commitment that Vic holds fits depends on s places of it
+pub unfitCommitment-same : (inst : Instance) (v v′ : Verifier) → Agree (inst .header .rows) (v .commitment) (v′ .commitment)
+    → unfitCommitment inst v ≡ unfitCommitment inst v′
+unfolding unfitCommitment
+unfitCommitment-same inst v v′ a = rw (places-agree (inst .header .rows) (v .commitment) (v′ .commitment) a)
+
+module _ (before : List Rule) (inst : Instance) (v v′ : Verifier) where
+  -- the commitment call reads the state alone
+  pub takeCommitmentAfter-held : v .phase ≡ v′ .phase → (t : List ℕ)
+      → takeCommitmentAfter before inst v t .refusal ≡ takeCommitmentAfter before inst v′ t .refusal
+  unfolding takeCommitmentAfter verifierStep takeCommitmentRules
+  takeCommitmentAfter-held e t = rw e
+
+  -- the challenge call reads the state and s places of the commitment
+  pub takeChallengeAfter-held : v .phase ≡ v′ .phase → Agree (inst .header .rows) (v .commitment) (v′ .commitment) → (c : ℕ)
+      → takeChallengeAfter before inst v c .refusal ≡ takeChallengeAfter before inst v′ c .refusal
+  unfolding takeChallengeAfter verifierStep takeChallengeRules
+  takeChallengeAfter-held e a c = rw (unfitCommitment-same inst v v′ a, e)
+
+  -- the response call reads the state, s places of the commitment and the challenge
+  pub takeResponseAfter-held : SameVerifier (inst .header) v v′ → (r : List ℕ)
+      → takeResponseAfter before inst v r .verdict ≡ takeResponseAfter before inst v′ r .verdict
+  unfolding takeResponseAfter takeResponseRules
+  takeResponseAfter-held s r =
+      let commitment = places-agree (inst .header .rows) (v .commitment) (v′ .commitment) (s .commitment) in
+      rw (unfitCommitment-same inst v v′ (s .commitment), commitment, s .phase, s .challenge)
