@@ -1,7 +1,7 @@
 -- The group elements of a sheet form a commutative group under the product modulo m, in both kinds.
 -- Assumes nothing.
 use Prim.Native.Nat.{ℕ, zero, suc, _*_, _%_, _^_, _<_}
-use mathlib.Core.Path.{_≡_, refl, sym, ap, _∙_}
+use mathlib.Core.Path.{_≡_, sym, ap, _∙_}
 use mathlib.Core.Logic.{_≢_, inl, inr}
 use native.Mathlib.Nat.{eq-zero-or-pos, eq-one-of-dvd-one, mod-lt, mod-eq-of-lt, mul-comm, mul-assoc, one-mul, pow-zero, pow-suc}
 use native.Mathlib.Bridge.{le-prop}

@@ -21,3 +21,5 @@ pub mod Homomorphism
 pub mod Maurer
 pub mod Simulator
 pub mod Prover
+pub mod Base
+pub mod Extractor

@@ -1,30 +1,28 @@
 -- A round on values is Maurer's round over the instance's homomorphism: the values of its parts, and when it is accepted.
 -- Assumes nothing.
 use Prim.Native.Nat.{ℕ, _*_, _%_, _^_, _<_}
-use mathlib.Core.Path.{_≡_, refl, sym, ap, ap₂, _∙_, subst}
+use mathlib.Core.Path.{_≡_, sym, ap, _∙_, subst}
 use mathlib.Core.Logic.{_↔_}
 use mathlib.Core.List.{List, []}
 use lib.IntN.{ℤ, pos, negℤ}
 use lib.ListN.{getD}
 use Rattle.types.specs.declared.Round.{Round}
 use Rattle.types.specs.declared.Verdict.the-variants.{Accepted}
-use Rattle.lists.specs.Each.{Each}
 use Rattle.lists.specs.Places.{places}
 use Rattle.lists.proofs.Each.{each-places, each-at}
 use Rattle.lists.proofs.Places.{getD-places}
-use Rattle.groups.specs.Group.{power as groupPower}
+use Rattle.groups.specs.Group.{power as groupPower, quotient}
 use Rattle.groups.specs.Round.{Round as GroupRound, Accepts, MeetsEachOnce as GroupMeets}
 use Rattle.groups.specs.Round.{response as groupResponse, simulated as groupSimulated}
 use Rattle.groups.specs.Vector.{numberPower, same-slots}
+use Rattle.groups.proofs.Vectors.{value-of-product, value-of-power, value-of-quotient}
 use Rattle.groups.proofs.Rows.{accepted-row, accepted-by-rows, value-of-simulated, value-of-response}
 use Rattle.numbers.specs.Integer.{power}
 use Rattle.numbers.proofs.Congruence.{mod-mul-right}
 use Rattle.numbers.proofs.Exponent.{power-pos}
 use Rattle.sigma.specs.Instance.{Instance, statementAt}
-use Rattle.sigma.specs.Element.{Element, Coordinate}
-use Rattle.sigma.specs.Extractor.{combine}
-use Rattle.sigma.specs.Image.{rowImage}
-use Rattle.sigma.specs.Knowledge.{Choice, Witness, MeetsEachOnce}
+use Rattle.sigma.specs.Extractor.{combine, divide, raise}
+use Rattle.sigma.specs.Knowledge.{Choice, MeetsEachOnce}
 use Rattle.sigma.specs.Judge.{judge}
 use Rattle.sigma.specs.Meaning.{Holds, Fits}
 use Rattle.sigma.specs.Reads.{roundOf, SameRound}
@@ -32,9 +30,9 @@ use Rattle.sigma.specs.Round.{response}
 use Rattle.sigma.specs.Simulator.{simulated}
 use Rattle.sigma.specs.Valid.{Valid}
 use Rattle.sigma.proofs.Calls.{valid-judge-accepted}
-use Rattle.sigma.proofs.CoordinateGroup.{coordinateGroup, coordinate-power, response-combine}
+use Rattle.sigma.proofs.CoordinateGroup.{coordinateGroup, coordinate-power, divide-combine, response-combine}
 use Rattle.sigma.proofs.ElementGroup.{elementGroup, element-power}
-use Rattle.sigma.proofs.Homomorphism.{Domain, Codomain, coordinatesOf, elementsOf, domainGroup, imageOf, imageOf-at, homomorphism}
+use Rattle.sigma.proofs.Homomorphism.{Domain, Codomain, coordinatesOf, elementsOf, domainGroup, codomainGroup, imageOf-at, homomorphism}
 use Rattle.sigma.proofs.Unread.{same-round-sym, same-round-trans, same-round-of-read, judgeAfter-same}
 use Rattle.sigma.proofs.Valid.{valid-modulus, valid-order}
 use Rattle.sigma.proofs.Values.{simulated-at, response-at}
@@ -49,6 +47,35 @@ module _ {inst : Instance} (v : Valid inst) where
   pub statementOf-at : (i : ℕ) → i < inst .header .rows → getD (statementOf .0) i 0 ≡ statementAt inst i
   unfolding statementOf statementAt
   statementOf-at i h = getD-places (inst .header .rows) (inst .statement) i h
+
+  -- slot j of a product
+  pub product-slot : (x y : Domain inst) (j : ℕ) → j < inst .header .columns
+      → getD ((domainGroup v .product x y) .0) j 0 ≡ combine (inst .header) (getD (x .0) j 0) (getD (y .0) j 0)
+  unfolding coordinatesOf coordinateGroup
+  product-slot = value-of-product (coordinatesOf v) (inst .header .columns)
+
+  -- slot j of a power
+  pub power-slot : (x : Domain inst) (k : ℤ) (j : ℕ) → j < inst .header .columns
+      → getD ((groupPower (domainGroup v) x k) .0) j 0 ≡ raise (inst .header) (getD (x .0) j 0) k
+  unfolding coordinatesOf
+  power-slot x k j h =
+      value-of-power (coordinatesOf v) (inst .header .columns) x k j h
+      ∙ coordinate-power (inst .header) (valid-modulus v) (valid-order v) (getD (x .0) j 0) (each-at _ _ (x .0) (x .1) j h) k
+
+  -- row i of a power
+  pub power-row : (y : Codomain inst) (k : ℤ) (i : ℕ) → i < inst .header .rows
+      → getD ((groupPower (codomainGroup v) y k) .0) i 0 ≡ power (inst .header .modulus) (getD (y .0) i 0) k
+  unfolding elementsOf
+  power-row y k i h =
+      value-of-power (elementsOf v) (inst .header .rows) y k i h
+      ∙ element-power (inst .header) (valid-modulus v) (valid-order v) (getD (y .0) i 0) k
+
+  -- slot j of a quotient
+  pub quotient-slot : (x y : Domain inst) (j : ℕ) → j < inst .header .columns
+      → getD ((quotient (domainGroup v) x y) .0) j 0 ≡ divide (inst .header) (getD (x .0) j 0) (getD (y .0) j 0)
+  unfolding coordinatesOf coordinateGroup
+  quotient-slot x y j h =
+      value-of-quotient (coordinatesOf v) (inst .header .columns) x y j h ∙ sym (divide-combine (inst .header) (getD (x .0) j 0) (getD (y .0) j 0))
 
   -- the product of a group element and a power, in one row
   pub side-at : (t w : ℕ) (k : ℤ) → elementsOf v .product t (numberPower (elementsOf v) w k) ≡ t * power (inst .header .modulus) w k % inst .header .modulus

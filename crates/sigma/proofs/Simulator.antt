@@ -4,12 +4,11 @@
 use Prim.Native.Nat.{ℕ, _<_}
 use mathlib.Core.Path.{_≡_, refl, sym, ap, _∙_}
 use mathlib.Core.List.{List}
-use Rattle.types.specs.declared.Computed.{Computed}
 use Rattle.types.specs.declared.Verdict.the-variants.{Accepted}
 use Rattle.lists.specs.Places.{pad8}
 use Rattle.lists.proofs.Each.{each-at, each-length}
 use Rattle.lists.proofs.Places.{places-whole}
-use Rattle.groups.specs.Round.{simulatedRound, simulated as groupSimulated}
+use Rattle.groups.specs.Round.{simulatedRound}
 use Rattle.groups.proofs.Simulation.{simulated-rounds as group-simulated-rounds}
 use Rattle.sigma.specs.Instance.{Instance}
 use Rattle.sigma.specs.Judge.{judge}
@@ -17,7 +16,7 @@ use Rattle.sigma.specs.Knowledge.{Choice, simulatedOn, MeetsEachOnce}
 use Rattle.sigma.specs.Simulator.{simulated, simulate}
 use Rattle.sigma.specs.Valid.{Valid}
 use Rattle.sigma.proofs.Calls.{simulate-runs, simulate-given}
-use Rattle.sigma.proofs.Homomorphism.{Domain, homomorphism}
+use Rattle.sigma.proofs.Homomorphism.{homomorphism}
 use Rattle.sigma.proofs.Maurer.{statementOf, simulated-value, transfer}
 
 module _ {inst : Instance} (v : Valid inst) (c : ℕ) (below : c < inst .header .challenges) where

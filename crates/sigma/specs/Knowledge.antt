@@ -3,6 +3,7 @@
 -- Assumes nothing.
 use Prim.Native.Nat.{ℕ}
 use mathlib.Core.Path.{_≡_}
+use mathlib.Core.Logic.{_≢_}
 use mathlib.Core.List.{List}
 use lib.IntN.{ℤ}
 use Rattle.types.specs.declared.Computed.{Computed}
@@ -15,7 +16,7 @@ use Rattle.sigma.specs.Instance.{Instance}
 use Rattle.sigma.specs.Element.{Coordinate}
 use Rattle.sigma.specs.Extractor.{formula}
 use Rattle.sigma.specs.Image.{image}
-use Rattle.sigma.specs.Reads.{roundOf, SameRound}
+use Rattle.sigma.specs.Reads.{Agree, roundOf, SameRound}
 use Rattle.sigma.specs.Round.{response}
 use Rattle.sigma.specs.Simulator.{simulated}
 
@@ -42,6 +43,13 @@ pub record MeetsEachOnce (h : Header) (Slots : List ℕ → Type 0) (Accepts : R
   pub accepted : (x : List ℕ) → Slots x → Accepts (make x)
   pub met : (round : Round) → round .challenge ≡ c → Accepts round → (x : List ℕ) × Slots x × SameRound h (make x) round
   pub once : (x y : List ℕ) → Slots x → Slots y → SameRound h (make x) (make y) → x ≡ y
+
+-- two accepted rounds with equal commitments and different challenges
+pub record AcceptedPair (h : Header) (Accepts : Round → Type 0) (first second : Round) : Type 0 where
+  pub first-accepted : Accepts first
+  pub second-accepted : Accepts second
+  pub commitments : Agree (h .rows) (first .commitment) (second .commitment)
+  pub challenges : first .challenge ≢ second .challenge
 
 -- the call `ask` gives a witness for two rounds, the same one with the rounds swapped, and it is 01's u^a · (r/r′)^b for
 -- all integers a and b with ℓa + (c − c′)b = 1, of which there are some
