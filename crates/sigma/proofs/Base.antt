@@ -58,7 +58,8 @@ module _ {inst : Instance} (v : Valid inst) where
   baseOf-at j h = getD-tabulate _ _ j 0 h
 
   -- a row of [u] is the statement's power ℓ
-  base-row : (i : ℕ) → i < inst .header .rows → rowImage inst (baseOf .0) i ≡ statementAt inst i ^ inst .header .order % inst .header .modulus
+  base-row : (i : ℕ) → i < inst .header .rows
+      → rowImage inst (baseOf .0) i ≡ statementAt inst i ^ inst .header .order % inst .header .modulus
   base-row i h =
       by-kind (inst .header) (λ e.
       let n = inst .header .columns in
@@ -78,7 +79,8 @@ module _ {inst : Instance} (v : Valid inst) where
       ∙ sym (power-row v (statementOf v) (pos (inst .header .order)) i h ∙ rw (power-pos, statementOf-at v i h)))
 
   -- the formula on values is Maurer's
-  pub formula-value : (a b : ℤ) (r r′ : Domain inst) → (witnessFormula (domainGroup v) baseOf a b r r′) .0 ≡ formula inst a b (r .0) (r′ .0)
+  pub formula-value : (a b : ℤ) (r r′ : Domain inst)
+      → (witnessFormula (domainGroup v) baseOf a b r r′) .0 ≡ formula inst a b (r .0) (r′ .0)
   unfolding witnessFormula
   formula-value a b r r′ =
       let G = domainGroup v in
@@ -114,7 +116,8 @@ module _ {inst : Instance} (v : Valid inst) where
     root-matching n j h =
         let row = column-row n j h in
         let y : Domain inst = quotient (domainGroup v) r r′ in
-        let carried = ap (λ (w : Codomain inst). getD (w .0) j 0) (quotient-image (homomorphism v) (statementOf v) t c c′ r r′ first second) in
+        let whole = quotient-image (homomorphism v) (statementOf v) t c c′ r r′ first second in
+        let carried = ap (λ (w : Codomain inst). getD (w .0) j 0) whole in
         raise-root (inst .header) n _ (pos (inst .header .order)) ∙ power-pos _ _ _ ∙ sym (rowImage-root inst n (y .0) j)
         ∙ sym (imageOf-at v y j row) ∙ carried ∙ power-row v (statementOf v) (pos c -ℤ pos c′) j row
         ∙ sym (raise-root (inst .header) n (baseCoordinate inst j) (pos c -ℤ pos c′)
@@ -133,7 +136,8 @@ module _ {inst : Instance} (v : Valid inst) where
     unfolding homomorphism imageOf statementOf
     formula-witness a b one =
         let x : Domain inst = witnessFormula (domainGroup v) baseOf a b r r′ in
-        let carried = extracted (homomorphism v) (statementOf v) t c c′ r r′ first second baseOf (inst .header .order) base-image a b one in
+        let ℓ = inst .header .order in
+        let carried = extracted (homomorphism v) (statementOf v) t c c′ r r′ first second baseOf ℓ base-image a b one in
         subst (Witness inst) (formula-value a b r r′) (record { slots = x .1; carried = ap (λ (y : Codomain inst). y .0) carried })
 
     -- all integers that fit give the same value

@@ -20,7 +20,8 @@ use Rattle.sigma.specs.Extractor.{combine, divide, raise}
 use Rattle.sigma.specs.Round.{responseCoordinate}
 use Rattle.sigma.proofs.ByKind.{by-kind, exponent-kind, root-kind, combine-exponent, combine-root}
 use Rattle.sigma.proofs.ByKind.{raise-exponent, raise-root}
-use Rattle.sigma.proofs.ElementGroup.{element-proposition, element-product, element-one, element-inverse, elementGroup, element-power}
+use Rattle.sigma.proofs.ElementGroup.{element-proposition, element-product, element-one, element-inverse}
+use Rattle.sigma.proofs.ElementGroup.{elementGroup, element-power}
 use Rattle.sigma.proofs.ResidueGroup.{residueGroup, residue-power}
 
 module _ (h : Header) where

@@ -7,7 +7,6 @@ use mathlib.Core.List.{List}
 use lib.IntN.{ℤ, pos, _-ℤ_}
 use Rattle.types.specs.declared.Header.{Header}
 use Rattle.types.specs.declared.Round.{Round}
-use Rattle.types.specs.declared.Verdict.the-variants.{Accepted}
 use Rattle.lists.specs.Places.{places, pad8}
 use Rattle.lists.proofs.Places.{getD-places, places-agree}
 use Rattle.groups.specs.Round.{Accepts, Bezout}
@@ -17,15 +16,15 @@ use Rattle.numbers.specs.Integer.{bezoutLeft, bezoutRight}
 use Rattle.numbers.proofs.Coprime.{bezout-challenges}
 use Rattle.sigma.specs.Instance.{Instance}
 use Rattle.sigma.specs.Extractor.{extracted, extract}
-use Rattle.sigma.specs.Judge.{judge}
-use Rattle.sigma.specs.Knowledge.{AcceptedPair, Extraction}
+use Rattle.sigma.specs.Knowledge.{AcceptedRound, AcceptedPair, Extraction}
 use Rattle.sigma.specs.Meaning.{Extracts}
 use Rattle.sigma.specs.Valid.{Valid}
 use Rattle.sigma.proofs.Base.{formula-witness, formula-any, formula-swapped}
 use Rattle.sigma.proofs.Calls.{valid-judge-accepted, valid-extract-runs, extract-given}
 use Rattle.sigma.proofs.Formula.{formula-agree}
 use Rattle.sigma.proofs.Homomorphism.{Codomain, elementsOf, homomorphism}
-use Rattle.sigma.proofs.Maurer.{statementOf, roundFrom, from-accepted}
+use Rattle.sigma.proofs.Maurer.{statementOf}
+use Rattle.sigma.proofs.Transfer.{roundFrom, from-accepted}
 
 -- what the extractor gives for two rounds
 abbrev given : Instance → Round → Round → List ℕ
@@ -34,7 +33,8 @@ given inst first second =
     (places (inst .header .columns) (second .response))
 
 -- the same two rounds, swapped
-swap : {h : Header} {Accepts : Round → Type 0} {first second : Round} → AcceptedPair h Accepts first second → AcceptedPair h Accepts second first
+swap : {h : Header} {Accepts : Round → Type 0} {first second : Round}
+    → AcceptedPair h Accepts first second → AcceptedPair h Accepts second first
 swap p = record {
   first-accepted = p .second-accepted;
   second-accepted = p .first-accepted;
@@ -43,7 +43,7 @@ swap p = record {
 }
 
 module _ {inst : Instance} (v : Valid inst) (first second : Round)
-    (p : AcceptedPair (inst .header) (λ round. judge inst round ≡ Accepted) first second) where
+    (p : AcceptedPair (inst .header) (AcceptedRound inst) first second) where
   -- what 14 to 16 and 18 to 20 ask holds
   runs : Extracts inst first second
   runs =
@@ -72,7 +72,7 @@ module _ {inst : Instance} (v : Valid inst) (first second : Round)
   gives = extract-given inst first second (valid-extract-runs inst first second v .1 runs)
 
 module _ {inst : Instance} (v : Valid inst) (first second : Round)
-    (p : AcceptedPair (inst .header) (λ round. judge inst round ≡ Accepted) first second) where
+    (p : AcceptedPair (inst .header) (AcceptedRound inst) first second) where
   -- the extractor gives a witness, the same one with the rounds swapped, by 01's formula for all integers that fit
   pub extraction : Extraction inst (extract inst) first second
   unfolding extracted

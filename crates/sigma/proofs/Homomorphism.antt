@@ -80,7 +80,8 @@ module _ {inst : Instance} (v : Valid inst) (e : inst .header .kind ≡ 1) (i : 
       let m = inst .header .modulus in
       let q = inst .header .order in
       let n = inst .header .columns in
-      let each : (j : ℕ) → j < n → Cong m (entry inst i j ^ getD z j 0) (entry inst i j ^ getD x j 0 * entry inst i j ^ getD y j 0) = λ j b.
+      let term : List ℕ → ℕ → ℕ = λ w j. entry inst i j ^ getD w j 0 in
+      let each : (j : ℕ) → j < n → Cong m (term z j) (term x j * term y j) = λ j b.
       cong-of-equal m (ap (λ (k : ℕ). entry inst i j ^ k) (slots j b ∙ combine-exponent (inst .header) e (getD x j 0) (getD y j 0)))
       then cong-pow-mod m q (entry inst i j) (v .entries e i j h b .ordered e) (getD x j 0 + getD y j 0)
       then cong-of-equal m (pow-add (entry inst i j) (getD x j 0) (getD y j 0)) in

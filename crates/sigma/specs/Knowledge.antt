@@ -9,6 +9,7 @@ use lib.IntN.{ℤ}
 use Rattle.types.specs.declared.Computed.{Computed}
 use Rattle.types.specs.declared.Header.{Header}
 use Rattle.types.specs.declared.Round.{Round}
+use Rattle.types.specs.declared.Verdict.the-variants.{Accepted}
 use Rattle.groups.specs.Round.{Bezout}
 use Rattle.lists.specs.Each.{Each}
 use Rattle.lists.specs.Places.{places, pad8}
@@ -16,6 +17,7 @@ use Rattle.sigma.specs.Instance.{Instance}
 use Rattle.sigma.specs.Element.{Coordinate}
 use Rattle.sigma.specs.Extractor.{formula}
 use Rattle.sigma.specs.Image.{image}
+use Rattle.sigma.specs.Judge.{judge}
 use Rattle.sigma.specs.Reads.{Agree, roundOf, SameRound}
 use Rattle.sigma.specs.Round.{response}
 use Rattle.sigma.specs.Simulator.{simulated}
@@ -28,6 +30,10 @@ Choice inst x = Each (Coordinate (inst .header)) (inst .header .columns) x
 pub record Witness (inst : Instance) (x : List ℕ) : Type 0 where
   pub slots : Choice inst x
   pub carried : image inst x ≡ places (inst .header .rows) (inst .statement)
+
+-- the call that judges rounds answers accepted
+abbrev pub AcceptedRound : Instance → Round → Type 0
+AcceptedRound inst round = judge inst round ≡ Accepted
 
 -- the honest round of witness x, challenge c and nonce k
 unfoldable pub honestOn : Instance → List ℕ → ℕ → List ℕ → Round
