@@ -1,7 +1,7 @@
 -- The coordinates of the domain form a commutative group under `combine`, whose powers are `raise`, in both kinds.
 -- Assumes nothing.
 use Prim.Native.Nat.{ℕ, _+_, _-_, _*_, _%_, _^_, _<_}
-use mathlib.Core.Path.{_≡_, refl, sym, ap, _∙_}
+use mathlib.Core.Path.{_≡_, sym, _∙_}
 use mathlib.Core.Logic.{_≢_}
 use mathlib.Core.Bool.{cond}
 use native.Mathlib.Bridge.{le-prop}
@@ -10,7 +10,6 @@ use lib.IntN.{ℤ, pos}
 use Rattle.types.specs.declared.Header.{Header}
 use Rattle.groups.specs.Group.{powerWith}
 use Rattle.groups.specs.Vector.{NumberGroup, numberPower}
-use Rattle.numbers.specs.Integer.{residue, power}
 use Rattle.numbers.specs.Inverse.{inverse}
 use Rattle.numbers.proofs.Exponent.{power-pos}
 use Rattle.numbers.proofs.Integer.{residue-pos}
@@ -19,9 +18,10 @@ use Rattle.sigma.specs.Element.{Element, Coordinate}
 use Rattle.sigma.specs.Instance.{isExponent}
 use Rattle.sigma.specs.Extractor.{combine, divide, raise}
 use Rattle.sigma.specs.Round.{responseCoordinate}
-use Rattle.sigma.proofs.ByKind.{by-kind, exponent-kind, root-kind, combine-exponent, combine-root, divide-exponent, divide-root}
-use Rattle.sigma.proofs.ByKind.{raise-exponent, raise-root, responseCoordinate-exponent, responseCoordinate-root}
-use Rattle.sigma.proofs.ElementGroup.{element-proposition, element-product, element-one, element-inverse, elementGroup, element-power}
+use Rattle.sigma.proofs.ByKind.{by-kind, exponent-kind, root-kind, combine-exponent, combine-root}
+use Rattle.sigma.proofs.ByKind.{raise-exponent, raise-root}
+use Rattle.sigma.proofs.ElementGroup.{element-proposition, element-product, element-one, element-inverse}
+use Rattle.sigma.proofs.ElementGroup.{elementGroup, element-power}
 use Rattle.sigma.proofs.ResidueGroup.{residueGroup, residue-power}
 
 module _ (h : Header) where

@@ -1,7 +1,7 @@
 -- The group elements of a sheet form a commutative group under the product modulo m, in both kinds.
 -- Assumes nothing.
 use Prim.Native.Nat.{ℕ, zero, suc, _*_, _%_, _^_, _<_}
-use mathlib.Core.Path.{_≡_, refl, sym, ap, _∙_}
+use mathlib.Core.Path.{_≡_, sym, ap, _∙_}
 use mathlib.Core.Logic.{_≢_, inl, inr}
 use native.Mathlib.Nat.{eq-zero-or-pos, eq-one-of-dvd-one, mod-lt, mod-eq-of-lt, mul-comm, mul-assoc, one-mul, pow-zero, pow-suc}
 use native.Mathlib.Bridge.{le-prop}
@@ -44,7 +44,7 @@ module _ (h : Header) (big : 1 < h .modulus) (some : 0 < h .order) where
   element-inverts v x = inverse-inverts (h .modulus) v big (element-coprime v x)
 
   -- a number below m and coprime to it is a group element, in kind 1 if its power q is 1
-  pub element-from : (v : ℕ) → v < h .modulus → gcd v (h .modulus) ≡ 1 → (h .kind ≡ 1 → Cong (h .modulus) (v ^ h .order) 1) → Element h v
+  element-from : (v : ℕ) → v < h .modulus → gcd v (h .modulus) ≡ 1 → (h .kind ≡ 1 → Cong (h .modulus) (v ^ h .order) 1) → Element h v
   element-from v below coprime ordered = record {
     positive = elim (eq-zero-or-pos v) [
       | inl none ↦ absurd (omega (arith, gcd-zero (h .modulus), gcd-comm (h .modulus) 0, ap (λ (x : ℕ). gcd x (h .modulus)) none))
@@ -65,7 +65,7 @@ module _ (h : Header) (big : 1 < h .modulus) (some : 0 < h .order) where
   element-by-gcd n v below coprime = element-from v below coprime (λ e. absurd (n e))
 
   -- the power q of a group element of kind 1 is 1
-  pub element-order : (v : ℕ) → Element h v → h .kind ≡ 1 → Cong (h .modulus) (v ^ h .order) 1
+  element-order : (v : ℕ) → Element h v → h .kind ≡ 1 → Cong (h .modulus) (v ^ h .order) 1
   element-order v x e = cong-one (h .modulus) _ (x .ordered e)
 
   -- the product of two group elements is one
@@ -102,7 +102,8 @@ module _ (h : Header) (big : 1 < h .modulus) (some : 0 < h .order) where
     unit-in = element-one;
     inverse-in = element-inverse;
     associative = λ u v w x y z.
-        mod-mul-left (h .modulus) (u * v) w ∙ ap (λ (k : ℕ). k % h .modulus) (mul-assoc u v w) ∙ sym (mod-mul-right (h .modulus) u (v * w));
+        mod-mul-left (h .modulus) (u * v) w ∙ ap (λ (k : ℕ). k % h .modulus) (mul-assoc u v w)
+        ∙ sym (mod-mul-right (h .modulus) u (v * w));
     commutative = λ v w x y. ap (λ (k : ℕ). k % h .modulus) (mul-comm v w);
     unit-left = λ v x. ap (λ (k : ℕ). k % h .modulus) (one-mul v) ∙ mod-eq-of-lt (x .below);
     inverse-left = λ v x. mod-is-one big ((inverses-sym (element-inverts v x)) .one);

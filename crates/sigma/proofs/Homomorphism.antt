@@ -1,7 +1,7 @@
 -- The image [x] is a homomorphism from n coordinates of the domain to s group elements, in both kinds.
 -- Assumes nothing.
 use Prim.Native.Nat.{ℕ, _+_, _*_, _%_, _^_, _<_}
-use mathlib.Core.Path.{_≡_, refl, sym, ap, ap₂, _∙_}
+use mathlib.Core.Path.{_≡_, sym, ap, ap₂, _∙_}
 use mathlib.Core.Logic.{_≢_}
 use mathlib.Core.List.{List}
 use native.Mathlib.Nat.{mul-comm, mod-lt}
@@ -10,27 +10,25 @@ use lib.IntN.{pos}
 use lib.ListN.{getD}
 use lib.Pow.{pow-add}
 use Rattle.lists.specs.Each.{Each}
-use Rattle.lists.specs.Places.{places}
 use Rattle.lists.proofs.Each.{each-from, each-at}
-use Rattle.lists.proofs.Places.{length-places, getD-places}
 use Rattle.groups.specs.Group.{Group}
 use Rattle.groups.specs.Homomorphism.{Homomorphism as GroupHomomorphism}
-use Rattle.groups.specs.Vector.{Vector, NumberGroup, vectorGroup, same-slots, value-in}
+use Rattle.groups.specs.Vector.{Vector, NumberGroup, vectorGroup, same-slots}
 use Rattle.groups.proofs.Vectors.{value-of-product}
 use Rattle.numbers.specs.Congruence.{Cong}
 use Rattle.numbers.specs.Product.{product}
 use Rattle.numbers.proofs.Congruence.{_then_, cong-of-equal, cong-mod, cong-one, cong-pow, mod-mul-both, mod-pow}
 use Rattle.numbers.proofs.Exponent.{power-pos, power-coprime}
 use Rattle.numbers.proofs.Powers.{pow-mul, mul-pow, one-pow, cong-pow-mod}
-use Rattle.numbers.proofs.Product.{product-agree, product-cong, product-mul, product-pow, product-one}
-use Rattle.sigma.specs.Instance.{Instance, entry, statementAt}
+use Rattle.numbers.proofs.Product.{product-cong, product-mul, product-pow, product-one}
+use Rattle.sigma.specs.Instance.{Instance, entry}
 use Rattle.sigma.specs.Element.{Element, Coordinate}
 use Rattle.sigma.specs.Extractor.{combine}
 use Rattle.sigma.specs.Image.{rowImage, image}
 use Rattle.sigma.specs.Valid.{Valid}
 use Rattle.sigma.proofs.ByKind.{by-kind, combine-exponent, combine-root, rowImage-exponent, rowImage-root}
 use Rattle.sigma.proofs.CoordinateGroup.{coordinateGroup}
-use Rattle.sigma.proofs.ElementGroup.{element-order, element-by-order, element-by-gcd, element-coprime, elementGroup}
+use Rattle.sigma.proofs.ElementGroup.{element-by-order, element-by-gcd, elementGroup}
 use Rattle.sigma.proofs.Valid.{valid-modulus, valid-order, valid-kind, valid-coprime}
 use Rattle.sigma.proofs.Values.{length-image, image-at}
 
@@ -82,7 +80,8 @@ module _ {inst : Instance} (v : Valid inst) (e : inst .header .kind ≡ 1) (i : 
       let m = inst .header .modulus in
       let q = inst .header .order in
       let n = inst .header .columns in
-      let each : (j : ℕ) → j < n → Cong m (entry inst i j ^ getD z j 0) (entry inst i j ^ getD x j 0 * entry inst i j ^ getD y j 0) = λ j b.
+      let term : List ℕ → ℕ → ℕ = λ w j. entry inst i j ^ getD w j 0 in
+      let each : (j : ℕ) → j < n → Cong m (term z j) (term x j * term y j) = λ j b.
       cong-of-equal m (ap (λ (k : ℕ). entry inst i j ^ k) (slots j b ∙ combine-exponent (inst .header) e (getD x j 0) (getD y j 0)))
       then cong-pow-mod m q (entry inst i j) (v .entries e i j h b .ordered e) (getD x j 0 + getD y j 0)
       then cong-of-equal m (pow-add (entry inst i j) (getD x j 0) (getD y j 0)) in

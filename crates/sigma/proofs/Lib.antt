@@ -19,5 +19,10 @@ pub mod Calls
 pub mod Formula
 pub mod Homomorphism
 pub mod Maurer
+pub mod Transfer
 pub mod Simulator
 pub mod Prover
+pub mod Base
+pub mod Extractor
+pub mod Lists
+pub mod Restated

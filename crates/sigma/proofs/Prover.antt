@@ -10,10 +10,11 @@ use Rattle.groups.specs.Vector.{same-vector}
 use Rattle.groups.proofs.Simulation.{honest-rounds as group-honest-rounds}
 use Rattle.sigma.specs.Instance.{Instance}
 use Rattle.sigma.specs.Judge.{judge}
-use Rattle.sigma.specs.Knowledge.{Choice, Witness, honestOn, MeetsEachOnce}
+use Rattle.sigma.specs.Knowledge.{AcceptedRound, Choice, Witness, honestOn, MeetsEachOnce}
 use Rattle.sigma.specs.Valid.{Valid}
 use Rattle.sigma.proofs.Homomorphism.{Domain, elementsOf, imageOf, homomorphism}
-use Rattle.sigma.proofs.Maurer.{statementOf, response-value, transfer}
+use Rattle.sigma.proofs.Maurer.{statementOf, response-value}
+use Rattle.sigma.proofs.Transfer.{transfer}
 
 module _ {inst : Instance} (v : Valid inst) (x : List ℕ) (w : Witness inst x) where
   -- the homomorphism carries the witness to the statement
@@ -23,7 +24,7 @@ module _ {inst : Instance} (v : Valid inst) (x : List ℕ) (w : Witness inst x) 
 
   module _ (c : ℕ) (below : c < inst .header .challenges) where
     -- the honest rounds over all nonces are exactly the accepted rounds with challenge c, each met once
-    pub honest-rounds : MeetsEachOnce (inst .header) (Choice inst) (λ round. judge inst round ≡ Accepted) c (honestOn inst x c)
+    pub honest-rounds : MeetsEachOnce (inst .header) (Choice inst) (AcceptedRound inst) c (honestOn inst x c)
     unfolding honestOn honestRound homomorphism imageOf
     honest-rounds =
         let witness : Domain inst = (x, w .slots) in

@@ -3,7 +3,8 @@
 use Prim.Native.Nat.{ℕ, zero, suc, _+_, _-_, _*_, _%_, _<_}
 use mathlib.Core.Path.{_≡_, sym, ap, _∙_}
 use native.Mathlib.Bridge.{le-prop}
-use native.Mathlib.Nat.{add-assoc, add-comm, zero-add, zero-mul, suc-mul, zero-mod, mod-lt, mod-self, mod-eq-of-lt, mod-add-mod, add-mod-mod}
+use native.Mathlib.Nat.{add-assoc, add-comm, zero-add, zero-mul, suc-mul}
+use native.Mathlib.Nat.{zero-mod, mod-lt, mod-self, mod-eq-of-lt, mod-add-mod, add-mod-mod}
 use native.Mathlib.Omega.{arith}
 use lib.IntN.{ℤ, pos, negsuc, _*ℤ_}
 use Rattle.groups.specs.Vector.{NumberGroup, numberPower}

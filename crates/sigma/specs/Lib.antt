@@ -14,3 +14,4 @@ pub mod Judge
 pub mod Simulator
 pub mod Extractor
 pub mod Knowledge
+pub mod Listed
