@@ -6,5 +6,9 @@ pub mod Loads
 pub mod Files
 pub mod After
 pub mod Unread
+pub mod Entries
 pub mod Writing
 pub mod Appending
+pub mod SheetWritten
+pub mod SheetRead
+pub mod SheetRoundTrip

@@ -34,6 +34,7 @@ use Rattle.formats.specs.Load.{
   noHeader,
   load,
   loadEntries,
+  loaded,
 }
 use Rattle.formats.specs.Meaning.{Loads}
 use Rattle.formats.specs.Sheet.{sheetMark, versionOf, headerOf, sheetLength, zeros64, instanceOf}
@@ -125,6 +126,12 @@ module _ (s : List ℕ) where
   pub entries-given : loadRefusal s ≡ 0 → loadEntries s ≡ instanceOf s .entries
   unfolding loadEntries instanceOf
   entries-given e = simp (e, unlessRefused-zero)
+
+  -- so the loader gives the sheet's values
+  pub loaded-given : loadRefusal s ≡ 0 → loaded s ≡ instanceOf s
+  loaded-given e =
+      let answer = load-given e in
+      λ j. record { header = answer j .header; entries = entries-given e j; statement = answer j .statement }
 
   -- a refused sheet gives its number and zeros
   pub load-refused : 0 < loadRefusal s → load s ≡ record { refusal = loadRefusal s; header = noHeader; statement = zeros8 }

@@ -1,29 +1,32 @@
 -- A writing call's outcome depends only on the places that 01 reads: values that are the same there give the same bytes.
 -- Assumes nothing.
-use Prim.Native.Nat.{ℕ}
-use mathlib.Core.Path.{_≡_, refl, ap, _∙_}
+use Prim.Native.Nat.{ℕ, _<_}
+use mathlib.Core.Path.{_≡_, refl, sym, ap, subst, _∙_}
 use mathlib.Core.Logic.{inl, inr}
 use mathlib.Core.Bool.{Bool, not, cond, _&&_}
 use mathlib.Core.List.{List, [], flatten}
+use native.Mathlib.Omega.{arith}
+use lib.ListN.{length, getD}
 use Rattle.types.specs.declared.Header.{Header}
 use Rattle.types.specs.declared.Round.{Round}
-use Rattle.lists.specs.Places.{tabulate}
-use Rattle.lists.proofs.Places.{tabulate-agree, places-agree}
+use Rattle.lists.specs.Places.{pad8, places, tabulate, zeros8}
+use Rattle.lists.proofs.Places.{length-tabulate, getD-tabulate, tabulate-agree, getD-pad8, getD-pad8-inside, getD-places, places-agree}
 use Rattle.numbers.specs.Search.{any}
 use Rattle.numbers.proofs.Search.{any-agree}
 use Rattle.rules.specs.Rule.{Rule}
 use Rattle.rules.proofs.Says.{says-decides}
 use Rattle.sigma.specs.Admission.{badEntries, badStatement, elementRules}
-use Rattle.sigma.specs.Element.{isElement, someNonElement}
-use Rattle.sigma.specs.Instance.{Instance, isExponent, entry}
+use Rattle.sigma.specs.Element.{Element, isElement, someNonElement}
+use Rattle.sigma.specs.Instance.{Instance, isExponent, entry, statementAt}
 use Rattle.sigma.specs.Reads.{Agree, SameRound}
-use Rattle.sigma.proofs.ByKind.{root-kind}
+use Rattle.sigma.specs.Valid.{Valid}
+use Rattle.sigma.proofs.ByKind.{exponent-kind, root-kind}
 use Rattle.sigma.proofs.Tests.{says-exponent}
 use Rattle.sigma.proofs.Unread.{same-commitment, same-response}
 use Rattle.formats.specs.Append.{appended, appendAfter, append}
 use Rattle.formats.specs.Encode.{storedEntries, sheetOf, encodeRules, encode}
 use Rattle.formats.specs.Load.{loadRules}
-use Rattle.formats.specs.Meaning.{SameInstance}
+use Rattle.formats.specs.Meaning.{SameInstance, readInstance}
 use Rattle.formats.specs.RoundFile.{recordBytes}
 use Rattle.formats.specs.Sheet.{headerOf}
 
@@ -72,6 +75,25 @@ module _ (h : Header) (es es′ : List (List ℕ)) (z z′ : List ℕ) where
       | inr n ↦ rw (root-kind h n)
     ]
 
+    -- both are Valid or not
+    valid-same-header : Valid first → Valid second
+    unfolding statementAt
+    valid-same-header v = record {
+      kind = v .kind;
+      modulus = v .modulus;
+      order = v .order;
+      some-row = v .some-row;
+      few-rows = v .few-rows;
+      some-column = v .some-column;
+      few-columns = v .few-columns;
+      square = v .square;
+      some-challenges = v .some-challenges;
+      few-challenges = v .few-challenges;
+      no-divisor = v .no-divisor;
+      entries = λ e r c a b. subst (λ (x : ℕ). Element h x) (s .entries e r c a b) (v .entries e r c a b);
+      statement = λ r a. subst (λ (x : ℕ). Element h x) (s .statement r a) (v .statement r a);
+    }
+
     -- both have the same sheet
     sheet-same-header : sheetOf first ≡ sheetOf second
     unfolding sheetOf
@@ -81,6 +103,14 @@ module _ (h : Header) (es es′ : List (List ℕ)) (z z′ : List ℕ) where
     encode-same-header : (buffer : List ℕ) → encode first buffer ≡ encode second buffer
     unfolding encode encodeRules elementRules
     encode-same-header buffer = rw (sheet-same-header, badEntries-same, badStatement-same)
+
+-- the same values, the other way round
+pub same-instance-sym : {i i′ : Instance} → SameInstance i i′ → SameInstance i′ i
+same-instance-sym {i} {i′} s = record {
+  header = sym (s .header);
+  entries = λ e r c a b. sym (s .entries (rw (s .header) e) r c (rw (s .header) a) (rw (s .header) b));
+  statement = λ j b. sym (s .statement j (rw (s .header) b));
+}
 
 -- the same values, where the header is the same by a path
 aligned : {i i′ : Instance} → SameInstance i i′
@@ -99,6 +129,36 @@ pub sheetOf-same : {i i′ : Instance} → SameInstance i i′ → sheetOf i ≡
 sheetOf-same {i} {i′} s =
     sheet-same-header (i .header) (i .entries) (i′ .entries) (i .statement) (i′ .statement) (aligned s)
     ∙ ap (λ (h : Header). sheetOf (record { header = h; entries = i′ .entries; statement = i′ .statement })) (s .header)
+
+-- whether values are Valid depends only on what is read of them
+pub valid-same : {i i′ : Instance} → SameInstance i i′ → Valid i → Valid i′
+valid-same {i} {i′} s v =
+    subst (λ (h : Header). Valid (record { header = h; entries = i′ .entries; statement = i′ .statement })) (s .header)
+    (valid-same-header (i .header) (i .entries) (i′ .entries) (i .statement) (i′ .statement) (aligned s) v)
+
+module _ (i : Instance) where
+  -- an entry of what is read
+  read-entry : i .header .kind ≡ 1 → (r c : ℕ) → r < i .header .rows → c < i .header .columns
+      → entry (readInstance i) r c ≡ entry i r c
+  unfolding readInstance entry
+  read-entry e r c a b =
+      let h = i .header in
+      let row = tabulate (h .columns) (entry i r) in
+      let rows = tabulate (h .rows) (λ k. pad8 0 (tabulate (h .columns) (entry i k))) in
+      let inside : r < length rows = omega (arith, length-tabulate (h .rows) (λ k. pad8 0 (tabulate (h .columns) (entry i k)))) in
+      rw (exponent-kind h e)
+      (ap (λ (l : List ℕ). getD l c 0)
+      (getD-pad8-inside zeros8 rows r [] inside ∙ getD-tabulate (h .rows) (λ k. pad8 0 (tabulate (h .columns) (entry i k))) r [] a)
+      ∙ getD-pad8 0 row c ∙ getD-tabulate (h .columns) (entry i r) c 0 b)
+
+  -- what is read of an instance's values is the same
+  pub read-same : SameInstance (readInstance i) i
+  unfolding readInstance
+  read-same = record {
+    header = refl;
+    entries = read-entry;
+    statement = λ r a. getD-pad8 0 (places (i .header .rows) (i .statement)) r ∙ getD-places (i .header .rows) (i .statement) r a;
+  }
 
 -- ---- records
 

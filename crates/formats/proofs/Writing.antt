@@ -1,37 +1,32 @@
 -- Writing into a lent buffer: a refused call changes no byte and answers length 0; a call that is not refused puts its bytes
 -- at the start, answers their length and changes no byte after them.
 -- Assumes nothing.
-use Prim.Native.Nat.{ℕ, _*_, _<_, _≤_}
-use mathlib.Core.Path.{_≡_, refl, sym, ap, _∙_}
-use mathlib.Core.Logic.{_↔_, inl, inr}
+use Prim.Native.Nat.{ℕ, _<_, _≤_}
+use mathlib.Core.Path.{_≡_, refl, sym, _∙_}
+use mathlib.Core.Logic.{_↔_}
 use mathlib.Core.Bool.{false}
-use mathlib.Core.List.{List, [], _∷_, _++_, flatten}
-use native.Mathlib.Nat.{mul-comm}
+use mathlib.Core.List.{List, [], _∷_, _++_}
 use native.Mathlib.Omega.{arith}
 use lib.ListN.{length, length-append}
 use lib.Seq.{sets, length-sets}
 use borrow.Author.Tests.{ltb-false, le-ltb}
 use Rattle.encoding.proofs.Bytes.{length-bytesOf, length-bytesOfEach}
 use Rattle.encoding.proofs.Replaced.{take-sets-front, drop-sets-front}
-use Rattle.lists.specs.Places.{tabulate}
-use Rattle.lists.proofs.Places.{length-places, length-tabulate, getD-tabulate}
-use Rattle.lists.proofs.Rows.{length-flatten}
+use Rattle.lists.proofs.Places.{length-places}
 use Rattle.rules.specs.Rule.{_when_, lowest}
 use Rattle.rules.proofs.Lowest.{clear-append, clear-lowest, lowest-clear}
-use Rattle.rules.proofs.Says.{says-decides}
 use Rattle.sigma.specs.Admission.{headerRules, elementRules}
-use Rattle.sigma.specs.Instance.{Instance, entry}
+use Rattle.sigma.specs.Instance.{Instance}
 use Rattle.sigma.specs.Valid.{Valid}
 use Rattle.sigma.proofs.Answer.{unlessRefused-zero, unlessRefused-positive}
-use Rattle.sigma.proofs.ByKind.{exponent-kind, root-kind}
-use Rattle.sigma.proofs.Tests.{says-exponent}
 use Rattle.sigma.proofs.Valid.{clear-valid}
 use Rattle.formats.specs.Append.{emptyFile}
-use Rattle.formats.specs.Encode.{storedEntries, sheetOf, encodeRules, encode}
+use Rattle.formats.specs.Encode.{sheetOf, encodeRules, encode}
 use Rattle.formats.specs.Outcome.{Keeps, Puts}
 use Rattle.formats.specs.RoundFile.{noRounds}
-use Rattle.formats.specs.Sheet.{entryCount, sheetLength}
+use Rattle.formats.specs.Sheet.{sheetLength}
 use Rattle.formats.specs.Write.{short, written, writtenAtStart}
+use Rattle.formats.proofs.Entries.{length-storedEntries}
 use Rattle.formats.proofs.Files.{length-roundMark}
 use Rattle.formats.proofs.Loads.{length-sheetMark}
 use Rattle.formats.proofs.Order.{encode-positive}
@@ -74,26 +69,6 @@ start-written n bytes buffer e fits = rw (written-given n (length bytes) (sets b
 })
 
 -- ---- the length of a sheet
-
--- s rows of n entries are s × n entries
-length-entries : (i : Instance)
-    → length (flatten (tabulate (i .header .rows) (λ r. tabulate (i .header .columns) (entry i r))))
-    ≡ i .header .rows * i .header .columns
-length-entries i =
-    let rows = tabulate (i .header .rows) (λ r. tabulate (i .header .columns) (entry i r)) in
-    let count = length-tabulate (i .header .rows) (λ r. tabulate (i .header .columns) (entry i r)) in
-    length-flatten (i .header .columns) rows (λ r b.
-    ap length (getD-tabulate (i .header .rows) (λ r. tabulate (i .header .columns) (entry i r)) r [] (omega arith))
-    ∙ length-tabulate (i .header .columns) (entry i r))
-    ∙ ap (λ (n : ℕ). i .header .columns * n) count ∙ mul-comm (i .header .columns) (i .header .rows)
-
--- as many entries are stored as the header says
-pub length-storedEntries : (i : Instance) → length (storedEntries i) ≡ entryCount (i .header)
-unfolding storedEntries entryCount
-length-storedEntries i = elim (says-decides (says-exponent (i .header))) [
-  | inl e ↦ rw (exponent-kind (i .header) e) (length-entries i)
-  | inr n ↦ rw (root-kind (i .header) n)
-]
 
 -- a sheet is as long as its header says
 pub length-sheetOf : (i : Instance) → length (sheetOf i) ≡ sheetLength (i .header)

@@ -2,14 +2,16 @@
 -- Assumes nothing.
 use Prim.Native.Nat.{ℕ, _<_, _≤_}
 use mathlib.Core.Path.{_≡_}
+use mathlib.Core.Bool.{cond}
 use mathlib.Core.List.{List}
 use lib.ListN.{length, take}
 use Rattle.types.specs.declared.Header.{Header}
-use Rattle.sigma.specs.Instance.{Instance, entry}
+use Rattle.lists.specs.Places.{pad8, places, tabulate, zeros8}
+use Rattle.sigma.specs.Instance.{Instance, entry, isExponent}
 use Rattle.sigma.specs.Reads.{Agree}
 use Rattle.sigma.specs.Valid.{Valid}
 use Rattle.formats.specs.RoundFile.{challengeWidth, countField, fileVersion, recordStart, roundMark}
-use Rattle.formats.specs.Sheet.{headerOf, instanceOf, sheetLength, sheetMark, versionOf}
+use Rattle.formats.specs.Sheet.{headerOf, instanceOf, sheetLength, sheetMark, versionOf, zeros64}
 
 -- none of 2 to 11 applies to the sheet
 pub record Loads (s : List ℕ) : Type 0 where
@@ -38,3 +40,14 @@ pub record SameInstance (i i′ : Instance) : Type 0 where
       i .header .kind ≡ 1 →
       (r c : ℕ) → r < i .header .rows → c < i .header .columns → entry i r c ≡ entry i′ r c
   pub statement : Agree (i .header .rows) (i .statement) (i′ .statement)
+
+-- what is read of a sheet's values, with 0 in the places that are not
+unfoldable pub readInstance : Instance → Instance
+readInstance i =
+    record {
+      header = i .header;
+      entries =
+          cond (isExponent (i .header))
+          (pad8 zeros8 (tabulate (i .header .rows) (λ r. pad8 0 (tabulate (i .header .columns) (entry i r))))) zeros64;
+      statement = pad8 0 (places (i .header .rows) (i .statement));
+    }
