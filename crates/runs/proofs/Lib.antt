@@ -8,3 +8,5 @@ pub mod Unread
 pub mod Run
 pub mod ProverSteps
 pub mod VerifierSteps
+pub mod ProverCalls
+pub mod OneAnswer

@@ -99,7 +99,8 @@ module _ (before : List Rule) (inst : Instance) (p : Prover) (nonce : List ℕ) 
   commitAfter-runs safe =
       let k = places (inst .header .columns) nonce in
       rw commitAfter-refusal
-      (Iff·trans (lowest-append-zero before (commitRules inst p k) safe (commit-positive inst p k)) (Iff·and Iff·rfl (commit-clear inst p k)))
+      (Iff·trans (lowest-append-zero before (commitRules inst p k) safe (commit-positive inst p k))
+      (Iff·and Iff·rfl (commit-clear inst p k)))
 
   -- it stores the nonce and its commitment, and answers the commitment
   pub commitAfter-given : commitAfter before inst p nonce .refusal ≡ 0
