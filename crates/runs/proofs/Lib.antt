@@ -10,3 +10,5 @@ pub mod ProverSteps
 pub mod VerifierSteps
 pub mod ProverCalls
 pub mod OneAnswer
+pub mod VerifierCalls
+pub mod OrderOfSteps

@@ -1,7 +1,7 @@
 -- When each call is given the session that the last one handed back, one Peggy session answers at most one challenge (01,
 -- "Sessions"): over any list of calls, from any session, with any sheets and arguments.
 -- Assumes nothing.
-use Prim.Native.Nat.{_<_, _≤_}
+use Prim.Native.Nat.{ℕ, _<_, _≤_}
 use mathlib.Core.Path.{_≡_, sym, ap, _∙_}
 use mathlib.Core.Logic.{_≢_, _⊎_, inl, inr, ⊎-elim}
 use mathlib.Core.Bool.{true}
@@ -16,51 +16,73 @@ use Rattle.runs.specs.Prover.{proverState}
 use Rattle.runs.specs.ProverCalls.{ProverCall, callProver, proverAfter, commits, answers, drops}
 use Rattle.runs.specs.ProverCalls.{countCommits, countAnswers, Ended}
 use Rattle.runs.specs.Run.{sessionAfter}
-use Rattle.runs.proofs.ProverCalls.{prover-kept, prover-moves, prover-same-or-higher, ended-refuses, ended-kept}
+use Rattle.runs.proofs.ProverCalls.{prover-moves, ended-refuses, ended-kept}
 use Rattle.runs.proofs.ProverCalls.{commits-moves, answers-moves, drops-moves}
 use Rattle.runs.proofs.Tests.{proverState-injective}
-use Rattle.runs.proofs.Run.{after-append, stays, level-after, unmoved, none-past, at-most-once, ready-after}
+use Rattle.runs.proofs.Run.{after-append, stays, kept-after, level-after, unmoved, none-past, at-most-once, ready-after}
 
 -- ---- at most once
 
--- a call that answers lifts the state's number from below 2 to 2
-answers-lifts : (call : ProverCall) (p : Prover) → answers call (callProver call p) ≡ true
-    → (proverState (p .phase) < 2) × (2 ≤ proverState (callProver call p .session .phase))
-unfolding proverState
-answers-lifts call p t =
-    let m = answers-moves p call t in
-    omega (arith, ap proverState (m .0), ap (λ (q : Prover). proverState (q .phase)) (m .1))
+-- the number of a session's state
+abbrev stateOf : Prover → ℕ
+stateOf p = proverState (p .phase)
 
 -- a call that commits lifts the state's number from 0 to 1
 commits-lifts : (call : ProverCall) (p : Prover) → commits call (callProver call p) ≡ true
-    → (proverState (p .phase) < 1) × (1 ≤ proverState (callProver call p .session .phase))
+    → (stateOf p < 1) × (1 ≤ stateOf (callProver call p .session))
 unfolding proverState
 commits-lifts call p t = let m = commits-moves p call t in omega (arith, ap proverState (m .0), ap proverState (m .1))
+
+-- a call that answers lifts it from 1 to 2
+answers-lifts : (call : ProverCall) (p : Prover) → answers call (callProver call p) ≡ true
+    → (stateOf p < 2) × (2 ≤ stateOf (callProver call p .session))
+unfolding proverState
+answers-lifts call p t = let m = answers-moves p call t in omega (arith, ap proverState (m .0), ap stateOf (m .1))
+
+-- a call that drops lifts it from 0 or 1 to 3
+drops-lifts : (call : ProverCall) (p : Prover) → drops call (callProver call p) ≡ true
+    → (stateOf p < 2) × (3 ≤ stateOf (callProver call p .session))
+unfolding proverState
+drops-lifts call p t =
+    let m = drops-moves p call t in
+    ⊎-elim (λ (e : p .phase ≡ New). omega (arith, ap proverState e, ap stateOf (m .1)))
+    (λ (e : p .phase ≡ Committed). omega (arith, ap proverState e, ap stateOf (m .1))) (m .0)
+
+-- a call hands back the same session, or one in a state with a higher number
+same-or-higher : (call : ProverCall) (p : Prover)
+    → (callProver call p .session ≡ p) ⊎ (stateOf p < stateOf (callProver call p .session))
+unfolding proverState
+same-or-higher call p = elim (prover-moves p call) [
+  | inl same ↦ inl same
+  | inr (inl t) ↦ inr (omega (arith, commits-lifts call p t))
+  | inr (inr (inl t)) ↦ inr (omega (arith, answers-lifts call p t))
+  | inr (inr (inr t)) ↦ inr (omega (arith, drops-lifts call p t))
+]
 
 -- at most one call of a list answers a challenge
 pub one-answer : (calls : List ProverCall) (p : Prover) → countAnswers calls p ≤ 1
 unfolding countAnswers
 one-answer =
-    at-most-once callProver (λ step. step .session) (λ q. proverState (q .phase)) prover-same-or-higher answers 2 answers-lifts
+    at-most-once callProver (λ step. step .session) stateOf same-or-higher answers 2 answers-lifts
 
 -- at most one call of a list commits
 pub one-commit : (calls : List ProverCall) (p : Prover) → countCommits calls p ≤ 1
 unfolding countCommits
 one-commit =
-    at-most-once callProver (λ step. step .session) (λ q. proverState (q .phase)) prover-same-or-higher commits 1 commits-lifts
+    at-most-once callProver (λ step. step .session) stateOf same-or-higher commits 1 commits-lifts
 
 -- a session that is not New never commits
 pub no-commit : (calls : List ProverCall) (p : Prover) → p .phase ≢ New → countCommits calls p ≡ 0
 unfolding countCommits proverState
 no-commit calls p other =
     let started : proverState (p .phase) ≢ 0 = λ e. other (proverState-injective (p .phase) New e) in
-    none-past callProver (λ step. step .session) (λ q. proverState (q .phase)) prover-same-or-higher commits 1 commits-lifts calls p
+    none-past callProver (λ step. step .session) stateOf same-or-higher commits 1 commits-lifts calls p
     (omega arith)
 
 -- no list of calls leads to a state with a lower number
 pub prover-forward : (calls : List ProverCall) (p : Prover) → proverState (p .phase) ≤ proverState (proverAfter calls p .phase)
 unfolding proverAfter
-prover-forward = level-after callProver (λ step. step .session) (λ q. proverState (q .phase)) prover-same-or-higher
+prover-forward = level-after callProver (λ step. step .session) stateOf same-or-higher
 
 -- ---- once it has ended
 
@@ -111,14 +133,11 @@ ended-refuses-all calls call p ended = rw (ended-stays calls p ended) (ended-ref
 -- a call that leaves a session Committed found it so and left it as it was, or commits
 committed-from : (call : ProverCall) (p : Prover) → callProver call p .session .phase ≡ Committed
     → (p .phase ≡ Committed) ⊎ (commits call (callProver call p) ≡ true)
-committed-from call p e = elim (decLt 0 (callProver call p .refusal)) [
-  | yes refused ↦ inl (sym (ap (λ (step : ProverStep). step .session .phase) (prover-kept call p refused)) ∙ e)
-  | no given ↦
-      ⊎-elim (λ (t : commits call (callProver call p) ≡ true). inr t)
-      (⊎-elim
-      (λ (t : answers call (callProver call p) ≡ true). let m = answers-moves p call t .1 in inl (cc (e, m)))
-      (λ (t : drops call (callProver call p) ≡ true). let m = drops-moves p call t .1 in inl (cc (e, m))))
-      (prover-moves p call (omega arith))
+committed-from call p e = elim (prover-moves p call) [
+  | inl same ↦ inl (cc (same, e))
+  | inr (inl t) ↦ inr t
+  | inr (inr (inl t)) ↦ inl (cc (e, answers-moves p call t .1))
+  | inr (inr (inr t)) ↦ inl (cc (e, drops-moves p call t .1))
 ]
 
 -- a session that is Committed after a list of calls was so before, or some call of the list commits
@@ -136,4 +155,19 @@ answer-after-commit earlier call p t = committed-after earlier p (answers-moves 
 pub same-state-same-session : (calls : List ProverCall) (p : Prover) → proverAfter calls p .phase ≡ p .phase → proverAfter calls p ≡ p
 unfolding proverAfter
 same-state-same-session calls p e =
-    unmoved callProver (λ step. step .session) (λ q. proverState (q .phase)) prover-same-or-higher calls p (ap proverState e)
+    unmoved callProver (λ step. step .session) stateOf same-or-higher calls p (ap proverState e)
+
+-- once a session is no longer New, no call changes its commitment
+pub commitment-fixed : (calls : List ProverCall) (p : Prover) → 1 ≤ proverState (p .phase)
+    → proverAfter calls p .commitment ≡ p .commitment
+unfolding proverAfter
+commitment-fixed = kept-after callProver (λ step. step .session) (λ q. q .commitment) (λ q. 1 ≤ stateOf q) keeps
+  where
+    keeps : (call : ProverCall) (p : Prover) → 1 ≤ stateOf p
+        → (callProver call p .session .commitment ≡ p .commitment) × (1 ≤ stateOf (callProver call p .session))
+    keeps call p h = elim (prover-moves p call) [
+      | inl same ↦ (ap (λ (q : Prover). q .commitment) same, omega (arith, ap stateOf same))
+      | inr (inl t) ↦ absurd (omega (arith, commits-lifts call p t))
+      | inr (inr (inl t)) ↦ (ap (λ (q : Prover). q .commitment) (answers-moves p call t .1), omega (arith, answers-lifts call p t))
+      | inr (inr (inr t)) ↦ (ap (λ (q : Prover). q .commitment) (drops-moves p call t .1), omega (arith, drops-lifts call p t))
+    ]

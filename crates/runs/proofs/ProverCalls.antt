@@ -31,15 +31,6 @@ prover-kept (Commit sheet nonce) p = commitAfter-kept (loadRules sheet) (instanc
 prover-kept (Respond sheet c witness) p = respondAfter-kept (loadRules sheet) (instanceOf sheet) p c witness
 prover-kept Drop p = drop-kept p
 
--- a call that is not refused finds the session New or Committed
-pub prover-runs : (call : ProverCall) (p : Prover) → callProver call p .refusal ≡ 0 → Drops p
-unfolding callProver commit respond
-prover-runs (Commit sheet nonce) p e =
-    inl (commitAfter-runs (loadRules sheet) (instanceOf sheet) p nonce (sheet-positive sheet) .0 e .1 .phase)
-prover-runs (Respond sheet c witness) p e =
-    inr (respondAfter-runs (loadRules sheet) (instanceOf sheet) p c witness (sheet-positive sheet) .0 e .1 .phase)
-prover-runs Drop p e = drop-runs p .0 e
-
 -- ---- a call that commits, answers or drops
 
 module _ (p : Prover) where
@@ -82,41 +73,22 @@ module _ (p : Prover) where
       (drop-runs p .0 e, ap (λ (step : ProverStep). step .session) (drop-given p e))
 
   -- a call that is not refused commits, answers or drops
-  pub prover-moves : (call : ProverCall) → callProver call p .refusal ≡ 0
+  pub prover-runs : (call : ProverCall) → callProver call p .refusal ≡ 0
       → (commits call (callProver call p) ≡ true) ⊎ (answers call (callProver call p) ≡ true)
       ⊎ (drops call (callProver call p) ≡ true)
   unfolding commits answers drops
-  prover-moves (Commit sheet nonce) e = inl (eq-eqb _ 0 e)
-  prover-moves (Respond sheet c witness) e = inr (inl (eq-eqb _ 0 e))
-  prover-moves Drop e = inr (inr (eq-eqb _ 0 e))
+  prover-runs (Commit sheet nonce) e = inl (eq-eqb _ 0 e)
+  prover-runs (Respond sheet c witness) e = inr (inl (eq-eqb _ 0 e))
+  prover-runs Drop e = inr (inr (eq-eqb _ 0 e))
 
--- ---- the state
-
--- each call that is not refused leads to a state with a higher number
-pub prover-rises : (call : ProverCall) (p : Prover) → callProver call p .refusal ≡ 0
-    → proverState (p .phase) < proverState (callProver call p .session .phase)
-unfolding proverState
-prover-rises call p e =
-    ⊎-elim
-    (λ (t : commits call (callProver call p) ≡ true).
-    let m = commits-moves p call t in omega (arith, ap proverState (m .0), ap proverState (m .1)))
-    (⊎-elim
-    (λ (t : answers call (callProver call p) ≡ true).
-    let m = answers-moves p call t in omega (arith, ap proverState (m .0), ap (λ (q : Prover). proverState (q .phase)) (m .1)))
-    (λ (t : drops call (callProver call p) ≡ true).
-    let m = drops-moves p call t in
-    let after = ap (λ (q : Prover). proverState (q .phase)) (m .1) in
-    ⊎-elim (λ (n : p .phase ≡ New). omega (arith, ap proverState n, after))
-    (λ (n : p .phase ≡ Committed). omega (arith, ap proverState n, after)) (m .0)))
-    (prover-moves p call e)
-
--- a call hands back the same session, or one in a state with a higher number
-pub prover-same-or-higher : (call : ProverCall) (p : Prover)
-    → (callProver call p .session ≡ p) ⊎ (proverState (p .phase) < proverState (callProver call p .session .phase))
-prover-same-or-higher call p = elim (decLt 0 (callProver call p .refusal)) [
-  | yes refused ↦ inl (ap (λ (step : ProverStep). step .session) (prover-kept call p refused))
-  | no given ↦ inr (prover-rises call p (omega arith))
-]
+  -- a call hands back the same session, commits, answers or drops
+  pub prover-moves : (call : ProverCall)
+      → (callProver call p .session ≡ p) ⊎ (commits call (callProver call p) ≡ true)
+      ⊎ (answers call (callProver call p) ≡ true) ⊎ (drops call (callProver call p) ≡ true)
+  prover-moves call = elim (decLt 0 (callProver call p .refusal)) [
+    | yes refused ↦ inl (ap (λ (step : ProverStep). step .session) (prover-kept call p refused))
+    | no given ↦ inr (prover-runs call (omega arith))
+  ]
 
 -- ---- a session that is Answered or Dropped
 
@@ -130,7 +102,11 @@ ended-apart s (inr a) (inr b) = let z : _≡_ {A = ℕ} 0 1 = cc in omega arith
 -- every call on it is refused
 pub ended-refuses : (call : ProverCall) (p : Prover) → Ended p → 0 < callProver call p .refusal
 ended-refuses call p ended =
-    let never : ¬ (callProver call p .refusal ≡ 0) = λ e. ended-apart (p .phase) ended (prover-runs call p e) in
+    let never : ¬ (callProver call p .refusal ≡ 0) = λ e. elim (prover-runs p call e) [
+      | inl t ↦ ended-apart (p .phase) ended (inl (commits-moves p call t .0))
+      | inr (inl t) ↦ ended-apart (p .phase) ended (inr (answers-moves p call t .0))
+      | inr (inr t) ↦ ended-apart (p .phase) ended (drops-moves p call t .0)
+    ] in
     omega arith
 
 -- every call hands it back

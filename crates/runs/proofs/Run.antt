@@ -22,6 +22,15 @@ module _ {Call Session Outcome : Type 0} (answer : Call → Session → Outcome)
   stays s same [] = refl
   stays s same (call ∷ calls) = ap (sessionAfter answer session calls) (same call) ∙ stays s same calls
 
+  -- where a condition holds that every call keeps, and with it a part of the session, the part is the same after any calls
+  pub kept-after : {A : Type 0} (part : Session → A) (Fixed : Session → Type 0)
+      → ((call : Call) (s : Session) → Fixed s → (part (session (answer call s)) ≡ part s) × Fixed (session (answer call s)))
+      → (calls : List Call) (s : Session) → Fixed s → part (sessionAfter answer session calls s) ≡ part s
+  unfolding sessionAfter
+  kept-after part Fixed keeps [] s f = refl
+  kept-after part Fixed keeps (call ∷ calls) s f =
+      kept-after part Fixed keeps calls (session (answer call s)) (keeps call s f .1) ∙ keeps call s f .0
+
   -- a level that every call lifts, if it does not hand back the same session
   module _ (level : Session → ℕ)
       (moves : (call : Call) (s : Session) → (session (answer call s) ≡ s) ⊎ (level s < level (session (answer call s)))) where
