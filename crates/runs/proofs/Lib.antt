@@ -12,3 +12,5 @@ pub mod ProverCalls
 pub mod OneAnswer
 pub mod VerifierCalls
 pub mod OrderOfSteps
+pub mod Verdicts
+pub mod JointRun

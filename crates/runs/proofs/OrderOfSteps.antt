@@ -2,11 +2,10 @@
 -- calls, from any session, with any sheets and arguments.
 -- Assumes nothing.
 use Prim.Native.Nat.{ℕ, suc, _<_, _≤_}
-use mathlib.Core.Path.{_≡_, refl, sym, ap, _∙_}
+use mathlib.Core.Path.{_≡_, ap}
 use mathlib.Core.Logic.{_⊎_, inl, inr, ⊎-elim}
 use mathlib.Core.Bool.{true}
 use mathlib.Core.List.{List}
-use native.Mathlib.Decide.{decLt}
 use native.Mathlib.Omega.{arith}
 use Rattle.types.specs.declared.Verifier.{Verifier}
 use Rattle.types.specs.declared.VerifierPhase.the-variants.{Holding, Asked, Judged}
@@ -69,7 +68,8 @@ unfolding verifierAfter
 verifier-forward = level-after callVerifier sessionOf stateOf same-or-higher
 
 -- calls that leave the state as it is leave all that is held as it is
-pub same-state-same-session : (calls : List VerifierCall) (v : Verifier) → verifierAfter calls v .phase ≡ v .phase → verifierAfter calls v ≡ v
+pub same-state-same-session : (calls : List VerifierCall) (v : Verifier) → verifierAfter calls v .phase ≡ v .phase
+    → verifierAfter calls v ≡ v
 unfolding verifierAfter
 same-state-same-session calls v e = unmoved callVerifier sessionOf stateOf same-or-higher calls v (ap verifierState e)
 

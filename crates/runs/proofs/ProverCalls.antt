@@ -2,7 +2,7 @@
 -- Assumes nothing.
 use Prim.Native.Nat.{ℕ, _<_}
 use mathlib.Core.Path.{_≡_, sym, ap, _∙_}
-use mathlib.Core.Logic.{_⊎_, inl, inr, ⊎-elim}
+use mathlib.Core.Logic.{_⊎_, inl, inr}
 use mathlib.Core.Bool.{true, false≢true}
 use native.Mathlib.Decide.{decLt}
 use native.Mathlib.Omega.{arith}
@@ -15,7 +15,7 @@ use Rattle.lists.specs.Places.{zeros8}
 use Rattle.formats.specs.Load.{loadRules}
 use Rattle.formats.specs.Sheet.{instanceOf}
 use Rattle.runs.specs.Meaning.{Drops}
-use Rattle.runs.specs.Prover.{proverState, commit, respond}
+use Rattle.runs.specs.Prover.{commit, respond}
 use Rattle.runs.specs.ProverCalls.{ProverCall, Commit, Respond, Drop, callProver, commits, answers, drops, Ended}
 use Rattle.runs.proofs.Order.{sheet-positive}
 use Rattle.runs.proofs.ProverSteps.{commitAfter-runs, commitAfter-given, commitAfter-kept}

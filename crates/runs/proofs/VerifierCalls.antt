@@ -1,10 +1,9 @@
 -- One call on Vic's session, whatever it brings: a refused call leaves the session, and each other call moves it one state on.
 -- Assumes nothing.
-use Prim.Native.Nat.{ℕ, suc, _<_, _≤_}
-use mathlib.Core.Path.{_≡_, refl, sym, ap, _∙_}
-use mathlib.Core.Logic.{_⊎_, inl, inr, ⊎-elim}
+use Prim.Native.Nat.{suc, _<_}
+use mathlib.Core.Path.{_≡_, ap}
+use mathlib.Core.Logic.{_⊎_, inl, inr}
 use mathlib.Core.Bool.{true, false≢true}
-use mathlib.Core.List.{List}
 use native.Mathlib.Decide.{decLt}
 use native.Mathlib.Omega.{arith}
 use borrow.Author.Tests.{eqb-true, eq-eqb}
@@ -15,7 +14,7 @@ use Rattle.types.specs.declared.VerifierVerdict.{VerifierVerdict}
 use Rattle.formats.specs.Load.{loadRules}
 use Rattle.formats.specs.Sheet.{instanceOf}
 use Rattle.runs.specs.Verifier.{verifierState, takeCommitment, takeChallenge, takeResponse}
-use Rattle.runs.specs.VerifierCalls.{VerifierCall, Commitment, Challenge, Response, VerifierAnswer, refusalOf, sessionOf}
+use Rattle.runs.specs.VerifierCalls.{VerifierCall, Commitment, Challenge, Response, refusalOf, sessionOf}
 use Rattle.runs.specs.VerifierCalls.{callVerifier, takesCommitment, takesChallenge, judges}
 use Rattle.runs.proofs.Order.{sheet-positive}
 use Rattle.runs.proofs.VerifierSteps.{takeCommitmentAfter-runs, takeCommitmentAfter-given, takeCommitmentAfter-kept}
@@ -76,7 +75,7 @@ module _ (v : Verifier) where
   judges-moves (Challenge sheet c) taken = absurd (false≢true taken)
   judges-moves (Response sheet r) taken =
       let e = eqb-true _ 0 taken in (
-        takeResponseAfter-runs (loadRules sheet) (instanceOf sheet) v r (sheet-positive sheet) .0 e .1 .phase,
+        takeResponseAfter-runs (loadRules sheet) (instanceOf sheet) v r (sheet-positive sheet) .0 e .1 .ready .phase,
         ap (λ (told : VerifierVerdict). told .session) (takeResponseAfter-given (loadRules sheet) (instanceOf sheet) v r e),
       )
 
