@@ -86,6 +86,13 @@ lowest-earlier [] ys h = absurd (omega arith)
 lowest-earlier ((n when true) ∷ xs) ys h = refl
 lowest-earlier ((n when false) ∷ xs) ys h = lowest-earlier xs ys h
 
+-- lists that give one number give one number behind any other list
+pub lowest-behind : (xs ys zs : List Rule) → lowest ys ≡ lowest zs → lowest (xs ++ ys) ≡ lowest (xs ++ zs)
+unfolding lowest
+lowest-behind [] ys zs e = e
+lowest-behind ((n when true) ∷ xs) ys zs e = refl
+lowest-behind ((n when false) ∷ xs) ys zs e = lowest-behind xs ys zs e
+
 -- two lists joined are clear exactly where both are
 pub clear-append : (xs ys : List Rule) → Clear (xs ++ ys) ↔ (Clear xs × Clear ys)
 clear-append [] ys = (λ c. (tt, c), λ c. c .1)

@@ -8,3 +8,9 @@ pub mod Unread
 pub mod Run
 pub mod ProverSteps
 pub mod VerifierSteps
+pub mod ProverCalls
+pub mod OneAnswer
+pub mod VerifierCalls
+pub mod OrderOfSteps
+pub mod Verdicts
+pub mod JointRun

@@ -10,6 +10,8 @@ use Rattle.types.specs.declared.Verifier.{Verifier}
 use Rattle.rules.specs.Rule.{Rule, numberOf, numbersOf, positive}
 use Rattle.rules.specs.Order.{refusalOrder, isSublist}
 use Rattle.rules.proofs.Lowest.{numbersOf-append}
+use Rattle.formats.specs.Load.{shapeRules, loadRules}
+use Rattle.sigma.specs.Admission.{headerRules, elementRules}
 use Rattle.sigma.specs.Instance.{Instance}
 use Rattle.runs.specs.Prover.{commitRules, respondRules, dropRules}
 use Rattle.runs.specs.Verifier.{takeCommitmentRules, takeChallengeRules, takeResponseRules}
@@ -78,6 +80,11 @@ pub takeResponse-positive : (inst : Instance) (v : Verifier) (r : List ℕ) → 
 unfolding takeResponseRules
 takeResponse-positive inst v r = tt
 
+-- the numbers of a sheet's rules are positive
+pub sheet-positive : (s : List ℕ) → T (positive (loadRules s))
+unfolding loadRules shapeRules headerRules elementRules
+sheet-positive s = tt
+
 -- ---- their order
 
 -- the rule of dropping, which takes no sheet, is in 01's order
@@ -97,26 +104,36 @@ behind-sheet before rules numbers e f s =
 
 module _ (before : List Rule) (sheet : numbersOf before ≡ sheetNumbers) where
   -- the rules of committing are in 01's order
-  pub commit-order : (inst : Instance) (p : Prover) (k : List ℕ) → isSublist (numbersOf (before ++ commitRules inst p k)) refusalOrder ≡ true
+  pub commit-order : (inst : Instance) (p : Prover) (k : List ℕ)
+      → isSublist (numbersOf (before ++ commitRules inst p k)) refusalOrder ≡ true
   unfolding isSublist refusalOrder
-  commit-order inst p k = behind-sheet before (commitRules inst p k) (16 ∷ 21 ∷ []) sheet (commit-numbers inst p k) refl
+  commit-order inst p k =
+      behind-sheet before (commitRules inst p k) (16 ∷ 21 ∷ []) sheet (commit-numbers inst p k) refl
 
   -- the rules of responding are in 01's order
-  pub respond-order : (inst : Instance) (p : Prover) (c : ℕ) (x : List ℕ) → isSublist (numbersOf (before ++ respondRules inst p c x)) refusalOrder ≡ true
+  pub respond-order : (inst : Instance) (p : Prover) (c : ℕ) (x : List ℕ)
+      → isSublist (numbersOf (before ++ respondRules inst p c x)) refusalOrder ≡ true
   unfolding isSublist refusalOrder
-  respond-order inst p c x = behind-sheet before (respondRules inst p c x) (15 ∷ 16 ∷ 17 ∷ 21 ∷ []) sheet (respond-numbers inst p c x) refl
+  respond-order inst p c x =
+      behind-sheet before (respondRules inst p c x) (15 ∷ 16 ∷ 17 ∷ 21 ∷ []) sheet (respond-numbers inst p c x) refl
 
   -- the rules of Vic's commitment are in 01's order
-  pub takeCommitment-order : (inst : Instance) (v : Verifier) (t : List ℕ) → isSublist (numbersOf (before ++ takeCommitmentRules inst v t)) refusalOrder ≡ true
+  pub takeCommitment-order : (inst : Instance) (v : Verifier) (t : List ℕ)
+      → isSublist (numbersOf (before ++ takeCommitmentRules inst v t)) refusalOrder ≡ true
   unfolding isSublist refusalOrder
-  takeCommitment-order inst v t = behind-sheet before (takeCommitmentRules inst v t) (14 ∷ 21 ∷ []) sheet (takeCommitment-numbers inst v t) refl
+  takeCommitment-order inst v t =
+      behind-sheet before (takeCommitmentRules inst v t) (14 ∷ 21 ∷ []) sheet (takeCommitment-numbers inst v t) refl
 
   -- the rules of Vic's challenge are in 01's order
-  pub takeChallenge-order : (inst : Instance) (v : Verifier) (c : ℕ) → isSublist (numbersOf (before ++ takeChallengeRules inst v c)) refusalOrder ≡ true
+  pub takeChallenge-order : (inst : Instance) (v : Verifier) (c : ℕ)
+      → isSublist (numbersOf (before ++ takeChallengeRules inst v c)) refusalOrder ≡ true
   unfolding isSublist refusalOrder
-  takeChallenge-order inst v c = behind-sheet before (takeChallengeRules inst v c) (15 ∷ 21 ∷ []) sheet (takeChallenge-numbers inst v c) refl
+  takeChallenge-order inst v c =
+      behind-sheet before (takeChallengeRules inst v c) (15 ∷ 21 ∷ []) sheet (takeChallenge-numbers inst v c) refl
 
   -- the rules of Vic's response are in 01's order
-  pub takeResponse-order : (inst : Instance) (v : Verifier) (r : List ℕ) → isSublist (numbersOf (before ++ takeResponseRules inst v r)) refusalOrder ≡ true
+  pub takeResponse-order : (inst : Instance) (v : Verifier) (r : List ℕ)
+      → isSublist (numbersOf (before ++ takeResponseRules inst v r)) refusalOrder ≡ true
   unfolding isSublist refusalOrder
-  takeResponse-order inst v r = behind-sheet before (takeResponseRules inst v r) (16 ∷ 21 ∷ []) sheet (takeResponse-numbers inst v r) refl
+  takeResponse-order inst v r =
+      behind-sheet before (takeResponseRules inst v r) (16 ∷ 21 ∷ []) sheet (takeResponse-numbers inst v r) refl

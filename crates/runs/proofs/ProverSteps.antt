@@ -59,7 +59,8 @@ respond-clear inst p c x =
     let held = unfit-passes inst p in (
       λ (a, (b, (d, (e, none)))). record {
         challenge = below .0 a;
-        witness = record { slots = slots .0 b; image = image .0 d };
+        witness = slots .0 b;
+        carried = image .0 d;
         phase = phase .0 (state .0 e .0);
         nonce = held .0 (state .0 e .1) .0;
         commitment = held .0 (state .0 e .1) .1;
@@ -67,9 +68,9 @@ respond-clear inst p c x =
       λ f. (
         below .1 (f .challenge),
         (
-          slots .1 (f .witness .slots),
+          slots .1 (f .witness),
           (
-            image .1 (f .witness .image),
+            image .1 (f .carried),
             (state .1 (phase .1 (f .phase), held .1 (f .nonce, f .commitment)), tt),
           ),
         ),
@@ -99,7 +100,8 @@ module _ (before : List Rule) (inst : Instance) (p : Prover) (nonce : List ℕ) 
   commitAfter-runs safe =
       let k = places (inst .header .columns) nonce in
       rw commitAfter-refusal
-      (Iff·trans (lowest-append-zero before (commitRules inst p k) safe (commit-positive inst p k)) (Iff·and Iff·rfl (commit-clear inst p k)))
+      (Iff·trans (lowest-append-zero before (commitRules inst p k) safe (commit-positive inst p k))
+      (Iff·and Iff·rfl (commit-clear inst p k)))
 
   -- it stores the nonce and its commitment, and answers the commitment
   pub commitAfter-given : commitAfter before inst p nonce .refusal ≡ 0

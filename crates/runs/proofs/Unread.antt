@@ -5,7 +5,6 @@ use mathlib.Core.Path.{_≡_, sym, _∙_}
 use mathlib.Core.List.{List}
 use Rattle.types.specs.declared.Prover.{Prover}
 use Rattle.types.specs.declared.Verifier.{Verifier}
-use Rattle.lists.specs.Places.{places}
 use Rattle.lists.proofs.Places.{places-agree}
 use Rattle.rules.specs.Rule.{Rule}
 use Rattle.rules.proofs.Says.{says-iff, says-same}

@@ -21,7 +21,7 @@ use Rattle.sigma.proofs.Answer.{judged-zero, judged-positive, unlessRefused-zer
 use Rattle.sigma.proofs.Calculus.{says-passes, both-fail}
 use Rattle.sigma.proofs.Passed.{challenge-passes, commitment-passes, coordinates-pass}
 use Rattle.sigma.proofs.Verdict.{verdict-not-refused}
-use Rattle.runs.specs.Meaning.{TakesCommitment, TakesChallenge, TakesResponse}
+use Rattle.runs.specs.Meaning.{TakesCommitment, TakesChallenge, ReadyToJudge, TakesResponse}
 use Rattle.runs.specs.Verifier.{isHolding, isAsked, unfitCommitment, verifierStep}
 use Rattle.runs.specs.Verifier.{takeCommitmentRules, takeCommitmentAfter, takeChallengeRules, takeChallengeAfter}
 use Rattle.runs.specs.Verifier.{takeResponseRules, takeResponseAfter}
@@ -61,24 +61,35 @@ takeChallenge-clear inst v c =
       λ x. (below .1 (x .challenge), (state .1 (phase .1 (x .phase), held .1 (x .held)), tt)),
     )
 
+-- not 21: Vic is Asked, and what he holds fits
+pub ready-passes : (inst : Instance) (v : Verifier)
+    → ((not (isAsked (v .phase)) || unfitCommitment inst v || badChallenge inst (v .challenge)) ≡ false) ↔ ReadyToJudge inst v
+ready-passes inst v =
+    let all = both-fail (not (isAsked (v .phase)) || unfitCommitment inst v) (badChallenge inst (v .challenge)) in
+    let state = both-fail (not (isAsked (v .phase))) (unfitCommitment inst v) in
+    let phase = says-passes (says-asked (v .phase)) in
+    let held = unfit-passes inst v in
+    let below = challenge-passes inst (v .challenge) in (
+      λ b. record {
+        phase = phase .0 (state .0 (all .0 b .0) .0);
+        held = held .0 (state .0 (all .0 b .0) .1);
+        challenge = below .0 (all .0 b .1);
+      },
+      λ x. all .1 (state .1 (phase .1 (x .phase), held .1 (x .held)), below .1 (x .challenge)),
+    )
+
 -- the response call
 pub takeResponse-clear : (inst : Instance) (v : Verifier) (r : List ℕ)
     → Clear (takeResponseRules inst v r) ↔ TakesResponse inst v r
 unfolding takeResponseRules
 takeResponse-clear inst v r =
     let slots = coordinates-pass inst r in
-    let all = both-fail (not (isAsked (v .phase)) || unfitCommitment inst v) (badChallenge inst (v .challenge)) in
-    let state = both-fail (not (isAsked (v .phase))) (unfitCommitment inst v) in
-    let phase = says-passes (says-asked (v .phase)) in
-    let held = unfit-passes inst v in
-    let below = challenge-passes inst (v .challenge) in (
+    let ready = ready-passes inst v in (
       λ (a, (b, none)). record {
         response = slots .0 a;
-        phase = phase .0 (state .0 (all .0 b .0) .0);
-        held = held .0 (state .0 (all .0 b .0) .1);
-        challenge = below .0 (all .0 b .1);
+        ready = ready .0 b;
       },
-      λ x. (slots .1 (x .response), (all .1 (state .1 (phase .1 (x .phase), held .1 (x .held)), below .1 (x .challenge)), tt)),
+      λ x. (slots .1 (x .response), (ready .1 (x .ready), tt)),
     )
 
 -- ---- the commitment

@@ -8,4 +8,5 @@ pub mod Meaning
 pub mod Run
 pub mod ProverCalls
 pub mod VerifierCalls
+pub mod JointRun
 pub mod Marker

@@ -14,11 +14,6 @@ use Rattle.sigma.specs.Instance.{Instance, statementAt}
 use Rattle.sigma.specs.Meaning.{Elements, Coordinates}
 use Rattle.sigma.specs.Reads.{Agree}
 
--- x is a witness: n domain slots whose image is the statement
-pub record Witness (inst : Instance) (x : List ℕ) : Type 0 where
-  pub slots : Coordinates inst x
-  pub image : (i : ℕ) → i < inst .header .rows → rowImage inst x i ≡ statementAt inst i
-
 -- committing to the nonce k
 pub record Commits (inst : Instance) (p : Prover) (k : List ℕ) : Type 0 where
   pub nonce : Coordinates inst k
@@ -27,7 +22,8 @@ pub record Commits (inst : Instance) (p : Prover) (k : List ℕ) : Type 0 where
 -- responding to the challenge c with the witness x
 pub record Responds (inst : Instance) (p : Prover) (c : ℕ) (x : List ℕ) : Type 0 where
   pub challenge : c < inst .header .challenges
-  pub witness : Witness inst x
+  pub witness : Coordinates inst x
+  pub carried : (i : ℕ) → i < inst .header .rows → rowImage inst x i ≡ statementAt inst i
   pub phase : p .phase ≡ Committed
   pub nonce : Coordinates inst (places (inst .header .columns) (p .nonce))
   pub commitment : Agree 8 (pad8 0 (image inst (places (inst .header .columns) (p .nonce)))) (p .commitment)
@@ -47,9 +43,13 @@ pub record TakesChallenge (inst : Instance) (v : Verifier) (c : ℕ) : Type 0 wh
   pub phase : v .phase ≡ Holding
   pub held : Elements inst (places (inst .header .rows) (v .commitment))
 
--- Vic's response call
-pub record TakesResponse (inst : Instance) (v : Verifier) (r : List ℕ) : Type 0 where
-  pub response : Coordinates inst r
+-- 21 does not apply to Vic's response call
+pub record ReadyToJudge (inst : Instance) (v : Verifier) : Type 0 where
   pub phase : v .phase ≡ Asked
   pub held : Elements inst (places (inst .header .rows) (v .commitment))
   pub challenge : v .challenge < inst .header .challenges
+
+-- Vic's response call
+pub record TakesResponse (inst : Instance) (v : Verifier) (r : List ℕ) : Type 0 where
+  pub response : Coordinates inst r
+  pub ready : ReadyToJudge inst v

@@ -1,10 +1,13 @@
 -- Any list of calls on one of Peggy's sessions (01, "Sessions").
 -- Assumes nothing.
 use Prim.Native.Nat.{ℕ}
+use mathlib.Core.Path.{_≡_}
+use mathlib.Core.Logic.{_⊎_}
 use mathlib.Core.Bool.{Bool, false}
 use mathlib.Core.List.{List}
 use lib.Dec.{eqb}
 use Rattle.types.specs.declared.Prover.{Prover}
+use Rattle.types.specs.declared.ProverPhase.the-variants.{Answered, Dropped}
 use Rattle.types.specs.declared.ProverStep.{ProverStep}
 use Rattle.runs.specs.Prover.{commit, respond, dropSession}
 use Rattle.runs.specs.Run.{outcomes, sessionAfter, countOf}
@@ -54,3 +57,7 @@ countCommits calls p = countOf callProver (λ step. step .session) commits calls
 -- how many calls of a list answer a challenge
 unfoldable pub countAnswers : List ProverCall → Prover → ℕ
 countAnswers calls p = countOf callProver (λ step. step .session) answers calls p
+
+-- the session is Answered or Dropped
+abbrev pub Ended : Prover → Type 0
+Ended p = (p .phase ≡ Answered) ⊎ (p .phase ≡ Dropped)

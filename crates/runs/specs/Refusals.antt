@@ -1,7 +1,6 @@
 -- The conditions of 01's refusal 21 as facts, and which conditions each call on a session asks, in order.
 -- Assumes nothing.
 use Prim.Native.Nat.{ℕ, _<_}
-use mathlib.Core.Path.{_≡_}
 use mathlib.Core.Logic.{_⊎_, _≢_}
 use mathlib.Core.List.{List, [], _∷_}
 use lib.ListN.{getD}
