@@ -12,20 +12,22 @@ use Rattle.types.specs.declared.Verifier.{Verifier}
 use Rattle.types.specs.declared.VerifierPhase.{VerifierPhase}
 use Rattle.types.specs.declared.VerifierPhase.the-variants.{Holding, Asked, Judged}
 use Rattle.lists.specs.Places.{pad8, places, zeros8}
-use Rattle.lists.proofs.Places.{length-places, getD-places, places-pad8, places-places, places-whole}
+use Rattle.lists.proofs.Each.{each-at}
+use Rattle.lists.proofs.Places.{places-pad8, places-places, places-whole}
 use Rattle.rules.specs.Rule.{Rule, Clear}
 use Rattle.rules.proofs.Lowest.{lowest-clear, clear-lowest}
 use Rattle.formats.specs.Load.{loadRules, loadRefusal}
 use Rattle.formats.specs.Sheet.{instanceOf}
-use Rattle.sigma.specs.Image.{image, rowImage}
-use Rattle.sigma.specs.Instance.{Instance, statementAt}
-use Rattle.sigma.specs.Judge.{judge}
+use Rattle.formats.proofs.Loads.{loads-valid}
+use Rattle.sigma.specs.Image.{image}
+use Rattle.sigma.specs.Instance.{Instance}
+use Rattle.sigma.specs.Knowledge.{Choice, Witness, honestOn}
 use Rattle.sigma.specs.Meaning.{Coordinates, Elements, Fits}
-use Rattle.sigma.specs.Reads.{Agree, roundOf}
+use Rattle.sigma.specs.Reads.{roundOf}
 use Rattle.sigma.specs.Round.{response, verdict}
 use Rattle.sigma.specs.Valid.{Valid}
 use Rattle.sigma.proofs.Calls.{valid-judge-accepted}
-use Rattle.sigma.proofs.Unread.{coordinates-agree, rowImage-agree}
+use Rattle.sigma.proofs.Prover.{honest-accepted}
 use Rattle.sigma.proofs.Verdict.{verdict-accepted}
 use Rattle.sigma.proofs.Values.{length-image, length-response}
 use Rattle.runs.specs.JointRun.{JointRun, jointRunAfter, jointRun, Succeeds}
@@ -36,7 +38,8 @@ use Rattle.runs.proofs.After.{commitAfter-clear, respondAfter-clear}
 use Rattle.runs.proofs.After.{takeCommitmentAfter-clear, takeChallengeAfter-clear, takeResponseAfter-clear}
 use Rattle.runs.proofs.Order.{sheet-positive}
 use Rattle.runs.proofs.ProverSteps.{commitAfter-runs, commitAfter-given, respondAfter-runs, respondAfter-given}
-use Rattle.runs.proofs.VerifierSteps.{takeCommitmentAfter-runs, takeCommitmentAfter-given, takeChallengeAfter-runs, takeChallengeAfter-given}
+use Rattle.runs.proofs.VerifierSteps.{takeCommitmentAfter-runs, takeCommitmentAfter-given}
+use Rattle.runs.proofs.VerifierSteps.{takeChallengeAfter-runs, takeChallengeAfter-given}
 use Rattle.runs.proofs.VerifierSteps.{takeResponseAfter-runs, takeResponseAfter-given}
 
 -- n places of n places with zeros behind are those places
@@ -47,22 +50,26 @@ places-stored n xs = places-pad8 n (places n xs) ∙ places-places n n xs (omega
 places-held : (n : ℕ) (xs : List ℕ) → length xs ≡ n → places n (pad8 0 xs) ≡ xs
 places-held n xs e = places-pad8 n xs ∙ places-whole n xs e
 
--- slots that are coordinates are so where they are read
-coordinates-read : (inst : Instance) (x : List ℕ) → Coordinates inst x → Coordinates inst (places (inst .header .columns) x)
-coordinates-read inst x = coordinates-agree inst x (places (inst .header .columns) x) (λ j h. sym (getD-places _ x j h))
+-- what is read of a nonce or a witness
+abbrev readOf : Instance → List ℕ → List ℕ
+readOf inst x = places (inst .header .columns) x
+
+-- each slot of a choice of n domain slots is a coordinate
+slots-read : (inst : Instance) (x : List ℕ) → Choice inst (readOf inst x) → Coordinates inst (readOf inst x)
+slots-read inst x = each-at _ _ (readOf inst x)
 
 -- the commitment to the nonce k
 abbrev commitmentOf : Instance → List ℕ → List ℕ
-commitmentOf inst k = image inst (places (inst .header .columns) k)
+commitmentOf inst k = image inst (readOf inst k)
 
 -- the response to the challenge c, of the nonce k and the witness x
 abbrev responseOf : Instance → List ℕ → ℕ → List ℕ → List ℕ
-responseOf inst x c k = response inst (places (inst .header .columns) k) c (places (inst .header .columns) x)
+responseOf inst x c k = response inst (readOf inst k) c (readOf inst x)
 
 -- Peggy's session once she has committed to k
 abbrev proverCommitted : Instance → List ℕ → Prover
 proverCommitted inst k =
-    record { phase = Committed; nonce = pad8 0 (places (inst .header .columns) k); commitment = pad8 0 (commitmentOf inst k) }
+    record { phase = Committed; nonce = pad8 0 (readOf inst k); commitment = pad8 0 (commitmentOf inst k) }
 
 -- Vic's session in a state, with the commitment to k and a challenge
 abbrev verifierHolding : VerifierPhase → Instance → List ℕ → ℕ → Verifier
@@ -72,14 +79,14 @@ verifierHolding phase inst k c = record { phase = phase; commitment = pad8 0 (co
 
 module _ (inst : Instance) (x k : List ℕ) (c : ℕ) where
   -- Peggy commits
-  joint-commit : Coordinates inst k
+  joint-commit : Choice inst (readOf inst k)
       → commitAfter [] inst newProver k
       ≡ record { refusal = 0; session = proverCommitted inst k; values = pad8 0 (commitmentOf inst k) }
   unfolding newProver
   joint-commit nonce =
       commitAfter-given [] inst newProver k
       (commitAfter-runs [] inst newProver k tt .1
-      (lowest-clear [] tt, record { nonce = coordinates-read inst k nonce; phase = refl }))
+      (lowest-clear [] tt, record { nonce = slots-read inst k nonce; phase = refl }))
 
   -- Vic takes her commitment
   joint-commitment : Elements inst (commitmentOf inst k)
@@ -104,28 +111,24 @@ module _ (inst : Instance) (x k : List ℕ) (c : ℕ) where
       (lowest-clear [] tt, record { challenge = below; phase = refl; held = rw t elements }))
 
   -- Peggy responds
-  joint-response : Valid inst → Coordinates inst k → Coordinates inst x
-      → ((i : ℕ) → i < inst .header .rows → rowImage inst x i ≡ statementAt inst i) → c < inst .header .challenges
+  joint-response : Witness inst (readOf inst x) → Choice inst (readOf inst k) → c < inst .header .challenges
       → respondAfter [] inst (proverCommitted inst k) c x
       ≡ record {
         refusal = 0;
         session = record { phase = Answered; nonce = zeros8; commitment = pad8 0 (commitmentOf inst k) };
         values = pad8 0 (responseOf inst x c k);
       }
-  joint-response valid nonce witness carried below =
-      let n = inst .header .columns in
-      let stored = places-stored n k in
-      let same : Agree n x (places n x) = λ j h. sym (getD-places n x j h) in
+  joint-response witness nonce below =
+      let stored = places-stored (inst .header .columns) k in
       rw stored at
       (respondAfter-given [] inst (proverCommitted inst k) c x
       (respondAfter-runs [] inst (proverCommitted inst k) c x tt .1 (
         lowest-clear [] tt,
         record {
           challenge = below;
-          witness = coordinates-read inst x witness;
-          carried = λ i h. sym (rowImage-agree valid x (places n x) same i h) ∙ carried i h;
+          witness = witness;
           phase = refl;
-          nonce = rw stored (coordinates-read inst k nonce);
+          nonce = rw stored (slots-read inst k nonce);
           commitment = λ j h. rw stored;
         },
       )))
@@ -163,59 +166,45 @@ jointRunAfter-clear before inst none x c k =
       takeResponseAfter-clear before inst none _ _,
     )
 
--- given that the honest round is accepted: for a Valid instance, a witness x and a nonce k of n coordinates and c below K
-module _ (honest : (inst : Instance) → Valid inst → (x k : List ℕ) (c : ℕ)
-    → length x ≡ inst .header .columns → Coordinates inst x
-    → ((i : ℕ) → i < inst .header .rows → rowImage inst x i ≡ statementAt inst i)
-    → length k ≡ inst .header .columns → Coordinates inst k → c < inst .header .challenges
-    → judge inst (roundOf (image inst k) c (response inst k c x)) ≡ Accepted) where
-  module _ (inst : Instance) (valid : Valid inst) (x k : List ℕ) (c : ℕ) (witness : Coordinates inst x)
-      (carried : (i : ℕ) → i < inst .header .rows → rowImage inst x i ≡ statementAt inst i)
-      (nonce : Coordinates inst k) (below : c < inst .header .challenges) where
-    -- what each call gives
-    pub joint-steps : jointRunAfter [] inst x c k
-        ≡ record {
-          committed = record { refusal = 0; session = proverCommitted inst k; values = pad8 0 (commitmentOf inst k) };
-          held = record { refusal = 0; session = verifierHolding Holding inst k 0 };
-          asked = record { refusal = 0; session = verifierHolding Asked inst k c };
-          answered =
-              record {
-                refusal = 0;
-                session = record { phase = Answered; nonce = zeros8; commitment = pad8 0 (commitmentOf inst k) };
-                values = pad8 0 (responseOf inst x c k);
-              };
-          told = record { verdict = Accepted; session = verifierHolding Judged inst k c };
-        }
-    unfolding jointRunAfter
-    joint-steps =
-        let n = inst .header .columns in
-        let same : Agree n x (places n x) = λ j h. sym (getD-places n x j h) in
-        let image-read : (i : ℕ) → i < inst .header .rows → rowImage inst (places n x) i ≡ statementAt inst i =
-        λ i h. sym (rowImage-agree valid x (places n x) same i h) ∙ carried i h in
-        let accepted =
-        honest inst valid (places n x) (places n k) c (length-places n x) (coordinates-read inst x witness) image-read
-        (length-places n k) (coordinates-read inst k nonce) below in
-        let (fits, holds) = valid-judge-accepted inst (roundOf (commitmentOf inst k) c (responseOf inst x c k)) valid .0 accepted in
-        let verdict-is = verdict-accepted inst (commitmentOf inst k) c (responseOf inst x c k) .1 holds in
-        rw (
-          joint-commit inst x k c nonce,
-          joint-commitment inst x k c (fits .commitment),
-          joint-challenge inst x k c (fits .commitment) below,
-          joint-response inst x k c valid nonce witness carried below,
-          joint-verdict inst x k c fits verdict-is,
-        )
+module _ {inst : Instance} (valid : Valid inst) (x k : List ℕ) (c : ℕ) (witness : Witness inst (readOf inst x))
+    (nonce : Choice inst (readOf inst k)) (below : c < inst .header .challenges) where
+  -- what each call gives, for a witness, a nonce of domain slots and a challenge below K
+  pub joint-steps : jointRunAfter [] inst x c k
+      ≡ record {
+        committed = record { refusal = 0; session = proverCommitted inst k; values = pad8 0 (commitmentOf inst k) };
+        held = record { refusal = 0; session = verifierHolding Holding inst k 0 };
+        asked = record { refusal = 0; session = verifierHolding Asked inst k c };
+        answered =
+            record {
+              refusal = 0;
+              session = record { phase = Answered; nonce = zeros8; commitment = pad8 0 (commitmentOf inst k) };
+              values = pad8 0 (responseOf inst x c k);
+            };
+        told = record { verdict = Accepted; session = verifierHolding Judged inst k c };
+      }
+  unfolding jointRunAfter honestOn
+  joint-steps =
+      let accepted = honest-accepted valid (readOf inst x) witness c below (readOf inst k) nonce in
+      let (fits, holds) = valid-judge-accepted inst (roundOf (commitmentOf inst k) c (responseOf inst x c k)) valid .0 accepted in
+      let verdict-is = verdict-accepted inst (commitmentOf inst k) c (responseOf inst x c k) .1 holds in
+      rw (
+        joint-commit inst x k c nonce,
+        joint-commitment inst x k c (fits .commitment),
+        joint-challenge inst x k c (fits .commitment) below,
+        joint-response inst x k c witness nonce below,
+        joint-verdict inst x k c fits verdict-is,
+      )
 
-    -- none of the calls is refused, and Vic accepts
-    pub joint-run : Succeeds (jointRunAfter [] inst x c k)
-    joint-run = rw joint-steps (record { committed = refl; held = refl; asked = refl; answered = refl; accepted = refl })
+  -- none of the calls is refused, and Vic accepts
+  pub joint-run : Succeeds (jointRunAfter [] inst x c k)
+  joint-run = rw joint-steps (record { committed = refl; held = refl; asked = refl; answered = refl; accepted = refl })
 
-  -- the same on the bytes of a sheet that loads, given that its values are Valid
-  pub sheet-joint-run : ((s : List ℕ) → loadRefusal s ≡ 0 → Valid (instanceOf s)) → (sheet : List ℕ) → loadRefusal sheet ≡ 0
-      → (x k : List ℕ) (c : ℕ) → Coordinates (instanceOf sheet) x
-      → ((i : ℕ) → i < instanceOf sheet .header .rows → rowImage (instanceOf sheet) x i ≡ statementAt (instanceOf sheet) i)
-      → Coordinates (instanceOf sheet) k → c < instanceOf sheet .header .challenges → Succeeds (jointRun sheet x c k)
-  unfolding jointRun jointRunAfter commit respond takeCommitment takeChallenge takeResponse loadRefusal
-  sheet-joint-run loads-valid sheet loads x k c witness carried nonce below =
-      let none = clear-lowest (loadRules sheet) (sheet-positive sheet) loads in
-      subst (λ (run : JointRun). Succeeds run) (sym (jointRunAfter-clear (loadRules sheet) (instanceOf sheet) none x c k))
-      (joint-run (instanceOf sheet) (loads-valid sheet loads) x k c witness carried nonce below)
+-- the same on the bytes of a sheet that loads
+pub sheet-joint-run : (sheet : List ℕ) → loadRefusal sheet ≡ 0 → (x k : List ℕ) (c : ℕ)
+    → Witness (instanceOf sheet) (readOf (instanceOf sheet) x) → Choice (instanceOf sheet) (readOf (instanceOf sheet) k)
+    → c < instanceOf sheet .header .challenges → Succeeds (jointRun sheet x c k)
+unfolding jointRun jointRunAfter commit respond takeCommitment takeChallenge takeResponse loadRefusal
+sheet-joint-run sheet loaded x k c witness nonce below =
+    let none = clear-lowest (loadRules sheet) (sheet-positive sheet) loaded in
+    subst (λ (run : JointRun). Succeeds run) (sym (jointRunAfter-clear (loadRules sheet) (instanceOf sheet) none x c k))
+    (joint-run (loads-valid sheet loaded) x k c witness nonce below)

@@ -1,5 +1,6 @@
 -- Laws of the sessions, of every call on a sheet's bytes and of the marker's text.
 pub mod Tests
+pub mod Witness
 pub mod Refusals
 pub mod Order
 pub mod Outcome

@@ -7,9 +7,11 @@ use mathlib.Core.Logic.{_↔_, Iff·rfl, Iff·trans, Iff·and}
 use mathlib.Core.Bool.{false, not}
 use mathlib.Core.List.{List, _++_}
 use lib.Dec.{T}
+use lib.ListN.{length}
 use Rattle.types.specs.declared.Prover.{Prover}
 use Rattle.types.specs.declared.ProverPhase.the-variants.{Committed, Answered, Dropped}
 use Rattle.lists.specs.Places.{pad8, places, zeros8}
+use Rattle.lists.proofs.Places.{length-places}
 use Rattle.rules.specs.Rule.{Rule, lowest, Clear, positive}
 use Rattle.rules.proofs.Says.{says-or}
 use Rattle.rules.proofs.Lowest.{clear-lowest, lowest-clear, lowest-append-zero}
@@ -27,6 +29,7 @@ use Rattle.runs.specs.Prover.{commitRules, commitAfter, respondRules, re
 use Rattle.runs.proofs.Order.{commit-positive, respond-positive, drop-positive}
 use Rattle.runs.proofs.Outcome.{proverStep-positive, proverStep-given}
 use Rattle.runs.proofs.Tests.{says-new, says-committed}
+use Rattle.runs.proofs.Witness.{witness-slots}
 
 -- ---- when no rule of a call applies
 
@@ -47,20 +50,21 @@ unfit-passes : (inst : Instance) (p : Prover) → (unfitProver inst p ≡ false)
 unfolding unfitProver
 unfit-passes inst p = Iff·trans (both-fail (badCoordinates inst _) _) (Iff·and (coordinates-pass inst _) (differ-false 8 _ (p .commitment)))
 
--- responding
-pub respond-clear : (inst : Instance) (p : Prover) (c : ℕ) (x : List ℕ) → Clear (respondRules inst p c x) ↔ Responds inst p c x
+-- responding, with n slots
+pub respond-clear : (inst : Instance) (p : Prover) (c : ℕ) (x : List ℕ) → length x ≡ inst .header .columns
+    → Clear (respondRules inst p c x) ↔ Responds inst p c x
 unfolding respondRules
-respond-clear inst p c x =
+respond-clear inst p c x l =
     let below = challenge-passes inst c in
     let slots = coordinates-pass inst x in
     let image = witness-passes inst x in
+    let whole = witness-slots inst x l in
     let state = both-fail (not (isCommitted (p .phase))) (unfitProver inst p) in
     let phase = says-passes (says-committed (p .phase)) in
     let held = unfit-passes inst p in (
       λ (a, (b, (d, (e, none)))). record {
         challenge = below .0 a;
-        witness = slots .0 b;
-        carried = image .0 d;
+        witness = whole .0 (slots .0 b, image .0 d);
         phase = phase .0 (state .0 e .0);
         nonce = held .0 (state .0 e .1) .0;
         commitment = held .0 (state .0 e .1) .1;
@@ -68,9 +72,9 @@ respond-clear inst p c x =
       λ f. (
         below .1 (f .challenge),
         (
-          slots .1 (f .witness),
+          slots .1 (whole .1 (f .witness) .0),
           (
-            image .1 (f .carried),
+            image .1 (whole .1 (f .witness) .1),
             (state .1 (phase .1 (f .phase), held .1 (f .nonce, f .commitment)), tt),
           ),
         ),
@@ -143,7 +147,7 @@ module _ (before : List Rule) (inst : Instance) (p : Prover) (c : ℕ) (witness 
       let x = places (inst .header .columns) witness in
       rw respondAfter-refusal
       (Iff·trans (lowest-append-zero before (respondRules inst p c x) safe (respond-positive inst p c x))
-      (Iff·and Iff·rfl (respond-clear inst p c x)))
+      (Iff·and Iff·rfl (respond-clear inst p c x (length-places (inst .header .columns) witness))))
 
   -- it answers the response, sets the nonce to zeros and keeps the commitment
   pub respondAfter-given : respondAfter before inst p c witness .refusal ≡ 0

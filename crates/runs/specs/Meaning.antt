@@ -9,8 +9,9 @@ use Rattle.types.specs.declared.ProverPhase.the-variants.{New, Committed}
 use Rattle.types.specs.declared.Verifier.{Verifier}
 use Rattle.types.specs.declared.VerifierPhase.the-variants.{Waiting, Holding, Asked}
 use Rattle.lists.specs.Places.{pad8, places}
-use Rattle.sigma.specs.Image.{image, rowImage}
-use Rattle.sigma.specs.Instance.{Instance, statementAt}
+use Rattle.sigma.specs.Image.{image}
+use Rattle.sigma.specs.Instance.{Instance}
+use Rattle.sigma.specs.Knowledge.{Witness}
 use Rattle.sigma.specs.Meaning.{Elements, Coordinates}
 use Rattle.sigma.specs.Reads.{Agree}
 
@@ -22,8 +23,7 @@ pub record Commits (inst : Instance) (p : Prover) (k : List ℕ) : Type 0 where
 -- responding to the challenge c with the witness x
 pub record Responds (inst : Instance) (p : Prover) (c : ℕ) (x : List ℕ) : Type 0 where
   pub challenge : c < inst .header .challenges
-  pub witness : Coordinates inst x
-  pub carried : (i : ℕ) → i < inst .header .rows → rowImage inst x i ≡ statementAt inst i
+  pub witness : Witness inst x
   pub phase : p .phase ≡ Committed
   pub nonce : Coordinates inst (places (inst .header .columns) (p .nonce))
   pub commitment : Agree 8 (pad8 0 (image inst (places (inst .header .columns) (p .nonce)))) (p .commitment)
