@@ -1,7 +1,7 @@
 -- Peggy and Vic together, for a witness x, a nonce k and a challenge c below K: no call is refused and Vic accepts.
 -- Assumes nothing.
 use Prim.Native.Nat.{ℕ, _<_}
-use mathlib.Core.Path.{_≡_, refl, sym, subst, _∙_}
+use mathlib.Core.Path.{_≡_, refl, _∙_}
 use mathlib.Core.List.{List, []}
 use native.Mathlib.Omega.{arith}
 use lib.ListN.{length}
@@ -15,7 +15,7 @@ use Rattle.lists.specs.Places.{pad8, places, zeros8}
 use Rattle.lists.proofs.Each.{each-at}
 use Rattle.lists.proofs.Places.{places-pad8, places-places, places-whole}
 use Rattle.rules.specs.Rule.{Rule, Clear}
-use Rattle.rules.proofs.Lowest.{lowest-clear, clear-lowest}
+use Rattle.rules.proofs.Lowest.{lowest-clear}
 use Rattle.formats.specs.Load.{loadRules, loadRefusal}
 use Rattle.formats.specs.Sheet.{instanceOf}
 use Rattle.formats.proofs.Loads.{loads-valid}
@@ -30,13 +30,13 @@ use Rattle.sigma.proofs.Calls.{valid-judge-accepted}
 use Rattle.sigma.proofs.Prover.{honest-accepted}
 use Rattle.sigma.proofs.Verdict.{verdict-accepted}
 use Rattle.sigma.proofs.Values.{length-image, length-response}
-use Rattle.runs.specs.JointRun.{JointRun, jointRunAfter, jointRun, Succeeds}
+use Rattle.runs.specs.JointRun.{jointRunAfter, jointRun, Succeeds}
 use Rattle.runs.specs.Prover.{newProver, commitAfter, commit, respondAfter, respond}
 use Rattle.runs.specs.Verifier.{newVerifier, takeCommitmentAfter, takeChallengeAfter, takeResponseAfter}
 use Rattle.runs.specs.Verifier.{takeCommitment, takeChallenge, takeResponse}
 use Rattle.runs.proofs.After.{commitAfter-clear, respondAfter-clear}
 use Rattle.runs.proofs.After.{takeCommitmentAfter-clear, takeChallengeAfter-clear, takeResponseAfter-clear}
-use Rattle.runs.proofs.Order.{sheet-positive}
+use Rattle.runs.proofs.Loaded.{sheet-clear}
 use Rattle.runs.proofs.ProverSteps.{commitAfter-runs, commitAfter-given, respondAfter-runs, respondAfter-given}
 use Rattle.runs.proofs.VerifierSteps.{takeCommitmentAfter-runs, takeCommitmentAfter-given}
 use Rattle.runs.proofs.VerifierSteps.{takeChallengeAfter-runs, takeChallengeAfter-given}
@@ -199,12 +199,17 @@ module _ {inst : Instance} (valid : Valid inst) (x k : List ℕ) (c : ℕ) (witn
   pub joint-run : Succeeds (jointRunAfter [] inst x c k)
   joint-run = rw joint-steps (record { committed = refl; held = refl; asked = refl; answered = refl; accepted = refl })
 
--- the same on the bytes of a sheet that loads
-pub sheet-joint-run : (sheet : List ℕ) → loadRefusal sheet ≡ 0 → (x k : List ℕ) (c : ℕ)
-    → Witness (instanceOf sheet) (readOf (instanceOf sheet) x) → Choice (instanceOf sheet) (readOf (instanceOf sheet) k)
-    → c < instanceOf sheet .header .challenges → Succeeds (jointRun sheet x c k)
-unfolding jointRun jointRunAfter commit respond takeCommitment takeChallenge takeResponse loadRefusal
-sheet-joint-run sheet loaded x k c witness nonce below =
-    let none = clear-lowest (loadRules sheet) (sheet-positive sheet) loaded in
-    subst (λ (run : JointRun). Succeeds run) (sym (jointRunAfter-clear (loadRules sheet) (instanceOf sheet) none x c k))
-    (joint-run (loads-valid sheet loaded) x k c witness nonce below)
+-- ---- on the bytes of a sheet that loads
+
+module _ (sheet : List ℕ) (loaded : loadRefusal sheet ≡ 0) where
+  -- the calls on its bytes are the calls on its values
+  pub joint-loaded : (x : List ℕ) (c : ℕ) (k : List ℕ) → jointRun sheet x c k ≡ jointRunAfter [] (instanceOf sheet) x c k
+  unfolding jointRun jointRunAfter commit respond takeCommitment takeChallenge takeResponse
+  joint-loaded = jointRunAfter-clear (loadRules sheet) (instanceOf sheet) (sheet-clear sheet loaded)
+
+  -- none of the calls is refused, and Vic accepts
+  pub sheet-joint-run : (x k : List ℕ) (c : ℕ) → Witness (instanceOf sheet) (readOf (instanceOf sheet) x)
+      → Choice (instanceOf sheet) (readOf (instanceOf sheet) k) → c < instanceOf sheet .header .challenges
+      → Succeeds (jointRun sheet x c k)
+  sheet-joint-run x k c witness nonce below =
+      rw (joint-loaded x c k) (joint-run (loads-valid sheet loaded) x k c witness nonce below)

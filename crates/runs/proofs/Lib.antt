@@ -1,6 +1,8 @@
 -- Laws of the sessions, of every call on a sheet's bytes and of the marker's text.
 pub mod Tests
 pub mod Witness
+pub mod Loaded
+pub mod Demand3
 pub mod Refusals
 pub mod Order
 pub mod Outcome

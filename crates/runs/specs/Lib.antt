@@ -9,4 +9,6 @@ pub mod Run
 pub mod ProverCalls
 pub mod VerifierCalls
 pub mod JointRun
+pub mod Knowledge
+pub mod Demand3
 pub mod Marker

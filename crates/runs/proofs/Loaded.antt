@@ -1,0 +1,44 @@
+-- On a sheet that loads, each call on its bytes is the call on its values.
+-- Assumes nothing.
+use Prim.Native.Nat.{ℕ}
+use mathlib.Core.Path.{_≡_, sym, _∙_}
+use mathlib.Core.Logic.{_↔_}
+use mathlib.Core.List.{List}
+use Rattle.types.specs.declared.Round.{Round}
+use Rattle.rules.specs.Rule.{Clear}
+use Rattle.rules.proofs.Lowest.{clear-lowest}
+use Rattle.formats.specs.Load.{loadRules, loadRefusal}
+use Rattle.formats.specs.Sheet.{instanceOf}
+use Rattle.sigma.specs.Extractor.{extract}
+use Rattle.sigma.specs.Judge.{judge}
+use Rattle.sigma.specs.Knowledge.{AcceptedRound}
+use Rattle.sigma.specs.Simulator.{simulate}
+use Rattle.sigma.proofs.After.{judgeAfter-clear, simulateAfter-clear, extractAfter-clear}
+use Rattle.runs.specs.Calls.{judgeRound, simulateCommitment, extractWitness}
+use Rattle.runs.specs.Knowledge.{Accepts}
+use Rattle.runs.proofs.Order.{sheet-positive}
+
+module _ (sheet : List ℕ) (loaded : loadRefusal sheet ≡ 0) where
+  -- no rule of the sheet applies
+  pub sheet-clear : Clear (loadRules sheet)
+  unfolding loadRefusal
+  sheet-clear = clear-lowest (loadRules sheet) (sheet-positive sheet) loaded
+
+  -- judging
+  pub judge-loaded : (round : Round) → judgeRound sheet round ≡ judge (instanceOf sheet) round
+  unfolding judgeRound
+  judge-loaded = judgeAfter-clear (loadRules sheet) (instanceOf sheet) sheet-clear
+
+  -- the same rounds are accepted
+  pub accepts-loaded : (round : Round) → Accepts sheet round ↔ AcceptedRound (instanceOf sheet) round
+  accepts-loaded round = (λ e. sym (judge-loaded round) ∙ e, λ e. judge-loaded round ∙ e)
+
+  -- simulating
+  pub simulate-loaded : (c : ℕ) (r : List ℕ) → simulateCommitment sheet c r ≡ simulate (instanceOf sheet) c r
+  unfolding simulateCommitment
+  simulate-loaded = simulateAfter-clear (loadRules sheet) (instanceOf sheet) sheet-clear
+
+  -- extracting
+  pub extract-loaded : (first second : Round) → extractWitness sheet first second ≡ extract (instanceOf sheet) first second
+  unfolding extractWitness
+  extract-loaded = extractAfter-clear (loadRules sheet) (instanceOf sheet) sheet-clear
