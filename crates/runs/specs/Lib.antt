@@ -10,5 +10,6 @@ pub mod ProverCalls
 pub mod VerifierCalls
 pub mod JointRun
 pub mod Knowledge
+pub mod Demand2
 pub mod Demand3
 pub mod Marker
