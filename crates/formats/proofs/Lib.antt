@@ -12,3 +12,5 @@ pub mod Appending
 pub mod SheetWritten
 pub mod SheetRead
 pub mod SheetRoundTrip
+pub mod Patterns
+pub mod Making
