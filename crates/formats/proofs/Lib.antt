@@ -14,3 +14,4 @@ pub mod SheetRead
 pub mod SheetRoundTrip
 pub mod Patterns
 pub mod Making
+pub mod PatternMeaning
