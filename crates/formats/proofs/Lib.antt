@@ -15,3 +15,8 @@ pub mod SheetRoundTrip
 pub mod Patterns
 pub mod Making
 pub mod PatternMeaning
+pub mod Records
+pub mod Rounds
+pub mod Growing
+pub mod RoundFileRoundTrip
+pub mod Part
