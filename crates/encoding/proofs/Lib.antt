@@ -1,3 +1,4 @@
--- Laws of encodings: numbers as bytes, replaced bytes.
+-- Laws of encodings: numbers as bytes, replaced bytes, and numbers in decimal.
 pub mod Bytes
 pub mod Replaced
+pub mod Text

@@ -36,7 +36,8 @@ use Rattle.runs.proofs.After.{commitAfter-clear, respondAfter-clear}
 use Rattle.runs.proofs.After.{takeCommitmentAfter-clear, takeChallengeAfter-clear, takeResponseAfter-clear}
 use Rattle.runs.proofs.Order.{sheet-positive}
 use Rattle.runs.proofs.ProverSteps.{commitAfter-runs, commitAfter-given, respondAfter-runs, respondAfter-given}
-use Rattle.runs.proofs.VerifierSteps.{takeCommitmentAfter-runs, takeCommitmentAfter-given, takeChallengeAfter-runs, takeChallengeAfter-given}
+use Rattle.runs.proofs.VerifierSteps.{takeCommitmentAfter-runs, takeCommitmentAfter-given}
+use Rattle.runs.proofs.VerifierSteps.{takeChallengeAfter-runs, takeChallengeAfter-given}
 use Rattle.runs.proofs.VerifierSteps.{takeResponseAfter-runs, takeResponseAfter-given}
 
 -- n places of n places with zeros behind are those places

@@ -14,3 +14,4 @@ pub mod VerifierCalls
 pub mod OrderOfSteps
 pub mod Verdicts
 pub mod JointRun
+pub mod Marker
