@@ -9,8 +9,10 @@ use native.Mathlib.Omega.{arith}
 use lib.Arith.{digits-lt, digits-div, digits-mod, mod-mul}
 use lib.ListN.{length, getD, take, drop, length-append, length-drop, List·getD-append}
 use lib.Seq.{take-suc, take-add, drop-drop, getD-at, getD-take, getD-drop, getD-append-add}
+use lib.Seq.{sets}
 use Rattle.lists.specs.Places.{itemsAt}
 use Rattle.encoding.specs.Bytes.{numberAt, bytesOf, bytesOfEach, AllBelow, AllBytes}
+use Rattle.encoding.proofs.Replaced.{getD-sets-inside}
 
 -- ---- the bytes of a number
 
@@ -156,6 +158,29 @@ bytesOfEach-itemsAt w s at (suc n) h b =
     ap₂ (λ (us vs : List ℕ). us ++ vs) (bytesOf-numberAt w s at (omega arith) b) (bytesOfEach-itemsAt w s (at + w) n (omega arith) b)
     ∙ sym (ap (λ (k : ℕ). take k (drop at s)) e ∙ take-add w (w * n) (drop at s)
     ∙ ap (λ (r : List ℕ). take w (drop at s) ++ take (w * n) r) (drop-drop w at s))
+
+-- ---- a list from its front on
+
+-- a front and the bytes of the number behind it are a longer front
+pub take-bytesOf : (w : ℕ) (s : List ℕ) (at : ℕ) → at + w ≤ length s → AllBytes s
+    → take at s ++ bytesOf w (numberAt w s at) ≡ take (at + w) s
+take-bytesOf w s at h b = ap (λ (bs : List ℕ). take at s ++ bs) (bytesOf-numberAt w s at h b) ∙ sym (take-add at w s)
+
+-- a front and the bytes of the run of numbers behind it are a longer front
+pub take-bytesOfEach : (w : ℕ) (s : List ℕ) (at n : ℕ) → at + w * n ≤ length s → AllBytes s
+    → take at s ++ bytesOfEach w (itemsAt (numberAt w s) at w n) ≡ take (at + w * n) s
+take-bytesOfEach w s at n h b =
+    ap (λ (bs : List ℕ). take at s ++ bs) (bytesOfEach-itemsAt w s at n h b) ∙ sym (take-add at (w * n) s)
+
+-- a number stored in a list is read back
+pub numberAt-sets : (w v : ℕ) (l : List ℕ) (i : ℕ) → i + w ≤ length l → v < 256 ^ w → numberAt w (sets l i (bytesOf w v)) i ≡ v
+numberAt-sets w v l i h b =
+    numberAt-agree w (sets l i (bytesOf w v)) (bytesOf w v ++ []) i 0
+    (λ k c.
+    let inside : k < length (bytesOf w v) = omega (arith, length-bytesOf w v) in
+    getD-sets-inside l i (bytesOf w v) k 0 (omega (arith, length-bytesOf w v)) inside
+    ∙ sym (ap (λ (j : ℕ). getD (bytesOf w v ++ []) j 0) (zero-add k) ∙ List·getD-append (bytesOf w v) [] 0 k inside))
+    ∙ numberAt-bytesOf w v [] [] b
 
 -- ---- numbers of one byte
 

@@ -8,3 +8,5 @@ pub mod RoundFile
 pub mod RoundCalls
 pub mod Append
 pub mod Refusals
+pub mod Meaning
+pub mod Outcome

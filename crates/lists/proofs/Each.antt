@@ -8,6 +8,8 @@ use native.Mathlib.Omega.{arith}
 use lib.ListN.{length, getD}
 use lib.Seq.{ext-getD}
 use Rattle.lists.specs.Each.{Each}
+use Rattle.lists.specs.Places.{places}
+use Rattle.lists.proofs.Places.{length-places, getD-places}
 
 module _ (P : ℕ → Type 0) where
   -- a list of n numbers has length n
@@ -45,6 +47,10 @@ module _ (P : ℕ → Type 0) where
   same-values n xs ys e d agree =
       ext-getD 0 xs ys (each-length n xs e ∙ sym (each-length n ys d))
       (λ (j : ℕ) (h : j < length xs). agree j (omega (arith, each-length n xs e)))
+
+-- the first n places of an array whose values satisfy P are a list of n numbers that do
+pub each-places : (P : ℕ → Type 0) (n : ℕ) (xs : List ℕ) → ((j : ℕ) → j < n → P (getD xs j 0)) → Each P n (places n xs)
+each-places P n xs values = each-from P n (places n xs) (length-places n xs) (λ j h. rw (getD-places n xs j h) (values j h))
 
 -- two lists of one length, joined slot by slot, give a list of that length
 pub length-zipWith : (g : ℕ → ℕ → ℕ) (xs ys : List ℕ) → length xs ≡ length ys → length (zipWith g xs ys) ≡ length xs

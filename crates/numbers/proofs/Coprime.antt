@@ -1,17 +1,17 @@
 -- The differences of challenges are coprime to the order, and the extractor's two integers fit its formula.
 -- The premise, that no d with 2 ≤ d < K divides the order, is what 01's refusal 8 leaves.
 -- Assumes nothing.
-use mathlib.Core.Path.{_≡_, sym, _∙_, ap}
+use mathlib.Core.Path.{_≡_, sym, _∙_, ap, subst}
 use mathlib.Core.Logic.{inl, inr, _≢_}
 use Prim.Native.Nat.{ℕ, suc, _+_, _*_, _%_, _≤_, _<_, _∣_}
-use native.Mathlib.Nat.{eq-zero-or-pos, eq-or-lt-of-le, le-of-dvd, pos-of-dvd-of-pos, dvd-mod-iff, dvd-trans, dvd-add-iff-right}
+use native.Mathlib.Nat.{zero-add, eq-zero-or-pos, eq-or-lt-of-le, le-of-dvd, pos-of-dvd-of-pos, dvd-mod-iff, dvd-trans, dvd-add-iff-right}
 use native.Mathlib.Omega.{arith}
 use lib.IntN.{ℤ, pos, negsuc, natAbs, _+ℤ_, _-ℤ_, _*ℤ_, -ℤ-+ℤ-cancel}
 use Rattle.numbers.specs.Gcd.{gcd}
 use Rattle.numbers.specs.Inverse.{inverse, Inverses}
 use Rattle.numbers.specs.Integer.{residue, bezoutLeft, bezoutRight}
 use Rattle.numbers.proofs.Congruence.{cong-add-cancel, cong-below, cong-zero, mod-is-one, mod-mul-right}
-use Rattle.numbers.proofs.Difference.{Difference, neg-difference}
+use Rattle.numbers.proofs.Difference.{Difference, neg-difference, minus-difference, pos-parts, difference-size}
 use Rattle.numbers.proofs.Gcd.{gcd-is-gcd, gcd-one}
 use Rattle.numbers.proofs.Inverse.{inverse-inverts}
 use Rattle.numbers.proofs.Integer.{residue-pos, residue-below, residue-difference, residue-add, residue-mul, quotient-exact}
@@ -71,3 +71,13 @@ pub bezout-below : (count order : ℕ) → ((d : ℕ) → 2 ≤ d → d < count 
     → pos order *ℤ bezoutLeft order delta +ℤ delta *ℤ bezoutRight order delta ≡ pos 1
 bezout-below count order none big delta nonzero below =
     bezout-coprime order delta big (coprime-below count order none (natAbs delta) (natAbs-positive delta nonzero) below)
+
+-- the extractor's formula for two different challenges below K, if no d with 2 ≤ d < K divides the order
+pub bezout-challenges : (count order : ℕ) → ((d : ℕ) → 2 ≤ d → d < count → ¬ (d ∣ order)) → 2 ≤ order
+    → (c c′ : ℕ) → c < count → c′ < count → c ≢ c′
+    → pos order *ℤ bezoutLeft order (pos c -ℤ pos c′) +ℤ (pos c -ℤ pos c′) *ℤ bezoutRight order (pos c -ℤ pos c′) ≡ pos 1
+bezout-challenges count order none big c c′ low low′ different =
+    let delta = pos c -ℤ pos c′ in
+    let self = minus-difference c c′ in
+    let apart : delta ≢ pos 0 = λ e. different (pos-parts (subst (λ (k : ℤ). Difference k c c′) e self) ∙ zero-add c′) in
+    bezout-below count order none big delta apart (difference-size count self low low′)

@@ -2,10 +2,10 @@
 -- Assumes nothing.
 use mathlib.Core.Path.{_≡_, refl, sym, _∙_, ap, ap₂}
 use mathlib.Core.Bool.{Bool, true, false, cond}
-use Prim.Native.Nat.{ℕ, zero, suc, _+_, _-_, _*_}
+use Prim.Native.Nat.{ℕ, zero, suc, _+_, _-_, _*_, _<_}
 use native.Mathlib.Omega.{arith}
 use lib.Dec.{ltb}
-use lib.IntN.{ℤ, pos, negsuc, negℤ, natAbs, _+ℤ_, _-ℤ_, _*ℤ_, pos-ne-negsuc, +ℤ-assoc, +ℤ-comm, +ℤ-negℤ-cancel}
+use lib.IntN.{ℤ, pos, negsuc, negℤ, natAbs, _+ℤ_, _-ℤ_, _*ℤ_, pos-ne-negsuc, +ℤ-assoc, +ℤ-comm, +ℤ-negℤ-cancel, -ℤ-+ℤ-cancel}
 use borrow.Author.Tests.{ltb-false, le-ltb}
 
 -- the integer k is a − b
@@ -24,6 +24,10 @@ neg-difference (suc n) {a} {b} e =
     let rest : b - suc n ≡ a = omega arith in
     record { sum = rw (past, rest) }
 
+-- a − b is the difference of a and b
+pub minus-difference : (a b : ℕ) → Difference (pos a -ℤ pos b) a b
+minus-difference a b = record { sum = -ℤ-+ℤ-cancel (pos a) (pos b) }
+
 -- what it means that a natural number is a − b
 pub pos-parts : {n a b : ℕ} → Difference (pos n) a b → a ≡ n + b
 pos-parts d = ap natAbs (sym (d .sum))
@@ -37,6 +41,11 @@ negsuc-parts {n} {a} {b} d = go (ltb b (suc n)) refl (d .sum)
     go false t e =
         let rest : b - suc n ≡ a = ap natAbs e in
         omega (arith, ltb-false b (suc n) t)
+
+-- a difference of two numbers below n is less than n in size
+pub difference-size : (n : ℕ) {k : ℤ} {a b : ℕ} → Difference k a b → a < n → b < n → natAbs k < n
+difference-size n {k = pos l} d h g = omega (arith, pos-parts d)
+difference-size n {k = negsuc l} d h g = omega (arith, negsuc-parts d)
 
 -- every integer is a difference
 pub difference : (k : ℤ) → (a : ℕ) × (b : ℕ) × Difference k a b

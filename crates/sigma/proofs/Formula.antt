@@ -6,15 +6,16 @@ use mathlib.Core.Logic.{_≢_}
 use mathlib.Core.List.{List}
 use native.Mathlib.Nat.{mod-lt, mod-eq-of-lt, zero-mod, zero-add}
 use native.Mathlib.Omega.{arith}
-use lib.IntN.{ℤ, pos, _-ℤ_, _*ℤ_, *ℤ-zero, -ℤ-+ℤ-cancel}
+use lib.IntN.{ℤ, pos, _-ℤ_, _*ℤ_, *ℤ-zero}
 use lib.ListN.{length, getD}
-use Rattle.lists.proofs.Places.{length-tabulate, getD-tabulate}
+use Rattle.lists.proofs.Places.{length-tabulate, getD-tabulate, tabulate-agree}
 use Rattle.numbers.specs.Integer.{residue, power}
 use Rattle.numbers.specs.Inverse.{inverse}
 use Rattle.numbers.proofs.Congruence.{_then_, cong-refl, cong-mod, cong-add, cong-of-equal, cong-add-multiple}
-use Rattle.numbers.proofs.Difference.{Difference}
+use Rattle.numbers.proofs.Difference.{minus-difference}
 use Rattle.numbers.proofs.Integer.{residue-pos, residue-below, residue-is, residue-mul}
 use Rattle.sigma.specs.Instance.{Instance, statementAt}
+use Rattle.sigma.specs.Reads.{Agree}
 use Rattle.sigma.specs.Extractor.{combine, divide, raise, baseCoordinate, formula}
 use Rattle.sigma.proofs.ByKind.{combine-exponent, divide-exponent, raise-exponent, baseCoordinate-exponent}
 use Rattle.sigma.proofs.ByKind.{combine-root, divide-root, raise-root, baseCoordinate-root}
@@ -22,9 +23,8 @@ use Rattle.sigma.proofs.ByKind.{combine-root, divide-root, raise-root, 
 -- the difference mod q, made of natural numbers
 pub residue-subtract : (q x y : ℕ) → y < q → residue q (pos x -ℤ pos y) ≡ (x + (q - y)) % q
 residue-subtract q x y h =
-    let self : Difference (pos x -ℤ pos y) x y = record { sum = -ℤ-+ℤ-cancel (pos x) (pos y) } in
     let whole : x + (q - y) + y ≡ x + q * 1 = omega arith in
-    residue-is q _ (mod-lt _ (omega arith)) self
+    residue-is q _ (mod-lt _ (omega arith)) (minus-difference x y)
     (cong-add (cong-mod q _) (cong-refl q y) then cong-of-equal q whole then cong-add-multiple q x 1)
 
 -- a multiple of a residue
@@ -46,6 +46,12 @@ module _ (i : Instance) (a b : ℤ) (r r′ : List ℕ) where
       ≡ combine (i .header) (raise (i .header) (baseCoordinate i j) a) (raise (i .header) (divide (i .header) (getD r j 0) (getD r′ j 0)) b)
   unfolding formula
   formula-at j h = getD-tabulate _ _ j 0 h
+
+  -- the formula reads n places of the two responses
+  pub formula-agree : (s s′ : List ℕ) → Agree (i .header .columns) r s → Agree (i .header .columns) r′ s′
+      → formula i a b r r′ ≡ formula i a b s s′
+  unfolding formula
+  formula-agree s s′ same same′ = tabulate-agree (i .header .columns) _ _ (λ j h. rw (same j h, same′ j h))
 
   -- in kind 1 slot j is b(r − r′) mod q
   pub formula-exponent : (j : ℕ) → i .header .kind ≡ 1 → j < i .header .columns → getD r′ j 0 < i .header .order

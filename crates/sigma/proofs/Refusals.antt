@@ -14,7 +14,8 @@ use Rattle.sigma.specs.Refusals.{headerConditions, elementConditions, ju
 use Rattle.sigma.specs.Round.{verdict}
 use Rattle.sigma.specs.Simulator.{simulateRules}
 use Rattle.sigma.proofs.Comparison.{says-differ}
-use Rattle.sigma.proofs.Tests.{says-badKind, says-badModulus, says-badOrder, says-badSize, says-badCount, says-badEntries, says-badStatement}
+use Rattle.sigma.proofs.Tests.{says-badKind, says-badModulus, says-badOrder, says-badSize, says-badCount}
+use Rattle.sigma.proofs.Tests.{says-badEntries, says-badStatement}
 use Rattle.sigma.proofs.Tests.{says-badCommitment, says-badChallenge, says-badCoordinates, says-not-both-accepted}
 
 -- 4 to 8

@@ -20,7 +20,7 @@ use Rattle.rules.proofs.Says.{says-less, says-at-most, says-equal, says-or, say
 use Rattle.sigma.specs.Instance.{Instance, isExponent, entry, statementAt}
 use Rattle.sigma.specs.Element.{isElement, someNonElement, isCoordinate, Element, Coordinate}
 use Rattle.sigma.specs.Admission.{firstDivisor, badKind, badModulus, badOrder, badSize, badCount, badEntries, badStatement}
-use Rattle.sigma.specs.Image.{rowImage, image}
+use Rattle.sigma.specs.Image.{image}
 use Rattle.sigma.specs.Round.{badCommitment, badChallenge, badCoordinates, badWitness}
 use Rattle.sigma.specs.Answer.{isAccepted}
 use Rattle.sigma.specs.Refusals.{Refusal4, Refusal5, Refusal6, Refusal7, Refusal8, Refusal10, Refusal11}

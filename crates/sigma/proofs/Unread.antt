@@ -3,7 +3,7 @@
 use Prim.Native.Nat.{ℕ, _*_, _%_, _^_, _<_}
 use mathlib.Core.Path.{_≡_, refl, sym, ap, ap₂, _∙_, subst}
 use mathlib.Core.Logic.{inl, inr}
-use mathlib.Core.List.{List}
+use mathlib.Core.List.{List, []}
 use native.Mathlib.Omega.{arith}
 use lib.ListN.{getD}
 use Rattle.types.specs.declared.Header.{Header}
@@ -19,7 +19,7 @@ use Rattle.sigma.specs.Valid.{Valid}
 use Rattle.sigma.specs.Image.{rowImage}
 use Rattle.sigma.specs.Reads.{Agree, SameRound, readRound}
 use Rattle.sigma.specs.Meaning.{RowHolds, Holds, FailsFirst, Elements, Coordinates, Fits, Extracts}
-use Rattle.sigma.specs.Judge.{judgeAfter}
+use Rattle.sigma.specs.Judge.{judgeAfter, judge}
 use Rattle.sigma.specs.Simulator.{simulateAfter}
 use Rattle.sigma.specs.Extractor.{extractAfter}
 use Rattle.sigma.proofs.Tests.{says-exponent}
@@ -151,3 +151,8 @@ module _ (before : List Rule) (i : Instance) where
   unfolding extractAfter
   extractAfter-same s t =
       cc (same-commitment s, same-response s, s .challenge, same-commitment t, same-response t, t .challenge)
+
+-- judging a round of a Valid instance
+pub judge-same : (i : Instance) {round round′ : Round} → SameRound (i .header) round round′ → judge i round ≡ judge i round′
+unfolding judge
+judge-same i s = judgeAfter-same [] i s

@@ -2,20 +2,19 @@
 -- Assumes nothing.
 use Prim.Native.Nat.{ℕ, _<_, _≤_}
 use mathlib.Core.Path.{_≡_}
-use mathlib.Core.Logic.{_↔_, _≢_, inl, inr, ⊎-elim}
+use mathlib.Core.Logic.{_↔_, _≢_, ⊎-elim}
 use mathlib.Core.List.{_++_}
 use native.Mathlib.Nat.{dvd-refl}
 use native.Mathlib.Decide.{decLt}
 use native.Mathlib.Omega.{arith}
 use Rattle.numbers.specs.Gcd.{gcd}
-use Rattle.numbers.proofs.Powers.{order-inverses}
-use Rattle.numbers.proofs.Inverse.{inverses-coprime}
 use Rattle.rules.specs.Rule.{lowest, Clear}
 use Rattle.rules.proofs.Lowest.{lowest-clear, clear-lowest, clear-append}
 use Rattle.sigma.specs.Instance.{Instance}
 use Rattle.sigma.specs.Element.{Element}
 use Rattle.sigma.specs.Admission.{headerRules, elementRules}
 use Rattle.sigma.specs.Valid.{Valid}
+use Rattle.sigma.proofs.ElementGroup.{element-coprime}
 use Rattle.sigma.proofs.Order.{value-positive}
 use Rattle.sigma.proofs.Passed.{kind-passes, modulus-passes, order-passes, size-passes, count-passes}
 use Rattle.sigma.proofs.Passed.{entries-pass, statement-passes}
@@ -89,7 +88,4 @@ module _ {i : Instance} (v : Valid i) where
 
   -- in both kinds a group element has no divisor in common with the modulus
   pub valid-coprime : (x : ℕ) → Element (i .header) x → gcd x (i .header .modulus) ≡ 1
-  valid-coprime x e = elim (v .kind) [
-    | inl first ↦ inverses-coprime (order-inverses (i .header .modulus) (i .header .order) x valid-order (e .ordered first))
-    | inr second ↦ e .coprime (λ (first : i .header .kind ≡ 1). omega arith)
-  ]
+  valid-coprime = element-coprime (i .header) valid-modulus valid-order

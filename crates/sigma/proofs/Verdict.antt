@@ -18,7 +18,8 @@ use Rattle.sigma.proofs.Comparison.{compare-accepted, compare-rejected,
 
 module _ (i : Instance) (t : List ℕ) (c : ℕ) (r : List ℕ) where
   -- the two sides agree in a row exactly when 01's equation holds there
-  row-holds : (row : ℕ) → row < i .header .rows → (getD (image i r) row 0 ≡ getD (expectedImage i t c) row 0) ↔ RowHolds i (roundOf t c r) row
+  row-holds : (row : ℕ) → row < i .header .rows
+      → (getD (image i r) row 0 ≡ getD (expectedImage i t c) row 0) ↔ RowHolds i (roundOf t c r) row
   row-holds row h =
       let left = image-at i r row h in
       let right = expected-image-at i t c row h in

@@ -13,3 +13,5 @@ pub mod Answer
 pub mod Judge
 pub mod Simulator
 pub mod Extractor
+pub mod Knowledge
+pub mod Listed

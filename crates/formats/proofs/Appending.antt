@@ -1,0 +1,142 @@
+-- The record writer: a refused call changes no byte and answers length 0; a call that is not refused stores the record straight
+-- after the bytes in use, raises the count field by one and changes no other byte.
+-- Assumes nothing.
+use Prim.Native.Nat.{ℕ, _+_, _<_, _≤_}
+use mathlib.Core.Path.{_≡_, refl, sym, ap, _∙_}
+use mathlib.Core.Logic.{_↔_, _⊎_, ⊎-elim}
+use mathlib.Core.List.{List, _++_}
+use native.Mathlib.Omega.{arith}
+use lib.ListN.{length, getD, take, drop, length-append}
+use lib.Seq.{sets, length-sets, length-take-le}
+use Rattle.types.specs.declared.Header.{Header}
+use Rattle.types.specs.declared.Round.{Round}
+use Rattle.encoding.specs.Bytes.{bytesOf}
+use Rattle.encoding.proofs.Bytes.{length-bytesOf, length-bytesOfEach, numberAt-sets, numberAt-take}
+use Rattle.encoding.proofs.Replaced.{getD-sets-before, getD-sets-behind, drop-sets-behind, part-sets}
+use Rattle.lists.proofs.Places.{length-places}
+use Rattle.rules.specs.Rule.{lowest}
+use Rattle.rules.proofs.Lowest.{clear-append, clear-lowest, lowest-clear}
+use Rattle.formats.specs.Append.{appendRules, appended, appendAfter, append}
+use Rattle.formats.specs.Load.{loadRules}
+use Rattle.formats.specs.Meaning.{Loads, InUse}
+use Rattle.formats.specs.Outcome.{Keeps, Adds}
+use Rattle.formats.specs.RoundFile.{challengeWidth, countField, recordBytes, recordLength, recordStart}
+use Rattle.formats.specs.Sheet.{headerOf}
+use Rattle.formats.specs.Write.{written}
+use Rattle.formats.proofs.Files.{in-use-passes, record-behind}
+use Rattle.formats.proofs.Loads.{load-clear}
+use Rattle.formats.proofs.Order.{record-positive}
+use Rattle.formats.proofs.Writing.{short-passes, written-refusal, written-refused, written-given}
+
+-- a record is as long as 01 says
+pub length-recordBytes : (width : ℕ) (h : Header) (round : Round) → length (recordBytes width h round) ≡ recordLength width h
+unfolding recordBytes recordLength
+length-recordBytes width h round =
+    simp (length-append, length-bytesOf, length-bytesOfEach, length-places) (omega arith)
+
+module _ {h : Header} {buffer : List ℕ} {used : ℕ} (u : InUse h buffer used) where
+  -- the bytes in use end where the next record begins
+  pub in-use-length : used ≡ recordStart challengeWidth h (countField (take used buffer))
+  in-use-length = sym (length-take-le used buffer (u .inside)) ∙ u .file .exact
+
+  -- they are at least seven
+  pub in-use-long : 7 ≤ used
+  in-use-long = omega (arith, in-use-length, record-behind h (countField (take used buffer)))
+
+  -- their count field is the buffer's
+  pub in-use-count : countField (take used buffer) ≡ countField buffer
+  unfolding countField
+  in-use-count = numberAt-take 2 used buffer 5 in-use-long
+
+module _ (s buffer : List ℕ) (used : ℕ) (round : Round) where
+  -- its number is what its rules give
+  pub append-refusal : append s buffer used round .answer .refusal ≡ lowest (loadRules s ++ appendRules (headerOf s) buffer used)
+  unfolding append appendAfter
+  append-refusal = written-refusal _ _ _ _
+
+  -- it runs exactly where the sheet loads, the bytes in use are a round file with room and the buffer can hold the record
+  pub append-runs : (append s buffer used round .answer .refusal ≡ 0)
+      ↔ (Loads s × InUse (headerOf s) buffer used × (used + recordLength challengeWidth (headerOf s) ≤ length buffer))
+  unfolding appendRules
+  append-runs =
+      let h = headerOf s in
+      let rules = loadRules s ++ appendRules h buffer used in
+      let parts = clear-append (loadRules s) (appendRules h buffer used) in
+      let file = in-use-passes h buffer used in
+      let room = short-passes buffer (used + recordLength challengeWidth h) in (
+        λ e.
+            let (sheet, (inside, (fits, none))) = parts .0 (clear-lowest rules (record-positive s h buffer used) (sym append-refusal ∙ e)) in
+            (load-clear s .0 sheet, file .0 inside, room .0 fits),
+        λ (l, u, fits).
+            append-refusal ∙ lowest-clear rules (parts .1 (load-clear s .1 l, (file .1 u, (room .1 fits, tt)))),
+      )
+
+  -- a refused call keeps the buffer
+  pub append-refused : 0 < append s buffer used round .answer .refusal → Keeps buffer (append s buffer used round)
+  unfolding append appendAfter written
+  append-refused some = written-refused _ _ _ _ some
+
+  -- else the answer is the new count of bytes in use, and the buffer has the record and the raised count field
+  pub append-given : append s buffer used round .answer .refusal ≡ 0
+      → append s buffer used round
+      ≡ record {
+        answer = record { refusal = 0; length = used + recordLength challengeWidth (headerOf s) };
+        buffer = appended (headerOf s) buffer used round;
+      }
+  unfolding append appendAfter
+  append-given e = written-given _ _ _ _ (sym append-refusal ∙ e)
+
+-- the buffer keeps its length
+pub appended-size : (h : Header) (buffer : List ℕ) (used : ℕ) (round : Round)
+    → length (appended h buffer used round) ≡ length buffer
+unfolding appended
+appended-size h buffer used round = simp length-sets
+
+module _ {h : Header} {buffer : List ℕ} {used : ℕ} (u : InUse h buffer used) (round : Round)
+    (fits : used + recordLength challengeWidth h ≤ length buffer) where
+  -- the record stands straight after the bytes in use
+  pub appended-stored : take (recordLength challengeWidth h) (drop used (appended h buffer used round)) ≡ recordBytes challengeWidth h round
+  unfolding appended
+  appended-stored =
+      let raised = bytesOf 2 (countField buffer + 1) in
+      let bytes = recordBytes challengeWidth h round in
+      let size = length-recordBytes challengeWidth h round in
+      ap (λ (l : List ℕ). take (recordLength challengeWidth h) l)
+      (drop-sets-behind used (sets buffer used bytes) 5 raised (omega (arith, length-bytesOf 2 (countField buffer + 1), in-use-long u)))
+      ∙ ap (λ (k : ℕ). take k (drop used (sets buffer used bytes))) (sym size)
+      ∙ part-sets buffer used bytes (omega arith)
+
+  -- the count field is one more
+  pub appended-counted : countField (appended h buffer used round) ≡ countField buffer + 1
+  unfolding appended countField
+  appended-counted =
+      let stored = sets buffer used (recordBytes challengeWidth h round) in
+      let size = length-sets buffer used (recordBytes challengeWidth h round) in
+      numberAt-sets 2 (countField buffer + 1) stored 5 (omega (arith, in-use-long u)) (omega (arith, u .room, in-use-count u))
+
+  -- no byte outside of the record and the count field is changed
+  pub appended-others : (j : ℕ) → (j < 5) ⊎ (7 ≤ j) → (j < used) ⊎ (used + recordLength challengeWidth h ≤ j)
+      → getD (appended h buffer used round) j 0 ≡ getD buffer j 0
+  unfolding appended
+  appended-others j outside apart =
+      let bytes = recordBytes challengeWidth h round in
+      let raised = bytesOf 2 (countField buffer + 1) in
+      let size = length-recordBytes challengeWidth h round in
+      let width = length-bytesOf 2 (countField buffer + 1) in
+      ⊎-elim (λ (b : j < 5). getD-sets-before (sets buffer used bytes) 5 raised j 0 b)
+      (λ (b : 7 ≤ j). getD-sets-behind (sets buffer used bytes) 5 raised j 0 (omega arith)) outside
+      ∙ ⊎-elim (λ (b : j < used). getD-sets-before buffer used bytes j 0 b)
+      (λ (b : used + recordLength challengeWidth h ≤ j). getD-sets-behind buffer used bytes j 0 (omega arith)) apart
+
+-- a call that is not refused adds the record and changes nothing else
+pub append-adds : (s buffer : List ℕ) (used : ℕ) (round : Round) → append s buffer used round .answer .refusal ≡ 0
+    → Adds (headerOf s) round buffer used (append s buffer used round)
+append-adds s buffer used round e =
+    let (l, u, fits) = append-runs s buffer used round .0 e in
+    rw (append-given s buffer used round e) (record {
+      answered = refl;
+      stored = appended-stored u round fits;
+      counted = appended-counted u round fits;
+      others = appended-others u round fits;
+      size = appended-size (headerOf s) buffer used round;
+    })

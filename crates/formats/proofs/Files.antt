@@ -1,0 +1,155 @@
+-- A round file is read exactly where none of 01's conditions holds, and what the calls that read it answer then.
+-- Assumes nothing.
+use Prim.Native.Nat.{ℕ, _<_, _≤_}
+use mathlib.Core.Path.{_≡_, refl}
+use mathlib.Core.Logic.{_↔_}
+use mathlib.Core.Bool.{false, not, _||_}
+use mathlib.Core.List.{List, _++_}
+use native.Mathlib.Omega.{arith}
+use lib.Dec.{eqb, leb, ltb}
+use lib.ListN.{length, take}
+use borrow.Author.Tests.{leb-false, lt-leb, ltb-false, le-ltb}
+use Rattle.types.specs.declared.Header.{Header}
+use Rattle.encoding.specs.Text.{ascii}
+use Rattle.rules.proofs.Lowest.{clear-append, clear-lowest, lowest-clear}
+use Rattle.rules.proofs.Says.{says-equal}
+use Rattle.sigma.specs.Comparison.{differ}
+use Rattle.sigma.proofs.Answer.{unlessRefused-zero}
+use Rattle.sigma.proofs.Calculus.{says-passes, both-fail}
+use Rattle.sigma.proofs.Comparison.{differ-false}
+use Rattle.formats.specs.Append.{badInUse}
+use Rattle.formats.specs.Load.{loadRules}
+use Rattle.formats.specs.Meaning.{Loads, IsRoundFile, InUse}
+use Rattle.formats.specs.RoundCalls.{badNumber, fileRules, roundRules, countAfter, checkAfter}
+use Rattle.formats.specs.RoundCalls.{fetchAfter, countRounds, checkRound, fetchRound}
+use Rattle.formats.specs.RoundFile.{
+  badFile,
+  challengeWidth,
+  countField,
+  fileVersion,
+  recordStart,
+  roundAt,
+  roundMark,
+}
+use Rattle.formats.specs.Sheet.{headerOf}
+use Rattle.formats.proofs.Loads.{begins, load-clear}
+use Rattle.formats.proofs.Order.{count-positive, check-positive}
+
+-- the mark has three bytes
+pub length-roundMark : length roundMark ≡ 3
+unfolding roundMark ascii
+length-roundMark = refl
+
+-- a record begins behind the seven bytes of the fixed fields
+pub record-behind : (h : Header) (k : ℕ) → 7 ≤ recordStart challengeWidth h k
+unfolding recordStart
+record-behind h k = omega arith
+
+-- not 12: the file is a round file of the sheet
+pub file-passes : (h : Header) (f : List ℕ) → (badFile h f ≡ false) ↔ IsRoundFile h f
+unfolding badFile
+file-passes h f =
+    let short = ltb (length f) 7 in
+    let other = differ 3 f roundMark in
+    let version = not (eqb (fileVersion f) 1) in
+    let many = ltb 512 (countField f) in
+    let fits = not (eqb (length f) (recordStart challengeWidth h (countField f))) in
+    let first = both-fail (short || other || version || many) fits in
+    let second = both-fail (short || other || version) many in
+    let third = both-fail (short || other) version in
+    let fourth = both-fail short other in
+    let agree = differ-false 3 f roundMark in
+    let passes = says-passes (says-equal (length f) (recordStart challengeWidth h (countField f))) in
+    let numbered = says-passes (says-equal (fileVersion f) 1) in (
+      λ e.
+          let (a, exact) = first .0 e in
+          let (b, few) = second .0 a in
+          let (c, versioned) = third .0 b in
+          let (d, marked) = fourth .0 c in
+          let long = ltb-false (length f) 7 d in
+          record {
+            mark = begins 3 f roundMark length-roundMark (omega arith) .0 (agree .0 marked);
+            version = numbered .0 versioned;
+            few = ltb-false 512 (countField f) few;
+            exact = passes .0 exact;
+          },
+      λ r.
+          let long : 7 ≤ length f = omega (arith, r .exact, record-behind h (countField f)) in
+          let marked = agree .1 (begins 3 f roundMark length-roundMark (omega arith) .1 (r .mark)) in
+          let a = fourth .1 (le-ltb (length f) 7 long, marked) in
+          let b = third .1 (a, numbered .1 (r .version)) in
+          first .1 (second .1 (b, le-ltb 512 (countField f) (r .few)), passes .1 (r .exact)),
+    )
+
+-- not 12 for the writer: the bytes in use are a round file with room for a round
+pub in-use-passes : (h : Header) (buffer : List ℕ) (used : ℕ) → (badInUse h buffer used ≡ false) ↔ InUse h buffer used
+unfolding badInUse
+in-use-passes h buffer used =
+    let beyond = ltb (length buffer) used in
+    let bad = badFile h (take used buffer) in
+    let full = leb 512 (countField (take used buffer)) in
+    let first = both-fail (beyond || bad) full in
+    let second = both-fail beyond bad in (
+      λ e.
+          let (a, room) = first .0 e in
+          let (within, good) = second .0 a in
+          record {
+            inside = ltb-false (length buffer) used within;
+            file = file-passes h (take used buffer) .0 good;
+            room = leb-false 512 (countField (take used buffer)) room;
+          },
+      λ u.
+          let a = second .1 (le-ltb (length buffer) used (u .inside), file-passes h (take used buffer) .1 (u .file)) in
+          first .1 (a, lt-leb 512 (countField (take used buffer)) (u .room)),
+    )
+
+-- not 13: the round is one of the file's
+pub number-passes : (f : List ℕ) (k : ℕ) → (badNumber f k ≡ false) ↔ (k < countField f)
+unfolding badNumber
+number-passes f k = (leb-false (countField f) k, lt-leb (countField f) k)
+
+module _ (s f : List ℕ) where
+  -- a file's rounds are counted exactly where the sheet loads and the file is one of its round files
+  pub count-runs : (countRounds s f .refusal ≡ 0) ↔ (Loads s × IsRoundFile (headerOf s) f)
+  unfolding countRounds countAfter fileRules
+  count-runs =
+      let rules = loadRules s ++ fileRules (headerOf s) f in
+      let parts = clear-append (loadRules s) (fileRules (headerOf s) f) in
+      let passes = file-passes (headerOf s) f in (
+        λ e.
+            let (sheet, (file, none)) = parts .0 (clear-lowest rules (count-positive s (headerOf s) f) e) in
+            (load-clear s .0 sheet, passes .0 file),
+        λ (l, r). lowest-clear rules (parts .1 (load-clear s .1 l, (passes .1 r, tt))),
+      )
+
+  -- the count is then the file's own
+  pub count-given : countRounds s f .refusal ≡ 0 → countRounds s f ≡ record { refusal = 0; count = countField f }
+  unfolding countRounds countAfter
+  count-given e = simp (e, unlessRefused-zero)
+
+  module _ (k : ℕ) where
+    -- a round passes the check exactly where the sheet loads, the file is one of its round files and has the round
+    pub check-runs : (checkRound s f k ≡ 0) ↔ (Loads s × IsRoundFile (headerOf s) f × (k < countField f))
+    unfolding checkRound checkAfter roundRules fileRules
+    check-runs =
+        let rules = loadRules s ++ roundRules (headerOf s) f k in
+        let parts = clear-append (loadRules s) (roundRules (headerOf s) f k) in
+        let passes = file-passes (headerOf s) f in
+        let below = number-passes f k in (
+          λ e.
+              let (sheet, (file, (number, none))) = parts .0 (clear-lowest rules (check-positive s (headerOf s) f k) e) in
+              (load-clear s .0 sheet, passes .0 file, below .0 number),
+          λ (l, r, b). lowest-clear rules (parts .1 (load-clear s .1 l, (passes .1 r, (below .1 b, tt)))),
+        )
+
+    -- reading a round is refused with the number that the check gives
+    pub fetch-refusal : fetchRound s f k .refusal ≡ checkRound s f k
+    unfolding fetchRound fetchAfter checkRound
+    fetch-refusal = refl
+
+    -- else it gives the values that stand in the record
+    pub fetch-given : checkRound s f k ≡ 0
+        → fetchRound s f k
+        ≡ record { refusal = 0; round = roundAt challengeWidth (headerOf s) f (recordStart challengeWidth (headerOf s) k) }
+    unfolding fetchRound fetchAfter checkRound
+    fetch-given e = simp (e, unlessRefused-zero)

@@ -1,0 +1,147 @@
+-- Each call's rules test 01's conditions, so that the number it gives is that of the first condition that holds (the law
+-- `given` of the rules).
+-- Assumes nothing.
+use Prim.Native.Nat.{ℕ, _+_}
+use mathlib.Core.Path.{refl}
+use mathlib.Core.List.{List, [], _∷_, _++_}
+use lib.ListN.{length}
+use Rattle.types.specs.declared.Header.{Header}
+use Rattle.rules.specs.Condition.{_if_, Tests}
+use Rattle.rules.specs.Rule.{_when_}
+use Rattle.rules.proofs.Condition.{tests-append}
+use Rattle.sigma.specs.Admission.{headerRules, elementRules}
+use Rattle.sigma.specs.Instance.{Instance}
+use Rattle.sigma.specs.Refusals.{headerConditions, elementConditions}
+use Rattle.sigma.proofs.Refusals.{header-tests, element-tests}
+use Rattle.sigma.proofs.Tests.{says-badModulus, says-badOrder, says-badCount, says-badStatement}
+use Rattle.formats.specs.Append.{appendRules}
+use Rattle.formats.specs.Encode.{encodeRules}
+use Rattle.formats.specs.Load.{badLength, shapeRules, loadRules}
+use Rattle.formats.specs.Pattern.{makeRules}
+use Rattle.formats.specs.Refusals.{
+  Refusal9,
+  Refusal13,
+  Refusal22,
+  shapeConditions,
+  loadConditions,
+  encodeConditions,
+  makeConditions,
+  fileConditions,
+  roundConditions,
+  emptyConditions,
+  appendConditions,
+}
+use Rattle.formats.specs.RoundCalls.{badNumber, fileRules, roundRules}
+use Rattle.formats.specs.RoundFile.{challengeWidth, noRounds, recordLength}
+use Rattle.formats.specs.Sheet.{headerOf, instanceOf, sheetLength}
+use Rattle.formats.specs.Write.{short}
+use Rattle.formats.proofs.Tests.{
+  says-badPattern,
+  says-badStart,
+  says-badVersion,
+  says-badLength,
+  says-badValues,
+  says-badFile,
+  says-badInUse,
+  says-badNumber,
+  says-short,
+}
+
+-- 2 to 9 of a sheet's shape
+pub shape-tests : (s : List ℕ) → Tests (shapeRules s) (shapeConditions s)
+unfolding shapeRules
+shape-tests s =
+    let rest =
+    tests-append (headerRules (headerOf s)) ((9 when badLength s) ∷ []) (headerConditions (headerOf s)) ((9 if Refusal9 s) ∷ [])
+    (header-tests (headerOf s)) (refl, says-badLength s, tt) in
+    (refl, says-badStart s, (refl, says-badVersion s, rest))
+
+-- 2 to 11 of loading a sheet
+pub load-tests : (s : List ℕ) → Tests (loadRules s) (loadConditions s)
+unfolding loadRules
+load-tests s =
+    tests-append (shapeRules s) (elementRules (instanceOf s)) (shapeConditions s) (elementConditions (instanceOf s))
+    (shape-tests s) (element-tests (instanceOf s))
+
+-- 4 to 8, 10, 11 and 22 of the second writer
+pub encode-tests : (i : Instance) (buffer : List ℕ) → Tests (encodeRules i buffer) (encodeConditions i buffer)
+unfolding encodeRules
+encode-tests i buffer =
+    let needed = sheetLength (i .header) in
+    tests-append (headerRules (i .header) ++ elementRules i) ((22 when short buffer needed) ∷ [])
+    (headerConditions (i .header) ++ elementConditions i) ((22 if Refusal22 buffer needed) ∷ [])
+    (tests-append (headerRules (i .header)) (elementRules i) (headerConditions (i .header)) (elementConditions i)
+    (header-tests (i .header)) (element-tests i))
+    (refl, says-short buffer needed, tt)
+
+-- 1, 5, 6, 8, 10, 11 and 22 of the sheet maker
+pub make-tests : (number : ℕ) (values statement : List ℕ) (i : Instance) (buffer : List ℕ)
+    → Tests (makeRules number values statement i buffer) (makeConditions number values statement i buffer)
+unfolding makeRules
+make-tests number values statement i buffer = (
+  refl,
+  says-badPattern number values statement,
+  (
+    refl,
+    says-badModulus (i .header),
+    (
+      refl,
+      says-badOrder (i .header),
+      (
+        refl,
+        says-badCount (i .header),
+        (
+          refl,
+          says-badValues (i .header) values,
+          (refl, says-badStatement i, (refl, says-short buffer (sheetLength (i .header)), tt)),
+        ),
+      ),
+    ),
+  ),
+)
+
+-- 12 of a round file
+pub file-tests : (h : Header) (f : List ℕ) → Tests (fileRules h f) (fileConditions h f)
+unfolding fileRules
+file-tests h f = (refl, says-badFile h f, tt)
+
+-- 12 and 13 of a round of a file
+pub round-tests : (h : Header) (f : List ℕ) (k : ℕ) → Tests (roundRules h f k) (roundConditions h f k)
+unfolding roundRules
+round-tests h f k =
+    tests-append (fileRules h f) ((13 when badNumber f k) ∷ []) (fileConditions h f) ((13 if Refusal13 f k) ∷ [])
+    (file-tests h f) (refl, says-badNumber f k, tt)
+
+-- 22 of the empty file
+pub empty-tests : (buffer : List ℕ) → Tests ((22 when short buffer (length noRounds)) ∷ []) (emptyConditions buffer)
+empty-tests buffer = (refl, says-short buffer (length noRounds), tt)
+
+-- 12 and 22 of the record writer
+pub append-tests : (h : Header) (buffer : List ℕ) (used : ℕ) → Tests (appendRules h buffer used) (appendConditions h buffer used)
+unfolding appendRules
+append-tests h buffer used =
+    (refl, says-badInUse h buffer used, (refl, says-short buffer (used + recordLength challengeWidth h), tt))
+
+-- ---- after the rules of the sheet
+
+-- 2 to 12 of counting rounds
+pub count-tests : (s f : List ℕ)
+    → Tests (loadRules s ++ fileRules (headerOf s) f) (loadConditions s ++ fileConditions (headerOf s) f)
+count-tests s f =
+    tests-append (loadRules s) (fileRules (headerOf s) f) (loadConditions s) (fileConditions (headerOf s) f)
+    (load-tests s) (file-tests (headerOf s) f)
+
+-- 2 to 13 of checking, giving and reading a round
+pub check-tests : (s f : List ℕ) (k : ℕ)
+    → Tests (loadRules s ++ roundRules (headerOf s) f k) (loadConditions s ++ roundConditions (headerOf s) f k)
+check-tests s f k =
+    tests-append (loadRules s) (roundRules (headerOf s) f k) (loadConditions s) (roundConditions (headerOf s) f k)
+    (load-tests s) (round-tests (headerOf s) f k)
+
+-- 2 to 12 and 22 of the record writer
+pub record-tests : (s buffer : List ℕ) (used : ℕ)
+    → Tests (loadRules s ++ appendRules (headerOf s) buffer used)
+    (loadConditions s ++ appendConditions (headerOf s) buffer used)
+record-tests s buffer used =
+    tests-append (loadRules s) (appendRules (headerOf s) buffer used) (loadConditions s)
+    (appendConditions (headerOf s) buffer used) (load-tests s) (append-tests (headerOf s) buffer used)

@@ -1,0 +1,168 @@
+-- The bytes of a sheet, read: the fixed fields, entries and statement that were written, with 0 in the places beyond.
+-- Assumes nothing.
+use Prim.Native.Nat.{ℕ, _+_, _*_, _^_, _<_}
+use mathlib.Core.Path.{_≡_, sym, ap, ap₂, _∙_}
+use mathlib.Core.Logic.{inl, inr, ⊎-elim}
+use mathlib.Core.Bool.{cond}
+use mathlib.Core.List.{List, [], _++_, append-assoc, append-nil}
+use native.Mathlib.Nat.{mul-assoc, mul-comm}
+use native.Mathlib.Omega.{arith}
+use lib.Arith.{digits-lt}
+use lib.ListN.{length, getD, take, length-append}
+use lib.Seq.{take-at}
+use Rattle.types.specs.declared.Header.{Header}
+use Rattle.encoding.specs.Bytes.{bytesOf, bytesOfEach, numberAt}
+use Rattle.encoding.proofs.Bytes.{length-bytesOf, length-bytesOfEach, numberAt-bytesOf, itemsAt-bytesOfEach}
+use Rattle.encoding.proofs.Bounds.{below-places}
+use Rattle.lists.specs.Places.{itemsAt, pad8, places, zeros8}
+use Rattle.lists.proofs.Places.{length-places, tabulate-agree, itemsAt-tabulate, getD-itemsAt}
+use Rattle.rules.proofs.Says.{says-decides}
+use Rattle.sigma.specs.Instance.{Instance, isExponent, entry, statementAt}
+use Rattle.sigma.specs.Valid.{Valid}
+use Rattle.sigma.proofs.ByKind.{root-kind}
+use Rattle.sigma.proofs.Tests.{says-exponent}
+use Rattle.formats.specs.Encode.{storedEntries, sheetOf}
+use Rattle.formats.specs.Meaning.{readInstance}
+use Rattle.formats.specs.Sheet.{entriesOf, entryCount, headerOf, instanceOf, sheetMark, statementOf, versionOf, zeros64}
+use Rattle.formats.proofs.Entries.{
+  entryCount-exponent,
+  entryRow,
+  length-storedEntries,
+  storedEntries-at,
+  below-storedEntries,
+}
+use Rattle.formats.proofs.Loads.{length-sheetMark}
+
+-- a number that stands behind xs in the bytes s is read at the length of xs
+field : (w v : ℕ) (xs ys s : List ℕ) (at : ℕ) → s ≡ xs ++ bytesOf w v ++ ys → length xs ≡ at → v < 256 ^ w → numberAt w s at ≡ v
+field w v xs ys s at e l b =
+    ap₂ (λ (bs : List ℕ) (k : ℕ). numberAt w bs k) e (sym l) ∙ numberAt-bytesOf w v xs ys b
+
+-- the lengths of the parts of a sheet
+ruleset lengths = (length-append, length-bytesOf, length-sheetMark)
+
+module _ (i : Instance) where
+  -- the 20 bytes of the fixed fields
+  abbrev fixed : List ℕ
+  fixed =
+      sheetMark ++ bytesOf 2 1 ++ bytesOf 1 (i .header .kind) ++ bytesOf 4 (i .header .modulus) ++
+      bytesOf 4 (i .header .order) ++ bytesOf 4 (i .header .challenges) ++ bytesOf 1 (i .header .rows) ++
+      bytesOf 1 (i .header .columns)
+
+  -- they are 20
+  length-fixed : length fixed ≡ 20
+  length-fixed = simp lengths
+
+  -- a sheet begins with its mark
+  pub sheet-mark : take 3 (sheetOf i) ≡ sheetMark
+  unfolding sheetOf
+  sheet-mark = simp append-assoc (take-at sheetMark _ 3 length-sheetMark)
+
+  -- its version is 1
+  pub sheet-version : versionOf (sheetOf i) ≡ 1
+  unfolding sheetOf versionOf
+  sheet-version =
+      let h = i .header in
+      field 2 1 sheetMark
+      (bytesOf 1 (h .kind) ++ bytesOf 4 (h .modulus) ++ bytesOf 4 (h .order) ++ bytesOf 4 (h .challenges) ++ bytesOf 1 (h .rows) ++
+      bytesOf 1 (h .columns) ++ bytesOfEach 4 (storedEntries i) ++ bytesOfEach 4 (places (h .rows) (i .statement)))
+      (sheetOf i) 3 (simp append-assoc) length-sheetMark (omega arith)
+
+  -- its fixed fields are the instance's
+  pub sheet-header : Valid i → i .header .modulus < 2 ^ 32 → i .header .order < 2 ^ 32 → headerOf (sheetOf i) ≡ i .header
+  unfolding sheetOf headerOf
+  sheet-header v small short =
+      let h = i .header in
+      let s = sheetOf i in
+      let p = sheetMark ++ bytesOf 2 1 in
+      let e = bytesOfEach 4 (storedEntries i) ++ bytesOfEach 4 (places (h .rows) (i .statement)) in
+      let q = bytesOf 1 (h .rows) ++ (bytesOf 1 (h .columns) ++ e) in
+      let kind = field 1 (h .kind) p (bytesOf 4 (h .modulus) ++ bytesOf 4 (h .order) ++ bytesOf 4 (h .challenges) ++ q) s 5
+      (simp append-assoc) (simp lengths) (⊎-elim (λ e. omega arith) (λ e. omega arith) (v .kind)) in
+      let p′ = p ++ bytesOf 1 (h .kind) in
+      let modulus = field 4 (h .modulus) p′ (bytesOf 4 (h .order) ++ bytesOf 4 (h .challenges) ++ q) s 6
+      (simp append-assoc) (simp lengths) small in
+      let p″ = p′ ++ bytesOf 4 (h .modulus) in
+      let order = field 4 (h .order) p″ (bytesOf 4 (h .challenges) ++ q) s 10
+      (simp append-assoc) (simp lengths) short in
+      let p‴ = p″ ++ bytesOf 4 (h .order) in
+      let challenges = field 4 (h .challenges) p‴ q s 14
+      (simp append-assoc) (simp lengths) (omega (arith, v .few-challenges)) in
+      let r = p‴ ++ bytesOf 4 (h .challenges) in
+      let rows = field 1 (h .rows) r (bytesOf 1 (h .columns) ++ e) s 18
+      (simp append-assoc) (simp lengths) (omega (arith, v .few-rows)) in
+      let columns = field 1 (h .columns) (r ++ bytesOf 1 (h .rows)) e s 19
+      (simp append-assoc) (simp lengths) (omega (arith, v .few-columns)) in
+      λ j. record {
+        kind = kind j;
+        modulus = modulus j;
+        order = order j;
+        challenges = challenges j;
+        rows = rows j;
+        columns = columns j;
+      }
+
+  module _ (v : Valid i) (small : i .header .modulus < 2 ^ 32) where
+    -- the entries, read one after the other
+    stored-back : itemsAt (numberAt 4 (sheetOf i)) 20 4 (entryCount (i .header)) ≡ storedEntries i
+    unfolding sheetOf
+    stored-back =
+        ap₂ (λ (at n : ℕ). itemsAt (numberAt 4 (sheetOf i)) at 4 n) (sym length-fixed) (sym (length-storedEntries i))
+        ∙ itemsAt-bytesOfEach 4 (storedEntries i) fixed (bytesOfEach 4 (places (i .header .rows) (i .statement)))
+        (below-storedEntries i v small)
+
+    -- an entry, read
+    entry-back : i .header .kind ≡ 1 → (r c : ℕ) → r < i .header .rows → c < i .header .columns
+        → numberAt 4 (sheetOf i) (20 + 4 * i .header .columns * r + 4 * c) ≡ entry i r c
+    entry-back e r c a b =
+        let h = i .header in
+        let f = numberAt 4 (sheetOf i) in
+        let inside : h .columns * r + c < entryCount h =
+        omega (arith, entryCount-exponent h e, digits-lt a b, mul-comm (h .columns) r) in
+        let place : 20 + 4 * h .columns * r + 4 * c ≡ 20 + 4 * (h .columns * r + c) = omega (arith, mul-assoc 4 (h .columns) r) in
+        ap f place ∙ sym (getD-itemsAt f 20 4 (entryCount h) (h .columns * r + c) 0 inside)
+        ∙ ap (λ (l : List ℕ). getD l (h .columns * r + c) 0) stored-back ∙ storedEntries-at i e r c a b
+
+    -- the entries, read as rows
+    pub sheet-entries : entriesOf (sheetOf i) (i .header) ≡ readInstance i .entries
+    unfolding entriesOf readInstance
+    sheet-entries = elim (says-decides (says-exponent (i .header))) [
+      | inl e ↦
+          let h = i .header in
+          let f = numberAt 4 (sheetOf i) in
+          let rows =
+          itemsAt-tabulate (λ at. pad8 0 (itemsAt f at 4 (h .columns))) 20 (4 * h .columns) (h .rows)
+          ∙ tabulate-agree (h .rows) _ (λ r. pad8 0 (entryRow i r)) (λ r a.
+          ap (λ (l : List ℕ). pad8 0 l)
+          (itemsAt-tabulate f (20 + 4 * h .columns * r) 4 (h .columns)
+          ∙ tabulate-agree (h .columns) _ (entry i r) (λ c b. entry-back e r c a b))) in
+          ap (λ (l : List (List ℕ)). cond (isExponent h) (pad8 zeros8 l) zeros64) rows
+      | inr n ↦ rw (root-kind (i .header) n)
+    ]
+
+    -- the statement, read
+    pub sheet-statement : statementOf (sheetOf i) (i .header) ≡ readInstance i .statement
+    unfolding statementOf readInstance sheetOf statementAt
+    sheet-statement =
+        let h = i .header in
+        let z = places (h .rows) (i .statement) in
+        let front = fixed ++ bytesOfEach 4 (storedEntries i) in
+        let e : sheetOf i ≡ front ++ bytesOfEach 4 z ++ [] = sym (append-nil (sheetOf i)) in
+        let l : length front ≡ 20 + 4 * entryCount h =
+        simp (lengths, length-bytesOfEach, length-storedEntries) in
+        let below =
+        below-places (256 ^ 4) (h .rows) (i .statement) (omega arith) (λ r b. omega (arith, v .statement r b .below)) in
+        ap (λ (l : List ℕ). pad8 0 l)
+        (ap₂ (λ (at n : ℕ). itemsAt (numberAt 4 (sheetOf i)) at 4 n) (sym l) (sym (length-places (h .rows) (i .statement)))
+        ∙ ap (λ (s : List ℕ). itemsAt (numberAt 4 s) (length front) 4 (length z)) e ∙ itemsAt-bytesOfEach 4 z front [] below)
+
+    -- a sheet is read as what was read of the values that it was written from
+    pub instanceOf-sheetOf : i .header .order < 2 ^ 32 → instanceOf (sheetOf i) ≡ readInstance i
+    unfolding instanceOf readInstance
+    instanceOf-sheetOf short =
+        let same = sheet-header v small short in
+        λ j. record {
+          header = same j;
+          entries = (ap (λ (h : Header). entriesOf (sheetOf i) h) same ∙ sheet-entries) j;
+          statement = (ap (λ (h : Header). statementOf (sheetOf i) h) same ∙ sheet-statement) j;
+        }

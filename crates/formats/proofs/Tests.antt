@@ -1,0 +1,86 @@
+-- What each test of bytes says: it is true exactly when 01's condition holds ("Turned back", 1 to 3, 9, 12, 13 and 22).
+-- Assumes nothing.
+use Prim.Native.Nat.{ℕ}
+use mathlib.Core.Bool.{or-assoc}
+use mathlib.Core.List.{List}
+use lib.ListN.{length, take}
+use Rattle.types.specs.declared.Header.{Header}
+use Rattle.rules.specs.Says.{Says}
+use Rattle.rules.proofs.Says.{says-less, says-at-most, says-equal, says-or, says-not}
+use Rattle.sigma.specs.Refusals.{SomeNonElement}
+use Rattle.sigma.proofs.Comparison.{says-differ}
+use Rattle.sigma.proofs.Tests.{says-someNonElement}
+use Rattle.formats.specs.Append.{badInUse}
+use Rattle.formats.specs.Load.{badStart, badVersion, badLength}
+use Rattle.formats.specs.Pattern.{patternOf, badPattern, badValues}
+use Rattle.formats.specs.Refusals.{Refusal1, Refusal2, Refusal3, Refusal9, Refusal12, Refusal12InUse, Refusal13, Refusal22}
+use Rattle.formats.specs.RoundCalls.{badNumber}
+use Rattle.formats.specs.RoundFile.{badFile, challengeWidth, countField, fileVersion, recordStart, roundMark}
+use Rattle.formats.specs.Sheet.{headerOf, sheetLength, sheetMark, versionOf}
+use Rattle.formats.specs.Write.{short}
+
+-- ---- sheets
+
+-- 1: the pattern number is outside 1 to 6, or a count of values is wrong
+pub says-badPattern : (number : ℕ) (values statement : List ℕ)
+    → Says (badPattern number values statement) (Refusal1 number values statement)
+unfolding badPattern
+says-badPattern number values statement =
+    simp or-assoc
+    (says-or (says-less number 1)
+    (says-or (says-less 6 number)
+    (says-or (says-not (says-equal (length values) (patternOf number .values)))
+    (says-not (says-equal (length statement) (patternOf number .rows))))))
+
+-- 2: under 20 bytes, or another mark
+pub says-badStart : (s : List ℕ) → Says (badStart s) (Refusal2 s)
+unfolding badStart
+says-badStart s = says-or (says-less (length s) 20) (says-differ 3 s sheetMark)
+
+-- 3: the version is not 1
+pub says-badVersion : (s : List ℕ) → Says (badVersion s) (Refusal3 s)
+unfolding badVersion
+says-badVersion s = says-not (says-equal (versionOf s) 1)
+
+-- 9: the length isn't exactly what the header gives
+pub says-badLength : (s : List ℕ) → Says (badLength s) (Refusal9 s)
+unfolding badLength
+says-badLength s = says-not (says-equal (length s) (sheetLength (headerOf s)))
+
+-- 10, for the maker: some public value is no group element
+pub says-badValues : (h : Header) (values : List ℕ) → Says (badValues h values) (SomeNonElement h (length values) values)
+unfolding badValues
+says-badValues h values = says-someNonElement h (length values) values
+
+-- ---- round files
+
+-- 12: under 7 bytes, another mark, a version other than 1, a count above 512 or a length that doesn't fit
+pub says-badFile : (h : Header) (f : List ℕ) → Says (badFile h f) (Refusal12 h f)
+unfolding badFile
+says-badFile h f =
+    simp or-assoc
+    (says-or (says-less (length f) 7)
+    (says-or (says-differ 3 f roundMark)
+    (says-or (says-not (says-equal (fileVersion f) 1))
+    (says-or (says-less 512 (countField f))
+    (says-not (says-equal (length f) (recordStart challengeWidth h (countField f))))))))
+
+-- 12, for the writer: more bytes in use than the buffer has, no file in those bytes, or 512 rounds already
+pub says-badInUse : (h : Header) (buffer : List ℕ) (used : ℕ) → Says (badInUse h buffer used) (Refusal12InUse h buffer used)
+unfolding badInUse
+says-badInUse h buffer used =
+    simp or-assoc
+    (says-or (says-less (length buffer) used)
+    (says-or (says-badFile h (take used buffer)) (says-at-most 512 (countField (take used buffer)))))
+
+-- 13: the round number is at or beyond the file's count
+pub says-badNumber : (f : List ℕ) (k : ℕ) → Says (badNumber f k) (Refusal13 f k)
+unfolding badNumber
+says-badNumber f k = says-at-most (countField f) k
+
+-- ---- the lent buffer
+
+-- 22: the buffer is shorter than the result
+pub says-short : (buffer : List ℕ) (needed : ℕ) → Says (short buffer needed) (Refusal22 buffer needed)
+unfolding short
+says-short buffer needed = says-less (length buffer) needed

@@ -1,0 +1,142 @@
+-- Writing into a lent buffer: a refused call changes no byte and answers length 0; a call that is not refused puts its bytes
+-- at the start, answers their length and changes no byte after them.
+-- Assumes nothing.
+use Prim.Native.Nat.{ℕ, _<_, _≤_}
+use mathlib.Core.Path.{_≡_, refl, sym, _∙_}
+use mathlib.Core.Logic.{_↔_}
+use mathlib.Core.Bool.{false}
+use mathlib.Core.List.{List, [], _∷_, _++_}
+use native.Mathlib.Omega.{arith}
+use lib.ListN.{length, length-append}
+use lib.Seq.{sets, length-sets}
+use borrow.Author.Tests.{ltb-false, le-ltb}
+use Rattle.encoding.proofs.Bytes.{length-bytesOf, length-bytesOfEach}
+use Rattle.encoding.proofs.Replaced.{take-sets-front, drop-sets-front}
+use Rattle.lists.proofs.Places.{length-places}
+use Rattle.rules.specs.Rule.{_when_, lowest}
+use Rattle.rules.proofs.Lowest.{clear-append, clear-lowest, lowest-clear}
+use Rattle.sigma.specs.Admission.{headerRules, elementRules}
+use Rattle.sigma.specs.Instance.{Instance}
+use Rattle.sigma.specs.Valid.{Valid}
+use Rattle.sigma.proofs.Answer.{unlessRefused-zero, unlessRefused-positive}
+use Rattle.sigma.proofs.Valid.{clear-valid}
+use Rattle.formats.specs.Append.{emptyFile}
+use Rattle.formats.specs.Encode.{sheetOf, encodeRules, encode}
+use Rattle.formats.specs.Outcome.{Keeps, Puts}
+use Rattle.formats.specs.RoundFile.{noRounds}
+use Rattle.formats.specs.Sheet.{sheetLength}
+use Rattle.formats.specs.Write.{short, written, writtenAtStart}
+use Rattle.formats.proofs.Entries.{length-storedEntries}
+use Rattle.formats.proofs.Files.{length-roundMark}
+use Rattle.formats.proofs.Loads.{length-sheetMark}
+use Rattle.formats.proofs.Order.{encode-positive}
+
+-- ---- any writing call
+
+-- not 22: the buffer is as long as the result
+pub short-passes : (buffer : List ℕ) (needed : ℕ) → (short buffer needed ≡ false) ↔ (needed ≤ length buffer)
+unfolding short
+short-passes buffer needed = (ltb-false (length buffer) needed, le-ltb (length buffer) needed)
+
+module _ (n used : ℕ) (after buffer : List ℕ) where
+  -- the number answered is the refusal's
+  pub written-refusal : written n used after buffer .answer .refusal ≡ n
+  unfolding written
+  written-refusal = refl
+
+  -- a refused call keeps the buffer
+  pub written-refused : 0 < n → Keeps buffer (written n used after buffer)
+  unfolding written
+  written-refused h = record {
+    answered = unlessRefused-positive used 0 n h;
+    same = unlessRefused-positive after buffer n h;
+  }
+
+  -- a call that is not refused leaves its bytes and answers its length
+  pub written-given : n ≡ 0 → written n used after buffer ≡ record { answer = record { refusal = 0; length = used }; buffer = after }
+  unfolding written
+  written-given e = simp (e, unlessRefused-zero)
+
+-- a call that is not refused and whose bytes the buffer can hold puts them at its start
+pub start-written : (n : ℕ) (bytes buffer : List ℕ) → n ≡ 0 → length bytes ≤ length buffer
+    → Puts bytes buffer (writtenAtStart n bytes buffer)
+unfolding writtenAtStart
+start-written n bytes buffer e fits = rw (written-given n (length bytes) (sets buffer 0 bytes) buffer e) (record {
+  answered = refl;
+  start = take-sets-front buffer bytes fits;
+  behind = drop-sets-front buffer bytes;
+  size = length-sets buffer 0 bytes;
+})
+
+-- ---- the length of a sheet
+
+-- a sheet is as long as its header says
+pub length-sheetOf : (i : Instance) → length (sheetOf i) ≡ sheetLength (i .header)
+unfolding sheetOf sheetLength
+length-sheetOf i =
+    simp (length-append, length-bytesOf, length-bytesOfEach, length-places, length-storedEntries, length-sheetMark) (omega arith)
+
+-- ---- the second writer
+
+module _ (i : Instance) (buffer : List ℕ) where
+  -- its number is what its rules give
+  pub encode-refusal : encode i buffer .answer .refusal ≡ lowest (encodeRules i buffer)
+  unfolding encode writtenAtStart
+  encode-refusal = written-refusal _ _ _ _
+
+  -- it runs exactly for Valid values and a buffer that can hold the sheet
+  pub encode-runs : (encode i buffer .answer .refusal ≡ 0) ↔ (Valid i × (sheetLength (i .header) ≤ length buffer))
+  unfolding encodeRules
+  encode-runs =
+      let values = headerRules (i .header) ++ elementRules i in
+      let room = (22 when short buffer (sheetLength (i .header))) ∷ [] in
+      let both = clear-append values room in
+      let parts = clear-append (headerRules (i .header)) (elementRules i) in
+      let passes = short-passes buffer (sheetLength (i .header)) in (
+        λ e.
+            let (valid, (fits, none)) = both .0 (clear-lowest (values ++ room) (encode-positive i buffer) (sym encode-refusal ∙ e)) in
+            (clear-valid i .0 (parts .0 valid), passes .0 fits),
+        λ (v, fits).
+            encode-refusal ∙ lowest-clear (values ++ room) (both .1 (parts .1 (clear-valid i .1 v), (passes .1 fits, tt))),
+      )
+
+  -- a refused call keeps the buffer
+  pub encode-refused : 0 < encode i buffer .answer .refusal → Keeps buffer (encode i buffer)
+  unfolding encode writtenAtStart written
+  encode-refused h = written-refused _ _ _ _ h
+
+  -- else the sheet stands at the start of the buffer
+  pub encode-puts : encode i buffer .answer .refusal ≡ 0 → Puts (sheetOf i) buffer (encode i buffer)
+  unfolding encode
+  encode-puts e =
+      start-written _ (sheetOf i) buffer (sym encode-refusal ∙ e) (omega (arith, length-sheetOf i, encode-runs .0 e .1))
+
+-- ---- the file of no rounds
+
+-- it has seven bytes
+pub length-noRounds : length noRounds ≡ 7
+unfolding noRounds
+length-noRounds = simp (length-append, length-bytesOf, length-roundMark)
+
+module _ (buffer : List ℕ) where
+  -- it is made exactly in a buffer of at least seven bytes
+  pub empty-runs : (emptyFile buffer .answer .refusal ≡ 0) ↔ (7 ≤ length buffer)
+  unfolding emptyFile writtenAtStart
+  empty-runs =
+      let rules = (22 when short buffer (length noRounds)) ∷ [] in
+      let passes = short-passes buffer (length noRounds) in (
+        λ e.
+            let (fits, none) = clear-lowest rules tt (sym (written-refusal _ _ _ buffer) ∙ e) in
+            omega (arith, passes .0 fits, length-noRounds),
+        λ fits. written-refusal _ _ _ buffer ∙ lowest-clear rules (passes .1 (omega (arith, length-noRounds)), tt),
+      )
+
+  -- a refused call keeps the buffer
+  pub empty-refused : 0 < emptyFile buffer .answer .refusal → Keeps buffer (emptyFile buffer)
+  unfolding emptyFile writtenAtStart written
+  empty-refused h = written-refused _ _ _ _ h
+
+  -- else the file of no rounds stands at the start of the buffer
+  pub empty-puts : emptyFile buffer .answer .refusal ≡ 0 → Puts noRounds buffer (emptyFile buffer)
+  unfolding emptyFile writtenAtStart
+  empty-puts e = start-written _ noRounds buffer (sym (written-refusal _ _ _ buffer) ∙ e) (omega (arith, length-noRounds, empty-runs .0 e))

@@ -1,0 +1,53 @@
+-- What 01 says of bytes, as facts: a sheet that loads, a round file of a sheet, and what is read of a sheet's values.
+-- Assumes nothing.
+use Prim.Native.Nat.{ℕ, _<_, _≤_}
+use mathlib.Core.Path.{_≡_}
+use mathlib.Core.Bool.{cond}
+use mathlib.Core.List.{List}
+use lib.ListN.{length, take}
+use Rattle.types.specs.declared.Header.{Header}
+use Rattle.lists.specs.Places.{pad8, places, tabulate, zeros8}
+use Rattle.sigma.specs.Instance.{Instance, entry, isExponent}
+use Rattle.sigma.specs.Reads.{Agree}
+use Rattle.sigma.specs.Valid.{Valid}
+use Rattle.formats.specs.RoundFile.{challengeWidth, countField, fileVersion, recordStart, roundMark}
+use Rattle.formats.specs.Sheet.{headerOf, instanceOf, sheetLength, sheetMark, versionOf, zeros64}
+
+-- none of 2 to 11 applies to the sheet
+pub record Loads (s : List ℕ) : Type 0 where
+  pub mark : take 3 s ≡ sheetMark
+  pub version : versionOf s ≡ 1
+  pub valid : Valid (instanceOf s)
+  pub exact : length s ≡ sheetLength (headerOf s)
+
+-- 12 does not apply to the round file
+pub record IsRoundFile (h : Header) (f : List ℕ) : Type 0 where
+  pub mark : take 3 f ≡ roundMark
+  pub version : fileVersion f ≡ 1
+  pub few : countField f ≤ 512
+  pub exact : length f ≡ recordStart challengeWidth h (countField f)
+
+-- 12 does not apply to the record writer: the bytes in use are a round file with room for a round
+pub record InUse (h : Header) (buffer : List ℕ) (used : ℕ) : Type 0 where
+  pub inside : used ≤ length buffer
+  pub file : IsRoundFile h (take used buffer)
+  pub room : countField (take used buffer) < 512
+
+-- the values of two sheets are the same: entries and statement are read within rows and columns, and entries only in kind 1
+pub record SameInstance (i i′ : Instance) : Type 0 where
+  pub header : i .header ≡ i′ .header
+  pub entries :
+      i .header .kind ≡ 1 →
+      (r c : ℕ) → r < i .header .rows → c < i .header .columns → entry i r c ≡ entry i′ r c
+  pub statement : Agree (i .header .rows) (i .statement) (i′ .statement)
+
+-- what is read of a sheet's values, with 0 in the places that are not
+unfoldable pub readInstance : Instance → Instance
+readInstance i =
+    record {
+      header = i .header;
+      entries =
+          cond (isExponent (i .header))
+          (pad8 zeros8 (tabulate (i .header .rows) (λ r. pad8 0 (tabulate (i .header .columns) (entry i r))))) zeros64;
+      statement = pad8 0 (places (i .header .rows) (i .statement));
+    }

@@ -1,0 +1,34 @@
+-- What a writing call leaves in the lent buffer, as facts ("Turned back", "The patterns", "A round").
+-- Assumes nothing.
+use Prim.Native.Nat.{ℕ, _+_, _<_, _≤_}
+use mathlib.Core.Path.{_≡_}
+use mathlib.Core.Logic.{_⊎_}
+use mathlib.Core.List.{List}
+use lib.ListN.{length, getD, take, drop}
+use Rattle.types.specs.declared.Header.{Header}
+use Rattle.types.specs.declared.Round.{Round}
+use Rattle.formats.specs.RoundFile.{challengeWidth, countField, recordBytes, recordLength}
+use Rattle.formats.specs.Write.{Writing}
+
+-- the buffer keeps its bytes, and the length answered is 0
+pub record Keeps (buffer : List ℕ) (w : Writing) : Type 0 where
+  pub answered : w .answer .length ≡ 0
+  pub same : w .buffer ≡ buffer
+
+-- the bytes stand at the buffer's start, their length is answered, and no byte after them is changed
+pub record Puts (bytes buffer : List ℕ) (w : Writing) : Type 0 where
+  pub answered : w .answer .length ≡ length bytes
+  pub start : take (length bytes) (w .buffer) ≡ bytes
+  pub behind : drop (length bytes) (w .buffer) ≡ drop (length bytes) buffer
+  pub size : length (w .buffer) ≡ length buffer
+
+-- the record stands straight after the bytes in use, the count field is one more, no byte outside of both is changed, and
+-- the count of bytes in use that is answered takes the record in
+pub record Adds (h : Header) (round : Round) (buffer : List ℕ) (used : ℕ) (w : Writing) : Type 0 where
+  pub answered : w .answer .length ≡ used + recordLength challengeWidth h
+  pub stored : take (recordLength challengeWidth h) (drop used (w .buffer)) ≡ recordBytes challengeWidth h round
+  pub counted : countField (w .buffer) ≡ countField buffer + 1
+  pub others :
+      (j : ℕ) → (j < 5) ⊎ (7 ≤ j) → (j < used) ⊎ (used + recordLength challengeWidth h ≤ j) →
+      getD (w .buffer) j 0 ≡ getD buffer j 0
+  pub size : length (w .buffer) ≡ length buffer

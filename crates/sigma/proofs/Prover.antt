@@ -1,0 +1,40 @@
+-- Demand 3 on values, the prover: for every Valid instance, every witness x and every challenge c below K, the honest rounds
+-- of x and c over all nonces are exactly the accepted rounds with challenge c, each met once.
+-- Assumes nothing.
+use Prim.Native.Nat.{ℕ, _<_}
+use mathlib.Core.Path.{_≡_, refl, sym}
+use mathlib.Core.List.{List}
+use Rattle.types.specs.declared.Verdict.the-variants.{Accepted}
+use Rattle.groups.specs.Round.{honestRound}
+use Rattle.groups.specs.Vector.{same-vector}
+use Rattle.groups.proofs.Simulation.{honest-rounds as group-honest-rounds}
+use Rattle.sigma.specs.Instance.{Instance}
+use Rattle.sigma.specs.Judge.{judge}
+use Rattle.sigma.specs.Knowledge.{AcceptedRound, Choice, Witness, honestOn, MeetsEachOnce}
+use Rattle.sigma.specs.Valid.{Valid}
+use Rattle.sigma.proofs.Homomorphism.{Domain, elementsOf, imageOf, homomorphism}
+use Rattle.sigma.proofs.Maurer.{statementOf, response-value}
+use Rattle.sigma.proofs.Transfer.{transfer}
+
+module _ {inst : Instance} (v : Valid inst) (x : List ℕ) (w : Witness inst x) where
+  -- the homomorphism carries the witness to the statement
+  pub witness-image : homomorphism v .map (x, w .slots) ≡ statementOf v
+  unfolding homomorphism imageOf statementOf
+  witness-image = same-vector (elementsOf v) (inst .header .rows) _ _ (w .carried)
+
+  module _ (c : ℕ) (below : c < inst .header .challenges) where
+    -- the honest rounds over all nonces are exactly the accepted rounds with challenge c, each met once
+    pub honest-rounds : MeetsEachOnce (inst .header) (Choice inst) (AcceptedRound inst) c (honestOn inst x c)
+    unfolding honestOn honestRound homomorphism imageOf
+    honest-rounds =
+        let witness : Domain inst = (x, w .slots) in
+        transfer v c below (honestRound (homomorphism v) witness c)
+        (group-honest-rounds (homomorphism v) (statementOf v) c witness witness-image) (honestOn inst x c) (λ k. record {
+          commitment = λ i h. refl;
+          challenge = refl;
+          response = λ j h. sym (response-value v c witness k j h);
+        })
+
+    -- completeness: the honest round is accepted
+    pub honest-accepted : (k : List ℕ) → Choice inst k → judge inst (honestOn inst x c k) ≡ Accepted
+    honest-accepted = honest-rounds .accepted
