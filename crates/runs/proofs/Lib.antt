@@ -8,6 +8,7 @@ pub mod Unread
 pub mod Run
 pub mod ProverSteps
 pub mod VerifierSteps
+pub mod Numbers
 pub mod ProverCalls
 pub mod OneAnswer
 pub mod VerifierCalls

@@ -30,7 +30,7 @@ use Rattle.sigma.proofs.Order.{judge-numbers}
 use Rattle.sigma.proofs.Tests.{says-accepted}
 use Rattle.runs.specs.Calls.{judgeRound}
 use Rattle.runs.specs.Marker.{newline, wordLine, verdictText, verdictOn, roundLine, roundLines, markerText}
-use Rattle.runs.proofs.Order.{sheet-positive}
+use Rattle.formats.proofs.Order.{load-positive}
 
 module _ (sheet f : List ℕ) where
   -- ---- one line
@@ -44,7 +44,7 @@ module _ (sheet f : List ℕ) where
   pub file-refusal : loadRefusal sheet ≡ 0 → 0 < countRounds sheet f .refusal → countRounds sheet f .refusal ≡ 12
   unfolding loadRefusal countRounds countAfter fileRules lowest
   file-refusal e h =
-      let same = lowest-later-zero (loadRules sheet) (fileRules (headerOf sheet) f) (sheet-positive sheet) e in
+      let same = lowest-later-zero (loadRules sheet) (fileRules (headerOf sheet) f) (load-positive sheet) e in
       same ∙ twelve (badFile (headerOf sheet) f) (rw same at h)
     where
       twelve : (b : Bool) → 0 < lowest ((12 when b) ∷ []) → lowest ((12 when b) ∷ []) ≡ 12
@@ -122,7 +122,7 @@ module _ (sheet f : List ℕ) where
       let t = places (inst .header .rows) (round .commitment) in
       let r = places (inst .header .columns) (round .response) in
       let rules = judgeRules inst t (round .challenge) r in
-      let none = clear-lowest (loadRules sheet) (sheet-positive sheet) e in
+      let none = clear-lowest (loadRules sheet) (load-positive sheet) e in
       let (some, given) = judge-refused inst round number .0 (sym (judgeAfter-clear (loadRules sheet) inst none round) ∙ refused) in
       let member : Member (lowest rules) (14 ∷ 15 ∷ 16 ∷ []) =
       ⊎-elim (λ (z : lowest rules ≡ 0). absurd (omega arith))
