@@ -57,20 +57,20 @@ coordinates-read : (inst : Instance) (x : List ℕ) → Coordinates inst x → C
 coordinates-read inst x = coordinates-agree inst x (places (inst .header .columns) x) (λ j h. sym (getD-places _ x j h))
 
 -- the commitment to the nonce k
-abbrev commitmentOf : Instance → List ℕ → List ℕ
+abbrev pub commitmentOf : Instance → List ℕ → List ℕ
 commitmentOf inst k = image inst (places (inst .header .columns) k)
 
 -- the response to the challenge c, of the nonce k and the witness x
-abbrev responseOf : Instance → List ℕ → ℕ → List ℕ → List ℕ
+abbrev pub responseOf : Instance → List ℕ → ℕ → List ℕ → List ℕ
 responseOf inst x c k = response inst (places (inst .header .columns) k) c (places (inst .header .columns) x)
 
 -- Peggy's session once she has committed to k
-abbrev proverCommitted : Instance → List ℕ → Prover
+abbrev pub proverCommitted : Instance → List ℕ → Prover
 proverCommitted inst k =
     record { phase = Committed; nonce = pad8 0 (places (inst .header .columns) k); commitment = pad8 0 (commitmentOf inst k) }
 
 -- Vic's session in a state, with the commitment to k and a challenge
-abbrev verifierHolding : VerifierPhase → Instance → List ℕ → ℕ → Verifier
+abbrev pub verifierHolding : VerifierPhase → Instance → List ℕ → ℕ → Verifier
 verifierHolding phase inst k c = record { phase = phase; commitment = pad8 0 (commitmentOf inst k); challenge = c }
 
 -- ---- each call of the run

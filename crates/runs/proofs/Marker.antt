@@ -18,10 +18,12 @@ use Rattle.rules.proofs.Lowest.{clear-lowest, lowest-later-zero, lowest-member}
 use Rattle.rules.proofs.Says.{says-not}
 use Rattle.formats.specs.Load.{loadRules, loadRefusal}
 use Rattle.formats.specs.RoundCalls.{fileRules, countAfter, countRounds, fetchRound}
-use Rattle.formats.specs.RoundFile.{badFile}
+use Rattle.formats.specs.RoundFile.{badFile, challengeWidth, countField, recordStart, roundAt}
+use Rattle.formats.proofs.Files.{count-runs, count-given, check-runs, fetch-given}
+use Rattle.formats.proofs.Loads.{load-clear, loads}
 use Rattle.formats.specs.Sheet.{headerOf, instanceOf}
 use Rattle.sigma.specs.Answer.{isAccepted}
-use Rattle.sigma.specs.Judge.{judgeRules}
+use Rattle.sigma.specs.Judge.{judgeRules, judge}
 use Rattle.sigma.proofs.After.{judgeAfter-clear}
 use Rattle.sigma.proofs.Answer.{unlessRefused-zero, unlessRefused-positive}
 use Rattle.sigma.proofs.Calculus.{all-pass}
@@ -58,11 +60,22 @@ module _ (sheet f : List ℕ) where
 
   -- ---- a line per round
 
-  -- else the count, the rounds' lines and the verdict on all
-  pub round-lines : loadRefusal sheet ≡ 0 → countRounds sheet f .refusal ≡ 0
-      → markerText sheet f ≡ roundLines sheet f (countRounds sheet f .count)
+  -- else the file's own count, the rounds' lines and the verdict on all
+  pub round-lines : countRounds sheet f .refusal ≡ 0 → markerText sheet f ≡ roundLines sheet f (countField f)
   unfolding markerText
-  round-lines e g = simp (e, g, unlessRefused-zero)
+  round-lines e =
+      let loaded : loadRefusal sheet ≡ 0 = loads sheet .1 (count-runs sheet f .0 e .0) in
+      simp (count-given sheet f e, loaded, unlessRefused-zero)
+
+  -- the verdict on a round is what judging gives for the values in its record
+  pub verdict-on-record : countRounds sheet f .refusal ≡ 0 → (k : ℕ) → k < countField f
+      → verdictOn sheet f k
+      ≡ judge (instanceOf sheet) (roundAt challengeWidth (headerOf sheet) f (recordStart challengeWidth (headerOf sheet) k))
+  unfolding verdictOn judgeRound
+  verdict-on-record e k h =
+      let (sheet-loads, file) = count-runs sheet f .0 e in
+      let round = fetch-given sheet f k (check-runs sheet f k .1 (sheet-loads, file, h)) in
+      rw round (judgeAfter-clear (loadRules sheet) (instanceOf sheet) (load-clear sheet .1 sheet-loads) _)
 
   -- no round fails exactly where all are accepted
   pub all-accepted : (count : ℕ) → (any count (λ k. not (isAccepted (verdictOn sheet f k))) ≡ false)
@@ -87,10 +100,10 @@ module _ (sheet f : List ℕ) where
     fail-line k h other = rw (any-of count _ k h (says-not (says-accepted (verdictOn sheet f k)) .complete other))
 
   -- a file of no rounds passes
-  pub empty-passes : loadRefusal sheet ≡ 0 → countRounds sheet f .refusal ≡ 0 → countRounds sheet f .count ≡ 0
+  pub empty-passes : countRounds sheet f .refusal ≡ 0 → countField f ≡ 0
       → markerText sheet f ≡ ascii "rounds 0" ++ newline ++ ascii "pass" ++ newline
   unfolding tabulate itemsAt flatten wordLine ascii decimal newline digits
-  empty-passes e g z = round-lines e g ∙ ap (roundLines sheet f) z ∙ pass-line 0 (λ k h. absurd (omega arith))
+  empty-passes e z = round-lines e ∙ ap (roundLines sheet f) z ∙ pass-line 0 (λ k h. absurd (omega arith))
 
   -- ---- the line of a round
 

@@ -16,11 +16,6 @@ use Rattle.sigma.proofs.Answer.{unlessRefused-positive, judged-zero, judged-pos
 use Rattle.runs.specs.Prover.{proverStep}
 use Rattle.runs.specs.Verifier.{verifierStep}
 
--- the number of a step of Peggy
-pub proverStep-refusal : (n : ℕ) (before after : Prover) (xs : List ℕ) → proverStep n before after xs .refusal ≡ n
-unfolding proverStep
-proverStep-refusal n before after xs = refl
-
 -- a step of Peggy that is not refused
 pub proverStep-zero : (before after : Prover) (xs : List ℕ)
     → proverStep 0 before after xs ≡ record { refusal = 0; session = after; values = pad8 0 xs }
