@@ -18,6 +18,7 @@ use Rattle.rules.specs.Rule.{Rule, Clear}
 use Rattle.rules.proofs.Lowest.{lowest-clear}
 use Rattle.formats.specs.Load.{loadRules, loadRefusal}
 use Rattle.formats.specs.Sheet.{instanceOf}
+use Rattle.formats.proofs.Loads.{load-clear, loads, loads-valid}
 use Rattle.sigma.specs.Element.{Coordinate}
 use Rattle.sigma.specs.Image.{image, rowImage}
 use Rattle.sigma.specs.Instance.{Instance, statementAt}
@@ -38,7 +39,6 @@ use Rattle.runs.specs.Verifier.{newVerifier, takeCommitmentAfter, takeCh
 use Rattle.runs.specs.Verifier.{takeCommitment, takeChallenge, takeResponse}
 use Rattle.runs.proofs.After.{commitAfter-clear, respondAfter-clear}
 use Rattle.runs.proofs.After.{takeCommitmentAfter-clear, takeChallengeAfter-clear, takeResponseAfter-clear}
-use Rattle.formats.proofs.Loads.{load-clear, loads, loads-valid}
 use Rattle.runs.proofs.ProverSteps.{commitAfter-runs, commitAfter-given, respondAfter-runs, respondAfter-given}
 use Rattle.runs.proofs.VerifierSteps.{takeCommitmentAfter-runs, takeCommitmentAfter-given}
 use Rattle.runs.proofs.VerifierSteps.{takeChallengeAfter-runs, takeChallengeAfter-given}

@@ -8,20 +8,21 @@ use mathlib.Core.Bool.{Bool, true, false, not}
 use mathlib.Core.List.{List, [], _∷_, _++_, flatten}
 use native.Mathlib.Omega.{arith}
 use Rattle.types.specs.declared.Verdict.the-variants.{Accepted, Rejected, Refused}
+use Rattle.numbers.specs.Search.{any}
+use Rattle.numbers.proofs.Search.{any-of}
 use Rattle.lists.specs.Member.{Member}
 use Rattle.lists.specs.Places.{itemsAt, tabulate, places}
 use Rattle.encoding.specs.Text.{ascii, digits, decimal}
-use Rattle.numbers.specs.Search.{any}
-use Rattle.numbers.proofs.Search.{any-of}
 use Rattle.rules.specs.Rule.{_when_, lowest, numbersOf}
 use Rattle.rules.proofs.Lowest.{clear-lowest, lowest-later-zero, lowest-member}
 use Rattle.rules.proofs.Says.{says-not}
 use Rattle.formats.specs.Load.{loadRules, loadRefusal}
 use Rattle.formats.specs.RoundCalls.{fileRules, countAfter, countRounds, fetchRound}
 use Rattle.formats.specs.RoundFile.{badFile, challengeWidth, countField, recordStart, roundAt}
+use Rattle.formats.specs.Sheet.{headerOf, instanceOf}
 use Rattle.formats.proofs.Files.{count-runs, count-given, check-runs, fetch-given}
 use Rattle.formats.proofs.Loads.{load-clear, loads}
-use Rattle.formats.specs.Sheet.{headerOf, instanceOf}
+use Rattle.formats.proofs.Order.{load-positive}
 use Rattle.sigma.specs.Answer.{isAccepted}
 use Rattle.sigma.specs.Judge.{judgeRules, judge}
 use Rattle.sigma.proofs.After.{judgeAfter-clear}
@@ -32,7 +33,6 @@ use Rattle.sigma.proofs.Order.{judge-numbers}
 use Rattle.sigma.proofs.Tests.{says-accepted}
 use Rattle.runs.specs.Calls.{judgeRound}
 use Rattle.runs.specs.Marker.{newline, wordLine, verdictText, verdictOn, roundLine, roundLines, markerText}
-use Rattle.formats.proofs.Order.{load-positive}
 
 module _ (sheet f : List ℕ) where
   -- ---- one line

@@ -14,10 +14,10 @@ use Rattle.types.specs.declared.ProverStep.{ProverStep}
 use Rattle.lists.specs.Places.{zeros8}
 use Rattle.formats.specs.Load.{loadRules}
 use Rattle.formats.specs.Sheet.{instanceOf}
+use Rattle.formats.proofs.Order.{load-positive}
 use Rattle.runs.specs.Meaning.{Drops}
 use Rattle.runs.specs.Prover.{commit, respond}
 use Rattle.runs.specs.ProverCalls.{ProverCall, Commit, Respond, Drop, callProver, commits, answers, drops, Ended}
-use Rattle.formats.proofs.Order.{load-positive}
 use Rattle.runs.proofs.ProverSteps.{commitAfter-runs, commitAfter-given, commitAfter-kept}
 use Rattle.runs.proofs.ProverSteps.{respondAfter-runs, respondAfter-given, respondAfter-kept, drop-runs, drop-given, drop-kept}
 
