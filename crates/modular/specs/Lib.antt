@@ -1,0 +1,2 @@
+-- Definitions of the tests that answer more than yes or no.
+pub mod Divisor
