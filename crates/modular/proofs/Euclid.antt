@@ -1,6 +1,6 @@
 -- Euclid's algorithm on m and v, with a factor of v kept for each of the two numbers, ends at the inverse of v modulo m.
 -- Assumes nothing.
-use mathlib.Core.Path.{_≡_, sym, _∙_, ap}
+use mathlib.Core.Path.{_≡_, sym, _∙_}
 use Prim.Native.Nat.{ℕ, suc, _+_, _-_, _*_, _/_, _%_, _≤_, _<_}
 use native.Mathlib.Nat.{mod-lt, mod-add-div, mod-add-div', mul-one}
 use native.Mathlib.Omega.{arith}

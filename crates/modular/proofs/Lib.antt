@@ -2,3 +2,5 @@
 pub mod Power
 pub mod Euclid
 pub mod FirstDivisor
+pub mod FirstFailing
+pub mod ElementTest

@@ -1,9 +1,12 @@
 // Arithmetic modulo a 32-bit number, with products and sums in 64 bits, and the tests of 01 that need it.
+use types::Header;
 ghost use mathlib.Core.Path.{_≡_};
 ghost use Prim.Native.Nat.{_+_, _-_, _*_, _%_, _^_, _≤_, _<_};
 ghost use Rattle.numbers.specs.Gcd.{gcd};
 ghost use Rattle.numbers.specs.Inverse.{inverse};
+ghost use Rattle.sigma.specs.Element.{isElement, isCoordinate};
 ghost use Rattle.modular.specs.Divisor.{divisorOf};
+ghost use Rattle.modular.specs.FirstFailing.{firstFailing};
 
 // The product of a and b modulo m.
 pub fn mul_mod(a: u32, b: u32, m: u32) -> u32
@@ -108,4 +111,64 @@ pub fn first_divisor(order: u32, challenges: u32) -> Divisor
         }
         d += 1;
     }
+}
+
+// Whether v is a group element: from 1 to m - 1, with v^q mod m = 1 in kind 1 and gcd(v, m) = 1 in kind 2.
+pub fn is_element(h: Header, v: u32) -> bool
+    requires { ⌜ 0 < h .modulus ⌝ }
+    ensures { λ r. ⌜ r ≡ isElement h v ⌝ }
+{
+    if v < 1 {
+        return false;
+    }
+    if v >= h.modulus {
+        return false;
+    }
+    if h.kind == 1 {
+        return pow_mod(v, h.order, h.modulus) == 1;
+    }
+    gcd(v, h.modulus) == 1
+}
+
+// Whether x is a coordinate of the domain: from 0 to q - 1 in kind 1, a group element in kind 2.
+pub fn is_coordinate(h: Header, x: u32) -> bool
+    requires { ⌜ 0 < h .modulus ⌝ }
+    ensures { λ r. ⌜ r ≡ isCoordinate h x ⌝ }
+{
+    if h.kind == 1 {
+        return x < h.order;
+    }
+    is_element(h, x)
+}
+
+// The first index below n at which values holds no group element, or n where there is none.
+pub fn first_non_element(h: Header, values: [u32; 8], n: usize) -> usize
+    requires { ⌜ (0 < h .modulus) × (n ≤ 8) ⌝ }
+    ensures value { λ r. ⌜ r ≡ firstFailing (isElement h) n values ⌝ }
+    ensures within { λ r. ⌜ r ≤ n ⌝ }
+{
+    let mut i: usize = 0;
+    while i < n {
+        if !is_element(h, values[i]) {
+            return i;
+        }
+        i += 1;
+    }
+    i
+}
+
+// The first index below n at which values holds no coordinate of the domain, or n where there is none.
+pub fn first_non_coordinate(h: Header, values: [u32; 8], n: usize) -> usize
+    requires { ⌜ (0 < h .modulus) × (n ≤ 8) ⌝ }
+    ensures value { λ r. ⌜ r ≡ firstFailing (isCoordinate h) n values ⌝ }
+    ensures within { λ r. ⌜ r ≤ n ⌝ }
+{
+    let mut i: usize = 0;
+    while i < n {
+        if !is_coordinate(h, values[i]) {
+            return i;
+        }
+        i += 1;
+    }
+    i
 }
