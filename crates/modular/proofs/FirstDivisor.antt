@@ -3,7 +3,7 @@
 use mathlib.Core.Path.{_≡_, refl, sym, _∙_, ap}
 use mathlib.Core.Bool.{Bool, true, false, cond}
 use mathlib.Core.Logic.{_↔_, _≢_}
-use Prim.Native.Nat.{ℕ, _+_, _-_, _%_, _≤_, _<_}
+use Prim.Native.Nat.{ℕ, _+_, _-_, _%_, _≤_, _<_, _∣_}
 use native.Mathlib.Omega.{arith}
 use lib.Dec.{eqb, ltb}
 use borrow.Author.Tests.{eq-eqb, ne-eqb, lt-ltb, le-ltb, ltb-true, ltb-false}
@@ -11,6 +11,7 @@ use Rattle.numbers.specs.Search.{find}
 use Rattle.numbers.proofs.Search.{find-to-end, find-to-here, find-to-on}
 use Rattle.sigma.specs.Admission.{firstDivisor}
 use Rattle.sigma.specs.Answer.{Outcome}
+use Rattle.sigma.proofs.Tests.{says-divisor}
 use Rattle.modular.specs.Divisor.{divisorOutcome, divisorOf}
 use Rattle.modular.specs.declared.Divisor.{Divisor}
 use Rattle.modular.specs.declared.Divisor.the-variants.{Found, Nothing}
@@ -53,6 +54,20 @@ divisorOf-nothing order challenges =
     ends : (t : Bool) → ltb first challenges ≡ t → cond t (Found first) Nothing ≡ Nothing → challenges ≤ first
     ends true below e = let z : _≡_ {A = ℕ} 0 1 = cc in absurd (omega arith)
     ends false past e = ltb-false first challenges past
+
+-- the search's outcome is refusal 8 exactly if some d with 2 ≤ d < K divides ℓ
+pub divisorOf-refused : (order challenges : ℕ)
+    → (divisorOutcome (divisorOf order challenges) .number ≡ 8) ↔ ((d : ℕ) × (2 ≤ d) × (d < challenges) × (d ∣ order))
+unfolding divisorOutcome divisorOf
+divisorOf-refused order challenges =
+    ((λ e. says-divisor order challenges .sound (below (ltb first challenges) e)), (λ h. rw (says-divisor order challenges .complete h)))
+  where
+    first : ℕ
+    first = firstDivisor order challenges
+
+    below : (t : Bool) → divisorOutcome (cond t (Found first) Nothing) .number ≡ 8 → t ≡ true
+    below true e = refl
+    below false e = absurd (omega arith)
 
 -- the test of the search
 divides : ℕ → ℕ → Bool

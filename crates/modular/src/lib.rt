@@ -26,7 +26,7 @@ pub fn add_mod(a: u32, b: u32, m: u32) -> u32
     ((a as u64 + b as u64) % m as u64) as u32
 }
 
-// What a exceeds b by, modulo m, for a b of at most m.
+// The difference of a and b modulo m, for a b of at most m.
 pub fn sub_mod(a: u32, b: u32, m: u32) -> u32
     requires { ⌜ (0 < m) × (b ≤ m) ⌝ }
     ensures value { λ r. ⌜ r ≡ (a + (m - b)) % m ⌝ }
@@ -61,9 +61,9 @@ pub fn gcd(a: u32, b: u32) -> u32
     let mut x = a;
     let mut y = b;
     while y > 0 {
-        let rest = x % y;
+        let remainder = x % y;
         x = y;
-        y = rest;
+        y = remainder;
     }
     x
 }

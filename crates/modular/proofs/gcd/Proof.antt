@@ -17,8 +17,8 @@ abbrev μ-loop : tie.MeasureT-loop
 loop-holds : tie.Need-loop-holds Inv-loop μ-loop
 loop-holds c = refl
 
-rem-rest : tie.Need-rem-rest Inv-loop μ-loop
-rem-rest c = omega arith
+rem-remainder : tie.Need-rem-remainder Inv-loop μ-loop
+rem-remainder c = omega arith
 
 loop-less : tie.Need-loop-less Inv-loop μ-loop
 loop-less c = mod-lt _ (c .loop-test .taken)
@@ -32,4 +32,4 @@ returns c =
     sym (gcd-zero _) ∙ rw at-end at (c .before .loop .inv)
 
 pub gcd-spec : {M : Type 1} → statement M
-gcd-spec = tie.close (tie.spec Inv-loop μ-loop loop-holds rem-rest loop-less loop-again returns)
+gcd-spec = tie.close (tie.spec Inv-loop μ-loop loop-holds rem-remainder loop-less loop-again returns)
