@@ -159,6 +159,21 @@ bytesOfEach-itemsAt w s at (suc n) h b =
     ∙ sym (ap (λ (k : ℕ). take k (drop at s)) e ∙ take-add w (w * n) (drop at s)
     ∙ ap (λ (r : List ℕ). take w (drop at s) ++ take (w * n) r) (drop-drop w at s))
 
+-- ---- numbers that stand behind a part of a list
+
+-- a number that stands behind xs is read at the length of xs
+pub number-behind : (w v : ℕ) (xs ys s : List ℕ) (at : ℕ) → s ≡ xs ++ bytesOf w v ++ ys → length xs ≡ at → v < 256 ^ w
+    → numberAt w s at ≡ v
+number-behind w v xs ys s at e l b =
+    ap₂ (λ (bs : List ℕ) (k : ℕ). numberAt w bs k) e (sym l) ∙ numberAt-bytesOf w v xs ys b
+
+-- a run of numbers that stands behind xs is read from the length of xs on
+pub numbers-behind : (w : ℕ) (vs xs ys s : List ℕ) (at n : ℕ) → s ≡ xs ++ bytesOfEach w vs ++ ys → length xs ≡ at → length vs ≡ n
+    → AllBelow (256 ^ w) vs → itemsAt (numberAt w s) at w n ≡ vs
+numbers-behind w vs xs ys s at n e l m b =
+    ap₂ (λ (k j : ℕ). itemsAt (numberAt w s) k w j) (sym l) (sym m)
+    ∙ ap (λ (bs : List ℕ). itemsAt (numberAt w bs) (length xs) w (length vs)) e ∙ itemsAt-bytesOfEach w vs xs ys b
+
 -- ---- a list from its front on
 
 -- a front and the bytes of the number behind it are a longer front

@@ -5,7 +5,7 @@ use mathlib.Core.Path.{_≡_, refl, sym, ap, ap₂, _∙_}
 use mathlib.Core.List.{List, [], _∷_, _++_, append-assoc}
 use native.Mathlib.Nat.{add-zero, add-suc}
 use native.Mathlib.Omega.{arith}
-use lib.ListN.{length, getD, take, drop, set, take-append-drop, length-set}
+use lib.ListN.{length, getD, take, drop, set, take-append-drop, length-set, length-append}
 use lib.Seq.{sets, sets-eq, getD-set-same, getD-set-other, set-comm, take-set-le, take-set-lt, drop-set-lt, drop-set-add}
 use lib.Seq.{length-take-le, drop-at, take-append-seam}
 
@@ -85,6 +85,15 @@ module _ {ℓ} {A : Type ℓ} where
   -- a run at the front
   pub take-sets-front : (l vs : List A) → length vs ≤ length l → take (length vs) (sets l 0 vs) ≡ vs
   take-sets-front l vs h = part-sets l 0 vs (omega arith)
+
+  -- a run in the middle of a list, replaced by one of the same length
+  pub sets-middle : (xs ys zs vs : List A) → length vs ≡ length ys → sets (xs ++ ys ++ zs) (length xs) vs ≡ xs ++ vs ++ zs
+  sets-middle xs ys zs vs e =
+      let l = xs ++ ys ++ zs in
+      let size : length l ≡ length xs + length ys + length zs = simp length-append in
+      let seam : length (xs ++ ys) ≡ length xs + length vs = omega (arith, length-append xs ys) in
+      let front : take (length xs) l ≡ xs = simp append-assoc (take-append-seam xs (ys ++ zs)) in
+      rw (sets-eq vs l (length xs) (omega arith), front, drop-at (xs ++ ys) zs (length xs + length vs) seam)
 
   -- what stands behind a run at the front
   pub drop-sets-front : (l vs : List A) → drop (length vs) (sets l 0 vs) ≡ drop (length vs) l

@@ -1,7 +1,7 @@
 -- Text as bytes: words in ASCII, and numbers in decimal.
 -- Assumes nothing.
 use Prim.Native.Char.{code}
-use Prim.Native.Nat.{ℕ, zero, suc, _+_, _/_, _%_}
+use Prim.Native.Nat.{ℕ, zero, suc, _+_, _-_, _*_, _/_, _%_, _≤_}
 use Prim.Native.String.{String}
 use Prim.Native.String as String
 use mathlib.Core.Bool.{true, false}
@@ -21,3 +21,17 @@ digits (suc most) n = elim (ltb n 10) [ true ↦ (48 + n) ∷ [] | false ↦ dig
 -- the bytes of n in decimal, without leading zeros; a number has at most as many digits as its value, or one
 unfoldable pub decimal : ℕ → List ℕ
 decimal n = digits n n
+
+-- the number whose decimal digits are behind those of `high`
+unfoldable pub fromDigits : ℕ → List ℕ → ℕ
+fromDigits high [] = high
+fromDigits high (digit ∷ rest) = fromDigits (high * 10 + (digit - 48)) rest
+
+-- the number that bytes in decimal stand for
+unfoldable pub fromDecimal : List ℕ → ℕ
+fromDecimal bytes = fromDigits 0 bytes
+
+-- every byte is an ASCII digit
+abbrev pub AllDigits : List ℕ → Type 0
+AllDigits [] = Unit {0}
+AllDigits (digit ∷ rest) = (48 ≤ digit) × (digit ≤ 57) × AllDigits rest

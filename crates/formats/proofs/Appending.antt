@@ -92,6 +92,16 @@ pub appended-size : (h : Header) (buffer : List ℕ) (used : ℕ) (round : Round
 unfolding appended
 appended-size h buffer used round = simp length-sets
 
+-- what stands behind the record is as it was
+pub appended-behind : (h : Header) (buffer : List ℕ) (used : ℕ) (round : Round) (n : ℕ)
+    → 7 ≤ n → used + recordLength challengeWidth h ≤ n → drop n (appended h buffer used round) ≡ drop n buffer
+unfolding appended
+appended-behind h buffer used round n long behind =
+    let bytes = recordBytes challengeWidth h round in
+    let raised = length-bytesOf 2 (countField buffer + 1) in
+    drop-sets-behind n (sets buffer used bytes) 5 (bytesOf 2 (countField buffer + 1)) (omega arith)
+    ∙ drop-sets-behind n buffer used bytes (omega (arith, length-recordBytes challengeWidth h round))
+
 module _ {h : Header} {buffer : List ℕ} {used : ℕ} (u : InUse h buffer used) (round : Round)
     (fits : used + recordLength challengeWidth h ≤ length buffer) where
   -- the record stands straight after the bytes in use
@@ -134,6 +144,7 @@ pub append-adds : (s buffer : List ℕ) (used : ℕ) (round : Round) → append 
 append-adds s buffer used round e =
     let (l, u, fits) = append-runs s buffer used round .0 e in
     rw (append-given s buffer used round e) (record {
+      number = refl;
       answered = refl;
       stored = appended-stored u round fits;
       counted = appended-counted u round fits;

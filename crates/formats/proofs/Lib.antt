@@ -12,3 +12,11 @@ pub mod Appending
 pub mod SheetWritten
 pub mod SheetRead
 pub mod SheetRoundTrip
+pub mod Patterns
+pub mod Making
+pub mod PatternMeaning
+pub mod Records
+pub mod Rounds
+pub mod Growing
+pub mod RoundFileRoundTrip
+pub mod Part

@@ -6,22 +6,13 @@ use mathlib.Core.Logic.{inl, inr}
 use mathlib.Core.List.{List, [], _++_, flatten}
 use native.Mathlib.Nat.{mul-comm}
 use native.Mathlib.Omega.{arith}
-use lib.ListN.{length, getD, take}
+use lib.ListN.{getD, take}
 use lib.Seq.{take-all}
 use Rattle.encoding.specs.Bytes.{bytesOf, numberAt, AllBytes}
 use Rattle.encoding.proofs.Bytes.{take-bytesOf, take-bytesOfEach}
-use Rattle.lists.specs.Places.{itemsAt, pad8, places, zeros8}
-use Rattle.lists.proofs.Places.{
-  length-itemsAt,
-  getD-itemsAt,
-  itemsAt-tabulate,
-  tabulate-agree,
-  getD-pad8-inside,
-  getD-pad8,
-  places-pad8,
-  places-whole,
-}
-use Rattle.lists.proofs.Rows.{flatten-itemsAt}
+use Rattle.lists.specs.Places.{itemsAt, pad8, places, tabulate, zeros8}
+use Rattle.lists.proofs.Places.{length-itemsAt, itemsAt-tabulate, tabulate-agree, places-pad8, places-whole}
+use Rattle.lists.proofs.Rows.{flatten-itemsAt, getD-table}
 use Rattle.rules.proofs.Says.{says-decides}
 use Rattle.sigma.specs.Instance.{entry}
 use Rattle.sigma.proofs.ByKind.{exponent-kind}
@@ -54,14 +45,13 @@ module _ (s : List ℕ) where
   entry-read e r c a b =
       let h = headerOf s in
       let f = numberAt 4 s in
-      let rows = itemsAt (λ at. pad8 0 (itemsAt f at 4 (h .columns))) 20 (4 * h .columns) (h .rows) in
-      let inside : r < length rows = omega (arith, length-itemsAt (λ at. pad8 0 (itemsAt f at 4 (h .columns))) 20 (4 * h .columns) (h .rows)) in
+      let table =
+      itemsAt-tabulate (λ at. pad8 0 (itemsAt f at 4 (h .columns))) 20 (4 * h .columns) (h .rows)
+      ∙ tabulate-agree (h .rows) _ (λ k. pad8 0 (tabulate (h .columns) (λ j. f (20 + 4 * h .columns * k + 4 * j)))) (λ k l.
+      ap (λ (row : List ℕ). pad8 0 row) (itemsAt-tabulate f (20 + 4 * h .columns * k) 4 (h .columns))) in
       rw (exponent-kind h e)
-      (ap (λ (row : List ℕ). getD row c 0)
-      (getD-pad8-inside zeros8 rows r [] inside
-      ∙ getD-itemsAt (λ at. pad8 0 (itemsAt f at 4 (h .columns))) 20 (4 * h .columns) (h .rows) r [] a)
-      ∙ getD-pad8 0 (itemsAt f (20 + 4 * h .columns * r) 4 (h .columns)) c
-      ∙ getD-itemsAt f (20 + 4 * h .columns * r) 4 (h .columns) c 0 b)
+      (ap (λ (rows : List (List ℕ)). getD (getD (pad8 zeros8 rows) r []) c 0) table
+      ∙ getD-table (h .rows) (h .columns) (λ k j. f (20 + 4 * h .columns * k + 4 * j)) r c a b)
 
   -- what is stored of the entries is what was read, one after the other
   pub storedEntries-read : storedEntries (instanceOf s) ≡ itemsAt (numberAt 4 s) 20 4 (entryCount (headerOf s))

@@ -5,7 +5,7 @@ use Prim.Native.Nat.{ℕ, _^_, _<_, _≤_}
 use mathlib.Core.Path.{_≡_, sym, ap, _∙_, subst}
 use mathlib.Core.List.{List}
 use native.Mathlib.Omega.{arith}
-use lib.ListN.{length, take}
+use lib.ListN.{length}
 use Rattle.encoding.specs.Bytes.{AllBytes}
 use Rattle.encoding.proofs.Bytes.{numberAt-below}
 use Rattle.sigma.specs.Instance.{Instance}
@@ -15,16 +15,11 @@ use Rattle.formats.specs.Load.{loadRefusal, loaded}
 use Rattle.formats.specs.Meaning.{Loads, readInstance}
 use Rattle.formats.specs.Outcome.{Puts}
 use Rattle.formats.specs.Sheet.{headerOf, instanceOf, sheetLength}
-use Rattle.formats.specs.Write.{Writing}
 use Rattle.formats.proofs.Loads.{loads, loaded-given}
 use Rattle.formats.proofs.SheetRead.{sheetOf-instanceOf}
 use Rattle.formats.proofs.SheetWritten.{sheet-mark, sheet-version, sheet-header, instanceOf-sheetOf}
 use Rattle.formats.proofs.Unread.{read-same, same-instance-sym, valid-same}
 use Rattle.formats.proofs.Writing.{length-sheetOf, encode-runs, encode-puts}
-
--- the bytes that were written are what the answered length cuts out of the buffer
-pub puts-front : {bytes buffer : List ℕ} {w : Writing} → Puts bytes buffer w → take (w .answer .length) (w .buffer) ≡ bytes
-puts-front {w = w} p = ap (λ (n : ℕ). take n (w .buffer)) (p .answered) ∙ p .start
 
 -- ---- written and loaded
 
@@ -64,14 +59,14 @@ module _ (s : List ℕ) (b : AllBytes s) where
 
   -- what the loader gives of a sheet that loads, the second writer writes as the same bytes
   pub load-encodes : loadRefusal s ≡ 0 → (buffer : List ℕ) → length s ≤ length buffer
-      → (encode (loaded s) buffer .answer .refusal ≡ 0) × Puts s buffer (encode (loaded s) buffer)
+      → Puts s buffer (encode (loaded s) buffer)
   unfolding instanceOf
   load-encodes e buffer fits =
       let l = loads s .0 e in
       let same = sheetOf-instanceOf s l b in
       let runs = encode-runs (instanceOf s) buffer .1 (l .valid, omega (arith, l .exact)) in
       rw (loaded-given s e)
-      (runs, subst (λ (bytes : List ℕ). Puts bytes buffer (encode (instanceOf s) buffer)) same (encode-puts (instanceOf s) buffer runs))
+      (subst (λ (bytes : List ℕ). Puts bytes buffer (encode (instanceOf s) buffer)) same (encode-puts (instanceOf s) buffer runs))
 
   -- the values of a sheet that loads have 0 in the places that are not read
   pub loaded-read : loadRefusal s ≡ 0 → readInstance (instanceOf s) ≡ instanceOf s

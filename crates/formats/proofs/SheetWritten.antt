@@ -1,7 +1,7 @@
 -- The bytes of a sheet, read: the fixed fields, entries and statement that were written, with 0 in the places beyond.
 -- Assumes nothing.
 use Prim.Native.Nat.{ℕ, _+_, _*_, _^_, _<_}
-use mathlib.Core.Path.{_≡_, sym, ap, ap₂, _∙_}
+use mathlib.Core.Path.{_≡_, refl, sym, ap, _∙_}
 use mathlib.Core.Logic.{inl, inr, ⊎-elim}
 use mathlib.Core.Bool.{cond}
 use mathlib.Core.List.{List, [], _++_, append-assoc, append-nil}
@@ -12,7 +12,7 @@ use lib.ListN.{length, getD, take, length-append}
 use lib.Seq.{take-at}
 use Rattle.types.specs.declared.Header.{Header}
 use Rattle.encoding.specs.Bytes.{bytesOf, bytesOfEach, numberAt}
-use Rattle.encoding.proofs.Bytes.{length-bytesOf, length-bytesOfEach, numberAt-bytesOf, itemsAt-bytesOfEach}
+use Rattle.encoding.proofs.Bytes.{length-bytesOf, length-bytesOfEach, number-behind, numbers-behind}
 use Rattle.encoding.proofs.Bounds.{below-places}
 use Rattle.lists.specs.Places.{itemsAt, pad8, places, zeros8}
 use Rattle.lists.proofs.Places.{length-places, tabulate-agree, itemsAt-tabulate, getD-itemsAt}
@@ -32,11 +32,6 @@ use Rattle.formats.proofs.Entries.{
   below-storedEntries,
 }
 use Rattle.formats.proofs.Loads.{length-sheetMark}
-
--- a number that stands behind xs in the bytes s is read at the length of xs
-field : (w v : ℕ) (xs ys s : List ℕ) (at : ℕ) → s ≡ xs ++ bytesOf w v ++ ys → length xs ≡ at → v < 256 ^ w → numberAt w s at ≡ v
-field w v xs ys s at e l b =
-    ap₂ (λ (bs : List ℕ) (k : ℕ). numberAt w bs k) e (sym l) ∙ numberAt-bytesOf w v xs ys b
 
 -- the lengths of the parts of a sheet
 ruleset lengths = (length-append, length-bytesOf, length-sheetMark)
@@ -63,7 +58,7 @@ module _ (i : Instance) where
   unfolding sheetOf versionOf
   sheet-version =
       let h = i .header in
-      field 2 1 sheetMark
+      number-behind 2 1 sheetMark
       (bytesOf 1 (h .kind) ++ bytesOf 4 (h .modulus) ++ bytesOf 4 (h .order) ++ bytesOf 4 (h .challenges) ++ bytesOf 1 (h .rows) ++
       bytesOf 1 (h .columns) ++ bytesOfEach 4 (storedEntries i) ++ bytesOfEach 4 (places (h .rows) (i .statement)))
       (sheetOf i) 3 (simp append-assoc) length-sheetMark (omega arith)
@@ -77,21 +72,21 @@ module _ (i : Instance) where
       let p = sheetMark ++ bytesOf 2 1 in
       let e = bytesOfEach 4 (storedEntries i) ++ bytesOfEach 4 (places (h .rows) (i .statement)) in
       let q = bytesOf 1 (h .rows) ++ (bytesOf 1 (h .columns) ++ e) in
-      let kind = field 1 (h .kind) p (bytesOf 4 (h .modulus) ++ bytesOf 4 (h .order) ++ bytesOf 4 (h .challenges) ++ q) s 5
+      let kind = number-behind 1 (h .kind) p (bytesOf 4 (h .modulus) ++ bytesOf 4 (h .order) ++ bytesOf 4 (h .challenges) ++ q) s 5
       (simp append-assoc) (simp lengths) (⊎-elim (λ e. omega arith) (λ e. omega arith) (v .kind)) in
       let p′ = p ++ bytesOf 1 (h .kind) in
-      let modulus = field 4 (h .modulus) p′ (bytesOf 4 (h .order) ++ bytesOf 4 (h .challenges) ++ q) s 6
+      let modulus = number-behind 4 (h .modulus) p′ (bytesOf 4 (h .order) ++ bytesOf 4 (h .challenges) ++ q) s 6
       (simp append-assoc) (simp lengths) small in
       let p″ = p′ ++ bytesOf 4 (h .modulus) in
-      let order = field 4 (h .order) p″ (bytesOf 4 (h .challenges) ++ q) s 10
+      let order = number-behind 4 (h .order) p″ (bytesOf 4 (h .challenges) ++ q) s 10
       (simp append-assoc) (simp lengths) short in
       let p‴ = p″ ++ bytesOf 4 (h .order) in
-      let challenges = field 4 (h .challenges) p‴ q s 14
+      let challenges = number-behind 4 (h .challenges) p‴ q s 14
       (simp append-assoc) (simp lengths) (omega (arith, v .few-challenges)) in
       let r = p‴ ++ bytesOf 4 (h .challenges) in
-      let rows = field 1 (h .rows) r (bytesOf 1 (h .columns) ++ e) s 18
+      let rows = number-behind 1 (h .rows) r (bytesOf 1 (h .columns) ++ e) s 18
       (simp append-assoc) (simp lengths) (omega (arith, v .few-rows)) in
-      let columns = field 1 (h .columns) (r ++ bytesOf 1 (h .rows)) e s 19
+      let columns = number-behind 1 (h .columns) (r ++ bytesOf 1 (h .rows)) e s 19
       (simp append-assoc) (simp lengths) (omega (arith, v .few-columns)) in
       λ j. record {
         kind = kind j;
@@ -107,9 +102,8 @@ module _ (i : Instance) where
     stored-back : itemsAt (numberAt 4 (sheetOf i)) 20 4 (entryCount (i .header)) ≡ storedEntries i
     unfolding sheetOf
     stored-back =
-        ap₂ (λ (at n : ℕ). itemsAt (numberAt 4 (sheetOf i)) at 4 n) (sym length-fixed) (sym (length-storedEntries i))
-        ∙ itemsAt-bytesOfEach 4 (storedEntries i) fixed (bytesOfEach 4 (places (i .header .rows) (i .statement)))
-        (below-storedEntries i v small)
+        numbers-behind 4 (storedEntries i) fixed (bytesOfEach 4 (places (i .header .rows) (i .statement))) (sheetOf i) 20 _ refl
+        length-fixed (length-storedEntries i) (below-storedEntries i v small)
 
     -- an entry, read
     entry-back : i .header .kind ≡ 1 → (r c : ℕ) → r < i .header .rows → c < i .header .columns
@@ -145,16 +139,13 @@ module _ (i : Instance) where
     unfolding statementOf readInstance sheetOf statementAt
     sheet-statement =
         let h = i .header in
-        let z = places (h .rows) (i .statement) in
         let front = fixed ++ bytesOfEach 4 (storedEntries i) in
-        let e : sheetOf i ≡ front ++ bytesOfEach 4 z ++ [] = sym (append-nil (sheetOf i)) in
-        let l : length front ≡ 20 + 4 * entryCount h =
-        simp (lengths, length-bytesOfEach, length-storedEntries) in
+        let size : length front ≡ 20 + 4 * entryCount h = simp (lengths, length-bytesOfEach, length-storedEntries) in
         let below =
         below-places (256 ^ 4) (h .rows) (i .statement) (omega arith) (λ r b. omega (arith, v .statement r b .below)) in
         ap (λ (l : List ℕ). pad8 0 l)
-        (ap₂ (λ (at n : ℕ). itemsAt (numberAt 4 (sheetOf i)) at 4 n) (sym l) (sym (length-places (h .rows) (i .statement)))
-        ∙ ap (λ (s : List ℕ). itemsAt (numberAt 4 s) (length front) 4 (length z)) e ∙ itemsAt-bytesOfEach 4 z front [] below)
+        (numbers-behind 4 (places (h .rows) (i .statement)) front [] (sheetOf i) (20 + 4 * entryCount h) (h .rows)
+        (sym (append-nil (sheetOf i))) size (length-places (h .rows) (i .statement)) below)
 
     -- a sheet is read as what was read of the values that it was written from
     pub instanceOf-sheetOf : i .header .order < 2 ^ 32 → instanceOf (sheetOf i) ≡ readInstance i

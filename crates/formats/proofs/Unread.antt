@@ -5,12 +5,11 @@ use mathlib.Core.Path.{_≡_, refl, sym, ap, subst, _∙_}
 use mathlib.Core.Logic.{inl, inr}
 use mathlib.Core.Bool.{Bool, not, cond, _&&_}
 use mathlib.Core.List.{List, [], flatten}
-use native.Mathlib.Omega.{arith}
-use lib.ListN.{length, getD}
 use Rattle.types.specs.declared.Header.{Header}
 use Rattle.types.specs.declared.Round.{Round}
-use Rattle.lists.specs.Places.{pad8, places, tabulate, zeros8}
-use Rattle.lists.proofs.Places.{length-tabulate, getD-tabulate, tabulate-agree, getD-pad8, getD-pad8-inside, getD-places, places-agree}
+use Rattle.lists.specs.Places.{places, tabulate}
+use Rattle.lists.proofs.Places.{tabulate-agree, getD-pad8, getD-places, places-agree}
+use Rattle.lists.proofs.Rows.{getD-table}
 use Rattle.numbers.specs.Search.{any}
 use Rattle.numbers.proofs.Search.{any-agree}
 use Rattle.rules.specs.Rule.{Rule}
@@ -141,15 +140,7 @@ module _ (i : Instance) where
   read-entry : i .header .kind ≡ 1 → (r c : ℕ) → r < i .header .rows → c < i .header .columns
       → entry (readInstance i) r c ≡ entry i r c
   unfolding readInstance entry
-  read-entry e r c a b =
-      let h = i .header in
-      let row = tabulate (h .columns) (entry i r) in
-      let rows = tabulate (h .rows) (λ k. pad8 0 (tabulate (h .columns) (entry i k))) in
-      let inside : r < length rows = omega (arith, length-tabulate (h .rows) (λ k. pad8 0 (tabulate (h .columns) (entry i k)))) in
-      rw (exponent-kind h e)
-      (ap (λ (l : List ℕ). getD l c 0)
-      (getD-pad8-inside zeros8 rows r [] inside ∙ getD-tabulate (h .rows) (λ k. pad8 0 (tabulate (h .columns) (entry i k))) r [] a)
-      ∙ getD-pad8 0 row c ∙ getD-tabulate (h .columns) (entry i r) c 0 b)
+  read-entry e r c a b = rw (exponent-kind (i .header) e) (getD-table (i .header .rows) (i .header .columns) (entry i) r c a b)
 
   -- what is read of an instance's values is the same
   pub read-same : SameInstance (readInstance i) i

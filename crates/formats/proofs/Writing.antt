@@ -2,12 +2,12 @@
 -- at the start, answers their length and changes no byte after them.
 -- Assumes nothing.
 use Prim.Native.Nat.{ℕ, _<_, _≤_}
-use mathlib.Core.Path.{_≡_, refl, sym, _∙_}
+use mathlib.Core.Path.{_≡_, refl, sym, ap, _∙_}
 use mathlib.Core.Logic.{_↔_}
 use mathlib.Core.Bool.{false}
 use mathlib.Core.List.{List, [], _∷_, _++_}
 use native.Mathlib.Omega.{arith}
-use lib.ListN.{length, length-append}
+use lib.ListN.{length, take, length-append}
 use lib.Seq.{sets, length-sets}
 use borrow.Author.Tests.{ltb-false, le-ltb}
 use Rattle.encoding.proofs.Bytes.{length-bytesOf, length-bytesOfEach}
@@ -25,7 +25,7 @@ use Rattle.formats.specs.Encode.{sheetOf, encodeRules, encode}
 use Rattle.formats.specs.Outcome.{Keeps, Puts}
 use Rattle.formats.specs.RoundFile.{noRounds}
 use Rattle.formats.specs.Sheet.{sheetLength}
-use Rattle.formats.specs.Write.{short, written, writtenAtStart}
+use Rattle.formats.specs.Write.{Writing, short, written, writtenAtStart}
 use Rattle.formats.proofs.Entries.{length-storedEntries}
 use Rattle.formats.proofs.Files.{length-roundMark}
 use Rattle.formats.proofs.Loads.{length-sheetMark}
@@ -62,11 +62,16 @@ pub start-written : (n : ℕ) (bytes buffer : List ℕ) → n ≡ 0 → length b
     → Puts bytes buffer (writtenAtStart n bytes buffer)
 unfolding writtenAtStart
 start-written n bytes buffer e fits = rw (written-given n (length bytes) (sets buffer 0 bytes) buffer e) (record {
+  number = refl;
   answered = refl;
   start = take-sets-front buffer bytes fits;
   behind = drop-sets-front buffer bytes;
   size = length-sets buffer 0 bytes;
 })
+
+-- the bytes that were put are what the answered length cuts out of the buffer
+pub puts-front : {bytes buffer : List ℕ} {w : Writing} → Puts bytes buffer w → take (w .answer .length) (w .buffer) ≡ bytes
+puts-front {w = w} p = ap (λ (n : ℕ). take n (w .buffer)) (p .answered) ∙ p .start
 
 -- ---- the length of a sheet
 

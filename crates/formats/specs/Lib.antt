@@ -10,3 +10,4 @@ pub mod Append
 pub mod Refusals
 pub mod Meaning
 pub mod Outcome
+pub mod Rounds

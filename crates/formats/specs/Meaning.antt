@@ -1,15 +1,18 @@
--- What 01 says of bytes, as facts: a sheet that loads, a round file of a sheet, and what is read of a sheet's values.
+-- What 01 says of bytes, as facts: a sheet that loads, a sheet that is made, a round file of a sheet, and what is read of a
+-- sheet's values.
 -- Assumes nothing.
 use Prim.Native.Nat.{ℕ, _<_, _≤_}
 use mathlib.Core.Path.{_≡_}
 use mathlib.Core.Bool.{cond}
 use mathlib.Core.List.{List}
-use lib.ListN.{length, take}
+use lib.ListN.{length, getD, take}
 use Rattle.types.specs.declared.Header.{Header}
 use Rattle.lists.specs.Places.{pad8, places, tabulate, zeros8}
+use Rattle.sigma.specs.Element.{Element}
 use Rattle.sigma.specs.Instance.{Instance, entry, isExponent}
 use Rattle.sigma.specs.Reads.{Agree}
 use Rattle.sigma.specs.Valid.{Valid}
+use Rattle.formats.specs.Pattern.{made, madeHeader, patternOf}
 use Rattle.formats.specs.RoundFile.{challengeWidth, countField, fileVersion, recordStart, roundMark}
 use Rattle.formats.specs.Sheet.{headerOf, instanceOf, sheetLength, sheetMark, versionOf, zeros64}
 
@@ -41,13 +44,24 @@ pub record SameInstance (i i′ : Instance) : Type 0 where
       (r c : ℕ) → r < i .header .rows → c < i .header .columns → entry i r c ≡ entry i′ r c
   pub statement : Agree (i .header .rows) (i .statement) (i′ .statement)
 
+-- the rows that are read of a sheet's entries, with 0 in the places that are not
+abbrev pub readRows : Instance → List (List ℕ)
+readRows i = pad8 zeros8 (tabulate (i .header .rows) (λ r. pad8 0 (tabulate (i .header .columns) (entry i r))))
+
 -- what is read of a sheet's values, with 0 in the places that are not
 unfoldable pub readInstance : Instance → Instance
 readInstance i =
     record {
       header = i .header;
-      entries =
-          cond (isExponent (i .header))
-          (pad8 zeros8 (tabulate (i .header .rows) (λ r. pad8 0 (tabulate (i .header .columns) (entry i r))))) zeros64;
+      entries = cond (isExponent (i .header)) (readRows i) zeros64;
       statement = pad8 0 (places (i .header .rows) (i .statement));
     }
+
+-- none of 1, 5, 6, 8, 10 and 11 applies to what the sheet maker is given
+pub record Makes (number modulus order challenges : ℕ) (values statement : List ℕ) : Type 0 where
+  pub low : 1 ≤ number
+  pub high : number ≤ 6
+  pub values-count : length values ≡ patternOf number .values
+  pub statement-count : length statement ≡ patternOf number .rows
+  pub values-elements : (j : ℕ) → j < length values → Element (madeHeader number modulus order challenges) (getD values j 0)
+  pub valid : Valid (made number modulus order challenges values statement)

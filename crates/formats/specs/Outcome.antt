@@ -15,16 +15,18 @@ pub record Keeps (buffer : List ℕ) (w : Writing) : Type 0 where
   pub answered : w .answer .length ≡ 0
   pub same : w .buffer ≡ buffer
 
--- the bytes stand at the buffer's start, their length is answered, and no byte after them is changed
+-- nothing is refused, the bytes stand at the buffer's start, their length is answered, and no byte after them is changed
 pub record Puts (bytes buffer : List ℕ) (w : Writing) : Type 0 where
+  pub number : w .answer .refusal ≡ 0
   pub answered : w .answer .length ≡ length bytes
   pub start : take (length bytes) (w .buffer) ≡ bytes
   pub behind : drop (length bytes) (w .buffer) ≡ drop (length bytes) buffer
   pub size : length (w .buffer) ≡ length buffer
 
--- the record stands straight after the bytes in use, the count field is one more, no byte outside of both is changed, and
--- the count of bytes in use that is answered takes the record in
+-- nothing is refused, the record stands straight after the bytes in use, the count field is one more, no byte outside of both
+-- is changed, and the count of bytes in use that is answered takes the record in
 pub record Adds (h : Header) (round : Round) (buffer : List ℕ) (used : ℕ) (w : Writing) : Type 0 where
+  pub number : w .answer .refusal ≡ 0
   pub answered : w .answer .length ≡ used + recordLength challengeWidth h
   pub stored : take (recordLength challengeWidth h) (drop used (w .buffer)) ≡ recordBytes challengeWidth h round
   pub counted : countField (w .buffer) ≡ countField buffer + 1

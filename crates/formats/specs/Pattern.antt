@@ -1,6 +1,6 @@
 -- 01's patterns and the sheet maker ("The patterns"; refusals 1, 5, 6, 8, 10, 11 and 22).
 -- Assumes nothing.
-use Prim.Native.Nat.{ℕ, _+_, _-_, _*_}
+use Prim.Native.Nat.{ℕ, _+_, _-_, _*_, _%_, _^_}
 use mathlib.Core.Bool.{Bool, not, cond, _||_}
 use mathlib.Core.List.{List, [], _∷_}
 use lib.Dec.{eqb, ltb}
@@ -61,6 +61,10 @@ made number modulus order challenges values statement =
       entries = cond (eqb number 6) zeros64 (patternEntries (patternOf number) values);
       statement = pad8 0 statement;
     }
+
+-- the commitment C(v, ρ) = g^v · h^ρ mod m of pattern 5
+unfoldable pub pedersen : ℕ → ℕ → ℕ → ℕ → ℕ → ℕ
+pedersen modulus g h v ρ = g ^ v * h ^ ρ % modulus
 
 -- the number is outside 1 to 6, or the count of public or statement values is wrong (1)
 unfoldable pub badPattern : ℕ → List ℕ → List ℕ → Bool

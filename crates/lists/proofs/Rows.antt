@@ -1,14 +1,14 @@
--- Rows one behind the other: the length and the items of joined rows of equal length.
+-- Rows one behind the other, the length and the items of joined rows of equal length, and tables of eight rows of eight.
 -- Assumes nothing.
 use Prim.Native.Nat.{ℕ, zero, suc, _+_, _*_, _<_}
-use mathlib.Core.Path.{_≡_, refl, sym, ap, ap₂, _∙_}
+use mathlib.Core.Path.{_≡_, refl, sym, ap, _∙_}
 use mathlib.Core.List.{List, [], _∷_, _++_, append-assoc, flatten}
-use native.Mathlib.Nat.{mul-zero, mul-suc, zero-add}
+use native.Mathlib.Nat.{mul-zero, mul-suc}
 use native.Mathlib.Omega.{arith}
 use lib.ListN.{length, getD, length-append, List·getD-append}
 use lib.Seq.{getD-append-add}
-use Rattle.lists.specs.Places.{itemsAt}
-use Rattle.lists.proofs.Places.{itemsAt-add}
+use Rattle.lists.specs.Places.{itemsAt, pad8, tabulate, zeros8}
+use Rattle.lists.proofs.Places.{itemsAt-add, length-tabulate, getD-tabulate, getD-pad8, getD-pad8-inside}
 
 module _ {ℓ} {A : Type ℓ} where
   -- two runs of rows, joined
@@ -50,3 +50,13 @@ module _ {ℓ} {A : Type ℓ} where
       let e : m * suc i + j ≡ length row + (m * i + j) = omega (arith, mul-suc m i, h zero (omega arith)) in
       ap (λ (k : ℕ). getD (row ++ flatten rows) k d) e ∙ getD-append-add row (flatten rows) (m * i + j) d
       ∙ getD-flatten m rows (λ k l. h (suc k) (omega arith)) i j d (omega arith) c
+
+-- the number in row r and column c of a table of at most eight rows and columns, padded with zeros
+pub getD-table : (m n : ℕ) (f : ℕ → ℕ → ℕ) (r c : ℕ) → r < m → c < n
+    → getD (getD (pad8 zeros8 (tabulate m (λ k. pad8 0 (tabulate n (f k))))) r []) c 0 ≡ f r c
+getD-table m n f r c a b =
+    let rows = tabulate m (λ k. pad8 0 (tabulate n (f k))) in
+    let inside : r < length rows = omega (arith, length-tabulate m (λ k. pad8 0 (tabulate n (f k)))) in
+    ap (λ (row : List ℕ). getD row c 0)
+    (getD-pad8-inside zeros8 rows r [] inside ∙ getD-tabulate m (λ k. pad8 0 (tabulate n (f k))) r [] a)
+    ∙ getD-pad8 0 (tabulate n (f r)) c ∙ getD-tabulate n (f r) c 0 b

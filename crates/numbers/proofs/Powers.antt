@@ -37,6 +37,12 @@ pow-split a q k =
     ap (λ (x : ℕ). a ^ x) (sym (mod-add-div k q)) ∙ pow-add a (k % q) (q * (k / q))
     ∙ ap (λ (x : ℕ). a ^ (k % q) * x) (pow-mul a q (k / q))
 
+-- a power by the low bit of its exponent and the square of its base
+pub pow-halve : (a e : ℕ) → a ^ e ≡ a ^ (e % 2) * (a * a) ^ (e / 2)
+pow-halve a e =
+    let square : a ^ 2 ≡ a * a = pow-suc a 1 ∙ ap (λ (x : ℕ). x * a) (pow-one a) in
+    pow-split a 2 e ∙ ap (λ (x : ℕ). a ^ (e % 2) * x ^ (e / 2)) square
+
 -- where a ^ q is 1 modulo m, an exponent may be reduced modulo q
 pub cong-pow-mod : (m q a : ℕ) → a ^ q % m ≡ 1 → (k : ℕ) → Cong m (a ^ (k % q)) (a ^ k)
 cong-pow-mod m q a e k =

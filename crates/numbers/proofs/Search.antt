@@ -3,8 +3,9 @@
 use mathlib.Core.Path.{_≡_, refl, sym, _∙_, ap}
 use mathlib.Core.Bool.{Bool, true, false, true≢false}
 use mathlib.Core.Logic.{inl, inr, _↔_}
-use Prim.Native.Nat.{ℕ, zero, suc, _+_, _≤_, _<_}
+use Prim.Native.Nat.{ℕ, zero, suc, _+_, _-_, _≤_, _<_}
 use native.Mathlib.Nat.{eq-or-lt-of-le}
+use native.Mathlib.Numerals.{add-one}
 use native.Mathlib.Decide.{decLt}
 use native.Mathlib.Omega.{arith}
 use borrow.Author.Tests.{ltb-true, ltb-false, lt-ltb, le-ltb}
@@ -24,6 +25,20 @@ find-here p from n e = rw (e, find)
 pub find-on : (p : ℕ → Bool) (from n : ℕ) → p from ≡ false → find p from (suc n) ≡ find p (suc from) n
 unfolding find
 find-on p from n e = rw (e, find)
+
+-- a search up to an end that is not past its first place ends there
+pub find-to-end : (p : ℕ → Bool) (from end : ℕ) → end ≤ from → find p from (end - from) ≡ from
+find-to-end p from end past = ap (find p from) {y = 0} (omega arith) ∙ find-end p from
+
+-- a test that passes at the first place ends a search up to a later place there
+pub find-to-here : (p : ℕ → Bool) (from end : ℕ) → from < end → p from ≡ true → find p from (end - from) ≡ from
+find-to-here p from end before e = ap (find p from) {y = suc (end - suc from)} (omega arith) ∙ find-here p from _ e
+
+-- a test that fails at the first place leaves a search up to a later place to the next one
+pub find-to-on : (p : ℕ → Bool) (from end : ℕ) → from < end → p from ≡ false
+    → find p (from + 1) (end - (from + 1)) ≡ find p from (end - from)
+find-to-on p from end before e =
+    rw add-one (sym (find-on p from _ e) ∙ ap (find p from) {x = suc (end - suc from)} (omega arith))
 
 -- the two ways in which a search through at least one place can go
 data FirstPlace (p : ℕ → Bool) (from n : ℕ) : Type 0 where

@@ -20,6 +20,7 @@ use Rattle.rules.specs.Rule.{lowest}
 use Rattle.formats.specs.Load.{loadRules, loadRefusal}
 use Rattle.formats.specs.Sheet.{instanceOf}
 use Rattle.formats.proofs.Loads.{loads-valid}
+use Rattle.formats.proofs.Order.{load-positive}
 use Rattle.sigma.specs.Answer.{eightPlaces}
 use Rattle.sigma.specs.Instance.{Instance}
 use Rattle.sigma.specs.Meaning.{Holds, FailsFirst, Fits}
@@ -39,7 +40,6 @@ use Rattle.runs.proofs.JointRun.{sheet-joint-run}
 use Rattle.runs.proofs.Loaded.{judge-loaded}
 use Rattle.runs.proofs.OneAnswer.{one-answer, one-commit, answer-after-commit, answer-wipes, drop-wipes}
 use Rattle.runs.proofs.OneAnswer.{ended-refuses-all, ended-stays}
-use Rattle.runs.proofs.Order.{sheet-positive}
 use Rattle.runs.proofs.OrderOfSteps.{one-commitment, one-challenge, one-verdict}
 use Rattle.runs.proofs.OrderOfSteps.{challenge-after-commitment, verdict-after-challenge, commitment-fixed, challenge-fixed}
 use Rattle.runs.proofs.OrderOfSteps.{judged-refuses-all, judged-stays}
@@ -114,7 +114,7 @@ module _ (sheet : List ℕ) (loaded : loadRefusal sheet ≡ 0) where
   pub commitments : CommitsToImage sheet
   unfolding commit commitAfter proverStep
   commitments = record {
-    runs = λ p k. behind (commitAfter-runs (loadRules sheet) values p k (sheet-positive sheet));
+    runs = λ p k. behind (commitAfter-runs (loadRules sheet) values p k (load-positive sheet));
     rows = λ p k e i h.
         let n = values .header .columns in
         ap (λ (step : ProverStep). getD (step .values) i 0) (commitAfter-given (loadRules sheet) values p k e)
@@ -146,7 +146,7 @@ module _ (sheet : List ℕ) (loaded : loadRefusal sheet ≡ 0) where
   pub responses : RespondsBySlot sheet
   unfolding respond respondAfter proverStep
   responses = record {
-    runs = λ p c x. behind (respondAfter-runs (loadRules sheet) values p c x (sheet-positive sheet));
+    runs = λ p c x. behind (respondAfter-runs (loadRules sheet) values p c x (load-positive sheet));
     exponent = λ kind p c x e j h. response-slot p c x e j h ∙ responseCoordinate-exponent (values .header) kind _ c _;
     root = λ kind p c x e j h.
         let other : values .header .kind ≢ 1 = λ one. omega arith in
@@ -184,7 +184,7 @@ module _ (sheet : List ℕ) (loaded : loadRefusal sheet ≡ 0) where
   unfolding takeCommitment takeChallenge takeResponse
   verifier =
       let before = loadRules sheet in
-      let safe = sheet-positive sheet in
+      let safe = load-positive sheet in
       record {
         commitment-runs = λ v t. behind (takeCommitmentAfter-runs before values v t safe);
         commitment-moves = λ v t e. ap (λ (step : VerifierStep). step .session) (takeCommitmentAfter-given before values v t e);

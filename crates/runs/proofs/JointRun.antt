@@ -51,7 +51,7 @@ places-held : (n : ℕ) (xs : List ℕ) → length xs ≡ n → places n (pad8 0
 places-held n xs e = places-pad8 n xs ∙ places-whole n xs e
 
 -- what is read of a nonce or a witness
-abbrev readOf : Instance → List ℕ → List ℕ
+abbrev pub readOf : Instance → List ℕ → List ℕ
 readOf inst x = places (inst .header .columns) x
 
 -- each slot of a choice of n domain slots is a coordinate
@@ -59,20 +59,20 @@ slots-read : (inst : Instance) (x : List ℕ) → Choice inst (readOf inst x) �
 slots-read inst x = each-at _ _ (readOf inst x)
 
 -- the commitment to the nonce k
-abbrev commitmentOf : Instance → List ℕ → List ℕ
+abbrev pub commitmentOf : Instance → List ℕ → List ℕ
 commitmentOf inst k = image inst (readOf inst k)
 
 -- the response to the challenge c, of the nonce k and the witness x
-abbrev responseOf : Instance → List ℕ → ℕ → List ℕ → List ℕ
+abbrev pub responseOf : Instance → List ℕ → ℕ → List ℕ → List ℕ
 responseOf inst x c k = response inst (readOf inst k) c (readOf inst x)
 
 -- Peggy's session once she has committed to k
-abbrev proverCommitted : Instance → List ℕ → Prover
+abbrev pub proverCommitted : Instance → List ℕ → Prover
 proverCommitted inst k =
     record { phase = Committed; nonce = pad8 0 (readOf inst k); commitment = pad8 0 (commitmentOf inst k) }
 
 -- Vic's session in a state, with the commitment to k and a challenge
-abbrev verifierHolding : VerifierPhase → Instance → List ℕ → ℕ → Verifier
+abbrev pub verifierHolding : VerifierPhase → Instance → List ℕ → ℕ → Verifier
 verifierHolding phase inst k c = record { phase = phase; commitment = pad8 0 (commitmentOf inst k); challenge = c }
 
 -- ---- each call of the run

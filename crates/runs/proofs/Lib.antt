@@ -12,9 +12,11 @@ pub mod Unread
 pub mod Run
 pub mod ProverSteps
 pub mod VerifierSteps
+pub mod Numbers
 pub mod ProverCalls
 pub mod OneAnswer
 pub mod VerifierCalls
 pub mod OrderOfSteps
 pub mod Verdicts
 pub mod JointRun
+pub mod Marker

@@ -6,9 +6,9 @@ use mathlib.Core.Logic.{_↔_}
 use mathlib.Core.List.{List}
 use Rattle.types.specs.declared.Round.{Round}
 use Rattle.rules.specs.Rule.{Clear}
-use Rattle.rules.proofs.Lowest.{clear-lowest}
 use Rattle.formats.specs.Load.{loadRules, loadRefusal}
 use Rattle.formats.specs.Sheet.{instanceOf}
+use Rattle.formats.proofs.Loads.{load-clear, loads}
 use Rattle.sigma.specs.Extractor.{extract}
 use Rattle.sigma.specs.Judge.{judge}
 use Rattle.sigma.specs.Knowledge.{AcceptedRound}
@@ -16,13 +16,11 @@ use Rattle.sigma.specs.Simulator.{simulate}
 use Rattle.sigma.proofs.After.{judgeAfter-clear, simulateAfter-clear, extractAfter-clear}
 use Rattle.runs.specs.Calls.{judgeRound, simulateCommitment, extractWitness}
 use Rattle.runs.specs.Knowledge.{Accepts}
-use Rattle.runs.proofs.Order.{sheet-positive}
 
 module _ (sheet : List ℕ) (loaded : loadRefusal sheet ≡ 0) where
   -- no rule of the sheet applies
   pub sheet-clear : Clear (loadRules sheet)
-  unfolding loadRefusal
-  sheet-clear = clear-lowest (loadRules sheet) (sheet-positive sheet) loaded
+  sheet-clear = load-clear sheet .1 (loads sheet .0 loaded)
 
   -- judging
   pub judge-loaded : (round : Round) → judgeRound sheet round ≡ judge (instanceOf sheet) round

@@ -10,21 +10,17 @@ use Rattle.types.specs.declared.Verdict.{Verdict}
 use Rattle.types.specs.declared.Verdict.the-variants.{Accepted, Rejected, Refused}
 use Rattle.types.specs.declared.Verifier.{Verifier}
 use Rattle.lists.specs.Places.{pad8, zeros8}
+use Rattle.rules.specs.Answer.{unlessRefused}
 use Rattle.sigma.specs.Answer.{outcome, judged, eightPlaces}
-use Rattle.sigma.proofs.Answer.{unlessRefused-zero, unlessRefused-positive, judged-zero, judged-positive}
+use Rattle.sigma.proofs.Answer.{unlessRefused-positive, judged-zero, judged-positive}
 use Rattle.runs.specs.Prover.{proverStep}
 use Rattle.runs.specs.Verifier.{verifierStep}
-
--- the number of a step of Peggy
-pub proverStep-refusal : (n : ℕ) (before after : Prover) (xs : List ℕ) → proverStep n before after xs .refusal ≡ n
-unfolding proverStep
-proverStep-refusal n before after xs = refl
 
 -- a step of Peggy that is not refused
 pub proverStep-zero : (before after : Prover) (xs : List ℕ)
     → proverStep 0 before after xs ≡ record { refusal = 0; session = after; values = pad8 0 xs }
-unfolding proverStep eightPlaces
-proverStep-zero before after xs = rw (unlessRefused-zero after before, unlessRefused-zero (pad8 0 xs) zeros8)
+unfolding proverStep eightPlaces unlessRefused
+proverStep-zero before after xs = refl
 
 -- a step of Peggy that is refused
 pub proverStep-positive : (n : ℕ) (before after : Prover) (xs : List ℕ) → 0 < n
@@ -41,8 +37,8 @@ proverStep-given n before after xs e = rw e (proverStep-zero before after xs)
 
 -- a step of Vic that is not refused
 pub verifierStep-zero : (before after : Verifier) → verifierStep 0 before after ≡ record { refusal = 0; session = after }
-unfolding verifierStep
-verifierStep-zero before after = rw (unlessRefused-zero after before)
+unfolding verifierStep unlessRefused
+verifierStep-zero before after = refl
 
 -- a step of Vic that is refused
 pub verifierStep-positive : (n : ℕ) (before after : Verifier) → 0 < n

@@ -14,10 +14,10 @@ use Rattle.types.specs.declared.ProverStep.{ProverStep}
 use Rattle.lists.specs.Places.{zeros8}
 use Rattle.formats.specs.Load.{loadRules}
 use Rattle.formats.specs.Sheet.{instanceOf}
+use Rattle.formats.proofs.Order.{load-positive}
 use Rattle.runs.specs.Meaning.{Drops}
 use Rattle.runs.specs.Prover.{commit, respond}
 use Rattle.runs.specs.ProverCalls.{ProverCall, Commit, Respond, Drop, callProver, commits, answers, drops, Ended}
-use Rattle.runs.proofs.Order.{sheet-positive}
 use Rattle.runs.proofs.ProverSteps.{commitAfter-runs, commitAfter-given, commitAfter-kept}
 use Rattle.runs.proofs.ProverSteps.{respondAfter-runs, respondAfter-given, respondAfter-kept, drop-runs, drop-given, drop-kept}
 
@@ -42,7 +42,7 @@ module _ (p : Prover) where
   commits-moves (Commit sheet nonce) t =
       let e = eqb-true _ 0 t in
       let given = commitAfter-given (loadRules sheet) (instanceOf sheet) p nonce e in (
-        commitAfter-runs (loadRules sheet) (instanceOf sheet) p nonce (sheet-positive sheet) .0 e .1 .phase,
+        commitAfter-runs (loadRules sheet) (instanceOf sheet) p nonce (load-positive sheet) .0 e .1 .phase,
         ap (λ (step : ProverStep). step .session .phase) given,
         ap (λ (step : ProverStep). step .session .commitment) given ∙ sym (ap (λ (step : ProverStep). step .values) given),
       )
@@ -57,7 +57,7 @@ module _ (p : Prover) where
   answers-moves (Commit sheet nonce) t = absurd (false≢true t)
   answers-moves (Respond sheet c witness) t =
       let e = eqb-true _ 0 t in (
-        respondAfter-runs (loadRules sheet) (instanceOf sheet) p c witness (sheet-positive sheet) .0 e .1 .phase,
+        respondAfter-runs (loadRules sheet) (instanceOf sheet) p c witness (load-positive sheet) .0 e .1 .phase,
         ap (λ (step : ProverStep). step .session) (respondAfter-given (loadRules sheet) (instanceOf sheet) p c witness e),
       )
   answers-moves Drop t = absurd (false≢true t)

@@ -13,10 +13,10 @@ use Rattle.types.specs.declared.VerifierStep.{VerifierStep}
 use Rattle.types.specs.declared.VerifierVerdict.{VerifierVerdict}
 use Rattle.formats.specs.Load.{loadRules}
 use Rattle.formats.specs.Sheet.{instanceOf}
+use Rattle.formats.proofs.Order.{load-positive}
 use Rattle.runs.specs.Verifier.{verifierState, takeCommitment, takeChallenge, takeResponse}
 use Rattle.runs.specs.VerifierCalls.{VerifierCall, Commitment, Challenge, Response, refusalOf, sessionOf}
 use Rattle.runs.specs.VerifierCalls.{callVerifier, takesCommitment, takesChallenge, judges}
-use Rattle.runs.proofs.Order.{sheet-positive}
 use Rattle.runs.proofs.VerifierSteps.{takeCommitmentAfter-runs, takeCommitmentAfter-given, takeCommitmentAfter-kept}
 use Rattle.runs.proofs.VerifierSteps.{takeChallengeAfter-runs, takeChallengeAfter-given, takeChallengeAfter-kept}
 use Rattle.runs.proofs.VerifierSteps.{takeResponseAfter-runs, takeResponseAfter-given, takeResponseAfter-kept}
@@ -44,7 +44,7 @@ module _ (v : Verifier) where
   takesCommitment-moves (Commitment sheet t) taken =
       let e = eqb-true _ 0 taken in
       let given = takeCommitmentAfter-given (loadRules sheet) (instanceOf sheet) v t e in (
-        takeCommitmentAfter-runs (loadRules sheet) (instanceOf sheet) v t (sheet-positive sheet) .0 e .1 .phase,
+        takeCommitmentAfter-runs (loadRules sheet) (instanceOf sheet) v t (load-positive sheet) .0 e .1 .phase,
         ap (λ (step : VerifierStep). step .session .phase) given,
         ap (λ (step : VerifierStep). step .session .challenge) given,
       )
@@ -60,7 +60,7 @@ module _ (v : Verifier) where
   takesChallenge-moves (Challenge sheet c) taken =
       let e = eqb-true _ 0 taken in
       let given = takeChallengeAfter-given (loadRules sheet) (instanceOf sheet) v c e in (
-        takeChallengeAfter-runs (loadRules sheet) (instanceOf sheet) v c (sheet-positive sheet) .0 e .1 .phase,
+        takeChallengeAfter-runs (loadRules sheet) (instanceOf sheet) v c (load-positive sheet) .0 e .1 .phase,
         ap (λ (step : VerifierStep). step .session .phase) given,
         ap (λ (step : VerifierStep). step .session .commitment) given,
       )
@@ -75,7 +75,7 @@ module _ (v : Verifier) where
   judges-moves (Challenge sheet c) taken = absurd (false≢true taken)
   judges-moves (Response sheet r) taken =
       let e = eqb-true _ 0 taken in (
-        takeResponseAfter-runs (loadRules sheet) (instanceOf sheet) v r (sheet-positive sheet) .0 e .1 .ready .phase,
+        takeResponseAfter-runs (loadRules sheet) (instanceOf sheet) v r (load-positive sheet) .0 e .1 .ready .phase,
         ap (λ (told : VerifierVerdict). told .session) (takeResponseAfter-given (loadRules sheet) (instanceOf sheet) v r e),
       )
 

@@ -41,12 +41,12 @@ module _ (h : Header) where
   opposite x = cond (isExponent h) ((h .order - x) % h .order) (inverse (h .modulus) x)
 
   -- in kind 1 the neutral coordinate is 0
-  pub neutral-exponent : h .kind ≡ 1 → neutral ≡ 0
+  neutral-exponent : h .kind ≡ 1 → neutral ≡ 0
   unfolding neutral
   neutral-exponent e = rw (exponent-kind h e)
 
   -- in kind 2 it is 1
-  pub neutral-root : h .kind ≢ 1 → neutral ≡ 1
+  neutral-root : h .kind ≢ 1 → neutral ≡ 1
   unfolding neutral
   neutral-root n = rw (root-kind h n)
 

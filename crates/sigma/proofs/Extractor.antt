@@ -19,7 +19,7 @@ use Rattle.sigma.specs.Extractor.{extracted, extract}
 use Rattle.sigma.specs.Knowledge.{AcceptedRound, AcceptedPair, Extraction}
 use Rattle.sigma.specs.Meaning.{Extracts}
 use Rattle.sigma.specs.Valid.{Valid}
-use Rattle.sigma.proofs.Base.{formula-witness, formula-any, formula-swapped}
+use Rattle.sigma.proofs.FormulaValue.{formula-witness, formula-any, formula-swapped}
 use Rattle.sigma.proofs.Calls.{valid-judge-accepted, valid-extract-runs, extract-given}
 use Rattle.sigma.proofs.Formula.{formula-agree}
 use Rattle.sigma.proofs.Homomorphism.{Codomain, elementsOf, homomorphism}

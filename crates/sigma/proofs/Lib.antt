@@ -1,4 +1,4 @@
--- Laws of the protocol on values: what each test says, what a call answers, and what it reads.
+-- Laws of the protocol on values: what each test says, what a call answers, what it reads, and demand 3.
 pub mod Answer
 pub mod Order
 pub mod After
@@ -22,7 +22,7 @@ pub mod Maurer
 pub mod Transfer
 pub mod Simulator
 pub mod Prover
-pub mod Base
+pub mod FormulaValue
 pub mod Extractor
 pub mod Lists
 pub mod Restated

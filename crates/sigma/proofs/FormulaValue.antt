@@ -1,5 +1,5 @@
--- The u of the extractor's formula (01, "A round"): [u] = z^ℓ, and (r/r′)^ℓ = u^(c − c′) for two accepted rounds of one
--- commitment, in both kinds. These are the conditions of Maurer's Theorem 3 and of its only value.
+-- The extractor's formula is Maurer's (01, "A round"): in both kinds [u] = z^ℓ, and (r/r′)^ℓ = u^(c − c′) for two accepted
+-- rounds of one commitment. So its value is a witness, the same for all integers that fit and with the rounds swapped.
 -- Assumes nothing.
 use Prim.Native.Nat.{ℕ, _*_, _%_, _^_, _<_}
 use mathlib.Core.Path.{_≡_, sym, ap, _∙_, subst}

@@ -1,0 +1,81 @@
+-- The bytes of one round, as a part of the caller's own file (01, "A round"): empty exactly where the check call gives a number,
+-- else the record's bytes.
+-- Assumes nothing.
+use Prim.Native.Nat.{ℕ, zero, suc, _+_, _<_, _≤_}
+use mathlib.Core.Path.{_≡_, refl, sym, ap, _∙_}
+use mathlib.Core.Logic.{_↔_, _≢_}
+use mathlib.Core.List.{List, []}
+use native.Mathlib.Omega.{arith}
+use lib.ListN.{length, getD, drop, length-drop}
+use lib.Seq.{length-take-le}
+use Rattle.types.specs.declared.Header.{Header}
+use Rattle.encoding.specs.Bytes.{AllBytes}
+use Rattle.lists.proofs.Places.{getD-tabulate}
+use Rattle.sigma.proofs.Answer.{unlessRefused-zero, unlessRefused-positive}
+use Rattle.formats.specs.Meaning.{IsRoundFile}
+use Rattle.formats.specs.RoundCalls.{checkRound, fetchRound, noRound, partAfter, partOfRound}
+use Rattle.formats.specs.RoundFile.{challengeWidth, countField, recordBytes, recordLength, recordPart, recordStart, roundAt}
+use Rattle.formats.specs.Rounds.{roundsOf}
+use Rattle.formats.specs.Sheet.{headerOf}
+use Rattle.formats.proofs.Files.{check-runs, fetch-given}
+use Rattle.formats.proofs.Records.{recordBytes-roundAt, recordStart-later}
+
+-- a record of a file lies inside it
+pub record-inside : {h : Header} {f : List ℕ} → IsRoundFile h f → (k : ℕ) → k < countField f
+    → recordStart challengeWidth h k + recordLength challengeWidth h ≤ length f
+record-inside {h} {f} r k b = omega (arith, r .exact, recordStart-later challengeWidth h k (countField f) b)
+
+module _ (s f : List ℕ) (k : ℕ) where
+  -- where the check gives 0, the part is the record
+  pub part-given : checkRound s f k ≡ 0 → partOfRound s f k ≡ recordPart challengeWidth (headerOf s) f k
+  unfolding partOfRound partAfter checkRound
+  part-given e = simp (e, unlessRefused-zero)
+
+  -- where it gives a number, the part is empty
+  pub part-refused : 0 < checkRound s f k → partOfRound s f k ≡ []
+  unfolding partOfRound partAfter checkRound
+  part-refused some = unlessRefused-positive _ [] _ some
+
+  -- a part that is given has a record's length
+  pub part-length : checkRound s f k ≡ 0 → length (partOfRound s f k) ≡ recordLength challengeWidth (headerOf s)
+  unfolding recordPart
+  part-length e =
+      let (l, r, b) = check-runs s f k .0 e in
+      let start = recordStart challengeWidth (headerOf s) k in
+      ap length (part-given e)
+      ∙ length-take-le (recordLength challengeWidth (headerOf s)) (drop start f)
+      (omega (arith, length-drop start f, record-inside r k b))
+
+  -- the check gives 0 exactly where the part is not empty
+  pub part-not-empty : (checkRound s f k ≡ 0) ↔ (partOfRound s f k ≢ [])
+  unfolding recordLength challengeWidth
+  part-not-empty = (
+    λ e nothing.
+        let none : length (partOfRound s f k) ≡ 0 = ap length nothing in
+        omega (arith, part-length e),
+    λ some. decide some (checkRound s f k) refl,
+  )
+    where
+      decide : partOfRound s f k ≢ [] → (n : ℕ) → checkRound s f k ≡ n → checkRound s f k ≡ 0
+      decide some zero e = e
+      decide some (suc n) e = absurd (some (part-refused (omega arith)))
+
+  -- the part is the bytes of the round that is read
+  pub part-bytes : AllBytes f → checkRound s f k ≡ 0
+      → partOfRound s f k ≡ recordBytes challengeWidth (headerOf s) (fetchRound s f k .round)
+  unfolding recordPart
+  part-bytes b e =
+      let (l, r, inside) = check-runs s f k .0 e in
+      let start = recordStart challengeWidth (headerOf s) k in
+      rw (fetch-given s f k e)
+      (part-given e ∙ sym (recordBytes-roundAt challengeWidth (headerOf s) f start (record-inside r k inside) b))
+
+  -- the round that is read is the file's round of that number
+  pub fetch-round : checkRound s f k ≡ 0
+      → fetchRound s f k ≡ record { refusal = 0; round = getD (roundsOf (headerOf s) f) k noRound }
+  unfolding roundsOf
+  fetch-round e =
+      let (l, r, b) = check-runs s f k .0 e in
+      let start = recordStart challengeWidth (headerOf s) in
+      let same = getD-tabulate (countField f) (λ j. roundAt challengeWidth (headerOf s) f (start j)) k noRound b in
+      fetch-given s f k e ∙ (λ j. record { refusal = 0; round = sym same j })

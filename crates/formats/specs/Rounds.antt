@@ -1,0 +1,49 @@
+-- A round file as a list of rounds: the rounds that a file holds, the file of given rounds, and rounds appended one by one.
+-- Assumes nothing.
+use Prim.Native.Nat.{ℕ, _+_, _^_, _<_}
+use mathlib.Core.Path.{_≡_}
+use mathlib.Core.List.{List, [], _∷_, _++_, flatten, map}
+use lib.ListN.{length, getD}
+use Rattle.types.specs.declared.Header.{Header}
+use Rattle.types.specs.declared.Round.{Round}
+use Rattle.encoding.specs.Bytes.{bytesOf}
+use Rattle.lists.specs.Places.{pad8, places, tabulate}
+use Rattle.formats.specs.Append.{append}
+use Rattle.formats.specs.Meaning.{IsRoundFile}
+use Rattle.formats.specs.RoundFile.{challengeWidth, recordBytes, recordStart, roundAt, roundMark, countField}
+use Rattle.formats.specs.Write.{Writing}
+
+-- what a record holds of a round: s places of t, c, and n places of r, with 0 in the places beyond
+unfoldable pub storedRound : Header → Round → Round
+storedRound h round =
+    record {
+      commitment = pad8 0 (places (h .rows) (round .commitment));
+      challenge = round .challenge;
+      response = pad8 0 (places (h .columns) (round .response));
+    }
+
+-- the values that a record holds have 32 bits
+pub record Words (h : Header) (round : Round) : Type 0 where
+  pub commitment : (j : ℕ) → j < h .rows → getD (round .commitment) j 0 < 2 ^ 32
+  pub challenge : round .challenge < 2 ^ 32
+  pub response : (j : ℕ) → j < h .columns → getD (round .response) j 0 < 2 ^ 32
+
+-- the rounds of a file, in order
+unfoldable pub roundsOf : Header → List ℕ → List Round
+roundsOf h f = tabulate (countField f) (λ k. roundAt challengeWidth h f (recordStart challengeWidth h k))
+
+-- the file of given rounds
+unfoldable pub fileOf : Header → List Round → List ℕ
+fileOf h rounds =
+    roundMark ++ bytesOf 2 1 ++ bytesOf 2 (length rounds) ++ flatten (map (recordBytes challengeWidth h) rounds)
+
+-- the record writer called for each round in turn, on the buffer and the bytes in use that the call before it left
+unfoldable pub appendEach : List ℕ → Writing → List Round → Writing
+appendEach sheet w [] = w
+appendEach sheet w (round ∷ rounds) = appendEach sheet (append sheet (w .buffer) (w .answer .length) round) rounds
+
+-- the file f′ is the file f with one round more, at its end
+pub record Grows (h : Header) (f : List ℕ) (round : Round) (f′ : List ℕ) : Type 0 where
+  pub file : IsRoundFile h f′
+  pub count : countField f′ ≡ countField f + 1
+  pub rounds : Words h round → roundsOf h f′ ≡ roundsOf h f ++ storedRound h round ∷ []

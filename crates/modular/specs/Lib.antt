@@ -1,0 +1,3 @@
+-- Definitions of the tests that answer more than yes or no.
+pub mod Divisor
+pub mod FirstFailing

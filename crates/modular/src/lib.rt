@@ -1,0 +1,174 @@
+// Arithmetic modulo a 32-bit number, with products and sums in 64 bits, and the tests of 01 that need it.
+use types::Header;
+ghost use mathlib.Core.Path.{_≡_};
+ghost use Prim.Native.Nat.{_+_, _-_, _*_, _%_, _^_, _≤_, _<_};
+ghost use Rattle.numbers.specs.Gcd.{gcd};
+ghost use Rattle.numbers.specs.Inverse.{inverse};
+ghost use Rattle.sigma.specs.Element.{isElement, isCoordinate};
+ghost use Rattle.modular.specs.Divisor.{divisorOf};
+ghost use Rattle.modular.specs.FirstFailing.{firstFailing};
+
+// The product of a and b modulo m.
+pub fn mul_mod(a: u32, b: u32, m: u32) -> u32
+    requires { ⌜ 0 < m ⌝ }
+    ensures value { λ r. ⌜ r ≡ a * b % m ⌝ }
+    ensures below { λ r. ⌜ r < m ⌝ }
+{
+    (a as u64 * b as u64 % m as u64) as u32
+}
+
+// The sum of a and b modulo m.
+pub fn add_mod(a: u32, b: u32, m: u32) -> u32
+    requires { ⌜ 0 < m ⌝ }
+    ensures value { λ r. ⌜ r ≡ (a + b) % m ⌝ }
+    ensures below { λ r. ⌜ r < m ⌝ }
+{
+    ((a as u64 + b as u64) % m as u64) as u32
+}
+
+// The difference of a and b modulo m, for a b of at most m.
+pub fn sub_mod(a: u32, b: u32, m: u32) -> u32
+    requires { ⌜ (0 < m) × (b ≤ m) ⌝ }
+    ensures value { λ r. ⌜ r ≡ (a + (m - b)) % m ⌝ }
+    ensures below { λ r. ⌜ r < m ⌝ }
+{
+    ((a as u64 + (m - b) as u64) % m as u64) as u32
+}
+
+// The power of base by exponent modulo m, by squaring and multiplying, the exponent's low bit first.
+pub fn pow_mod(base: u32, exponent: u32, m: u32) -> u32
+    requires { ⌜ 0 < m ⌝ }
+    ensures value { λ r. ⌜ r ≡ base ^ exponent % m ⌝ }
+    ensures below { λ r. ⌜ r < m ⌝ }
+{
+    let mut square = base % m;
+    let mut left = exponent;
+    let mut power = 1 % m;
+    while left > 0 {
+        if left % 2 == 1 {
+            power = mul_mod(power, square, m);
+        }
+        square = mul_mod(square, square, m);
+        left = left / 2;
+    }
+    power
+}
+
+// The greatest common divisor of a and b, by Euclid's algorithm.
+pub fn gcd(a: u32, b: u32) -> u32
+    ensures { λ r. ⌜ r ≡ gcd a b ⌝ }
+{
+    let mut x = a;
+    let mut y = b;
+    while y > 0 {
+        let remainder = x % y;
+        x = y;
+        y = remainder;
+    }
+    x
+}
+
+// The inverse of v modulo m, for a v that has no divisor in common with m, by Euclid's algorithm on m and v. At each turn
+// v times s is x modulo m, and v times t is y.
+pub fn inverse(v: u32, m: u32) -> u32
+    requires { ⌜ (1 < m) × (gcd v m ≡ 1) ⌝ }
+    ensures value { λ r. ⌜ r ≡ inverse m v ⌝ }
+    ensures below { λ r. ⌜ r < m ⌝ }
+{
+    let mut x = m;
+    let mut y = v;
+    let mut s: u32 = 0;
+    let mut t: u32 = 1;
+    while y > 0 {
+        let quotient = x / y;
+        let rest = x % y;
+        let next = sub_mod(s, mul_mod(quotient, t, m), m);
+        x = y;
+        y = rest;
+        s = t;
+        t = next;
+    }
+    s
+}
+
+// What a search for a divisor finds.
+pub enum Divisor {
+    Found(u32),
+    Nothing,
+}
+
+// The first d with 2 ≤ d < challenges that divides order, or nothing where there is none.
+pub fn first_divisor(order: u32, challenges: u32) -> Divisor
+    ensures { λ r. ⌜ r ≡ divisorOf order challenges ⌝ }
+{
+    let mut d: u32 = 2;
+    loop {
+        if d >= challenges {
+            break Divisor::Nothing;
+        }
+        if order % d == 0 {
+            break Divisor::Found(d);
+        }
+        d += 1;
+    }
+}
+
+// Whether v is a group element: from 1 to m - 1, with v^q mod m = 1 in kind 1 and gcd(v, m) = 1 in kind 2.
+pub fn is_element(h: Header, v: u32) -> bool
+    requires { ⌜ 0 < h .modulus ⌝ }
+    ensures { λ r. ⌜ r ≡ isElement h v ⌝ }
+{
+    if v < 1 {
+        return false;
+    }
+    if v >= h.modulus {
+        return false;
+    }
+    if h.kind == 1 {
+        return pow_mod(v, h.order, h.modulus) == 1;
+    }
+    gcd(v, h.modulus) == 1
+}
+
+// Whether x is a coordinate of the domain: from 0 to q - 1 in kind 1, a group element in kind 2.
+pub fn is_coordinate(h: Header, x: u32) -> bool
+    requires { ⌜ 0 < h .modulus ⌝ }
+    ensures { λ r. ⌜ r ≡ isCoordinate h x ⌝ }
+{
+    if h.kind == 1 {
+        return x < h.order;
+    }
+    is_element(h, x)
+}
+
+// The first index below n at which values holds no group element, or n where there is none.
+pub fn first_non_element(h: Header, values: [u32; 8], n: usize) -> usize
+    requires { ⌜ (0 < h .modulus) × (n ≤ 8) ⌝ }
+    ensures value { λ r. ⌜ r ≡ firstFailing (isElement h) n values ⌝ }
+    ensures within { λ r. ⌜ r ≤ n ⌝ }
+{
+    let mut i: usize = 0;
+    while i < n {
+        if !is_element(h, values[i]) {
+            return i;
+        }
+        i += 1;
+    }
+    i
+}
+
+// The first index below n at which values holds no coordinate of the domain, or n where there is none.
+pub fn first_non_coordinate(h: Header, values: [u32; 8], n: usize) -> usize
+    requires { ⌜ (0 < h .modulus) × (n ≤ 8) ⌝ }
+    ensures value { λ r. ⌜ r ≡ firstFailing (isCoordinate h) n values ⌝ }
+    ensures within { λ r. ⌜ r ≤ n ⌝ }
+{
+    let mut i: usize = 0;
+    while i < n {
+        if !is_coordinate(h, values[i]) {
+            return i;
+        }
+        i += 1;
+    }
+    i
+}

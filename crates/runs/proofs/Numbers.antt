@@ -1,0 +1,124 @@
+-- The number that each call on a sheet's bytes gives is that of the first of 01's conditions that holds, 0 where none does
+-- (01, "Turned back"): the sheet's conditions, 2 to 11, then the call's own.
+-- Assumes nothing.
+use Prim.Native.Nat.{ℕ}
+use mathlib.Core.List.{List, _++_}
+use Rattle.types.specs.declared.Prover.{Prover}
+use Rattle.types.specs.declared.Round.{Round}
+use Rattle.types.specs.declared.Verifier.{Verifier}
+use Rattle.lists.specs.Places.{places}
+use Rattle.rules.specs.Condition.{Condition, Given, Tests}
+use Rattle.rules.specs.Rule.{Rule, lowest}
+use Rattle.rules.proofs.Condition.{given, tests-append}
+use Rattle.formats.specs.Load.{loadRules}
+use Rattle.formats.specs.Refusals.{loadConditions}
+use Rattle.formats.specs.Sheet.{instanceOf}
+use Rattle.formats.proofs.Refusals.{load-tests}
+use Rattle.sigma.specs.Answer.{outcome, computed}
+use Rattle.sigma.specs.Extractor.{extractAfter}
+use Rattle.sigma.specs.Judge.{judgeAfter}
+use Rattle.sigma.specs.Refusals.{judgeConditions, simulateConditions, extractConditions}
+use Rattle.sigma.specs.Simulator.{simulateAfter}
+use Rattle.sigma.proofs.Refusals.{judge-tests, simulate-tests, extract-tests}
+use Rattle.sigma.proofs.Verdict.{verdict-not-refused}
+use Rattle.runs.specs.Calls.{judgeRound, simulateCommitment, extractWitness}
+use Rattle.runs.specs.Prover.{proverStep, commitAfter, commit, respondAfter, respond, dropRules, dropSession}
+use Rattle.runs.specs.Refusals.{
+  commitConditions,
+  respondConditions,
+  dropConditions,
+  takeCommitmentConditions,
+  takeChallengeConditions,
+  takeResponseConditions,
+}
+use Rattle.runs.specs.Verifier.{verifierStep, takeCommitmentAfter, takeCommitment, takeChallengeAfter, takeChallenge, takeResponse}
+use Rattle.runs.proofs.Outcome.{judged-number}
+use Rattle.runs.proofs.Refusals.{commit-tests, respond-tests, drop-tests}
+use Rattle.runs.proofs.Refusals.{takeCommitment-tests, takeChallenge-tests, takeResponse-tests}
+use Rattle.runs.proofs.VerifierSteps.{takeResponseAfter-refusal}
+
+-- rules that test a call's conditions, behind those of a sheet
+behind-sheet : (sheet : List ℕ) (rules : List Rule) (conditions : List Condition) → Tests rules conditions
+    → Given (loadConditions sheet ++ conditions) (lowest (loadRules sheet ++ rules))
+behind-sheet sheet rules conditions tests =
+    given (loadRules sheet ++ rules) (loadConditions sheet ++ conditions)
+    (tests-append (loadRules sheet) rules (loadConditions sheet) conditions (load-tests sheet) tests)
+
+module _ (sheet : List ℕ) where
+  -- what is read of a commitment
+  abbrev rows : List ℕ → List ℕ
+  rows t = places (instanceOf sheet .header .rows) t
+
+  -- what is read of a nonce, a witness or a response
+  abbrev columns : List ℕ → List ℕ
+  columns x = places (instanceOf sheet .header .columns) x
+
+  -- ---- calls on rounds
+
+  -- judging
+  pub judge-number : (round : Round)
+      → Given
+      (loadConditions sheet
+      ++ judgeConditions (instanceOf sheet) (rows (round .commitment)) (round .challenge) (columns (round .response)))
+      (outcome (judgeRound sheet round) .number)
+  unfolding judgeRound judgeAfter
+  judge-number round =
+      rw (judged-number _ _ (verdict-not-refused (instanceOf sheet) _ _ _)) (behind-sheet sheet _ _ (judge-tests (instanceOf sheet) _ _ _))
+
+  -- simulating
+  pub simulate-number : (c : ℕ) (r : List ℕ)
+      → Given (loadConditions sheet ++ simulateConditions (instanceOf sheet) c (columns r)) (simulateCommitment sheet c r .refusal)
+  unfolding simulateCommitment simulateAfter computed
+  simulate-number c r = behind-sheet sheet _ _ (simulate-tests (instanceOf sheet) c _)
+
+  -- extracting
+  pub extract-number : (first second : Round)
+      → Given
+      (loadConditions sheet
+      ++ extractConditions (instanceOf sheet) (rows (first .commitment)) (first .challenge) (columns (first .response))
+      (rows (second .commitment)) (second .challenge) (columns (second .response)))
+      (extractWitness sheet first second .refusal)
+  unfolding extractWitness extractAfter computed
+  extract-number first second = behind-sheet sheet _ _ (extract-tests (instanceOf sheet) _ _ _ _ _ _)
+
+  -- ---- Peggy
+
+  -- committing
+  pub commit-number : (p : Prover) (k : List ℕ)
+      → Given (loadConditions sheet ++ commitConditions (instanceOf sheet) p (columns k)) (commit sheet p k .refusal)
+  unfolding commit commitAfter proverStep
+  commit-number p k = behind-sheet sheet _ _ (commit-tests (instanceOf sheet) p _)
+
+  -- responding
+  pub respond-number : (p : Prover) (c : ℕ) (x : List ℕ)
+      → Given (loadConditions sheet ++ respondConditions (instanceOf sheet) p c (columns x)) (respond sheet p c x .refusal)
+  unfolding respond respondAfter proverStep
+  respond-number p c x = behind-sheet sheet _ _ (respond-tests (instanceOf sheet) p c _)
+
+  -- ---- Vic
+
+  -- the commitment
+  pub takeCommitment-number : (v : Verifier) (t : List ℕ)
+      → Given (loadConditions sheet ++ takeCommitmentConditions (instanceOf sheet) v (rows t)) (takeCommitment sheet v t .refusal)
+  unfolding takeCommitment takeCommitmentAfter verifierStep
+  takeCommitment-number v t = behind-sheet sheet _ _ (takeCommitment-tests (instanceOf sheet) v _)
+
+  -- the challenge
+  pub takeChallenge-number : (v : Verifier) (c : ℕ)
+      → Given (loadConditions sheet ++ takeChallengeConditions (instanceOf sheet) v c) (takeChallenge sheet v c .refusal)
+  unfolding takeChallenge takeChallengeAfter verifierStep
+  takeChallenge-number v c = behind-sheet sheet _ _ (takeChallenge-tests (instanceOf sheet) v c)
+
+  -- the response
+  pub takeResponse-number : (v : Verifier) (r : List ℕ)
+      → Given (loadConditions sheet ++ takeResponseConditions (instanceOf sheet) v (columns r))
+      (outcome (takeResponse sheet v r .verdict) .number)
+  unfolding takeResponse
+  takeResponse-number v r =
+      rw (takeResponseAfter-refusal (loadRules sheet) (instanceOf sheet) v r)
+      (behind-sheet sheet _ _ (takeResponse-tests (instanceOf sheet) v _))
+
+-- dropping, which takes no sheet
+pub drop-number : (p : Prover) → Given (dropConditions p) (dropSession p .refusal)
+unfolding dropSession proverStep
+drop-number p = given (dropRules p) (dropConditions p) (drop-tests p)
