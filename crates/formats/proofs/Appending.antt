@@ -65,7 +65,8 @@ module _ (s buffer : List ℕ) (used : ℕ) (round : Round) where
       let file = in-use-passes h buffer used in
       let room = short-passes buffer (used + recordLength challengeWidth h) in (
         λ e.
-            let (sheet, (inside, (fits, none))) = parts .0 (clear-lowest rules (record-positive s h buffer used) (sym append-refusal ∙ e)) in
+            let clear = clear-lowest rules (record-positive s h buffer used) (sym append-refusal ∙ e) in
+            let (sheet, (inside, (fits, none))) = parts .0 clear in
             (load-clear s .0 sheet, file .0 inside, room .0 fits),
         λ (l, u, fits).
             append-refusal ∙ lowest-clear rules (parts .1 (load-clear s .1 l, (file .1 u, (room .1 fits, tt)))),

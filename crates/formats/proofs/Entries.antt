@@ -94,5 +94,6 @@ module _ (i : Instance) where
           rw (row-at r a)
           (below-tabulate (2 ^ 32) (i .header .columns) (entry i r) (omega arith) (λ c b. omega (arith, v .entries e r c a b .below)))
       row e r (no a) =
-          let beyond : length (tabulate (i .header .rows) (entryRow i)) ≤ r = omega (arith, length-tabulate (i .header .rows) (entryRow i)) in
+          let count = length-tabulate (i .header .rows) (entryRow i) in
+          let beyond : length (tabulate (i .header .rows) (entryRow i)) ≤ r = omega arith in
           rw (List·getD-eq-default (tabulate (i .header .rows) (entryRow i)) [] beyond) (λ j. omega arith)

@@ -43,7 +43,8 @@ in-use-grown {h} {buffer} {used} u round fits =
     let raised = length-bytesOf 2 (countField buffer + 1) in
     let front : length (take used buffer ++ bytes) ≡ used + recordLength challengeWidth h =
     length-append (take used buffer) bytes ∙ omega (arith, length-take-le used buffer (u .inside)) in
-    take-sets-inside (used + recordLength challengeWidth h) (sets buffer used bytes) 5 (bytesOf 2 (countField buffer + 1)) (omega (arith, in-use-long u))
+    take-sets-inside (used + recordLength challengeWidth h) (sets buffer used bytes) 5 (bytesOf 2 (countField buffer + 1))
+    (omega (arith, in-use-long u))
     ∙ ap₂ (λ (l : List ℕ) (n : ℕ). sets l 5 (bytesOf 2 (n + 1)))
     (ap (take (used + recordLength challengeWidth h)) (sets-eq bytes buffer used (omega arith))
     ∙ take-at (take used buffer ++ bytes) _ (used + recordLength challengeWidth h) front)

@@ -20,3 +20,4 @@ pub mod Rounds
 pub mod Growing
 pub mod RoundFileRoundTrip
 pub mod Part
+pub mod LongFiles

@@ -116,6 +116,11 @@ module _ (s : List ℕ) where
   pub loads-valid : loadRefusal s ≡ 0 → Valid (instanceOf s)
   loads-valid e = loads .0 e .valid
 
+  -- it has at most eight rows and columns
+  pub loads-few : Loads s → (headerOf s .rows ≤ 8) × (headerOf s .columns ≤ 8)
+  unfolding instanceOf
+  loads-few l = (l .valid .few-rows, l .valid .few-columns)
+
   -- loading answers the fixed fields and the statement
   pub load-given : loadRefusal s ≡ 0
       → load s ≡ record { refusal = 0; header = instanceOf s .header; statement = instanceOf s .statement }

@@ -27,7 +27,18 @@ use Rattle.formats.specs.Encode.{sheetOf}
 use Rattle.formats.specs.Load.{loadRefusal, loaded}
 use Rattle.formats.specs.Meaning.{Makes, readInstance, readRows}
 use Rattle.formats.specs.Outcome.{Keeps, Puts}
-use Rattle.formats.specs.Pattern.{badPattern, badValues, entryOf, fromPattern, made, madeHeader, makeRules, patternEntries, patternOf, patterns}
+use Rattle.formats.specs.Pattern.{
+  badPattern,
+  badValues,
+  entryOf,
+  fromPattern,
+  made,
+  madeHeader,
+  makeRules,
+  patternEntries,
+  patternOf,
+  patterns,
+}
 use Rattle.formats.specs.Sheet.{sheetLength, zeros64}
 use Rattle.formats.specs.Write.{written, writtenAtStart}
 use Rattle.formats.proofs.Loads.{loads, loaded-given}

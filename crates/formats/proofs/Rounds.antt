@@ -121,7 +121,9 @@ module _ (h : Header) where
       let count = count-fileOf rounds (omega arith) in
       record {
         mark = simp append-assoc (take-at roundMark _ 3 length-roundMark);
-        version = number-behind 2 1 roundMark (bytesOf 2 (length rounds) ++ records rounds) (fileOf h rounds) 3 (simp append-assoc) length-roundMark (omega arith);
+        version =
+            number-behind 2 1 roundMark (bytesOf 2 (length rounds) ++ records rounds) (fileOf h rounds) 3 (simp append-assoc)
+            length-roundMark (omega arith);
         few = omega arith;
         exact = length-fileOf rounds ∙ ap (recordStart challengeWidth h) (sym count);
       }

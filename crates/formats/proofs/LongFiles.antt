@@ -1,0 +1,215 @@
+-- Long inputs: a sheet longer than any that loads, and a round file longer than any that is read, are refused as their first
+-- bytes are. So a program that reads at most n bytes, from 309 or 34,824 on, gives the right number for every file.
+-- Assumes nothing.
+use Prim.Native.Nat.{ℕ, zero, suc, _<_, _≤_}
+use mathlib.Core.Path.{_≡_, refl, sym, ap, _∙_}
+use mathlib.Core.Logic.{_⊎_, inl, inr, ⊎-elim}
+use mathlib.Core.Bool.{Bool, true, false}
+use mathlib.Core.List.{List, [], _∷_, _++_}
+use native.Mathlib.Decide.{decLe}
+use native.Mathlib.Nat.{mul-le-mul}
+use native.Mathlib.Omega.{arith}
+use lib.Dec.{T}
+use lib.ListN.{length, take}
+use lib.Seq.{append-snoc, getD-take, length-take-le, take-all}
+use Rattle.types.specs.declared.Header.{Header}
+use Rattle.encoding.proofs.Bytes.{numberAt-take}
+use Rattle.lists.specs.Places.{zeros8}
+use Rattle.rules.specs.Rule.{Rule, _when_, lowest, Clear, positive}
+use Rattle.rules.proofs.Lowest.{clear-lowest, lowest-earlier, lowest-later, stop}
+use Rattle.rules.proofs.Says.{says-decides, says-iff, says-same}
+use Rattle.sigma.specs.Admission.{headerRules, elementRules}
+use Rattle.sigma.proofs.Answer.{unlessRefused-positive}
+use Rattle.sigma.proofs.Passed.{size-passes}
+use Rattle.sigma.proofs.Tests.{says-exponent}
+use Rattle.formats.specs.Load.{badStart, badVersion, badLength, shapeRules, loadRules, loadRefusal, noHeader, load, loadEntries}
+use Rattle.formats.specs.Meaning.{IsRoundFile, Loads}
+use Rattle.formats.specs.RoundCalls.{checkAfter, checkRound, countAfter, countRounds, fileRules, roundRules}
+use Rattle.formats.specs.RoundFile.{badFile, challengeWidth, countField, recordLength, recordStart}
+use Rattle.formats.specs.Sheet.{headerOf, instanceOf, sheetLength, versionOf}
+use Rattle.formats.proofs.After.{checkAfter-clear, checkAfter-refused, countAfter-refused}
+use Rattle.formats.proofs.Entries.{entryCount-exponent, entryCount-root}
+use Rattle.formats.proofs.Files.{file-passes}
+use Rattle.formats.proofs.Loads.{load-clear, load-refused, entries-refused, loads, loads-few}
+use Rattle.formats.proofs.Tests.{says-badLength, says-badStart}
+
+-- ---- how long a sheet and a round file can be
+
+-- a sheet of at most eight rows and columns has at most 308 bytes
+pub sheet-short : (h : Header) → h .rows ≤ 8 → h .columns ≤ 8 → sheetLength h ≤ 308
+unfolding sheetLength
+sheet-short h a b = elim (says-decides (says-exponent h)) [
+  | inl e ↦ omega (arith, entryCount-exponent h e, mul-le-mul a b)
+  | inr n ↦ omega (arith, entryCount-root h n)
+]
+
+-- a round file of such a sheet has at most 34,823 bytes
+pub file-short : {h : Header} {f : List ℕ} → h .rows ≤ 8 → h .columns ≤ 8 → IsRoundFile h f → length f ≤ 34823
+unfolding recordStart recordLength challengeWidth
+file-short {h} {f} a b r =
+    let most : recordLength challengeWidth h ≤ 68 = omega arith in
+    omega (arith, r .exact, mul-le-mul (r .few) most)
+
+-- a number is 0 or more
+zero-or-more : (n : ℕ) → (n ≡ 0) ⊎ (0 < n)
+zero-or-more zero = inl refl
+zero-or-more (suc n) = inr (omega arith)
+
+-- ---- sheets
+
+-- the rules before the length's
+abbrev front : List ℕ → List Rule
+front s = (2 when badStart s) ∷ (3 when badVersion s) ∷ headerRules (headerOf s)
+
+-- a sheet's rules are those, then the length's and the elements'
+load-front : (s : List ℕ) → loadRules s ≡ front s ++ (9 when badLength s) ∷ elementRules (instanceOf s)
+unfolding loadRules shapeRules
+load-front s =
+    ap (λ (rules : List Rule). (2 when badStart s) ∷ (3 when badVersion s) ∷ rules)
+    (append-snoc (headerRules (headerOf s)) (9 when badLength s) (elementRules (instanceOf s)))
+
+-- they have positive numbers
+front-positive : (s : List ℕ) → T (positive (front s))
+unfolding headerRules
+front-positive s = tt
+
+-- where they don't apply, a sheet of more than 308 bytes is refused by 9
+long-refused : (s : List ℕ) → 308 < length s → Clear (front s) → loadRefusal s ≡ 9
+unfolding loadRefusal headerRules
+long-refused s long c =
+    let (start, (version, header)) = c in
+    let (kind, (modulus, (order, (size, rest)))) = header in
+    let (a, b, d, e, same) = size-passes (headerOf s) .0 size in
+    let other = says-badLength s .complete (λ (same : length s ≡ sheetLength (headerOf s)). omega (arith, sheet-short (headerOf s) b e)) in
+    ap lowest (load-front s) ∙ lowest-later (front s) _ c ∙ stop 9 (elementRules (instanceOf s)) other
+
+-- a longer sheet, refused by a rule before the length's, gives that rule's number
+early-refused : (s : List ℕ) → 0 < lowest (front s) → loadRefusal s ≡ lowest (front s)
+unfolding loadRefusal
+early-refused s some = ap lowest (load-front s) ∙ lowest-earlier (front s) _ some
+
+module _ (n : ℕ) (s : List ℕ) (enough : 20 ≤ n) (long : n ≤ length s) where
+  -- the first 20 bytes have the same start
+  start-cut : badStart (take n s) ≡ badStart s
+  start-cut =
+      let size = length-take-le n s long in
+      says-same (says-badStart (take n s))
+      (says-iff (says-badStart s) (
+        ⊎-elim (λ (l : length s < 20). absurd (omega arith))
+            (λ (i, b, other). inr (i, b, λ e. other (sym (getD-take n s i 0 (omega arith)) ∙ e))),
+        ⊎-elim (λ (l : length (take n s) < 20). absurd (omega arith))
+            (λ (i, b, other). inr (i, b, λ e. other (getD-take n s i 0 (omega arith) ∙ e))),
+      ))
+
+  -- the same fixed fields
+  header-cut : headerOf (take n s) ≡ headerOf s
+  unfolding headerOf
+  header-cut = λ j. record {
+    kind = numberAt-take 1 n s 5 (omega arith) j;
+    modulus = numberAt-take 4 n s 6 (omega arith) j;
+    order = numberAt-take 4 n s 10 (omega arith) j;
+    challenges = numberAt-take 4 n s 14 (omega arith) j;
+    rows = numberAt-take 1 n s 18 (omega arith) j;
+    columns = numberAt-take 1 n s 19 (omega arith) j;
+  }
+
+  -- and so the same rules before the length's
+  front-cut : front (take n s) ≡ front s
+  unfolding badVersion versionOf
+  front-cut = rw (start-cut, header-cut, numberAt-take 2 n s 3 (omega arith))
+
+-- a sheet of more than 308 bytes, cut to more than 308 bytes, is refused with the same number
+cut-refused : (n : ℕ) (s : List ℕ) → 309 ≤ n → n ≤ length s → (lowest (front s) ≡ 0) ⊎ (0 < lowest (front s))
+    → loadRefusal (take n s) ≡ loadRefusal s
+cut-refused n s enough long (inl e) =
+    let same = front-cut n s (omega arith) long in
+    let size = length-take-le n s long in
+    long-refused (take n s) (omega arith) (clear-lowest (front (take n s)) (front-positive (take n s)) (ap lowest same ∙ e))
+    ∙ sym (long-refused s (omega arith) (clear-lowest (front s) (front-positive s) e))
+cut-refused n s enough long (inr some) =
+    let same = ap lowest (front-cut n s (omega arith) long) in
+    early-refused (take n s) (omega arith) ∙ same ∙ sym (early-refused s some)
+
+module _ (n : ℕ) (enough : 309 ≤ n) (s : List ℕ) where
+  -- a sheet cut to its first n bytes is refused with the same number, and loads where it does
+  pub refusal-cut : loadRefusal (take n s) ≡ loadRefusal s
+  refusal-cut = elim (decLe (length s) n) [
+    | yes short ↦ ap loadRefusal (take-all n s short)
+    | no long ↦ cut-refused n s enough (omega arith) (zero-or-more (lowest (front s)))
+  ]
+
+  -- it is the same sheet where it loads
+  loads-cut : loadRefusal s ≡ 0 → take n s ≡ s
+  loads-cut e =
+      let l = loads s .0 e in
+      let (rows, columns) = loads-few s l in
+      let few = sheet-short (headerOf s) rows columns in
+      take-all n s (omega (arith, l .exact))
+
+  -- so loading answers the same
+  pub load-cut : load (take n s) ≡ load s
+  load-cut = elim (zero-or-more (loadRefusal s)) [
+    | inl e ↦ ap load (loads-cut e)
+    | inr some ↦
+        let some′ : 0 < loadRefusal (take n s) = omega (arith, refusal-cut) in
+        load-refused (take n s) some′ ∙ (λ j. record { refusal = refusal-cut j; header = noHeader; statement = zeros8 })
+        ∙ sym (load-refused s some)
+  ]
+
+  -- and the entries are the same
+  pub entries-cut : loadEntries (take n s) ≡ loadEntries s
+  entries-cut = elim (zero-or-more (loadRefusal s)) [
+    | inl e ↦ ap loadEntries (loads-cut e)
+    | inr some ↦ entries-refused (take n s) (omega (arith, refusal-cut)) ∙ sym (entries-refused s some)
+  ]
+
+-- ---- round files
+
+-- a test that is not false is true
+not-false-true : (b : Bool) → ¬ (b ≡ false) → b ≡ true
+not-false-true true n = refl
+not-false-true false n = absurd (n refl)
+
+-- of a sheet that loads a file of more than 34,823 bytes is refused
+long-file : (s : List ℕ) → Loads s → (f : List ℕ) → 34823 < length f → badFile (headerOf s) f ≡ true
+long-file s l f long =
+    let (rows, columns) = loads-few s l in
+    not-false-true (badFile (headerOf s) f) (λ good.
+    let short = file-short {h = headerOf s} rows columns (file-passes (headerOf s) f .0 good) in
+    omega arith)
+
+module _ (n : ℕ) (enough : 34824 ≤ n) (s f : List ℕ) where
+  -- a call that answers one thing where the sheet is refused and one where the file is, answers the same of the first n bytes
+  cut-same : {A : Type 0} (call : List ℕ → A) (early late : A)
+      → (0 < loadRefusal s → (g : List ℕ) → call g ≡ early)
+      → (Clear (loadRules s) → (g : List ℕ) → badFile (headerOf s) g ≡ true → call g ≡ late) → call (take n f) ≡ call f
+  cut-same call early late sheet file = elim (decLe (length f) n) [
+    | yes short ↦ ap call (take-all n f short)
+    | no long ↦ elim (zero-or-more (loadRefusal s)) [
+      | inl e ↦
+          let l = loads s .0 e in
+          let clear = load-clear s .1 l in
+          let size = length-take-le n f (omega arith) in
+          file clear (take n f) (long-file s l (take n f) (omega arith)) ∙ sym (file clear f (long-file s l f (omega arith)))
+      | inr some ↦ sheet some (take n f) ∙ sym (sheet some f)
+    ]
+  ]
+
+  -- the check of a file that is refused
+  bad-check : Clear (loadRules s) → (g : List ℕ) (k : ℕ) → badFile (headerOf s) g ≡ true → checkRound s g k ≡ 12
+  unfolding checkRound checkAfter roundRules fileRules
+  bad-check clear g k bad = checkAfter-clear (loadRules s) (headerOf s) clear g k ∙ stop 12 _ bad
+
+  -- a file cut to its first n bytes is counted as the whole
+  pub count-cut : countRounds s (take n f) ≡ countRounds s f
+  unfolding countRounds countAfter loadRefusal fileRules
+  count-cut =
+      cut-same (countRounds s) _ (record { refusal = 12; count = 0 }) (countAfter-refused (loadRules s) (headerOf s)) (λ clear g bad.
+      rw (lowest-later (loadRules s) _ clear, stop 12 [] bad, unlessRefused-positive (countField g) 0 12 (omega arith)))
+
+  -- a round of it is checked as a round of the whole
+  pub check-cut : (k : ℕ) → checkRound s (take n f) k ≡ checkRound s f k
+  unfolding checkRound loadRefusal
+  check-cut k =
+      cut-same (λ g. checkRound s g k) _ 12 (λ some g. checkAfter-refused (loadRules s) (headerOf s) some g k)
+      (λ clear g bad. bad-check clear g k bad)
