@@ -3,8 +3,9 @@
 -- Assumes nothing.
 use Prim.Native.Nat.{ℕ, zero, suc, _+_, _*_, _/_, _%_, _^_, _≤_, _<_}
 use mathlib.Core.Path.{_≡_, refl, sym, ap, ap₂, _∙_}
-use mathlib.Core.List.{List, [], _∷_, _++_, append-assoc}
-use native.Mathlib.Nat.{zero-add, add-zero, mul-zero, mul-suc, mod-eq-of-lt, one-le-pow, pow-suc, pow-zero, mod-one}
+use mathlib.Core.List.{List, [], _∷_, _++_, append-assoc, append-nil}
+use native.Mathlib.Nat.{zero-add, add-zero, add-suc, mul-zero, mul-suc, mul-assoc, mod-eq-of-lt, one-le-pow, pow-suc, pow-zero, pow-succ'}
+use native.Mathlib.Nat.{mod-one, div-one, div-div-eq-div-mul}
 use native.Mathlib.Omega.{arith}
 use lib.Arith.{digits-lt, digits-div, digits-mod, mod-mul}
 use lib.ListN.{length, getD, take, drop, length-append, length-drop, List·getD-append}
@@ -119,6 +120,27 @@ bytesOf-numberAt (suc w) s at h b =
 pub bytesOf-injective : (w u v : ℕ) → u < 256 ^ w → v < 256 ^ w → bytesOf w u ≡ bytesOf w v → u ≡ v
 bytesOf-injective w u v h k e =
     sym (numberAt-bytesOf w u [] [] h) ∙ ap (λ (bs : List ℕ). numberAt w (bs ++ []) 0) e ∙ numberAt-bytesOf w v [] [] k
+
+-- ---- fields side by side
+
+-- a number of a + b bytes is the number in the first a, moved up by b bytes, and the number in the b behind them
+pub numberAt-join : (a b : ℕ) (s : List ℕ) (at : ℕ) → numberAt (a + b) s at ≡ numberAt a s at * 256 ^ b + numberAt b s (at + a)
+unfolding numberAt
+numberAt-join a zero s at = rw (add-zero a, pow-zero 256) (omega arith)
+numberAt-join a (suc b) s at =
+    let high = numberAt a s at in
+    let place : at + (a + b) ≡ at + a + b = omega arith in
+    rw (add-suc a b, pow-suc 256 b, place)
+    (omega (arith, numberAt-join a b s at, mul-assoc high (256 ^ b) 256))
+
+-- the a + b bytes of a number are the a bytes of what lies above the last b, and those b
+pub bytesOf-join : (a b v : ℕ) → bytesOf (a + b) v ≡ bytesOf a (v / 256 ^ b) ++ bytesOf b v
+unfolding bytesOf
+bytesOf-join a zero v = rw (add-zero a, pow-zero 256, div-one v, append-nil)
+bytesOf-join a (suc b) v =
+    rw (add-suc a b, pow-succ' 256 b, ← div-div-eq-div-mul v 256 (256 ^ b))
+    (ap (λ (bs : List ℕ). bs ++ v % 256 ∷ []) (bytesOf-join a b (v / 256))
+    ∙ append-assoc (bytesOf a (v / 256 / 256 ^ b)) (bytesOf b (v / 256)) (v % 256 ∷ []))
 
 -- ---- runs of numbers
 
