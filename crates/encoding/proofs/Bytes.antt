@@ -1,5 +1,5 @@
--- Numbers as bytes, high byte first: what is written is read back, what is read is written back, and a number read
--- depends on its own bytes alone.
+-- Numbers as bytes, high byte first: what is written is read back, what is read is written back, a number read depends
+-- on its own bytes alone, and fields side by side are one field.
 -- Assumes nothing.
 use Prim.Native.Nat.{ℕ, zero, suc, _+_, _*_, _/_, _%_, _^_, _≤_, _<_}
 use mathlib.Core.Path.{_≡_, refl, sym, ap, ap₂, _∙_}
@@ -10,7 +10,8 @@ use native.Mathlib.Omega.{arith}
 use lib.Arith.{digits-lt, digits-div, digits-mod, mod-mul}
 use lib.ListN.{length, getD, take, drop, length-append, length-drop, List·getD-append}
 use lib.Seq.{take-suc, take-add, drop-drop, getD-at, getD-take, getD-drop, getD-append-add}
-use Rattle.lists.specs.Places.{itemsAt}
+use Rattle.lists.specs.Places.{itemsAt, places}
+use Rattle.lists.proofs.Places.{places-suc}
 use Rattle.encoding.specs.Bytes.{numberAt, bytesOf, bytesOfEach, AllBelow, AllBytes}
 
 -- ---- the bytes of a number
@@ -151,6 +152,14 @@ bytesOfEach-append w [] vs = refl
 bytesOfEach-append w (u ∷ us) vs =
     ap (λ (bs : List ℕ). bytesOf w u ++ bs) (bytesOfEach-append w us vs)
     ∙ sym (append-assoc (bytesOf w u) (bytesOfEach w us) (bytesOfEach w vs))
+
+-- the bytes of one place more
+pub bytesOfEach-places : (w n : ℕ) (vs : List ℕ)
+    → bytesOfEach w (places (suc n) vs) ≡ bytesOfEach w (places n vs) ++ bytesOf w (getD vs n 0)
+unfolding bytesOfEach
+bytesOfEach-places w n vs =
+    ap (bytesOfEach w) (places-suc n vs) ∙ bytesOfEach-append w (places n vs) (getD vs n 0 ∷ [])
+    ∙ ap (λ (bs : List ℕ). bytesOfEach w (places n vs) ++ bs) (append-nil (bytesOf w (getD vs n 0)))
 
 -- the bytes of a run of numbers that fit them, read, give the numbers
 pub itemsAt-bytesOfEach : (w : ℕ) (vs xs ys : List ℕ) → AllBelow (256 ^ w) vs
