@@ -1,16 +1,18 @@
--- Numbers as bytes, high byte first: what is written is read back, what is read is written back, and a number read
--- depends on its own bytes alone.
+-- Numbers as bytes, high byte first: what is written is read back, what is read is written back, a number read depends
+-- on its own bytes alone, and fields side by side are one field.
 -- Assumes nothing.
 use Prim.Native.Nat.{ℕ, zero, suc, _+_, _*_, _/_, _%_, _^_, _≤_, _<_}
 use mathlib.Core.Path.{_≡_, refl, sym, ap, ap₂, _∙_}
-use mathlib.Core.List.{List, [], _∷_, _++_, append-assoc}
-use native.Mathlib.Nat.{zero-add, add-zero, mul-zero, mul-suc, mod-eq-of-lt, one-le-pow, pow-suc, pow-zero, mod-one}
+use mathlib.Core.List.{List, [], _∷_, _++_, append-assoc, append-nil}
+use native.Mathlib.Nat.{zero-add, add-zero, add-suc, mul-zero, mul-suc, mul-assoc, mod-eq-of-lt, one-le-pow, pow-suc, pow-zero, pow-succ'}
+use native.Mathlib.Nat.{mod-one, div-one, div-div-eq-div-mul}
 use native.Mathlib.Omega.{arith}
 use lib.Arith.{digits-lt, digits-div, digits-mod, mod-mul}
 use lib.ListN.{length, getD, take, drop, length-append, length-drop, List·getD-append}
 use lib.Seq.{take-suc, take-add, drop-drop, getD-at, getD-take, getD-drop, getD-append-add}
 use lib.Seq.{sets}
-use Rattle.lists.specs.Places.{itemsAt}
+use Rattle.lists.specs.Places.{itemsAt, places}
+use Rattle.lists.proofs.Places.{places-suc}
 use Rattle.encoding.specs.Bytes.{numberAt, bytesOf, bytesOfEach, AllBelow, AllBytes}
 use Rattle.encoding.proofs.Replaced.{getD-sets-inside}
 
@@ -122,6 +124,27 @@ pub bytesOf-injective : (w u v : ℕ) → u < 256 ^ w → v < 256 ^ w → bytesO
 bytesOf-injective w u v h k e =
     sym (numberAt-bytesOf w u [] [] h) ∙ ap (λ (bs : List ℕ). numberAt w (bs ++ []) 0) e ∙ numberAt-bytesOf w v [] [] k
 
+-- ---- fields side by side
+
+-- a number of a + b bytes is the number in the first a, moved up by b bytes, and the number in the b behind them
+pub numberAt-join : (a b : ℕ) (s : List ℕ) (at : ℕ) → numberAt (a + b) s at ≡ numberAt a s at * 256 ^ b + numberAt b s (at + a)
+unfolding numberAt
+numberAt-join a zero s at = rw (add-zero a, pow-zero 256) (omega arith)
+numberAt-join a (suc b) s at =
+    let high = numberAt a s at in
+    let place : at + (a + b) ≡ at + a + b = omega arith in
+    rw (add-suc a b, pow-suc 256 b, place)
+    (omega (arith, numberAt-join a b s at, mul-assoc high (256 ^ b) 256))
+
+-- the a + b bytes of a number are the a bytes of what lies above the last b, and those b
+pub bytesOf-join : (a b v : ℕ) → bytesOf (a + b) v ≡ bytesOf a (v / 256 ^ b) ++ bytesOf b v
+unfolding bytesOf
+bytesOf-join a zero v = rw (add-zero a, pow-zero 256, div-one v, append-nil)
+bytesOf-join a (suc b) v =
+    rw (add-suc a b, pow-succ' 256 b, ← div-div-eq-div-mul v 256 (256 ^ b))
+    (ap (λ (bs : List ℕ). bs ++ v % 256 ∷ []) (bytesOf-join a b (v / 256))
+    ∙ append-assoc (bytesOf a (v / 256 / 256 ^ b)) (bytesOf b (v / 256)) (v % 256 ∷ []))
+
 -- ---- runs of numbers
 
 -- the bytes of two runs of numbers, joined
@@ -131,6 +154,14 @@ bytesOfEach-append w [] vs = refl
 bytesOfEach-append w (u ∷ us) vs =
     ap (λ (bs : List ℕ). bytesOf w u ++ bs) (bytesOfEach-append w us vs)
     ∙ sym (append-assoc (bytesOf w u) (bytesOfEach w us) (bytesOfEach w vs))
+
+-- the bytes of one place more
+pub bytesOfEach-places : (w n : ℕ) (vs : List ℕ)
+    → bytesOfEach w (places (suc n) vs) ≡ bytesOfEach w (places n vs) ++ bytesOf w (getD vs n 0)
+unfolding bytesOfEach
+bytesOfEach-places w n vs =
+    ap (bytesOfEach w) (places-suc n vs) ∙ bytesOfEach-append w (places n vs) (getD vs n 0 ∷ [])
+    ∙ ap (λ (bs : List ℕ). bytesOfEach w (places n vs) ++ bs) (append-nil (bytesOf w (getD vs n 0)))
 
 -- the bytes of a run of numbers that fit them, read, give the numbers
 pub itemsAt-bytesOfEach : (w : ℕ) (vs xs ys : List ℕ) → AllBelow (256 ^ w) vs

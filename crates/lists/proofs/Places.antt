@@ -130,14 +130,23 @@ module _ {ℓ} {A : Type ℓ} where
   unfolding pad8
   getD-pad8 d xs j = getD-behind xs (8 - length xs) d j
 
-  -- a loop that fills eight places in order: a store of the next value at place i
-  pub pad8-store : (d : A) (f : ℕ → A) (i : ℕ) → i < 8 → set (pad8 d (tabulate i f)) i (f i) ≡ pad8 d (tabulate (i + 1) f)
+  -- a loop that fills eight places in order: a store of the next item at place i
+  pub pad8-store-item : (d : A) (f : ℕ → A) (at step i : ℕ) → i < 8
+      → set (pad8 d (itemsAt f at step i)) i (f (at + step * i)) ≡ pad8 d (itemsAt f at step (i + 1))
   unfolding pad8
-  pad8-store d f i h =
+  pad8-store-item d f at step i h =
+      let xs = itemsAt f at step i in
       let e : 8 - i ≡ suc (8 - suc i) = omega arith in
-      rw (add-one i, length-tabulate (suc i) f, tabulate-suc i f, length-tabulate i f, e)
-      (set-at (tabulate i f) d (replicate (8 - suc i) d) (f i) i (length-tabulate i f)
-      ∙ sym (append-snoc (tabulate i f) (f i) (replicate (8 - suc i) d)))
+      rw (add-one i, length-itemsAt f at step (suc i), itemsAt-suc f at step i, length-itemsAt f at step i, e)
+      (set-at xs d (replicate (8 - suc i) d) (f (at + step * i)) i (length-itemsAt f at step i)
+      ∙ sym (append-snoc xs (f (at + step * i)) (replicate (8 - suc i) d)))
+
+  -- the same of a function's values
+  pub pad8-store : (d : A) (f : ℕ → A) (i : ℕ) → i < 8 → set (pad8 d (tabulate i f)) i (f i) ≡ pad8 d (tabulate (i + 1) f)
+  unfolding tabulate
+  pad8-store d f i h =
+      let e : i ≡ 0 + 1 * i = omega arith in
+      ap (λ (k : ℕ). set (pad8 d (itemsAt f 0 1 i)) i (f k)) e ∙ pad8-store-item d f 0 1 i h
 
 module _ {ℓ ℓ′} {A : Type ℓ} {B : Type ℓ′} where
   -- a map of items is items of the mapped function
@@ -166,6 +175,11 @@ getD-places n xs j h = getD-tabulate n (λ k. getD xs k 0) j 0 h
 -- beyond them there is nothing
 pub getD-places-beyond : (n : ℕ) (xs : List ℕ) (j : ℕ) → n ≤ j → getD (places n xs) j 0 ≡ 0
 getD-places-beyond n xs j h = List·getD-eq-default (places n xs) 0 (omega (arith, length-places n xs))
+
+-- one place more, at the end
+pub places-suc : (n : ℕ) (xs : List ℕ) → places (suc n) xs ≡ places n xs ++ getD xs n 0 ∷ []
+unfolding places
+places-suc n xs = tabulate-suc n (λ j. getD xs j 0)
 
 -- arrays that agree in the first n places have the same first n places: what lies beyond is not read
 pub places-agree : (n : ℕ) (xs ys : List ℕ) → ((j : ℕ) → j < n → getD xs j 0 ≡ getD ys j 0) → places n xs ≡ places n ys

@@ -1,0 +1,2 @@
+-- Definitions of fields: a mark.
+pub mod Mark
