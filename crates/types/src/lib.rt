@@ -1,8 +1,10 @@
 // The structs and enums of the calls. There are no functions here, so that the definitions speak of the very records
-// that the code returns. A refusal is its number in 01, and 0 where nothing is refused.
+// that the code returns. A refusal is its number in 01, and 0 where nothing is refused. Structs of plain numbers have the
+// layout of C, so that they cross to other languages as they are.
 
 // The fixed fields of a sheet: kind 1 (exponent) or 2 (root), the modulus m, the order q of kind 1 or the exponent e of
 // kind 2, the challenge count K, the rows s and the columns n.
+#[repr(C)]
 pub struct Header {
     pub kind: u32,
     pub modulus: u32,
@@ -13,6 +15,7 @@ pub struct Header {
 }
 
 // What loading a sheet answers, but for the entries, which are an array of arrays and stand beside it.
+#[repr(C)]
 pub struct Loaded {
     pub refusal: u32,
     pub header: Header,
@@ -28,12 +31,14 @@ pub struct Pattern {
 }
 
 // What a call that writes into a lent buffer answers: the length of what stands in it.
+#[repr(C)]
 pub struct Written {
     pub refusal: u32,
     pub length: usize,
 }
 
 // A round: commitment t, challenge c and response r.
+#[repr(C)]
 pub struct Round {
     pub commitment: [u32; 8],
     pub challenge: u32,
@@ -41,12 +46,14 @@ pub struct Round {
 }
 
 // How many rounds a round file has.
+#[repr(C)]
 pub struct Counted {
     pub refusal: u32,
     pub count: u32,
 }
 
 // A round as it stands in a round file.
+#[repr(C)]
 pub struct Fetched {
     pub refusal: u32,
     pub round: Round,
@@ -60,6 +67,7 @@ pub enum Verdict {
 }
 
 // What simulating answers, a commitment, and what extracting answers, a witness.
+#[repr(C)]
 pub struct Computed {
     pub refusal: u32,
     pub values: [u32; 8],
