@@ -1,10 +1,10 @@
--- Lists whose numbers are all below a bound: first values, places that are read, joined rows and parts.
+-- Lists whose numbers are all below a bound: first values, places that are read, and joined rows.
 -- Assumes nothing.
 use Prim.Native.Nat.{ℕ, zero, suc, _<_}
 use mathlib.Core.List.{List, [], _∷_, flatten}
 use native.Mathlib.Decide.{decLt}
 use native.Mathlib.Omega.{arith}
-use lib.ListN.{getD, take, List·getD-eq-default}
+use lib.ListN.{getD, List·getD-eq-default}
 use Rattle.lists.specs.Places.{tabulate, places}
 use Rattle.lists.proofs.Places.{length-tabulate, getD-tabulate}
 use Rattle.encoding.specs.Bytes.{AllBelow}
@@ -28,10 +28,3 @@ unfolding flatten
 below-flatten bound [] h j = h zero zero
 below-flatten bound (row ∷ rows) h j =
     below-append bound row (flatten rows) (h zero) (below-flatten bound rows (λ r. h (suc r))) j
-
--- the front of a list
-pub below-take : (bound k : ℕ) (s : List ℕ) → 0 < bound → AllBelow bound s → AllBelow bound (take k s)
-below-take bound zero s some h j = some
-below-take bound (suc k) [] some h j = some
-below-take bound (suc k) (x ∷ s) some h zero = h zero
-below-take bound (suc k) (x ∷ s) some h (suc j) = below-take bound k s some (λ i. h (suc i)) j

@@ -87,6 +87,44 @@ module _ (s buffer : List ℕ) (used : ℕ) (round : Round) where
   unfolding append appendAfter
   append-given e = written-given _ _ _ _ (sym append-refusal ∙ e)
 
+-- ---- the buffer of the record writer
+
+module _ {h : Header} {buffer : List ℕ} {used : ℕ} (u : InUse h buffer used) (round : Round)
+    (fits : used + recordLength challengeWidth h ≤ length buffer) where
+  -- the count field is one more
+  pub appended-counted : countField (appended h buffer used round) ≡ countField buffer + 1
+  unfolding appended countField
+  appended-counted =
+      let stored = sets buffer used (recordBytes challengeWidth h round) in
+      let size = length-sets buffer used (recordBytes challengeWidth h round) in
+      numberAt-sets 2 (countField buffer + 1) stored 5 (omega (arith, in-use-long u)) (omega (arith, u .room, in-use-count u))
+
+  -- the record stands straight after the bytes in use
+  pub appended-stored : take (recordLength challengeWidth h) (drop used (appended h buffer used round)) ≡ recordBytes challengeWidth h round
+  unfolding appended
+  appended-stored =
+      let raised = bytesOf 2 (countField buffer + 1) in
+      let bytes = recordBytes challengeWidth h round in
+      let size = length-recordBytes challengeWidth h round in
+      ap (λ (l : List ℕ). take (recordLength challengeWidth h) l)
+      (drop-sets-behind used (sets buffer used bytes) 5 raised (omega (arith, length-bytesOf 2 (countField buffer + 1), in-use-long u)))
+      ∙ ap (λ (k : ℕ). take k (drop used (sets buffer used bytes))) (sym size)
+      ∙ part-sets buffer used bytes (omega arith)
+
+  -- no byte outside of the record and the count field is changed
+  pub appended-others : (j : ℕ) → (j < 5) ⊎ (7 ≤ j) → (j < used) ⊎ (used + recordLength challengeWidth h ≤ j)
+      → getD (appended h buffer used round) j 0 ≡ getD buffer j 0
+  unfolding appended
+  appended-others j outside apart =
+      let bytes = recordBytes challengeWidth h round in
+      let raised = bytesOf 2 (countField buffer + 1) in
+      let size = length-recordBytes challengeWidth h round in
+      let width = length-bytesOf 2 (countField buffer + 1) in
+      ⊎-elim (λ (b : j < 5). getD-sets-before (sets buffer used bytes) 5 raised j 0 b)
+      (λ (b : 7 ≤ j). getD-sets-behind (sets buffer used bytes) 5 raised j 0 (omega arith)) outside
+      ∙ ⊎-elim (λ (b : j < used). getD-sets-before buffer used bytes j 0 b)
+      (λ (b : used + recordLength challengeWidth h ≤ j). getD-sets-behind buffer used bytes j 0 (omega arith)) apart
+
 -- the buffer keeps its length
 pub appended-size : (h : Header) (buffer : List ℕ) (used : ℕ) (round : Round)
     → length (appended h buffer used round) ≡ length buffer
@@ -102,42 +140,6 @@ appended-behind h buffer used round n long behind =
     let raised = length-bytesOf 2 (countField buffer + 1) in
     drop-sets-behind n (sets buffer used bytes) 5 (bytesOf 2 (countField buffer + 1)) (omega arith)
     ∙ drop-sets-behind n buffer used bytes (omega (arith, length-recordBytes challengeWidth h round))
-
-module _ {h : Header} {buffer : List ℕ} {used : ℕ} (u : InUse h buffer used) (round : Round)
-    (fits : used + recordLength challengeWidth h ≤ length buffer) where
-  -- the record stands straight after the bytes in use
-  pub appended-stored : take (recordLength challengeWidth h) (drop used (appended h buffer used round)) ≡ recordBytes challengeWidth h round
-  unfolding appended
-  appended-stored =
-      let raised = bytesOf 2 (countField buffer + 1) in
-      let bytes = recordBytes challengeWidth h round in
-      let size = length-recordBytes challengeWidth h round in
-      ap (λ (l : List ℕ). take (recordLength challengeWidth h) l)
-      (drop-sets-behind used (sets buffer used bytes) 5 raised (omega (arith, length-bytesOf 2 (countField buffer + 1), in-use-long u)))
-      ∙ ap (λ (k : ℕ). take k (drop used (sets buffer used bytes))) (sym size)
-      ∙ part-sets buffer used bytes (omega arith)
-
-  -- the count field is one more
-  pub appended-counted : countField (appended h buffer used round) ≡ countField buffer + 1
-  unfolding appended countField
-  appended-counted =
-      let stored = sets buffer used (recordBytes challengeWidth h round) in
-      let size = length-sets buffer used (recordBytes challengeWidth h round) in
-      numberAt-sets 2 (countField buffer + 1) stored 5 (omega (arith, in-use-long u)) (omega (arith, u .room, in-use-count u))
-
-  -- no byte outside of the record and the count field is changed
-  pub appended-others : (j : ℕ) → (j < 5) ⊎ (7 ≤ j) → (j < used) ⊎ (used + recordLength challengeWidth h ≤ j)
-      → getD (appended h buffer used round) j 0 ≡ getD buffer j 0
-  unfolding appended
-  appended-others j outside apart =
-      let bytes = recordBytes challengeWidth h round in
-      let raised = bytesOf 2 (countField buffer + 1) in
-      let size = length-recordBytes challengeWidth h round in
-      let width = length-bytesOf 2 (countField buffer + 1) in
-      ⊎-elim (λ (b : j < 5). getD-sets-before (sets buffer used bytes) 5 raised j 0 b)
-      (λ (b : 7 ≤ j). getD-sets-behind (sets buffer used bytes) 5 raised j 0 (omega arith)) outside
-      ∙ ⊎-elim (λ (b : j < used). getD-sets-before buffer used bytes j 0 b)
-      (λ (b : used + recordLength challengeWidth h ≤ j). getD-sets-behind buffer used bytes j 0 (omega arith)) apart
 
 -- a call that is not refused adds the record and changes nothing else
 pub append-adds : (s buffer : List ℕ) (used : ℕ) (round : Round) → append s buffer used round .answer .refusal ≡ 0

@@ -85,15 +85,15 @@ module _ (number modulus order challenges : ℕ) (values statement : List ℕ) w
   made-kind : (inst .header .kind ≡ 1) ⊎ (inst .header .kind ≡ 2)
   unfolding made
   made-kind = elim (ℕ-discrete number 6) [
-    | yes e ↦ inr (made-root number modulus order challenges values statement e)
-    | no n ↦ inl (made-exponent number modulus order challenges values statement n)
+    | yes e ↦ inr (made-root number modulus order challenges e)
+    | no n ↦ inl (made-exponent number modulus order challenges n)
   ]
 
   -- kind 1 is not that of pattern 6
   made-other : inst .header .kind ≡ 1 → number ≢ 6
   unfolding made
   made-other k e =
-      let two = made-root number modulus order challenges values statement e in
+      let two = made-root number modulus order challenges e in
       omega arith
 
   -- pattern 6 has as many columns as rows
@@ -102,7 +102,7 @@ module _ (number modulus order challenges : ℕ) (values statement : List ℕ) w
   made-square k = elim (ℕ-discrete number 6) [
     | yes e ↦ rw e
     | no n ↦
-        let one = made-exponent number modulus order challenges values statement n in
+        let one = made-exponent number modulus order challenges n in
         absurd (omega arith)
   ]
 
@@ -203,12 +203,12 @@ module _ (number modulus order challenges : ℕ) (values statement : List ℕ) w
   unfolding readInstance made madeHeader patternEntries
   made-read-entries = elim (ℕ-discrete number 6) [
     | yes e ↦
-        let two = made-root number modulus order challenges values statement e in
+        let two = made-root number modulus order challenges e in
         let other : inst .header .kind ≢ 1 = λ (one : inst .header .kind ≡ 1). omega arith in
         ap (λ (b : Bool). cond b (readRows inst) zeros64) (root-kind (inst .header) other)
         ∙ sym (ap (λ (b : Bool). cond b zeros64 (patternEntries (patternOf number) values)) (eq-eqb number 6 e))
     | no n ↦
-        let one = made-exponent number modulus order challenges values statement n in
+        let one = made-exponent number modulus order challenges n in
         let p = patternOf number in
         let rows =
         tabulate-agree (p .rows) (λ r. pad8 0 (tabulate (p .columns) (entry inst r)))

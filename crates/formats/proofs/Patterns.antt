@@ -88,25 +88,26 @@ pub entryOf-element : (h : Header) (values : List ℕ) (digit : ℕ) → 3 ≤ h
 entryOf-element h values zero low elements inside = rw (entryOf-none values) (one-element h low)
 entryOf-element h values (suc j) low elements inside = rw (entryOf-value values j) (elements j inside)
 
+-- ---- the kind of a made sheet
+
+-- it is 1, but for pattern 6
+pub made-exponent : (number modulus order challenges : ℕ) → number ≢ 6 → madeHeader number modulus order challenges .kind ≡ 1
+unfolding madeHeader
+made-exponent number modulus order challenges other = rw (ne-eqb number 6 other)
+
+-- and 2 for pattern 6
+pub made-root : (number modulus order challenges : ℕ) → number ≡ 6 → madeHeader number modulus order challenges .kind ≡ 2
+unfolding madeHeader
+made-root number modulus order challenges e = rw (eq-eqb number 6 e)
+
 -- ---- the entries of a made sheet
 
-module _ (number modulus order challenges : ℕ) (values statement : List ℕ) where
-  -- a sheet of kind 1 has the entries that the pattern's digits stand for
-  pub made-entry : number ≢ 6 → (r c : ℕ) → r < patternOf number .rows → c < patternOf number .columns
-      → entry (made number modulus order challenges values statement) r c
-      ≡ entryOf values (getD (patternOf number .digits) (3 * r + c) 0)
-  unfolding entry made patternEntries
-  made-entry other r c a b =
-      let p = patternOf number in
-      rw (ne-eqb number 6 other)
-      (getD-table (p .rows) (p .columns) (λ k j. entryOf values (getD (p .digits) (3 * k + j) 0)) r c a b)
-
-  -- its kind is 1
-  pub made-exponent : number ≢ 6 → madeHeader number modulus order challenges .kind ≡ 1
-  unfolding madeHeader
-  made-exponent other = rw (ne-eqb number 6 other)
-
-  -- the kind of pattern 6 is 2
-  pub made-root : number ≡ 6 → madeHeader number modulus order challenges .kind ≡ 2
-  unfolding madeHeader
-  made-root e = rw (eq-eqb number 6 e)
+-- a sheet of kind 1 has the entries that the pattern's digits stand for
+pub made-entry : (number modulus order challenges : ℕ) (values statement : List ℕ) → number ≢ 6
+    → (r c : ℕ) → r < patternOf number .rows → c < patternOf number .columns
+    → entry (made number modulus order challenges values statement) r c ≡ entryOf values (getD (patternOf number .digits) (3 * r + c) 0)
+unfolding entry made patternEntries
+made-entry number modulus order challenges values statement other r c a b =
+    let p = patternOf number in
+    rw (ne-eqb number 6 other)
+    (getD-table (p .rows) (p .columns) (λ k j. entryOf values (getD (p .digits) (3 * k + j) 0)) r c a b)
