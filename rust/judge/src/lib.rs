@@ -1,0 +1,29 @@
+//! A plain judge for proofs of a preimage under a group homomorphism.
+//!
+//! Every call takes any bytes and any numbers. It ends in a result or in one
+//! refusal, a number from 1 to 22. The lowest number that applies is given.
+//! A refused call changes neither a lent buffer nor a session.
+//!
+//! Each sheet is handed in as bytes and is tested on every call.
+
+#![forbid(unsafe_code)]
+#![warn(missing_docs)]
+
+mod arithmetic;
+mod bytes;
+mod marker;
+mod pattern;
+mod protocol;
+mod round_file;
+mod sessions;
+mod sheet;
+
+pub use marker::marker;
+pub use pattern::make;
+pub use protocol::{extract, judge, simulate, Round, Verdict};
+pub use round_file::{append, check, count, empty, part, read};
+pub use sessions::{
+    commit, drop_session, respond, take_challenge, take_commitment, take_response, Prover,
+    ProverPhase, Verifier, VerifierPhase,
+};
+pub use sheet::{encode, load, Sheet};

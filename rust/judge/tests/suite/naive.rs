@@ -1,0 +1,69 @@
+//! The rules again, in the slowest form, for small sheets.
+
+use judge::Sheet;
+
+pub fn slow_power(base: u32, exponent: u32, m: u32) -> u32 {
+    let mut product = 1 % u64::from(m);
+    for _ in 0..exponent {
+        product = product * u64::from(base) % u64::from(m);
+    }
+    product as u32
+}
+
+pub fn slow_element(sheet: &Sheet, v: u32) -> bool {
+    let m = sheet.modulus;
+    if v < 1 || v > m - 1 {
+        return false;
+    }
+    if sheet.kind == 1 {
+        slow_power(v, sheet.order, m) == 1
+    } else {
+        !(2..=v).any(|d| v.is_multiple_of(d) && m.is_multiple_of(d))
+    }
+}
+
+/// All group elements.
+pub fn elements(sheet: &Sheet) -> Vec<u32> {
+    (0..=sheet.modulus)
+        .filter(|v| slow_element(sheet, *v))
+        .collect()
+}
+
+/// All domain slots.
+pub fn slots(sheet: &Sheet) -> Vec<u32> {
+    if sheet.kind == 1 {
+        (0..sheet.order).collect()
+    } else {
+        elements(sheet)
+    }
+}
+
+pub fn slow_image(sheet: &Sheet, x: &[u32; 8]) -> [u32; 8] {
+    let m = u64::from(sheet.modulus);
+    let mut image = [0; 8];
+    for i in 0..sheet.rows as usize {
+        let mut value = 1;
+        if sheet.kind == 1 {
+            let row = &sheet.entries[i];
+            for (entry, slot) in row.iter().zip(x).take(sheet.columns as usize) {
+                let factor = slow_power(*entry, *slot, sheet.modulus);
+                value = value * u64::from(factor) % m;
+            }
+        } else {
+            value = u64::from(slow_power(x[i], sheet.order, sheet.modulus));
+        }
+        image[i] = value as u32;
+    }
+    image
+}
+
+/// The first row that differs, for values that are in range.
+pub fn slow_row(sheet: &Sheet, t: &[u32; 8], c: u32, r: &[u32; 8]) -> Option<u32> {
+    let m = u64::from(sheet.modulus);
+    let image = slow_image(sheet, r);
+    (0..sheet.rows).find(|row| {
+        let i = *row as usize;
+        let power = u64::from(slow_power(sheet.statement[i], c, sheet.modulus));
+        u64::from(image[i]) != u64::from(t[i]) * power % m
+    })
+}

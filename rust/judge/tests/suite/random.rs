@@ -1,0 +1,265 @@
+//! Random sheets against the slow rules, and random bytes and numbers.
+
+use judge::*;
+
+use crate::naive::*;
+use crate::tools::*;
+
+/// A random small sheet that loads, with its bytes.
+fn small(shifts: &mut Shifts) -> (Vec<u8>, Sheet) {
+    let kind = 1 + shifts.below(2) as u32;
+    let modulus = 3 + shifts.below(80) as u32;
+    let order = 2 + shifts.below(40) as u32;
+    let most = (2..=order).find(|d| order.is_multiple_of(*d)).unwrap();
+    let rows = 1 + shifts.below(8) as u32;
+    let columns = if kind == 1 {
+        1 + shifts.below(8) as u32
+    } else {
+        rows
+    };
+    let mut sheet = Sheet {
+        kind,
+        modulus,
+        order,
+        challenges: 2 + shifts.below(u64::from(most) - 1) as u32,
+        rows,
+        columns,
+        entries: [[0; 8]; 8],
+        statement: [0; 8],
+    };
+    let elements = elements(&sheet);
+    for i in 0..rows as usize {
+        for j in 0..columns as usize {
+            if kind == 1 {
+                sheet.entries[i][j] = shifts.pick(&elements);
+            }
+        }
+        sheet.statement[i] = shifts.pick(&elements);
+    }
+    if shifts.below(4) > 0 {
+        let x = shifts.picks(&slots(&sheet));
+        sheet.statement = slow_image(&sheet, &x);
+    }
+    let mut bytes = vec![0; 400];
+    let length = encode(&sheet, &mut bytes).unwrap();
+    bytes.truncate(length);
+    assert_eq!(load(&bytes), Ok(sheet.clone()));
+    (bytes, sheet)
+}
+
+#[test]
+fn random_sheets_follow_the_slow_rules() {
+    let mut shifts = Shifts(0x0BAD_5EED_0BAD_5EED);
+    let mut accepted = 0;
+    for _ in 0..3000 {
+        let (bytes, sheet) = small(&mut shifts);
+        let (s, n) = (sheet.rows as usize, sheet.columns as usize);
+        let elements = elements(&sheet);
+        let slots = slots(&sheet);
+        let c = shifts.below(u64::from(sheet.challenges)) as u32;
+        let r = shifts.picks(&slots);
+        let t = simulate(&bytes, c, &r).unwrap();
+        assert!(t[s..].iter().all(|value| *value == 0));
+        assert_eq!(slow_row(&sheet, &t, c, &r), None);
+        assert_eq!(judge(&bytes, &round(&t, c, &r)), Verdict::Accepted);
+        // One value of the commitment is picked anew.
+        let mut other = t;
+        other[shifts.below(s as u64) as usize] = shifts.pick(&elements);
+        let expected = match slow_row(&sheet, &other, c, &r) {
+            Some(row) => Verdict::Rejected(row),
+            None => Verdict::Accepted,
+        };
+        assert_eq!(judge(&bytes, &round(&other, c, &r)), expected);
+        if expected == Verdict::Accepted {
+            accepted += 1;
+        }
+        // A nonce and its image.
+        let k = shifts.picks(&slots);
+        let (image, session) = commit(&bytes, Prover::new(), &k);
+        assert_eq!(image, Ok(slow_image(&sheet, &k)));
+        // A random witness, which may be none.
+        let x = shifts.picks(&slots);
+        let (answer, _) = respond(&bytes, session, c, &x);
+        if slow_image(&sheet, &x) == sheet.statement {
+            let answer = answer.unwrap();
+            assert!(answer[n..].iter().all(|value| *value == 0));
+            let made = round(&image.unwrap(), c, &answer);
+            assert_eq!(judge(&bytes, &made), Verdict::Accepted);
+        } else {
+            assert_eq!(answer, Err(17));
+        }
+    }
+    assert!(accepted > 0);
+}
+
+#[test]
+fn random_runs_extract_a_witness() {
+    let mut shifts = Shifts(0x0123_4567_89AB_CDEF);
+    for _ in 0..2000 {
+        let (_, mut sheet) = small(&mut shifts);
+        let slots = slots(&sheet);
+        let x = shifts.picks(&slots);
+        sheet.statement = slow_image(&sheet, &x);
+        let mut bytes = vec![0; 400];
+        let length = encode(&sheet, &mut bytes).unwrap();
+        bytes.truncate(length);
+        let k = shifts.picks(&slots);
+        let c = shifts.below(u64::from(sheet.challenges)) as u32;
+        let step = 1 + shifts.below(u64::from(sheet.challenges) - 1) as u32;
+        let d = (c + step) % sheet.challenges;
+        let [first, second] = [c, d].map(|challenge| {
+            let (t, session) = commit(&bytes, Prover::new(), &k);
+            let (r, _) = respond(&bytes, session, challenge, &x);
+            round(&t.unwrap(), challenge, &r.unwrap())
+        });
+        let found = extract(&bytes, &first, &second).unwrap();
+        assert_eq!(slow_image(&sheet, &found), sheet.statement);
+        assert_eq!(extract(&bytes, &second, &first), Ok(found));
+        if sheet.kind == 1 {
+            // The formula again, with b found by trying.
+            let q = i64::from(sheet.order);
+            let away = i64::from(c) - i64::from(d);
+            let b = (0..q).find(|b| (away * b - 1) % q == 0).unwrap();
+            for (j, slot) in found.iter().enumerate().take(sheet.columns as usize) {
+                let gap = i64::from(first.response[j]) - i64::from(second.response[j]);
+                assert_eq!(i64::from(*slot), (b * gap).rem_euclid(q));
+            }
+        }
+    }
+}
+
+/// Random bytes: none, a few, or a sheet or file with some bytes changed.
+fn bytes(shifts: &mut Shifts) -> Vec<u8> {
+    let mut bytes = match shifts.below(6) {
+        0 => Vec::new(),
+        1 => (0..shifts.below(90)).map(|_| shifts.word() as u8).collect(),
+        2 => file(shifts.below(4) as u16, &shifts.edges()[..6]),
+        3 => page_g(),
+        4 => page_a(),
+        _ => small(shifts).0,
+    };
+    for _ in 0..shifts.below(4) {
+        let value = shifts.edge() as u8;
+        match shifts.below(5) {
+            0 => bytes.push(value),
+            1 => drop(bytes.pop()),
+            _ if bytes.is_empty() => {}
+            _ => {
+                let at = shifts.below(bytes.len() as u64) as usize;
+                bytes[at] = value;
+            }
+        }
+    }
+    bytes
+}
+
+fn any_round(shifts: &mut Shifts) -> Round {
+    Round {
+        commitment: shifts.edges(),
+        challenge: shifts.edge(),
+        response: shifts.edges(),
+    }
+}
+
+#[test]
+fn no_call_panics_and_refused_calls_change_nothing() {
+    let mut shifts = Shifts(0xFEDC_BA98_7654_3211);
+    let mut loaded = 0;
+    for _ in 0..30_000 {
+        let sheet = bytes(&mut shifts);
+        let file = bytes(&mut shifts);
+        let long = shifts.next();
+        let number = if shifts.below(2) == 0 { long % 5 } else { long };
+        loaded += u32::from(load(&sheet).is_ok());
+
+        // Files.
+        let refusal = check(&sheet, &file, number);
+        assert_eq!(part(&sheet, &file, number).is_empty(), refusal != 0);
+        assert_eq!(read(&sheet, &file, number).err().unwrap_or(0), refusal);
+        let _ = count(&sheet, &file);
+        let text = marker(&sheet, &file);
+        assert!(text.ends_with('\n'));
+
+        // Rounds.
+        let (first, second) = (any_round(&mut shifts), any_round(&mut shifts));
+        let _ = as_result(judge(&sheet, &first));
+        let _ = simulate(&sheet, first.challenge % 7, &first.response);
+        let _ = extract(&sheet, &first, &second);
+
+        // Writers.
+        let mut buffer = bytes(&mut shifts);
+        let before = buffer.clone();
+        let used = if shifts.below(3) == 0 {
+            long
+        } else {
+            shifts.below(before.len() as u64 + 2)
+        };
+        if append(&sheet, &mut buffer, used, &first).is_err() {
+            assert_eq!(buffer, before);
+        }
+        let mut buffer = before.clone();
+        if empty(&mut buffer).is_err() {
+            assert_eq!(buffer, before);
+        }
+        let mut buffer = before.clone();
+        let values: Vec<u32> = (0..shifts.below(5)).map(|_| shifts.edge()).collect();
+        let statement: Vec<u32> = (0..shifts.below(4)).map(|_| shifts.edge()).collect();
+        let (m, l, k) = (shifts.edge(), shifts.edge(), shifts.edge());
+        if make(long % 9, m, l, k, &values, &statement, &mut buffer).is_err() {
+            assert_eq!(buffer, before);
+        }
+        assert_eq!(
+            make(long | 8, m, l, k, &values, &statement, &mut buffer),
+            Err(1)
+        );
+        let mut buffer = before.clone();
+        let any = Sheet {
+            kind: shifts.below(4) as u32,
+            modulus: m,
+            order: l,
+            challenges: k,
+            rows: shifts.below(10) as u32,
+            columns: shifts.edge(),
+            entries: std::array::from_fn(|_| shifts.edges()),
+            statement: shifts.edges(),
+        };
+        if encode(&any, &mut buffer).is_err() {
+            assert_eq!(buffer, before);
+        }
+
+        // Sessions.
+        let prover = Prover {
+            phase: [
+                ProverPhase::New,
+                ProverPhase::Committed,
+                ProverPhase::Answered,
+                ProverPhase::Dropped,
+            ][shifts.below(4) as usize],
+            nonce: shifts.edges(),
+            commitment: shifts.edges(),
+        };
+        let (answer, back) = commit(&sheet, prover.clone(), &first.response);
+        assert_eq!(answer.is_err(), back == prover);
+        let (answer, back) = respond(&sheet, prover.clone(), number as u32, &first.response);
+        assert_eq!(answer.is_err(), back == prover);
+        let (answer, back) = drop_session(prover.clone());
+        assert_eq!(answer.is_err(), back == prover);
+        let verifier = Verifier {
+            phase: [
+                VerifierPhase::Waiting,
+                VerifierPhase::Holding,
+                VerifierPhase::Asked,
+                VerifierPhase::Judged,
+            ][shifts.below(4) as usize],
+            commitment: shifts.edges(),
+            challenge: shifts.edge(),
+        };
+        let (answer, back) = take_commitment(&sheet, verifier.clone(), &first.commitment);
+        assert_eq!(answer.is_err(), back == verifier);
+        let (answer, back) = take_challenge(&sheet, verifier.clone(), number as u32);
+        assert_eq!(answer.is_err(), back == verifier);
+        let (answer, back) = take_response(&sheet, verifier.clone(), &first.response);
+        assert_eq!(as_result(answer).is_err(), back == verifier);
+    }
+    assert!(loaded > 1000);
+}
