@@ -32,9 +32,10 @@ use Rattle.sigma.proofs.Simulator.{simulated-rounds, simulate-answer}
 use Rattle.sigma.proofs.Unread.{same-commitment, same-response, judgeAfter-same, simulateAfter-same, extractAfter-same}
 use Rattle.sigma.proofs.Values.{length-image, length-response, length-simulated}
 use Rattle.runs.specs.Calls.{judgeRound, simulateCommitment, extractWitness}
-use Rattle.runs.specs.Demand3.{Below, ReadAlone, Demand3}
+use Rattle.runs.specs.Demand3.{ReadAlone, Demand3}
 use Rattle.runs.specs.JointRun.{JointRun, jointRun}
 use Rattle.runs.specs.Knowledge.{Accepts, honestRound, simulatedRound, paddedRound}
+use Rattle.runs.specs.OnSheet.{Below}
 use Rattle.runs.specs.Prover.{newProver, commit, respond}
 use Rattle.runs.proofs.JointRun.{joint-steps, joint-loaded}
 use Rattle.runs.proofs.Loaded.{accepts-loaded, simulate-loaded, extract-loaded}

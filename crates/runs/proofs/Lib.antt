@@ -2,6 +2,7 @@
 pub mod Tests
 pub mod Witness
 pub mod Loaded
+pub mod Demand1
 pub mod Demand2
 pub mod Demand3
 pub mod Refusals

@@ -13,16 +13,17 @@ use Rattle.types.specs.declared.Round.{Round}
 use Rattle.types.specs.declared.Verdict.the-variants.{Accepted, Rejected}
 use Rattle.types.specs.declared.Verifier.{Verifier}
 use Rattle.types.specs.declared.VerifierPhase.the-variants.{Holding, Asked, Judged}
-use Rattle.lists.specs.Places.{pad8, places, zeros8}
+use Rattle.lists.specs.Places.{pad8, zeros8}
 use Rattle.formats.specs.Sheet.{instanceOf}
 use Rattle.sigma.specs.Answer.{outcome}
 use Rattle.sigma.specs.Image.{rowImage}
 use Rattle.sigma.specs.Knowledge.{Choice, Witness}
 use Rattle.sigma.specs.Meaning.{Holds, FailsFirst, Fits}
-use Rattle.sigma.specs.Reads.{Agree, roundOf}
+use Rattle.sigma.specs.Reads.{roundOf}
 use Rattle.runs.specs.Calls.{judgeRound}
 use Rattle.runs.specs.JointRun.{jointRun, Succeeds}
 use Rattle.runs.specs.Meaning.{Commits, Responds, TakesCommitment, TakesChallenge, ReadyToJudge, TakesResponse}
+use Rattle.runs.specs.OnSheet.{readSlots, readValues, SameSlots, SameValues, Below}
 use Rattle.runs.specs.Prover.{commit, respond}
 use Rattle.runs.specs.ProverCalls.{ProverCall, callProver, proverAfter, answers, drops}
 use Rattle.runs.specs.ProverCalls.{countCommits, countAnswers, Ended}
@@ -30,14 +31,6 @@ use Rattle.runs.specs.Reads.{SameProver, SameVerifier}
 use Rattle.runs.specs.Verifier.{verifierState, takeCommitment, takeChallenge, takeResponse}
 use Rattle.runs.specs.VerifierCalls.{VerifierCall, callVerifier, refusalOf, sessionOf, verifierAfter}
 use Rattle.runs.specs.VerifierCalls.{takesChallenge, judges, countCommitments, countChallenges, countVerdicts}
-
--- what is read of a nonce, a witness or a response
-abbrev pub readSlots : List ℕ → List ℕ → List ℕ
-readSlots sheet x = places (instanceOf sheet .header .columns) x
-
--- what is read of a commitment
-abbrev pub readValues : List ℕ → List ℕ → List ℕ
-readValues sheet t = places (instanceOf sheet .header .rows) t
 
 -- Peggy's commitment to a nonce k in a session p
 pub record CommitsToImage (sheet : List ℕ) : Type 0 where
@@ -155,14 +148,14 @@ pub record StepsInOrder : Type 0 where
 
 -- unread places are no part of a nonce, witness, commitment or response, brought or held
 pub record SessionsReadAlone (sheet : List ℕ) : Type 0 where
-  pub committed : (p : Prover) (k k′ : List ℕ) → Agree (instanceOf sheet .header .columns) k k′ → commit sheet p k ≡ commit sheet p k′
-  pub responded : (p : Prover) (c : ℕ) (x x′ : List ℕ) → Agree (instanceOf sheet .header .columns) x x′
+  pub committed : (p : Prover) (k k′ : List ℕ) → SameSlots sheet k k′ → commit sheet p k ≡ commit sheet p k′
+  pub responded : (p : Prover) (c : ℕ) (x x′ : List ℕ) → SameSlots sheet x x′
       → respond sheet p c x ≡ respond sheet p c x′
   pub responded-held : (p p′ : Prover) (c : ℕ) (x : List ℕ) → SameProver (instanceOf sheet .header) p p′
       → (respond sheet p c x .refusal ≡ respond sheet p′ c x .refusal) × (respond sheet p c x .values ≡ respond sheet p′ c x .values)
-  pub commitment : (v : Verifier) (t t′ : List ℕ) → Agree (instanceOf sheet .header .rows) t t′
+  pub commitment : (v : Verifier) (t t′ : List ℕ) → SameValues sheet t t′
       → takeCommitment sheet v t ≡ takeCommitment sheet v t′
-  pub response : (v : Verifier) (r r′ : List ℕ) → Agree (instanceOf sheet .header .columns) r r′
+  pub response : (v : Verifier) (r r′ : List ℕ) → SameSlots sheet r r′
       → takeResponse sheet v r ≡ takeResponse sheet v r′
   pub response-held : (v v′ : Verifier) (r : List ℕ) → SameVerifier (instanceOf sheet .header) v v′
       → takeResponse sheet v r .verdict ≡ takeResponse sheet v′ r .verdict
@@ -177,7 +170,7 @@ pub record Demand2 (sheet : List ℕ) : Type 0 where
   pub verifier : VerifiesInTurn sheet
   -- both boxes together: for a witness, a nonce of domain slots and a challenge below K no call is refused and Vic accepts
   pub joint-run : (x k : List ℕ) (c : ℕ) → Witness (instanceOf sheet) (readSlots sheet x)
-      → Choice (instanceOf sheet) (readSlots sheet k) → c < instanceOf sheet .header .challenges
+      → Choice (instanceOf sheet) (readSlots sheet k) → Below sheet c
       → Succeeds (jointRun sheet x c k)
   -- the order of steps of both
   pub one-answer : OneAnswer

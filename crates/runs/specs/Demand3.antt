@@ -1,6 +1,6 @@
 -- Demand 3 (00) in the words of 01 ("A round"), of one sheet's bytes.
 -- Assumes nothing.
-use Prim.Native.Nat.{ℕ, _<_}
+use Prim.Native.Nat.{ℕ}
 use mathlib.Core.Path.{_≡_}
 use mathlib.Core.Logic.{_↔_}
 use mathlib.Core.List.{List, map}
@@ -9,22 +9,10 @@ use Rattle.lists.specs.Member.{Member, EachOnce}
 use Rattle.formats.specs.Sheet.{instanceOf}
 use Rattle.sigma.specs.Knowledge.{Choice, Witness, MeetsEachOnce, AcceptedPair, Extraction}
 use Rattle.sigma.specs.Listed.{allChoices, ListsAccepted}
-use Rattle.sigma.specs.Reads.{Agree, SameRound}
 use Rattle.runs.specs.Calls.{judgeRound, simulateCommitment, extractWitness}
 use Rattle.runs.specs.Knowledge.{Accepts, honestRound, simulatedRound, paddedRound}
+use Rattle.runs.specs.OnSheet.{SameSlots, Same, Below}
 use Rattle.runs.specs.Prover.{newProver, commit, respond}
-
--- a challenge is below the sheet's count
-abbrev pub Below : List ℕ → ℕ → Type 0
-Below sheet c = c < instanceOf sheet .header .challenges
-
--- two arrays agree in the n places that are read of a nonce, a witness or a response
-abbrev pub SameSlots : List ℕ → List ℕ → List ℕ → Type 0
-SameSlots sheet x x′ = Agree (instanceOf sheet .header .columns) x x′
-
--- two rounds are the same
-abbrev pub Same : List ℕ → Round → Round → Type 0
-Same sheet round round′ = SameRound (instanceOf sheet .header) round round′
 
 -- unread places are no part of a nonce, witness, response or round: no answer depends on them
 pub record ReadAlone (sheet : List ℕ) : Type 0 where

@@ -10,6 +10,8 @@ pub mod ProverCalls
 pub mod VerifierCalls
 pub mod JointRun
 pub mod Knowledge
+pub mod OnSheet
+pub mod Demand1
 pub mod Demand2
 pub mod Demand3
 pub mod Marker

@@ -1,0 +1,43 @@
+-- A number that conditions give is 0 or one of theirs, and so one of 01's 22.
+-- Assumes nothing.
+use mathlib.Core.Path.{_≡_, subst}
+use mathlib.Core.Bool.{true}
+use mathlib.Core.List.{List, [], _∷_}
+use mathlib.Core.Logic.{_⊎_, inl, inr, ⊎-elim}
+use Prim.Native.Nat.{ℕ}
+use Rattle.lists.specs.Member.{Member}
+use Rattle.rules.specs.AnswersBy.{conditionNumbers, AnswersBy}
+use Rattle.rules.specs.Condition.{Condition, _if_, Given, Tests}
+use Rattle.rules.specs.Order.{refusalOrder, isSublist}
+use Rattle.rules.specs.Rule.{Rule, lowest}
+use Rattle.rules.proofs.Condition.{given}
+use Rattle.rules.proofs.Order.{sublist-member}
+
+-- the number that conditions give is 0 or one of their numbers
+pub given-among : (conditions : List Condition) (n : ℕ) → Given conditions n → (n ≡ 0) ⊎ Member n (conditionNumbers conditions)
+unfolding conditionNumbers
+given-among [] n none = inl none
+given-among ((m if holds) ∷ conditions) n (inl first) = inr (inl (first .1))
+given-among ((m if holds) ∷ conditions) n (inr later) =
+    ⊎-elim (λ none. inl none) (λ found. inr (inr found)) (given-among conditions n (later .1))
+
+module _ (numbers : List ℕ) (conditions : List Condition) (numbered : conditionNumbers conditions ≡ numbers)
+    (ordered : isSublist numbers refusalOrder ≡ true) where
+  -- conditions with numbers in 01's order fix the answer
+  pub answers-given : (n : ℕ) → Given conditions n → AnswersBy numbers conditions n
+  answers-given n gives = record {
+    numbered = numbered;
+    ordered = ordered;
+    among = subst (λ (ns : List ℕ). (n ≡ 0) ⊎ Member n ns) numbered (given-among conditions n gives);
+    given = gives;
+  }
+
+  -- so do rules that test them
+  pub answers-tested : (rules : List Rule) → Tests rules conditions → AnswersBy numbers conditions (lowest rules)
+  answers-tested rules tests = answers-given (lowest rules) (given rules conditions tests)
+
+-- a call ends in a result or in one of 01's 22 numbers
+pub answers-known : {numbers : List ℕ} {conditions : List Condition} {n : ℕ} → AnswersBy numbers conditions n
+    → (n ≡ 0) ⊎ Member n refusalOrder
+answers-known {numbers} {conditions} {n} a =
+    ⊎-elim (λ none. inl none) (λ found. inr (sublist-member n numbers refusalOrder (a .ordered) found)) (a .among)

@@ -1,0 +1,26 @@
+-- What demand 1 (00) asks of the number that a call answers with: a list of conditions fixes it.
+-- Assumes nothing.
+use mathlib.Core.Path.{_≡_}
+use mathlib.Core.Bool.{true}
+use mathlib.Core.List.{List, [], _∷_}
+use mathlib.Core.Logic.{_⊎_}
+use Prim.Native.Nat.{ℕ}
+use Rattle.lists.specs.Member.{Member}
+use Rattle.rules.specs.Condition.{Condition, _if_, Given}
+use Rattle.rules.specs.Order.{refusalOrder, isSublist}
+
+-- the numbers of a list of conditions, in its order
+unfoldable pub conditionNumbers : List Condition → List ℕ
+conditionNumbers [] = []
+conditionNumbers ((n if holds) ∷ conditions) = n ∷ conditionNumbers conditions
+
+-- a call with these refusals and these conditions answers with the number n, 0 where it is not refused
+pub record AnswersBy (numbers : List ℕ) (conditions : List Condition) (n : ℕ) : Type 0 where
+  -- the conditions' numbers are exactly these
+  pub numbered : conditionNumbers conditions ≡ numbers
+  -- they are some of 01's 22, in 01's order, so that the first is the lowest
+  pub ordered : isSublist numbers refusalOrder ≡ true
+  -- n is 0 or one of them
+  pub among : (n ≡ 0) ⊎ Member n numbers
+  -- n is the number of the first condition that holds, 0 where none does
+  pub given : Given conditions n
