@@ -1,34 +1,29 @@
-use borrow.Author.Needs.{needs}
+-- `instance::elements::read_statement` meets its contract: the statement stands behind the entries, at the end of the sheet.
+-- Assumes nothing.
+use native.Mathlib.Omega.{arith}
+use Rattle.formats.specs.Sheet.{sheetLength, statementOf}
 use Rattle.instance.proofs.elements.read_statement.Statement.{statement}
 use Rattle.instance.proofs.elements.read_statement.Tie as tie
-use Rattle.instance.proofs.elements.read_statement.Reads as reads
-use Rattle.instance.proofs.elements.read_statement.Lts as lts
-use Rattle.fields.proofs.read_words.Reads as read-words-reads
-use Rattle.instance.proofs.shape.entry_count.Reads as entry-count-reads
 
--- src/elements.rt:45:32
 entry-count-requires : tie.Need-entry-count-requires
-entry-count-requires c κs = search needs
+entry-count-requires c κs = omega arith
 
--- src/elements.rt:45:28
 mul-read-words : tie.Need-mul-read-words
-mul-read-words c = search needs
+mul-read-words c = omega arith
 
--- src/elements.rt:45:23
 add-read-words : tie.Need-add-read-words
-add-read-words c = search needs
+add-read-words c = omega arith
 
--- src/elements.rt:45:48
 cast-read-words : tie.Need-cast-read-words
-cast-read-words c = search needs
+cast-read-words c = omega arith
 
--- src/elements.rt:45:5
 read-words-requires : tie.Need-read-words-requires
-read-words-requires c κs = ?
+unfolding sheetLength
+read-words-requires c κs = omega arith
 
--- src/elements.rt:41:1
 returns : tie.Need-returns
-returns c = ?
+unfolding statementOf
+returns c = rw (← c .before .before .entry-count .ensures .0) (c .read-words .ensures)
 
 pub read-statement-spec : {M : Type 1} → statement M
 read-statement-spec =
