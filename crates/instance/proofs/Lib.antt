@@ -2,3 +2,4 @@
 pub mod FixedFields
 pub mod SheetShape
 pub mod SheetValues
+pub mod LoadSteps

@@ -1,8 +1,8 @@
 // The group elements of a sheet: its entries, row by row, and its statement (01, "Turned back", 10 and 11).
-use types::Header;
+use crate::shape::entry_count;
 use fields::read_words;
 use modular::first_non_element;
-use crate::shape::entry_count;
+use types::Header;
 ghost use Prim.Native.Nat.{_+_, _*_, _≤_, _<_};
 ghost use mathlib.Core.Path.{_≡_};
 ghost use lib.ListN.{length};

@@ -4,6 +4,17 @@ mod elements; // elements.rt: the entries and the statement
 mod loading; // loading.rt: the calls
 mod shape; // shape.rt: the mark, the fixed fields and the length
 
-pub use elements::{element_refusal, first_bad_row, read_entries, read_statement};
-pub use loading::{entries, load, load_refusal, loaded_entries};
-pub use shape::{MARK, entry_count, header, header_refusal, shape_refusal, sheet_length};
+pub use elements::element_refusal;
+pub use elements::first_bad_row;
+pub use elements::read_entries;
+pub use elements::read_statement;
+pub use loading::entries;
+pub use loading::load;
+pub use loading::load_refusal;
+pub use loading::loaded_entries;
+pub use shape::MARK;
+pub use shape::entry_count;
+pub use shape::header;
+pub use shape::header_refusal;
+pub use shape::shape_refusal;
+pub use shape::sheet_length;

@@ -1,7 +1,11 @@
 // The calls that load a sheet: its shape is tested first, then its group elements, and a refused one gives zeros.
-use types::{Header, Loaded};
-use crate::shape::{header, shape_refusal};
-use crate::elements::{read_entries, read_statement, element_refusal};
+use crate::elements::element_refusal;
+use crate::elements::read_entries;
+use crate::elements::read_statement;
+use crate::shape::header;
+use crate::shape::shape_refusal;
+use types::Header;
+use types::Loaded;
 ghost use mathlib.Core.Path.{_≡_};
 ghost use Rattle.formats.specs.Sheet.{headerOf, entriesOf};
 ghost use Rattle.formats.specs.Load.{loadRefusal, load, loadEntries};

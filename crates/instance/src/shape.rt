@@ -1,7 +1,11 @@
 // The shape of a sheet: its mark, its version, its fixed fields and its length (01, "Turned back", 2 to 9).
+use fields::has_mark;
+use fields::read_u8;
+use fields::read_u16;
+use fields::read_u32;
+use modular::Divisor;
+use modular::first_divisor;
 use types::Header;
-use fields::{has_mark, read_u8, read_u16, read_u32};
-use modular::{Divisor, first_divisor};
 ghost use Prim.Native.Nat.{_≤_};
 ghost use mathlib.Core.Path.{_≡_};
 ghost use lib.ListN.{length};

@@ -1,34 +1,27 @@
-use borrow.Author.Needs.{needs}
+-- `instance::elements::element_refusal` meets its contract: the entries are tested before the statement.
+-- Assumes nothing.
+use native.Mathlib.Omega.{arith}
+use Rattle.instance.proofs.SheetValues.{entries-number, statement-number, elements-right}
 use Rattle.instance.proofs.elements.element_refusal.Statement.{statement}
 use Rattle.instance.proofs.elements.element_refusal.Tie as tie
-use Rattle.instance.proofs.elements.element_refusal.Reads as reads
-use Rattle.instance.proofs.elements.element_refusal.Lts as lts
-use Rattle.instance.proofs.elements.first_bad_row.Reads as first-bad-row-reads
-use Rattle.modular.proofs.first_non_element.Reads as first-non-element-reads
 
--- src/elements.rt:76:16
 cast-rows : tie.Need-cast-rows
-cast-rows c = search needs
+cast-rows c = omega arith
 
--- src/elements.rt:77:8
 first-bad-row-requires : tie.Need-first-bad-row-requires
-first-bad-row-requires c κs = search needs
+first-bad-row-requires c κs = omega arith
 
--- src/elements.rt:78:9
 returns : tie.Need-returns
-returns c = ?
+returns c = entries-number _ _ _ (omega arith)
 
--- src/elements.rt:80:8
 first-non-element-requires : tie.Need-first-non-element-requires
-first-non-element-requires c κs = search needs
+first-non-element-requires c κs = omega arith
 
--- src/elements.rt:81:9
 returns-2 : tie.Need-returns-2
-returns-2 c = ?
+returns-2 c = statement-number _ _ _ (omega arith) (omega arith)
 
--- src/elements.rt:70:1
 returns-3 : tie.Need-returns-3
-returns-3 c = ?
+returns-3 c = elements-right _ _ _ (omega arith) (omega arith)
 
 pub element-refusal-spec : {M : Type 1} → statement M
 element-refusal-spec =

@@ -54,9 +54,11 @@ loop-less c = omega arith
 
 loop-again : tie.Need-loop-again Inv-loop μ-loop
 loop-again c =
-    let at-loop = c .before .before .before .before in
-    let good = bad-row _ _ _ (c .before .first-non-element .ensures .0) ∙ le-ltb _ _ (c .if2 .left) in
-    (omega arith, find-to-on _ _ _ (c .before .before .before .loop-test .taken) good ∙ at-loop .loop .inv .1)
+    let at-loop = c .before .before .before .before in (
+      omega arith,
+      let good = bad-row _ _ _ (c .before .first-non-element .ensures .0) ∙ le-ltb _ _ (c .if2 .left) in
+          find-to-on _ _ _ (c .before .before .before .loop-test .taken) good ∙ at-loop .loop .inv .1,
+    )
 
 returns-3 : tie.Need-returns-3 Inv-loop μ-loop
 returns-3 c = sym (find-to-end _ _ _ (c .loop-test .left)) ∙ c .before .loop .inv .1

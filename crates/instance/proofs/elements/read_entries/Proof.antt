@@ -1,29 +1,30 @@
-use borrow.Author.Needs.{needs}
+-- `instance::elements::read_entries` meets its contract: the rows lie within a sheet of kind 1.
+-- Assumes nothing.
+use mathlib.Core.Path.{_∙_}
+use native.Mathlib.Omega.{arith}
+use Rattle.lists.specs.Places.{zeros8}
+use Rattle.formats.specs.Sheet.{zeros64}
+use Rattle.instance.proofs.SheetValues.{rows-within, entries-rows, entries-none}
 use Rattle.instance.proofs.elements.read_entries.Statement.{statement}
 use Rattle.instance.proofs.elements.read_entries.Tie as tie
-use Rattle.instance.proofs.elements.read_entries.Reads as reads
-use Rattle.instance.proofs.elements.read_entries.Lts as lts
-use Rattle.instance.proofs.elements.read_rows.Reads as read-rows-reads
 
--- src/elements.rt:35:33
 cast-read-rows : tie.Need-cast-read-rows
-cast-read-rows c = search needs
+cast-read-rows c = omega arith
 
--- src/elements.rt:35:53
 cast-read-rows-2 : tie.Need-cast-read-rows-2
-cast-read-rows-2 c = search needs
+cast-read-rows-2 c = omega arith
 
--- src/elements.rt:35:9
 read-rows-requires : tie.Need-read-rows-requires
-read-rows-requires c κs = ?
+read-rows-requires c κs =
+    let start = c .before .before .before .before .before in
+    ((start .pre .few-columns, start .pre .few-rows), rows-within _ _ (start .pre) (c .before .before .if1 .taken))
 
--- src/elements.rt:35:9
 returns : tie.Need-returns
-returns c = ?
+returns c = c .read-rows .ensures ∙ entries-rows _ _ (c .before .before .before .if1 .taken)
 
--- src/elements.rt:30:1
 returns-2 : tie.Need-returns-2
-returns-2 c = ?
+unfolding zeros64 zeros8
+returns-2 c = entries-none _ _ (c .if1 .left)
 
 pub read-entries-spec : {M : Type 1} → statement M
 read-entries-spec =

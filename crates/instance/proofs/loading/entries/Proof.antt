@@ -1,31 +1,37 @@
+-- `instance::loading::entries` meets its contract.
+-- Assumes nothing.
+use mathlib.Core.Path.{_≡_, sym, _∙_}
+use native.Mathlib.Omega.{arith}
 use borrow.Author.Needs.{needs}
+use Rattle.lists.specs.Places.{zeros8}
+use Rattle.formats.specs.Sheet.{zeros64}
+use Rattle.formats.specs.Load.{loadRefusal}
+use Rattle.formats.proofs.Loads.{entries-refused}
+use Rattle.instance.proofs.LoadSteps.{load-shape, shape-long, entries-answer}
 use Rattle.instance.proofs.loading.entries.Statement.{statement}
 use Rattle.instance.proofs.loading.entries.Tie as tie
-use Rattle.instance.proofs.loading.entries.Reads as reads
-use Rattle.instance.proofs.loading.entries.Lts as lts
-use Rattle.instance.proofs.loading.load_refusal.Reads as load-refusal-reads
-use Rattle.instance.proofs.loading.loaded_entries.Reads as loaded-entries-reads
-use Rattle.instance.proofs.shape.header.Reads as header-reads
 
--- src/loading.rt:64:8
 load-refusal-requires : tie.Need-load-refusal-requires
 load-refusal-requires c κs = search needs
 
--- src/loading.rt:65:9
 returns : tie.Need-returns
-returns c = ?
+unfolding zeros64 zeros8
+returns c = sym (entries-refused _ (omega arith))
 
--- src/loading.rt:67:9
+-- past the test the sheet loads
+loads : (c : tie.Else1) → loadRefusal (c .before .before .before .args .sheet .now) ≡ 0
+loads c = omega arith
+
 header-requires : tie.Need-header-requires
-header-requires c κs = ?
+header-requires c κs = shape-long _ (load-shape _ (loads c))
 
--- src/loading.rt:68:5
 loaded-entries-requires : tie.Need-loaded-entries-requires
-loaded-entries-requires c κs = search needs
+loaded-entries-requires c κs = (loads (c .before), c .header .ensures)
 
--- src/loading.rt:61:1
 returns-2 : tie.Need-returns-2
-returns-2 c = ?
+returns-2 c =
+    let read = c .before in
+    c .loaded-entries .ensures ∙ entries-answer _ _ (read .header .ensures) (loads (read .before))
 
 pub entries-spec : {M : Type 1} → statement M
 entries-spec =

@@ -1,31 +1,35 @@
+-- `instance::loading::load` meets its contract.
+-- Assumes nothing.
+use mathlib.Core.Path.{_≡_}
+use native.Mathlib.Omega.{arith}
 use borrow.Author.Needs.{needs}
+use Rattle.lists.specs.Places.{zeros8}
+use Rattle.formats.specs.Load.{loadRefusal, noHeader}
+use Rattle.instance.proofs.LoadSteps.{load-shape, shape-long, shape-shaped, load-answer, refused-answer}
 use Rattle.instance.proofs.loading.load.Statement.{statement}
 use Rattle.instance.proofs.loading.load.Tie as tie
-use Rattle.instance.proofs.loading.load.Reads as reads
-use Rattle.instance.proofs.loading.load.Lts as lts
-use Rattle.instance.proofs.elements.read_statement.Reads as read-statement-reads
-use Rattle.instance.proofs.loading.load_refusal.Reads as load-refusal-reads
-use Rattle.instance.proofs.shape.header.Reads as header-reads
 
--- src/loading.rt:27:9
 load-refusal-requires : tie.Need-load-refusal-requires
 load-refusal-requires c κs = search needs
 
--- src/loading.rt:29:9
 returns : tie.Need-returns
-returns c = ?
+unfolding noHeader zeros8
+returns c = refused-answer _ (c .before .load-refusal .ensures) (c .if1 .taken)
 
--- src/loading.rt:42:9
+-- past the test the sheet loads
+loads : (c : tie.Else1) → loadRefusal (c .before .before .before .args .sheet .now) ≡ 0
+loads c = omega arith
+
 header-requires : tie.Need-header-requires
-header-requires c κs = ?
+header-requires c κs = shape-long _ (load-shape _ (loads c))
 
--- src/loading.rt:43:9
 read-statement-requires : tie.Need-read-statement-requires
-read-statement-requires c κs = ?
+read-statement-requires c κs = shape-shaped _ _ (c .header .ensures) (load-shape _ (loads (c .before)))
 
--- src/loading.rt:24:1
 returns-2 : tie.Need-returns-2
-returns-2 c = ?
+returns-2 c =
+    let read = c .before in
+    load-answer _ _ (read .header .ensures) (c .read-statement .ensures) (loads (read .before))
 
 pub load-spec : {M : Type 1} → statement M
 load-spec =

@@ -1,41 +1,45 @@
+-- `instance::loading::load_refusal` meets its contract: the shape is tested before the group elements.
+-- Assumes nothing.
+use mathlib.Core.Path.{_≡_, _∙_}
+use native.Mathlib.Omega.{arith}
 use borrow.Author.Needs.{needs}
+use Rattle.rules.specs.Rule.{lowest}
+use Rattle.formats.specs.Load.{shapeRules}
+use Rattle.instance.proofs.LoadSteps.{shape-first, elements-next, shape-long, shape-header, shape-shaped}
 use Rattle.instance.proofs.loading.load_refusal.Statement.{statement}
 use Rattle.instance.proofs.loading.load_refusal.Tie as tie
-use Rattle.instance.proofs.loading.load_refusal.Reads as reads
-use Rattle.instance.proofs.loading.load_refusal.Lts as lts
-use Rattle.instance.proofs.elements.element_refusal.Reads as element-refusal-reads
-use Rattle.instance.proofs.elements.read_entries.Reads as read-entries-reads
-use Rattle.instance.proofs.elements.read_statement.Reads as read-statement-reads
-use Rattle.instance.proofs.shape.header.Reads as header-reads
-use Rattle.instance.proofs.shape.shape_refusal.Reads as shape-refusal-reads
 
--- src/loading.rt:13:9
 shape-refusal-requires : tie.Need-shape-refusal-requires
 shape-refusal-requires c κs = search needs
 
--- src/loading.rt:15:9
 returns : tie.Need-returns
-returns c = ?
+returns c = c .before .shape-refusal .ensures ∙ shape-first _ (omega arith)
 
--- src/loading.rt:17:9
+-- past the first test the shape has no number
+shaped : (c : tie.Else1) → lowest (shapeRules (c .before .before .before .args .sheet .now)) ≡ 0
+shaped c = omega arith
+
 header-requires : tie.Need-header-requires
-header-requires c κs = ?
+header-requires c κs = shape-long _ (shaped c)
 
--- src/loading.rt:18:9
 read-entries-requires : tie.Need-read-entries-requires
-read-entries-requires c κs = ?
+read-entries-requires c κs = shape-shaped _ _ (c .header .ensures) (shaped (c .before))
 
--- src/loading.rt:19:9
 read-statement-requires : tie.Need-read-statement-requires
-read-statement-requires c κs = ?
+read-statement-requires c κs = shape-shaped _ _ (c .before .header .ensures) (shaped (c .before .before))
 
--- src/loading.rt:20:5
 element-refusal-requires : tie.Need-element-refusal-requires
-element-refusal-requires c κs = ?
+element-refusal-requires c κs =
+    let (modulus, rows, columns) = shape-header _ _ (c .before .before .header .ensures) (shaped (c .before .before .before)) in
+    (modulus, (rows, columns))
 
--- src/loading.rt:10:1
 returns-2 : tie.Need-returns-2
-returns-2 c = ?
+returns-2 c =
+    let stated = c .before in
+    let entered = stated .before in
+    let read = entered .before in
+    c .element-refusal .ensures
+    ∙ elements-next _ _ (read .header .ensures) (entered .read-entries .ensures) (stated .read-statement .ensures) (shaped (read .before))
 
 pub load-refusal-spec : {M : Type 1} → statement M
 load-refusal-spec =
