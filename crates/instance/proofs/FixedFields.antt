@@ -31,10 +31,10 @@ module _ (h : Header) where
       rw (le-ltb _ 2 low, le-ltb 65536 _ high, le-ltb _ _ (divisorOf-nothing (h .order) (h .challenges) .0 nothing))
 
   -- fixed fields that are not refused have a positive modulus and at most eight rows and columns
-  pub header-passes : lowest (headerRules h) ≡ 0 → (0 < h .modulus) × (h .rows ≤ 8) × (h .columns ≤ 8)
+  pub header-passes : lowest (headerRules h) ≡ 0 → (0 < h .modulus) × ((h .rows ≤ 8) × (h .columns ≤ 8))
   unfolding headerRules
   header-passes e =
       let clear = clear-lowest (headerRules h) tt e in
       let modulus = modulus-passes h .0 (clear .1 .0) in
       let size = size-passes h .0 (clear .1 .1 .1 .0) in
-      (omega arith, size .1, size .3)
+      (omega arith, (size .1, size .3))

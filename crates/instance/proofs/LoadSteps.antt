@@ -16,7 +16,7 @@ use Rattle.formats.specs.Load.{shapeRules, loadRules, loadRefusal, noHeader, lo
 use Rattle.formats.proofs.Loads.{sheet-long, load-given, entries-given, load-refused}
 use Rattle.instance.specs.Shaped.{Shaped}
 use Rattle.instance.proofs.FixedFields.{header-passes}
-use Rattle.instance.proofs.SheetShape.{shape-passes}
+use Rattle.instance.proofs.ShapeNumber.{shape-passes}
 
 module _ (s : List ℕ) where
   -- a number of the shape is the sheet's
@@ -35,19 +35,20 @@ module _ (s : List ℕ) where
 
   module _ (h : Header) (same : h ≡ headerOf s) (passed : lowest (shapeRules s) ≡ 0) where
     -- its fixed fields have a positive modulus and at most eight rows and columns
-    pub shape-header : (0 < h .modulus) × (h .rows ≤ 8) × (h .columns ≤ 8)
+    pub shape-header : (0 < h .modulus) × ((h .rows ≤ 8) × (h .columns ≤ 8))
     shape-header = header-passes h (ap (λ (k : Header). lowest (headerRules k)) same ∙ shape-passes s passed .0)
 
     -- and give its length
     pub shape-shaped : Shaped s h
     shape-shaped =
-        let (_, rows, columns) = shape-header in
+        let (_, (rows, columns)) = shape-header in
         record { few-rows = rows; few-columns = columns; exact = shape-passes s passed .1 ∙ ap sheetLength (sym same) }
 
   module _ (h : Header) (same : h ≡ headerOf s) where
     -- where the shape gives no number, that of the entries and the statement is the sheet's
     pub elements-next : {entries : List (List ℕ)} {statement : List ℕ} → entries ≡ entriesOf s h → statement ≡ statementOf s h
-        → lowest (shapeRules s) ≡ 0 → lowest (elementRules (record { header = h; entries = entries; statement = statement })) ≡ loadRefusal s
+        → lowest (shapeRules s) ≡ 0
+        → lowest (elementRules (record { header = h; entries = entries; statement = statement })) ≡ loadRefusal s
     unfolding loadRefusal loadRules shapeRules headerRules instanceOf
     elements-next read-entries read-statement passed =
         rw (read-entries, read-statement, same) (sym (lowest-later-zero (shapeRules s) (elementRules (instanceOf s)) tt passed))

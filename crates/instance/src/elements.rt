@@ -47,7 +47,9 @@ pub fn read_statement(sheet: &[u8], h: Header) -> [u32; 8]
 
 // The first row with an entry that is no group element, or the count of the rows where there is none, as in kind 2.
 pub fn first_bad_row(h: Header, entries: [[u32; 8]; 8]) -> usize
-    requires { ⌜ (0 < h .modulus) × (h .rows ≤ 8) × (h .columns ≤ 8) ⌝ }
+    requires modulus { ⌜ 0 < h .modulus ⌝ }
+    requires rows { ⌜ h .rows ≤ 8 ⌝ }
+    requires columns { ⌜ h .columns ≤ 8 ⌝ }
     ensures { λ r. ⌜ r ≡ firstBadRow h entries ⌝ }
 {
     let rows = h.rows as usize;

@@ -1,7 +1,7 @@
 -- `instance::elements::element_refusal` meets its contract: the entries are tested before the statement.
 -- Assumes nothing.
 use native.Mathlib.Omega.{arith}
-use Rattle.instance.proofs.SheetValues.{entries-number, statement-number, elements-right}
+use Rattle.instance.proofs.ElementNumber.{entries-number, statement-number, elements-right}
 use Rattle.instance.proofs.elements.element_refusal.Statement.{statement}
 use Rattle.instance.proofs.elements.element_refusal.Tie as tie
 

@@ -8,7 +8,7 @@ use Rattle.numbers.specs.Search.{find}
 use Rattle.numbers.proofs.Search.{find-to-end, find-to-here, find-to-on}
 use Rattle.sigma.specs.Instance.{isExponent}
 use Rattle.instance.specs.Rows.{isBadRow, firstBadRow}
-use Rattle.instance.proofs.SheetValues.{bad-row, rows-start}
+use Rattle.instance.proofs.ElementNumber.{bad-row, rows-start}
 use Rattle.instance.proofs.elements.first_bad_row.Statement.{statement}
 use Rattle.instance.proofs.elements.first_bad_row.Tie as tie
 

@@ -4,7 +4,7 @@ use mathlib.Core.Path.{_∙_}
 use native.Mathlib.Omega.{arith}
 use Rattle.lists.specs.Places.{zeros8}
 use Rattle.formats.specs.Sheet.{zeros64}
-use Rattle.instance.proofs.SheetValues.{rows-within, entries-rows, entries-none}
+use Rattle.instance.proofs.SheetRows.{rows-within, entries-rows, entries-none}
 use Rattle.instance.proofs.elements.read_entries.Statement.{statement}
 use Rattle.instance.proofs.elements.read_entries.Tie as tie
 

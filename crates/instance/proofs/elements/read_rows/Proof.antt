@@ -5,7 +5,7 @@ use mathlib.Core.Path.{_≡_, refl}
 use native.Mathlib.Omega.{arith}
 use Rattle.lists.specs.Places.{itemsAt, pad8, zeros8}
 use Rattle.instance.specs.Rows.{rowAt, rowsAt}
-use Rattle.instance.proofs.SheetValues.{row-within, row-stored}
+use Rattle.instance.proofs.SheetRows.{row-within, row-stored}
 use Rattle.instance.proofs.elements.read_rows.Statement.{statement}
 use Rattle.instance.proofs.elements.read_rows.Tie as tie
 

@@ -1,4 +1,4 @@
--- `instance::loading::entries` meets its contract.
+-- `instance::loading::entries` meets its contract: it answers zeros for a refused sheet, and else what the sheet has.
 -- Assumes nothing.
 use mathlib.Core.Path.{_≡_, sym, _∙_}
 use native.Mathlib.Omega.{arith}

@@ -1,4 +1,4 @@
--- `instance::loading::load` meets its contract.
+-- `instance::loading::load` meets its contract: it answers zeros for a refused sheet, and else what the sheet has.
 -- Assumes nothing.
 use mathlib.Core.Path.{_≡_}
 use native.Mathlib.Omega.{arith}

@@ -30,16 +30,15 @@ read-statement-requires c κs = shape-shaped _ _ (c .before .header .ensures) (s
 
 element-refusal-requires : tie.Need-element-refusal-requires
 element-refusal-requires c κs =
-    let (modulus, rows, columns) = shape-header _ _ (c .before .before .header .ensures) (shaped (c .before .before .before)) in
-    (modulus, (rows, columns))
+    let read = c .before .before in shape-header _ _ (read .header .ensures) (shaped (read .before))
 
 returns-2 : tie.Need-returns-2
 returns-2 c =
     let stated = c .before in
     let entered = stated .before in
     let read = entered .before in
-    c .element-refusal .ensures
-    ∙ elements-next _ _ (read .header .ensures) (entered .read-entries .ensures) (stated .read-statement .ensures) (shaped (read .before))
+    let number = elements-next _ _ (read .header .ensures) (entered .read-entries .ensures) (stated .read-statement .ensures) in
+    c .element-refusal .ensures ∙ number (shaped (read .before))
 
 pub load-refusal-spec : {M : Type 1} → statement M
 load-refusal-spec =

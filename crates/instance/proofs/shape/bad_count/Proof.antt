@@ -1,4 +1,4 @@
--- `instance::shape::bad_count` meets its contract.
+-- `instance::shape::bad_count` meets its contract: a K within its bounds is bad where a divisor is found.
 -- Assumes nothing.
 use mathlib.Core.Path.{sym, _∙_}
 use native.Mathlib.Omega.{arith}

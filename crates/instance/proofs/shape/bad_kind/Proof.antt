@@ -1,4 +1,4 @@
--- `instance::shape::bad_kind` meets its contract.
+-- `instance::shape::bad_kind` meets its contract: 1 is told apart first, and then 2.
 -- Assumes nothing.
 use borrow.Author.Tests.{eq-eqb, ne-eqb}
 use Rattle.sigma.specs.Admission.{badKind}

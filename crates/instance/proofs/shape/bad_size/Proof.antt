@@ -1,4 +1,4 @@
--- `instance::shape::bad_size` meets its contract.
+-- `instance::shape::bad_size` meets its contract: the tests stand in the order of the definition.
 -- Assumes nothing.
 use native.Mathlib.Omega.{arith}
 use borrow.Author.Tests.{eq-eqb, ne-eqb, lt-ltb, le-ltb}

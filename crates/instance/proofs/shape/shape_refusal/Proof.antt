@@ -10,7 +10,7 @@ use Rattle.rules.specs.Rule.{lowest}
 use Rattle.sigma.specs.Admission.{headerRules}
 use Rattle.formats.specs.Sheet.{sheetMark, versionOf, headerOf, sheetLength}
 use Rattle.instance.proofs.FixedFields.{header-passes}
-use Rattle.instance.proofs.SheetShape.{
+use Rattle.instance.proofs.ShapeNumber.{
   Begun,
   short-refused,
   mark-refused,
@@ -61,7 +61,8 @@ begun c =
 
 -- the fixed fields' number
 number : (c : tie.After-header-refusal)
-    → c .header-refusal .result ≡ lowest (headerRules (headerOf (c .before .before .before .before .before .before .before .before .args .sheet .now)))
+    → let s = c .before .before .before .before .before .before .before .before .args .sheet .now in
+    c .header-refusal .result ≡ lowest (headerRules (headerOf s))
 number c = c .header-refusal .ensures ∙ ap (λ (h : Header). lowest (headerRules h)) (c .before .header .ensures)
 
 returns-4 : tie.Need-returns-4
@@ -70,8 +71,7 @@ returns-4 c =
     number asked ∙ header-refused _ (begun (asked .before .before)) (omega (arith, number asked))
 
 sheet-length-requires : tie.Need-sheet-length-requires
-sheet-length-requires c κs =
-    let (_, rows, columns) = header-passes (c .before .before .header .result) (omega arith) in (rows, columns)
+sheet-length-requires c κs = header-passes (c .before .before .header .result) (omega arith) .1
 
 returns-5 : tie.Need-returns-5
 returns-5 c =
