@@ -1,7 +1,6 @@
 -- `instance::shape::header_refusal` meets its contract: the tests stand in the order of the rules.
 -- Assumes nothing.
 use mathlib.Core.Path.{sym, _∙_}
-use native.Mathlib.Omega.{arith}
 use borrow.Author.Needs.{needs}
 use borrow.Author.Tests.{lt-ltb, le-ltb}
 use Rattle.rules.specs.Rule.{lowest}
