@@ -20,7 +20,9 @@ read-rows-requires c κs =
     omega (arith, rows-within _ _ (start .pre) (c .before .before .if1 .taken))
 
 returns : tie.Need-returns
-returns c = c .read-rows .ensures ∙ entries-rows _ _ (c .before .before .before .if1 .taken)
+returns c =
+    let start = c .before .before .before .before .before .before in
+    c .read-rows .ensures ∙ entries-rows _ (start .args .h) (c .before .before .before .if1 .taken)
 
 returns-2 : tie.Need-returns-2
 unfolding zeros64 zeros8
