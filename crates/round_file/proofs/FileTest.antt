@@ -1,8 +1,8 @@
 -- The test of a round file: 12 exactly where it is no round file of the sheet.
 -- Assumes nothing.
 use Prim.Native.Nat.{ℕ, _≤_}
-use mathlib.Core.Path.{_≡_, refl, sym, _∙_}
-use mathlib.Core.Bool.{Bool, true, false, not, false≢true}
+use mathlib.Core.Path.{_≡_, sym, _∙_}
+use mathlib.Core.Bool.{Bool, true, false, not, false≢true, not-eq-not}
 use mathlib.Core.List.{List, []}
 use lib.ListN.{length, take}
 use borrow.Author.Tests.{not-true, not-false}
@@ -32,11 +32,7 @@ module _ (h : Header) (f : List ℕ) where
   -- a file that is no round file of the sheet is refused
   pub file-refused : ¬ IsRoundFile h f → 12 ≡ lowest (fileRules h f)
   unfolding fileRules
-  file-refused other = sym (stop 12 [] (fails (badFile h f) (λ e. other (file-passes h f .0 e))))
-    where
-      fails : (b : Bool) → ¬ (b ≡ false) → b ≡ true
-      fails true n = refl
-      fails false n = absurd (n refl)
+  file-refused other = sym (stop 12 [] (not-eq-not {b = true} .0 (λ e. other (file-passes h f .0 e))))
 
   -- a round file of the sheet is not
   pub file-taken : IsRoundFile h f → 0 ≡ lowest (fileRules h f)
@@ -44,9 +40,9 @@ module _ (h : Header) (f : List ℕ) where
   file-taken r = rw (file-passes h f .1 r)
 
   -- a file that is not refused is a round file of the sheet
-  pub file-clear : lowest (fileRules h f) ≡ 0 → IsRoundFile h f
+  pub file-clear : {n : ℕ} → n ≡ lowest (fileRules h f) → n ≡ 0 → IsRoundFile h f
   unfolding fileRules
-  file-clear e = file-passes h f .0 (clear-lowest (fileRules h f) tt e .0)
+  file-clear tested e = file-passes h f .0 (clear-lowest (fileRules h f) tt (sym tested ∙ e) .0)
 
   module _ {marked : Bool} (tested : marked ≡ hasMark f roundMark) (long : 3 ≤ length f) where
     -- a file that fails the test of the mark is refused

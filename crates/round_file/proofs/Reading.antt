@@ -1,7 +1,7 @@
 -- The calls that read a round file, return by return. `tested` is what the test before the return answered.
 -- Assumes nothing.
 use Prim.Native.Nat.{ℕ, _+_, _-_, _≤_, _<_}
-use mathlib.Core.Path.{_≡_, sym, ap, _∙_}
+use mathlib.Core.Path.{_≡_, refl, sym, _∙_}
 use mathlib.Core.List.{List, [], _∷_}
 use mathlib.Core.Logic.{_≢_}
 use native.Mathlib.Omega.{arith}
@@ -33,7 +33,7 @@ use Rattle.round_file.proofs.FileTest.{file-clear}
 module _ (h : Header) (f : List ℕ) {n : ℕ} (tested : n ≡ lowest (fileRules h f)) where
   -- a file that passes has the seven bytes of the fixed fields
   pub fixed-fields : n ≡ 0 → 7 ≤ length f
-  fixed-fields e = file-long (file-clear h f (sym tested ∙ e))
+  fixed-fields e = file-long (file-clear h f tested e)
 
   -- a refused file has no count
   pub count-none : n ≢ 0 → record { refusal = n; count = 0 } ≡ countAfter [] h f
@@ -69,7 +69,7 @@ module _ (h : Header) (f : List ℕ) (k : ℕ) {n : ℕ} (tested : n ≡ checkAf
   unfolding checkAfter fileRules roundRules
   record-there e =
       let (zero, (number, none)) = lowest-append-zero (fileRules h f) ((13 when badNumber f k) ∷ []) tt tt .0 (sym tested ∙ e) in
-      let file = file-clear h f zero in
+      let file = file-clear h f refl zero in
       let inside = number-passes f k .0 number in
       (omega (arith, file .few), record-inside file k inside)
 

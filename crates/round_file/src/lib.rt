@@ -149,3 +149,57 @@ fn no_round() -> Round
         response: zeros,
     }
 }
+
+// Stores a round at the start of part: the commitment, the challenge and the response. No byte behind them is changed.
+pub fn write_record(part: &mut [u8], h: Header, round: Round)
+    requires few { ⌜ (h .rows ≤ 8) × (h .columns ≤ 8) ⌝ }
+    requires room { ⌜ recordLength challengeWidth h ≤ length (now part) ⌝ }
+    ensures stored { λ _. ⌜ now (part .exit) ≡ sets (now (part .entry)) 0 (recordBytes challengeWidth h round) ⌝ }
+{
+    let rows = h.rows as usize;
+    let columns = h.columns as usize;
+    let commitment = round.commitment;
+    let response = round.response;
+    fields::write_words(part, 0, commitment, rows);
+    fields::write_u32(part, 4 * rows, round.challenge);
+    fields::write_words(part, 4 * rows + 4, response, columns);
+}
+
+// The number that the record writer is refused with, 12, 22 or 0, for the first used bytes of buffer.
+pub fn append_refusal(h: Header, buffer: &[u8], used: usize) -> u32
+    requires few { ⌜ (h .rows ≤ 8) × (h .columns ≤ 8) ⌝ }
+    ensures { λ r. ⌜ r ≡ lowest (appendRules h (now (buffer .entry)) used) ⌝ }
+{
+    if buffer.len() < used {
+        return 12;
+    }
+    let file = &buffer[..used];
+    if file_refusal(h, file) != 0 {
+        return 12;
+    }
+    if 512 <= fields::read_u16(file, 5) {
+        return 12;
+    }
+    if buffer.len() - used < record_length(h) {
+        return 22;
+    }
+    0
+}
+
+// Writes round straight behind the first used bytes of buffer, which are a round file, raises its count by one and answers
+// the count of bytes in use. Where it is refused, with 12 or 22, buffer keeps its bytes.
+pub fn append_in(h: Header, buffer: &mut [u8], used: usize, round: Round) -> Written
+    requires few { ⌜ (h .rows ≤ 8) × (h .columns ≤ 8) ⌝ }
+    ensures answer { λ r. ⌜ r ≡ appendAfter [] h (now (buffer .entry)) used round .answer ⌝ }
+    ensures bytes { λ _. ⌜ now (buffer .exit) ≡ appendAfter [] h (now (buffer .entry)) used round .buffer ⌝ }
+{
+    let refusal = append_refusal(h, buffer, used);
+    if refusal != 0 {
+        return Written { refusal, length: 0 };
+    }
+    let count = fields::read_u16(buffer, 5);
+    let length = used + record_length(h);
+    write_record(&mut buffer[used..], h, round);
+    fields::write_u16(buffer, 5, count + 1);
+    Written { refusal: 0, length }
+}
