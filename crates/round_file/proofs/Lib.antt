@@ -1,4 +1,4 @@
 -- Laws that the proofs of the functions cite, by topic.
 pub mod FileTest
-pub mod Reading
-pub mod Appending
+pub mod FileReading
+pub mod FileWriting

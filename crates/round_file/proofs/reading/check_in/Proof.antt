@@ -1,10 +1,10 @@
--- `round_file::check_in` meets its contract: each return is a law of checking.
+-- `round_file::reading::check_in` meets its contract: each return is a law of checking.
 -- Assumes nothing.
 use native.Mathlib.Omega.{arith}
 use Rattle.formats.specs.RoundFile.{countField}
-use Rattle.round_file.proofs.Reading.{fixed-fields, check-file, check-beyond, check-passes}
-use Rattle.round_file.proofs.check_in.Statement.{statement}
-use Rattle.round_file.proofs.check_in.Tie as tie
+use Rattle.round_file.proofs.FileReading.{fixed-fields, check-file, check-beyond, check-passes}
+use Rattle.round_file.proofs.reading.check_in.Statement.{statement}
+use Rattle.round_file.proofs.reading.check_in.Tie as tie
 
 file-refusal-requires : tie.Need-file-refusal-requires
 file-refusal-requires c κs = omega arith

@@ -1,10 +1,10 @@
--- `round_file::write_record` meets its contract: the three fields of a record stored one behind the other are the record.
+-- `round_file::writing::write_record` meets its contract: the three fields of a record stored one behind the other are the record.
 -- Assumes nothing.
 use native.Mathlib.Omega.{arith}
 use Rattle.formats.specs.RoundFile.{challengeWidth, recordLength}
-use Rattle.round_file.proofs.Appending.{record-stored}
-use Rattle.round_file.proofs.write_record.Statement.{statement}
-use Rattle.round_file.proofs.write_record.Tie as tie
+use Rattle.round_file.proofs.FileWriting.{record-stored}
+use Rattle.round_file.proofs.writing.write_record.Statement.{statement}
+use Rattle.round_file.proofs.writing.write_record.Tie as tie
 
 cast-rows : tie.Need-cast-rows
 cast-rows c = omega arith

@@ -1,10 +1,10 @@
--- `round_file::count_in` meets its contract: each return is a law of counting.
+-- `round_file::reading::count_in` meets its contract: each return is a law of counting.
 -- Assumes nothing.
 use native.Mathlib.Omega.{arith}
 use Rattle.formats.specs.RoundFile.{countField}
-use Rattle.round_file.proofs.Reading.{fixed-fields, count-none, count-field}
-use Rattle.round_file.proofs.count_in.Statement.{statement}
-use Rattle.round_file.proofs.count_in.Tie as tie
+use Rattle.round_file.proofs.FileReading.{fixed-fields, count-none, count-field}
+use Rattle.round_file.proofs.reading.count_in.Statement.{statement}
+use Rattle.round_file.proofs.reading.count_in.Tie as tie
 
 file-refusal-requires : tie.Need-file-refusal-requires
 file-refusal-requires c κs = omega arith

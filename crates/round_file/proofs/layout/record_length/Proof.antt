@@ -1,9 +1,9 @@
--- `round_file::record_length` meets its contract: at most eight rows and eight columns, and a challenge between them.
+-- `round_file::layout::record_length` meets its contract: at most eight rows and eight columns, and a challenge between them.
 -- Assumes nothing.
 use native.Mathlib.Omega.{arith}
 use Rattle.formats.specs.RoundFile.{challengeWidth, recordLength}
-use Rattle.round_file.proofs.record_length.Statement.{statement}
-use Rattle.round_file.proofs.record_length.Tie as tie
+use Rattle.round_file.proofs.layout.record_length.Statement.{statement}
+use Rattle.round_file.proofs.layout.record_length.Tie as tie
 
 cast-result : tie.Need-cast-result
 cast-result c = omega arith

@@ -1,10 +1,10 @@
--- `round_file::round_at` meets its contract: the three fields of a record stand one behind the other.
+-- `round_file::reading::round_at` meets its contract: the three fields of a record stand one behind the other.
 -- Assumes nothing.
 use mathlib.Core.Path.{ap}
 use native.Mathlib.Omega.{arith}
 use Rattle.formats.specs.RoundFile.{challengeWidth, recordLength, roundAt}
-use Rattle.round_file.proofs.round_at.Statement.{statement}
-use Rattle.round_file.proofs.round_at.Tie as tie
+use Rattle.round_file.proofs.reading.round_at.Statement.{statement}
+use Rattle.round_file.proofs.reading.round_at.Tie as tie
 
 cast-rows : tie.Need-cast-rows
 cast-rows c = omega arith

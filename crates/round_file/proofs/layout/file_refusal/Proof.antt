@@ -1,12 +1,12 @@
--- `round_file::file_refusal` meets its contract: each return but the last stands where a round file cannot be.
+-- `round_file::layout::file_refusal` meets its contract: each return but the last stands where a round file cannot be.
 -- Assumes nothing.
 use native.Mathlib.Omega.{arith}
 use Rattle.encoding.specs.Text.{ascii}
 use Rattle.formats.specs.RoundFile.{countField, fileVersion, roundMark}
 use Rattle.formats.proofs.Growing.{file-long}
 use Rattle.round_file.proofs.FileTest.{file-refused, file-taken, unmarked-refused, mark-found}
-use Rattle.round_file.proofs.file_refusal.Statement.{statement}
-use Rattle.round_file.proofs.file_refusal.Tie as tie
+use Rattle.round_file.proofs.layout.file_refusal.Statement.{statement}
+use Rattle.round_file.proofs.layout.file_refusal.Tie as tie
 
 returns : tie.Need-returns
 returns c = file-refused _ _ (λ r. omega (arith, file-long r))

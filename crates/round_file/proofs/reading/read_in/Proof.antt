@@ -1,9 +1,9 @@
--- `round_file::read_in` meets its contract: the record of a round that passes lies inside the file.
+-- `round_file::reading::read_in` meets its contract: the record of a round that passes lies inside the file.
 -- Assumes nothing.
 use native.Mathlib.Omega.{arith}
-use Rattle.round_file.proofs.Reading.{record-there, fetch-none, fetch-record}
-use Rattle.round_file.proofs.read_in.Statement.{statement}
-use Rattle.round_file.proofs.read_in.Tie as tie
+use Rattle.round_file.proofs.FileReading.{record-there, fetch-none, fetch-record}
+use Rattle.round_file.proofs.reading.read_in.Statement.{statement}
+use Rattle.round_file.proofs.reading.read_in.Tie as tie
 
 check-in-requires : tie.Need-check-in-requires
 check-in-requires c κs = omega arith

@@ -1,9 +1,9 @@
--- `round_file::part_in` meets its contract: the record of a round that passes lies inside the file.
+-- `round_file::reading::part_in` meets its contract: the record of a round that passes lies inside the file.
 -- Assumes nothing.
 use native.Mathlib.Omega.{arith}
-use Rattle.round_file.proofs.Reading.{record-there, part-none, part-record}
-use Rattle.round_file.proofs.part_in.Statement.{statement}
-use Rattle.round_file.proofs.part_in.Tie as tie
+use Rattle.round_file.proofs.FileReading.{record-there, part-none, part-record}
+use Rattle.round_file.proofs.reading.part_in.Statement.{statement}
+use Rattle.round_file.proofs.reading.part_in.Tie as tie
 
 check-in-requires : tie.Need-check-in-requires
 check-in-requires c κs = omega arith

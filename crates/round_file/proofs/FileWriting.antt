@@ -1,4 +1,4 @@
--- The record writer, return by return. `tested` is what the test before the return answered.
+-- The calls that write a round file, return by return. `tested` is what the test before the return answered.
 -- Assumes nothing.
 use Prim.Native.Nat.{ℕ, _+_, _-_, _*_, _≤_, _<_}
 use mathlib.Core.Path.{_≡_, sym, ap, ap₂, _∙_}
@@ -8,7 +8,7 @@ use mathlib.Core.Logic.{_≢_}
 use native.Mathlib.Omega.{arith}
 use lib.ListN.{length, take, drop, length-append}
 use lib.Seq.{sets}
-use borrow.Author.Tests.{lt-ltb}
+use borrow.Author.Tests.{le-ltb, lt-ltb}
 use Rattle.types.specs.declared.Header.{Header}
 use Rattle.types.specs.declared.Round.{Round}
 use Rattle.types.specs.declared.Written.{Written}
@@ -17,16 +17,49 @@ use Rattle.lists.proofs.Places.{length-places}
 use Rattle.encoding.specs.Bytes.{bytesOf, bytesOfEach}
 use Rattle.encoding.proofs.Bytes.{length-bytesOf, length-bytesOfEach}
 use Rattle.encoding.proofs.Replaced.{part-replaced-front, sets-sets}
+use Rattle.rules.specs.Answer.{unlessRefused}
 use Rattle.rules.specs.Rule.{lowest}
 use Rattle.rules.proofs.Lowest.{clear-lowest, lowest-clear, pass, stop}
 use Rattle.sigma.proofs.Answer.{unlessRefused-positive, unlessRefused-zero}
-use Rattle.formats.specs.Append.{appendAfter, appendRules, appended, badInUse}
+use Rattle.formats.specs.Append.{appendAfter, appendRules, appended, emptyFile}
 use Rattle.formats.specs.Meaning.{InUse}
-use Rattle.formats.specs.RoundFile.{challengeWidth, countField, recordBytes, recordLength}
-use Rattle.formats.specs.Write.{short, written}
+use Rattle.formats.specs.RoundFile.{challengeWidth, countField, noRounds, recordBytes, recordLength, roundMark}
+use Rattle.formats.specs.Write.{short, written, writtenAtStart}
 use Rattle.formats.proofs.Appending.{in-use-long, length-recordBytes}
-use Rattle.formats.proofs.Files.{in-use-passes}
-use Rattle.formats.proofs.Writing.{short-passes}
+use Rattle.formats.proofs.Files.{in-use-passes, length-roundMark}
+use Rattle.formats.proofs.Writing.{length-noRounds, short-passes}
+
+-- three runs stored one behind the other from the start on are one run stored there
+three-runs : (l xs ys zs : List ℕ) (i j : ℕ) → length xs ≡ i → i + length ys ≡ j
+    → sets (sets (sets l 0 xs) i ys) j zs ≡ sets l 0 (xs ++ ys ++ zs)
+three-runs l xs ys zs i j is-i is-j =
+    let behind-xs : i ≡ 0 + length xs = omega arith in
+    let behind-ys : j ≡ 0 + length (xs ++ ys) = omega (arith, length-append xs ys) in
+    ap₂ (λ (m n : ℕ). sets (sets (sets l 0 xs) m ys) n zs) behind-xs behind-ys
+    ∙ ap (λ (m : List ℕ). sets m (0 + length (xs ++ ys)) zs) (sets-sets l 0 xs ys) ∙ sets-sets l 0 (xs ++ ys) zs
+
+module _ (buffer : List ℕ) where
+  -- the mark, the version and the count of no rounds stored one behind the other are the file of no rounds stored
+  no-rounds-stored : sets (sets (sets buffer 0 roundMark) 3 (bytesOf 2 1)) 5 (bytesOf 2 0) ≡ sets buffer 0 noRounds
+  unfolding noRounds
+  no-rounds-stored =
+      three-runs buffer roundMark (bytesOf 2 1) (bytesOf 2 0) 3 5 length-roundMark (ap (λ (n : ℕ). 3 + n) (length-bytesOf 2 1))
+
+  -- a buffer of under seven bytes is kept
+  pub empty-none : length buffer < 7
+      → (record { refusal = 22; length = 0 } ≡ emptyFile buffer .answer) × (buffer ≡ emptyFile buffer .buffer)
+  unfolding emptyFile writtenAtStart written short lowest unlessRefused
+  empty-none less =
+      let few = lt-ltb (length buffer) (length noRounds) (omega (arith, length-noRounds)) in (rw few, rw few)
+
+  -- in any other the mark, the version and the count of no rounds are stored
+  pub empty-made : {after : List ℕ} → 7 ≤ length buffer
+      → after ≡ sets (sets (sets buffer 0 roundMark) 3 (bytesOf 2 1)) 5 (bytesOf 2 0)
+      → (record { refusal = 0; length = 7 } ≡ emptyFile buffer .answer) × (after ≡ emptyFile buffer .buffer)
+  unfolding emptyFile writtenAtStart written short lowest unlessRefused
+  empty-made room is-after =
+      let enough = le-ltb (length buffer) (length noRounds) (omega (arith, length-noRounds)) in
+      (rw (enough, length-noRounds), rw (enough, is-after) no-rounds-stored)
 
 -- the three fields of a record stored one behind the other are the record stored
 pub record-stored : (width : ℕ) (h : Header) (round : Round) (l : List ℕ)
@@ -35,15 +68,12 @@ pub record-stored : (width : ℕ) (h : Header) (round : Round) (l : List ℕ)
     ≡ sets l 0 (recordBytes width h round)
 unfolding recordBytes
 record-stored width h round l =
-    let t = bytesOfEach 4 (places (h .rows) (round .commitment)) in
+    let t = places (h .rows) (round .commitment) in
     let c = bytesOf width (round .challenge) in
     let r = bytesOfEach 4 (places (h .columns) (round .response)) in
-    let size : length t ≡ 4 * h .rows = length-bytesOfEach 4 _ ∙ ap (λ (n : ℕ). 4 * n) (length-places (h .rows) (round .commitment)) in
-    let behind-t : 4 * h .rows ≡ 0 + length t = omega arith in
-    let behind-c : 4 * h .rows + width ≡ 0 + length (t ++ c) =
-    omega (arith, length-append t c, length-bytesOf width (round .challenge)) in
-    ap₂ (λ (i j : ℕ). sets (sets (sets l 0 t) i c) j r) behind-t behind-c
-    ∙ ap (λ (m : List ℕ). sets m (0 + length (t ++ c)) r) (sets-sets l 0 t c) ∙ sets-sets l 0 (t ++ c) r
+    three-runs l (bytesOfEach 4 t) c r (4 * h .rows) (4 * h .rows + width)
+    (omega (arith, length-bytesOfEach 4 t, length-places (h .rows) (round .commitment)))
+    (omega (arith, length-bytesOf width (round .challenge)))
 
 module _ (h : Header) (buffer : List ℕ) (used : ℕ) where
   -- bytes in use that are no round file with room for a round are refused
