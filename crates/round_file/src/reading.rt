@@ -26,8 +26,10 @@ pub fn count_in(h: Header, file: &[u8]) -> Counted
     if refusal != 0 {
         return Counted { refusal, count: 0 };
     }
-    let count = read_u16(file, 5);
-    Counted { refusal: 0, count }
+    Counted {
+        refusal: 0,
+        count: read_u16(file, 5),
+    }
 }
 
 // The number that round k of a file is refused with, 12, 13 or 0.
