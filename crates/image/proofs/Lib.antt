@@ -4,3 +4,4 @@ pub mod RowImage
 pub mod Slots
 pub mod FirstDifference
 pub mod Unread
+pub mod Tested
