@@ -1,7 +1,14 @@
 // Judging a round and simulating a commitment on loaded values (01, "A round"; refusals 14 to 16).
-use types::{Computed, Header, Round, Verdict};
-use modular::{first_non_coordinate, first_non_element, mul_mod};
-use image::{negative_power, row_image, verdict};
+use image::negative_power;
+use image::row_image;
+use image::verdict;
+use modular::first_non_coordinate;
+use modular::first_non_element;
+use modular::mul_mod;
+use types::Computed;
+use types::Header;
+use types::Round;
+use types::Verdict;
 ghost use mathlib.Core.Path.{_≡_};
 ghost use Prim.Native.Nat.{_<_};
 ghost use Rattle.lists.specs.Places.{pad8, places};
@@ -33,21 +40,37 @@ pub fn judge_loaded(h: Header, entries: [[u32; 8]; 8], statement: [u32; 8], roun
 }
 
 // The simulated commitment for challenge c and response r: the image of r times the statement by -c, a value for each row.
-pub fn simulated(h: Header, entries: [[u32; 8]; 8], statement: [u32; 8], c: u32, r: [u32; 8]) -> [u32; 8]
+pub fn simulated(
+    h: Header,
+    entries: [[u32; 8]; 8],
+    statement: [u32; 8],
+    c: u32,
+    r: [u32; 8],
+) -> [u32; 8]
     requires { ⌜ Valid (instanceWith h entries statement) × (c < h .challenges) ⌝ }
     ensures { λ t. ⌜ t ≡ pad8 0 (simulated (instanceWith h entries statement) c (places (h .columns) r)) ⌝ }
 {
     let rows = h.rows as usize;
     let mut values = [0u32; 8];
     for i in 0..rows {
-        values[i] = mul_mod(row_image(h, entries, r, i), negative_power(h, statement[i], c), h.modulus);
+        values[i] = mul_mod(
+            row_image(h, entries, r, i),
+            negative_power(h, statement[i], c),
+            h.modulus,
+        );
     }
     values
 }
 
 // The simulated commitment for challenge c and response r, or refused with 15 for a challenge of K or more, 16 for a response
 // slot that is no domain slot, and zeros.
-pub fn simulate_loaded(h: Header, entries: [[u32; 8]; 8], statement: [u32; 8], c: u32, r: [u32; 8]) -> Computed
+pub fn simulate_loaded(
+    h: Header,
+    entries: [[u32; 8]; 8],
+    statement: [u32; 8],
+    c: u32,
+    r: [u32; 8],
+) -> Computed
     requires { ⌜ Valid (instanceWith h entries statement) ⌝ }
     ensures { λ answer. ⌜ answer ≡ simulate (instanceWith h entries statement) c r ⌝ }
 {

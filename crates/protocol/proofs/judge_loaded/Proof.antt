@@ -1,47 +1,47 @@
+-- `protocol::judge_loaded` meets its contract: each return is a law of judging.
+-- Assumes nothing.
 use borrow.Author.Needs.{needs}
+use Rattle.protocol.proofs.Judging.{judge-commitment, judge-challenge, judge-response, judge-passed}
 use Rattle.protocol.proofs.judge_loaded.Statement.{statement}
 use Rattle.protocol.proofs.judge_loaded.Tie as tie
-use Rattle.protocol.proofs.judge_loaded.Reads as reads
-use Rattle.protocol.proofs.judge_loaded.Lts as lts
-use Rattle.image.proofs.verdict.Reads as verdict-reads
-use Rattle.modular.proofs.first_non_coordinate.Reads as first-non-coordinate-reads
-use Rattle.modular.proofs.first_non_element.Reads as first-non-element-reads
 
--- src/lib.rt:21:16
 cast-rows : tie.Need-cast-rows
 cast-rows c = search needs
 
--- src/lib.rt:22:19
 cast-columns : tie.Need-cast-columns
 cast-columns c = search needs
 
--- src/lib.rt:23:8
 first-non-element-requires : tie.Need-first-non-element-requires
 first-non-element-requires c κs = search needs
 
--- src/lib.rt:24:9
 returns : tie.Need-returns
-returns c = ?
+returns c = judge-commitment _ _ (c .before .first-non-element .ensures .0) (c .if1 .taken)
 
--- src/lib.rt:27:9
 returns-2 : tie.Need-returns-2
-returns-2 c = ?
+returns-2 c =
+    let good = c .before .before .before in
+    judge-challenge _ _ (good .before .first-non-element .ensures .0) (good .if1 .left) (c .if2 .taken)
 
--- src/lib.rt:29:8
 first-non-coordinate-requires : tie.Need-first-non-coordinate-requires
 first-non-coordinate-requires c κs = search needs
 
--- src/lib.rt:30:9
 returns-3 : tie.Need-returns-3
-returns-3 c = ?
+returns-3 c =
+    let below = c .before .before in
+    let good = below .before .before .before in
+    judge-response _ _ (good .before .first-non-element .ensures .0) (good .if1 .left) (below .if2 .left)
+    (c .before .first-non-coordinate .ensures .0) (c .if3 .taken)
 
--- src/lib.rt:32:5
 verdict-requires : tie.Need-verdict-requires
 verdict-requires c κs = search needs
 
--- src/lib.rt:15:1
 returns-4 : tie.Need-returns-4
-returns-4 c = ?
+returns-4 c =
+    let fits = c .before in
+    let below = fits .before .before in
+    let good = below .before .before .before in
+    judge-passed _ _ (good .before .first-non-element .ensures .0) (good .if1 .left) (below .if2 .left)
+    (fits .before .first-non-coordinate .ensures .0) (fits .if3 .left) (c .verdict .ensures)
 
 pub judge-loaded-spec : {M : Type 1} → statement M
 judge-loaded-spec =
