@@ -1,0 +1,4 @@
+-- Definitions of the two sheet writers' inner functions.
+pub mod Parts
+pub mod Place
+pub mod Rows
