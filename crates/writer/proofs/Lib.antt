@@ -1,4 +1,5 @@
 -- Laws of the two sheet writers.
 pub mod Stored
 pub mod Parts
-pub mod Laws
+pub mod Table
+pub mod Answers

@@ -2,3 +2,4 @@
 pub mod Parts
 pub mod Place
 pub mod Rows
+pub mod Tested

@@ -1,12 +1,12 @@
 // 01's patterns: the table, and the entries that a pattern's digits stand for over the public values.
 use types::Pattern;
-ghost use Prim.Native.Nat.{_≤_, _<_};
+ghost use Prim.Native.Nat.{_+_, _≤_, _<_};
 ghost use mathlib.Core.Path.{_≡_};
 ghost use mathlib.Core.Bool.{cond};
 ghost use lib.Dec.{eqb};
 ghost use lib.ListN.{length};
 ghost use Rattle.lists.specs.Places.{pad8};
-ghost use Rattle.formats.specs.Pattern.{entryOf, patternEntries};
+ghost use Rattle.formats.specs.Pattern.{entryOf, patternEntries, patternOf};
 ghost use Rattle.formats.specs.Sheet.{zeros64};
 ghost use Rattle.writer.specs.Place.{placeOf};
 ghost use Rattle.writer.specs.Rows.{patternRow, Spells};
@@ -70,6 +70,24 @@ pub fn place_of(number: u32) -> Place
         6 => Place::At(5),
         0 | 7..=u32::MAX => Place::Nothing,
     }
+}
+
+// The pattern at a place of the table, the places being counted from 0.
+pub fn pattern_at(k: usize) -> Pattern
+    requires { ⌜ k < 6 ⌝ }
+    ensures { λ r. ⌜ r ≡ patternOf (k + 1) ⌝ }
+{
+    PATTERNS[k]
+}
+
+// The kind of a pattern's sheets: 2 for pattern 6, the root, and 1 for every other.
+pub fn kind_of(number: u32) -> u32
+    ensures { λ r. ⌜ r ≡ cond (eqb number 6) 2 1 ⌝ }
+{
+    if number == 6 {
+        return 2;
+    }
+    1
 }
 
 // The entry that a digit stands for: 1 for 0, else the public value of that position, from 1.

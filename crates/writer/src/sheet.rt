@@ -4,6 +4,7 @@ use fields::write_u8;
 use fields::write_u16;
 use fields::write_u32;
 use fields::write_words;
+use instance::MARK;
 use types::Header;
 ghost use Prim.Native.Nat.{_+_, _*_, _≤_};
 ghost use mathlib.Core.Path.{_≡_};
@@ -12,9 +13,7 @@ ghost use lib.Seq.{sets};
 ghost use Rattle.formats.specs.Encode.{sheetOf};
 ghost use Rattle.formats.specs.Sheet.{entryCount, sheetLength};
 ghost use Rattle.writer.specs.Parts.{headerBytes, entriesBytes};
-
-// The mark of a sheet.
-pub const MARK: [u8; 3] = *b"HOM";
+ghost use Rattle.writer.specs.Tested.{valuesOf};
 
 // Stores the fixed fields of a sheet in the first 20 bytes of the buffer, and changes no other byte.
 fn write_header(buffer: &mut [u8], h: Header)
@@ -56,7 +55,7 @@ fn write_entries(buffer: &mut [u8], h: Header, entries: [[u32; 8]; 8]) -> usize
 pub fn write_sheet(buffer: &mut [u8], h: Header, entries: [[u32; 8]; 8], statement: [u32; 8])
     requires { ⌜ (h .rows ≤ 8) × (h .columns ≤ 8) ⌝ }
     requires { ⌜ sheetLength h ≤ length (now buffer) ⌝ }
-    ensures { λ _. ⌜ now (buffer .exit) ≡ sets (now (buffer .entry)) 0 (sheetOf (record { header = h; entries = entries; statement = statement })) ⌝ }
+    ensures { λ _. ⌜ now (buffer .exit) ≡ sets (now (buffer .entry)) 0 (sheetOf (valuesOf h entries statement)) ⌝ }
 {
     write_header(buffer, h);
     let end = write_entries(buffer, h, entries);

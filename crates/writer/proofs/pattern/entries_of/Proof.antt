@@ -9,7 +9,7 @@ use Rattle.lists.specs.Places.{itemsAt, tabulate, pad8, zeros8}
 use Rattle.lists.proofs.Places.{pad8-store}
 use Rattle.formats.specs.Sheet.{zeros64}
 use Rattle.writer.specs.Rows.{patternRow}
-use Rattle.writer.proofs.Laws.{entries-rows}
+use Rattle.writer.proofs.Table.{entries-rows}
 use Rattle.writer.proofs.pattern.entries_of.Statement.{statement}
 use Rattle.writer.proofs.pattern.entries_of.Tie as tie
 

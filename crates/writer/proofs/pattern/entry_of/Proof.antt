@@ -3,7 +3,7 @@
 use borrow.Author.Needs.{needs}
 use mathlib.Core.Path.{sym}
 use Rattle.formats.proofs.Patterns.{entryOf-none}
-use Rattle.writer.proofs.Laws.{digit-value}
+use Rattle.writer.proofs.Table.{digit-value}
 use Rattle.writer.proofs.pattern.entry_of.Statement.{statement}
 use Rattle.writer.proofs.pattern.entry_of.Tie as tie
 

@@ -1,10 +1,8 @@
 -- `writer::pattern::place_of` meets its contract: each number from 1 to 6 has the place before it, and no other has one.
 -- Assumes nothing.
-use mathlib.Core.Path.{refl}
-use mathlib.Core.Logic.{_≢_}
-use Rattle.formats.proofs.Patterns.{by-number}
+use mathlib.Core.Path.{sym}
 use Rattle.writer.specs.Place.{placeOf}
-use Rattle.writer.proofs.Laws.{place-outside}
+use Rattle.writer.proofs.Table.{outside, placeOf-nothing}
 use Rattle.writer.proofs.pattern.place_of.Statement.{statement}
 use Rattle.writer.proofs.pattern.place_of.Tie as tie
 
@@ -39,9 +37,8 @@ returns-7 c = rw (c .match .keys7)
 returns-8 : tie.Need-returns-8
 returns-8 c =
     let rest = c .match .rest .0 in
-    let others = by-number (λ n. c .before .args .number ≢ n)
-    (rest .0 .0 .0 .0 .0 .1) (rest .0 .0 .0 .0 .1) (rest .0 .0 .0 .1) (rest .0 .0 .1) (rest .0 .1) (rest .1) in
-    place-outside _ (λ (low, high). others _ low high refl)
+    let others = outside _ (rest .0 .0 .0 .0 .0 .1) (rest .0 .0 .0 .0 .1) (rest .0 .0 .0 .1) (rest .0 .0 .1) (rest .0 .1) (rest .1) in
+    sym (placeOf-nothing _ .1 others)
 
 pub place-of-spec : {M : Type 1} → statement M
 place-of-spec =
