@@ -42,7 +42,8 @@ returns c =
     let third = c .before .before in
     let second = third .before .before .before .before in
     let first = second .before .before .before .before in
-    record-stored 4 _ _ _ (first .write-words .ensures) (second .write-u32 .ensures) (third .write-words2 .ensures)
+    let args = first .before .before .before .before .before .before .before .args in
+    record-stored 4 (args .h) (args .round) _ (first .write-words .ensures) (second .write-u32 .ensures) (third .write-words2 .ensures)
 
 pub write-record-spec : {M : Type 1} → statement M
 write-record-spec =
