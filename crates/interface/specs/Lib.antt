@@ -1,0 +1,2 @@
+-- What the interface adds to the definitions of the calls.
+pub mod Flat
