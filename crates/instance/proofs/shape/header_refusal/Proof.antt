@@ -1,0 +1,93 @@
+-- `instance::shape::header_refusal` meets its contract: the tests stand in the order of the rules.
+-- Assumes nothing.
+use mathlib.Core.Path.{sym, _∙_}
+use native.Mathlib.Omega.{arith}
+use borrow.Author.Needs.{needs}
+use borrow.Author.Tests.{lt-ltb, le-ltb}
+use Rattle.rules.specs.Rule.{lowest}
+use Rattle.sigma.specs.Admission.{badModulus, badOrder, headerRules}
+use Rattle.instance.proofs.shape.header_refusal.Statement.{statement}
+use Rattle.instance.proofs.shape.header_refusal.Tie as tie
+
+bad-kind-requires : tie.Need-bad-kind-requires
+bad-kind-requires c κs = search needs
+
+returns : tie.Need-returns
+unfolding lowest headerRules
+returns c = rw (sym (c .before .bad-kind .ensures) ∙ c .if1 .taken)
+
+returns-2 : tie.Need-returns-2
+unfolding lowest headerRules badModulus
+returns-2 c =
+    let kind = c .before .before in
+    rw (sym (kind .before .bad-kind .ensures) ∙ kind .if1 .left, lt-ltb _ 3 (c .if2 .taken))
+
+returns-3 : tie.Need-returns-3
+unfolding lowest headerRules badModulus badOrder
+returns-3 c =
+    let modulus = c .before .before in
+    let kind = modulus .before .before in
+    rw (sym (kind .before .bad-kind .ensures) ∙ kind .if1 .left, le-ltb _ 3 (modulus .if2 .left), lt-ltb _ 2 (c .if3 .taken))
+
+bad-size-requires : tie.Need-bad-size-requires
+bad-size-requires c κs = search needs
+
+returns-4 : tie.Need-returns-4
+unfolding lowest headerRules badModulus badOrder
+returns-4 c =
+    let order = c .before .before in
+    let modulus = order .before .before in
+    let kind = modulus .before .before in
+    rw (
+      sym (kind .before .bad-kind .ensures) ∙ kind .if1 .left,
+      le-ltb _ 3 (modulus .if2 .left),
+      le-ltb _ 2 (order .if3 .left),
+      sym (c .before .bad-size .ensures) ∙ c .if4 .taken,
+    )
+
+bad-count-requires : tie.Need-bad-count-requires
+bad-count-requires c κs = search needs
+
+returns-5 : tie.Need-returns-5
+unfolding lowest headerRules badModulus badOrder
+returns-5 c =
+    let size = c .before .before in
+    let order = size .before .before in
+    let modulus = order .before .before in
+    let kind = modulus .before .before in
+    rw (
+      sym (kind .before .bad-kind .ensures) ∙ kind .if1 .left,
+      le-ltb _ 3 (modulus .if2 .left),
+      le-ltb _ 2 (order .if3 .left),
+      sym (size .before .bad-size .ensures) ∙ size .if4 .left,
+      sym (c .before .bad-count .ensures) ∙ c .if5 .taken,
+    )
+
+returns-6 : tie.Need-returns-6
+unfolding lowest headerRules badModulus badOrder
+returns-6 c =
+    let size = c .before .before in
+    let order = size .before .before in
+    let modulus = order .before .before in
+    let kind = modulus .before .before in
+    rw (
+      sym (kind .before .bad-kind .ensures) ∙ kind .if1 .left,
+      le-ltb _ 3 (modulus .if2 .left),
+      le-ltb _ 2 (order .if3 .left),
+      sym (size .before .bad-size .ensures) ∙ size .if4 .left,
+      sym (c .before .bad-count .ensures) ∙ c .if5 .left,
+    )
+
+pub header-refusal-spec : {M : Type 1} → statement M
+header-refusal-spec =
+    tie.close
+    (tie.spec
+    bad-kind-requires
+    returns
+    returns-2
+    returns-3
+    bad-size-requires
+    returns-4
+    bad-count-requires
+    returns-5
+    returns-6)

@@ -1,0 +1,3 @@
+-- Definitions of what the functions that read a sheet by rows ask and answer.
+pub mod Rows
+pub mod Shaped

@@ -1,0 +1,86 @@
+// The group elements of a sheet: its entries, row by row, and its statement (01, "Turned back", 10 and 11).
+use crate::shape::entry_count;
+use fields::read_words;
+use modular::first_non_element;
+use types::Header;
+ghost use Prim.Native.Nat.{_+_, _*_, _≤_, _<_};
+ghost use mathlib.Core.Path.{_≡_};
+ghost use lib.ListN.{length};
+ghost use Rattle.rules.specs.Rule.{lowest};
+ghost use Rattle.sigma.specs.Admission.{elementRules};
+ghost use Rattle.formats.specs.Sheet.{entriesOf, statementOf};
+ghost use Rattle.instance.specs.Shaped.{Shaped};
+ghost use Rattle.instance.specs.Rows.{rowsAt, firstBadRow};
+
+// The first n rows of a sheet's entries, each of so many columns, and 0 in the places beyond them.
+fn read_rows(sheet: &[u8], columns: usize, n: usize) -> [[u32; 8]; 8]
+    requires few { ⌜ (columns ≤ 8) × (n ≤ 8) ⌝ }
+    requires within { ⌜ 20 + 4 * columns * n ≤ length (now sheet) ⌝ }
+    ensures { λ r. ⌜ r ≡ rowsAt (now (sheet .entry)) columns n ⌝ }
+{
+    let mut rows = [[0u32; 8]; 8];
+    for i in 0..n {
+        let row = read_words(sheet, 20 + 4 * columns * i, columns);
+        rows[i] = row;
+    }
+    rows
+}
+
+// The entries of a sheet that has the shape of one, all 0 in kind 2.
+pub fn read_entries(sheet: &[u8], h: Header) -> [[u32; 8]; 8]
+    requires { ⌜ Shaped (now sheet) h ⌝ }
+    ensures { λ r. ⌜ r ≡ entriesOf (now (sheet .entry)) h ⌝ }
+{
+    if h.kind == 1 {
+        return read_rows(sheet, h.columns as usize, h.rows as usize);
+    }
+    [[0u32; 8]; 8]
+}
+
+// The statement of a sheet that has the shape of one.
+pub fn read_statement(sheet: &[u8], h: Header) -> [u32; 8]
+    requires { ⌜ Shaped (now sheet) h ⌝ }
+    ensures { λ r. ⌜ r ≡ statementOf (now (sheet .entry)) h ⌝ }
+{
+    read_words(sheet, 20 + 4 * entry_count(h), h.rows as usize)
+}
+
+// The first row with an entry that is no group element, or the count of the rows where there is none, as in kind 2.
+pub fn first_bad_row(h: Header, entries: [[u32; 8]; 8]) -> usize
+    requires modulus { ⌜ 0 < h .modulus ⌝ }
+    requires rows { ⌜ h .rows ≤ 8 ⌝ }
+    requires columns { ⌜ h .columns ≤ 8 ⌝ }
+    ensures { λ r. ⌜ r ≡ firstBadRow h entries ⌝ }
+{
+    let rows = h.rows as usize;
+    let columns = h.columns as usize;
+    if h.kind != 1 {
+        return rows;
+    }
+    let mut i: usize = 0;
+    while i < rows {
+        let row = entries[i];
+        if first_non_element(h, row, columns) < columns {
+            return i;
+        }
+        i += 1;
+    }
+    i
+}
+
+// The number that entries and a statement are refused with, 10 or 11, or 0.
+pub fn element_refusal(h: Header, entries: [[u32; 8]; 8], statement: [u32; 8]) -> u32
+    requires modulus { ⌜ 0 < h .modulus ⌝ }
+    requires rows { ⌜ h .rows ≤ 8 ⌝ }
+    requires columns { ⌜ h .columns ≤ 8 ⌝ }
+    ensures { λ r. ⌜ r ≡ lowest (elementRules (record { header = h; entries = entries; statement = statement })) ⌝ }
+{
+    let rows = h.rows as usize;
+    if first_bad_row(h, entries) < rows {
+        return 10;
+    }
+    if first_non_element(h, statement, rows) < rows {
+        return 11;
+    }
+    0
+}

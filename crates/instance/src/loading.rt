@@ -1,0 +1,73 @@
+// The calls that load a sheet: its shape is tested first, then its group elements, and a refused one gives zeros.
+use crate::elements::element_refusal;
+use crate::elements::read_entries;
+use crate::elements::read_statement;
+use crate::shape::header;
+use crate::shape::shape_refusal;
+use types::Header;
+use types::Loaded;
+ghost use mathlib.Core.Path.{_≡_};
+ghost use Rattle.formats.specs.Sheet.{headerOf, entriesOf};
+ghost use Rattle.formats.specs.Load.{loadRefusal, load, loadEntries};
+
+// The number that a sheet is refused with, from 2 to 11, or 0.
+pub fn load_refusal(sheet: &[u8]) -> u32
+    ensures { λ r. ⌜ r ≡ loadRefusal (now (sheet .entry)) ⌝ }
+{
+    let refused = shape_refusal(sheet);
+    if refused > 0 {
+        return refused;
+    }
+    let h = header(sheet);
+    let entries = read_entries(sheet, h);
+    let statement = read_statement(sheet, h);
+    element_refusal(h, entries, statement)
+}
+
+// The fixed fields and the statement of a sheet, and zeros beside the number of one that is refused.
+pub fn load(sheet: &[u8]) -> Loaded
+    ensures { λ r. ⌜ r ≡ load (now (sheet .entry)) ⌝ }
+{
+    let refused = load_refusal(sheet);
+    if refused > 0 {
+        return Loaded {
+            refusal: refused,
+            header: Header {
+                kind: 0,
+                modulus: 0,
+                order: 0,
+                challenges: 0,
+                rows: 0,
+                columns: 0,
+            },
+            statement: [0u32; 8],
+        };
+    }
+    let h = header(sheet);
+    let statement = read_statement(sheet, h);
+    Loaded {
+        refusal: 0,
+        header: h,
+        statement,
+    }
+}
+
+// The entries of a sheet that loads and whose fixed fields are h.
+pub fn loaded_entries(sheet: &[u8], h: Header) -> [[u32; 8]; 8]
+    requires loads { ⌜ loadRefusal (now sheet) ≡ 0 ⌝ }
+    requires header { ⌜ h ≡ headerOf (now sheet) ⌝ }
+    ensures { λ r. ⌜ r ≡ entriesOf (now (sheet .entry)) h ⌝ }
+{
+    read_entries(sheet, h)
+}
+
+// The entries of a sheet, and zeros for one that is refused; `load` of the same bytes gives the number.
+pub fn entries(sheet: &[u8]) -> [[u32; 8]; 8]
+    ensures { λ r. ⌜ r ≡ loadEntries (now (sheet .entry)) ⌝ }
+{
+    if load_refusal(sheet) > 0 {
+        return [[0u32; 8]; 8];
+    }
+    let h = header(sheet);
+    loaded_entries(sheet, h)
+}
