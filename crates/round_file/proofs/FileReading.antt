@@ -1,0 +1,98 @@
+-- The calls that read a round file, return by return. `tested` is what the test before the return answered.
+-- Assumes nothing.
+use Prim.Native.Nat.{ℕ, _+_, _-_, _≤_, _<_}
+use mathlib.Core.Path.{_≡_, refl, sym, _∙_}
+use mathlib.Core.List.{List, [], _∷_}
+use mathlib.Core.Logic.{_≢_}
+use native.Mathlib.Omega.{arith}
+use lib.ListN.{length, take, drop}
+use Rattle.types.specs.declared.Counted.{Counted}
+use Rattle.types.specs.declared.Fetched.{Fetched}
+use Rattle.types.specs.declared.Header.{Header}
+use Rattle.types.specs.declared.Round.{Round}
+use Rattle.rules.specs.Rule.{_when_, lowest}
+use Rattle.rules.proofs.Lowest.{lowest-append-zero, lowest-earlier, lowest-later-zero, stop}
+use Rattle.sigma.proofs.Answer.{unlessRefused-positive, unlessRefused-zero}
+use Rattle.formats.specs.RoundCalls.{
+  badNumber,
+  checkAfter,
+  countAfter,
+  fetchAfter,
+  fileRules,
+  noRound,
+  partAfter,
+  roundRules,
+}
+use Rattle.formats.specs.RoundFile.{challengeWidth, countField, recordLength, recordPart, recordStart, roundAt}
+use Rattle.formats.proofs.Growing.{file-long}
+use Rattle.formats.proofs.Files.{number-passes}
+use Rattle.formats.proofs.Part.{record-inside}
+use borrow.Author.Tests.{le-leb}
+use Rattle.round_file.proofs.FileTest.{file-clear}
+
+module _ (h : Header) (f : List ℕ) {n : ℕ} (tested : n ≡ lowest (fileRules h f)) where
+  -- a file that passes has the seven bytes of the fixed fields
+  pub fixed-fields : n ≡ 0 → 7 ≤ length f
+  fixed-fields e = file-long (file-clear h f tested e)
+
+  -- a refused file has no count
+  pub count-none : n ≢ 0 → record { refusal = n; count = 0 } ≡ countAfter [] h f
+  unfolding countAfter
+  count-none some = rw (← tested, unlessRefused-positive (countField f) 0 n (omega arith))
+
+  -- the count of a file that passes is its field
+  pub count-field : {count : ℕ} → n ≡ 0 → count ≡ countField f → record { refusal = 0; count = count } ≡ countAfter [] h f
+  unfolding countAfter
+  count-field e is-field = rw (← tested, e, is-field, unlessRefused-zero)
+
+  module _ (k : ℕ) where
+    -- a refused file's number is each round's
+    pub check-file : n ≢ 0 → n ≡ checkAfter [] h f k
+    unfolding checkAfter roundRules
+    check-file some = tested ∙ sym (lowest-earlier (fileRules h f) _ (omega arith))
+
+    -- a round at or beyond the count is refused
+    pub check-beyond : n ≡ 0 → countField f ≤ k → 13 ≡ checkAfter [] h f k
+    unfolding checkAfter fileRules roundRules badNumber
+    check-beyond e beyond =
+        sym (lowest-later-zero (fileRules h f) _ tt (sym tested ∙ e) ∙ stop 13 [] (le-leb (countField f) k beyond))
+
+    -- a round before it is not
+    pub check-passes : n ≡ 0 → k < countField f → 0 ≡ checkAfter [] h f k
+    unfolding checkAfter fileRules roundRules
+    check-passes e inside =
+        sym (lowest-append-zero (fileRules h f) _ tt tt .1 (sym tested ∙ e, (number-passes f k .1 inside, tt)))
+
+module _ (h : Header) (f : List ℕ) (k : ℕ) {n : ℕ} (tested : n ≡ checkAfter [] h f k) where
+  -- a round that passes is one of at most 512, and its record lies inside the file
+  pub record-there : n ≡ 0 → (k < 512) × (recordStart challengeWidth h k + recordLength challengeWidth h ≤ length f)
+  unfolding checkAfter fileRules roundRules
+  record-there e =
+      let (zero, (number, none)) = lowest-append-zero (fileRules h f) ((13 when badNumber f k) ∷ []) tt tt .0 (sym tested ∙ e) in
+      let file = file-clear h f refl zero in
+      let inside = number-passes f k .0 number in
+      (omega (arith, file .few), record-inside file k inside)
+
+  -- a refused round has an empty part
+  pub part-none : n ≢ 0 → [] ≡ partAfter [] h f k
+  unfolding partAfter
+  part-none some = rw (← tested) (sym (unlessRefused-positive _ [] n (omega arith)))
+
+  -- the part of a round that passes is its record
+  pub part-record : {start size : ℕ} → n ≡ 0 → start ≡ recordStart challengeWidth h k → size ≡ recordLength challengeWidth h
+      → take (start + size - start) (drop start f) ≡ partAfter [] h f k
+  unfolding partAfter recordPart
+  part-record {start} {size} e is-start is-size =
+      let same : start + size - start ≡ size = omega arith in
+      rw (← tested, e, unlessRefused-zero, same, is-start, is-size)
+
+  -- a refused round is read as zeros
+  pub fetch-none : {round : Round} → n ≢ 0 → round ≡ noRound → record { refusal = n; round = round } ≡ fetchAfter [] h f k
+  unfolding fetchAfter
+  fetch-none some is-none = rw (← tested, is-none, unlessRefused-positive _ noRound n (omega arith))
+
+  -- a round that passes is read from its record
+  pub fetch-record : {start : ℕ} {round : Round} → n ≡ 0 → start ≡ recordStart challengeWidth h k
+      → round ≡ roundAt challengeWidth h f start → record { refusal = 0; round = round } ≡ fetchAfter [] h f k
+  unfolding fetchAfter
+  fetch-record e is-start is-round = rw (← tested, e, is-round, is-start, unlessRefused-zero)

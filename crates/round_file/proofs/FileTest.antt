@@ -1,0 +1,56 @@
+-- The test of a round file: 12 exactly where it is no round file of the sheet.
+-- Assumes nothing.
+use Prim.Native.Nat.{ℕ, _≤_}
+use mathlib.Core.Path.{_≡_, sym, _∙_}
+use mathlib.Core.Bool.{Bool, true, false, not, false≢true, not-eq-not}
+use mathlib.Core.List.{List, []}
+use lib.ListN.{length, take}
+use borrow.Author.Tests.{not-true, not-false}
+use Rattle.types.specs.declared.Header.{Header}
+use Rattle.numbers.specs.Search.{any}
+use Rattle.fields.specs.Mark.{hasMark}
+use Rattle.rules.specs.Rule.{lowest}
+use Rattle.rules.specs.Says.{Says}
+use Rattle.rules.proofs.Lowest.{clear-lowest, stop}
+use Rattle.sigma.specs.Comparison.{differ, firstDifference}
+use Rattle.sigma.proofs.Comparison.{differ-false}
+use Rattle.formats.specs.Meaning.{IsRoundFile}
+use Rattle.formats.specs.RoundCalls.{fileRules}
+use Rattle.formats.specs.RoundFile.{badFile, roundMark}
+use Rattle.formats.proofs.Files.{file-passes, length-roundMark}
+use Rattle.formats.proofs.Loads.{begins}
+
+-- a list of at least three bytes agrees with a mark in three places exactly where it begins with it
+says-mark : (s mark : List ℕ) → length mark ≡ 3 → 3 ≤ length s → Says (hasMark s mark) (take 3 s ≡ mark)
+unfolding hasMark any differ firstDifference
+says-mark s mark e h =
+    let agree = differ-false 3 s mark in
+    let same = begins 3 s mark e h in
+    record { sound = λ t. same .0 (agree .0 (not-true (differ 3 s mark) t)); complete = λ p. rw (agree .1 (same .1 p)) }
+
+module _ (h : Header) (f : List ℕ) where
+  -- a file that is no round file of the sheet is refused
+  pub file-refused : ¬ IsRoundFile h f → 12 ≡ lowest (fileRules h f)
+  unfolding fileRules
+  file-refused other = sym (stop 12 [] (not-eq-not {b = true} .0 (λ e. other (file-passes h f .0 e))))
+
+  -- a round file of the sheet is not
+  pub file-taken : IsRoundFile h f → 0 ≡ lowest (fileRules h f)
+  unfolding fileRules lowest
+  file-taken r = rw (file-passes h f .1 r)
+
+  -- a file that is not refused is a round file of the sheet
+  pub file-clear : {n : ℕ} → n ≡ lowest (fileRules h f) → n ≡ 0 → IsRoundFile h f
+  unfolding fileRules
+  file-clear tested e = file-passes h f .0 (clear-lowest (fileRules h f) tt (sym tested ∙ e) .0)
+
+  module _ {marked : Bool} (tested : marked ≡ hasMark f roundMark) (long : 3 ≤ length f) where
+    -- a file that fails the test of the mark is refused
+    pub unmarked-refused : not marked ≡ true → 12 ≡ lowest (fileRules h f)
+    unmarked-refused e =
+        let says = says-mark f roundMark length-roundMark long in
+        file-refused (λ r. false≢true (sym (not-true marked e) ∙ tested ∙ says .complete (r .mark)))
+
+    -- a file that passes it begins with the mark
+    pub mark-found : not marked ≡ false → take 3 f ≡ roundMark
+    mark-found e = says-mark f roundMark length-roundMark long .sound (sym tested ∙ not-false marked e)

@@ -1,0 +1,125 @@
+-- The calls that write a round file, return by return. `tested` is what the test before the return answered.
+-- Assumes nothing.
+use Prim.Native.Nat.{ℕ, _+_, _-_, _*_, _≤_, _<_}
+use mathlib.Core.Path.{_≡_, sym, ap, ap₂, _∙_}
+use mathlib.Core.Bool.{true, not-eq-not}
+use mathlib.Core.List.{List, [], _∷_, _++_}
+use mathlib.Core.Logic.{_≢_}
+use native.Mathlib.Omega.{arith}
+use lib.ListN.{length, take, drop, length-append}
+use lib.Seq.{sets}
+use borrow.Author.Tests.{le-ltb, lt-ltb}
+use Rattle.types.specs.declared.Header.{Header}
+use Rattle.types.specs.declared.Round.{Round}
+use Rattle.types.specs.declared.Written.{Written}
+use Rattle.lists.specs.Places.{places}
+use Rattle.lists.proofs.Places.{length-places}
+use Rattle.encoding.specs.Bytes.{bytesOf, bytesOfEach}
+use Rattle.encoding.proofs.Bytes.{length-bytesOf, length-bytesOfEach}
+use Rattle.encoding.proofs.Replaced.{part-replaced-front, sets-sets}
+use Rattle.rules.specs.Answer.{unlessRefused}
+use Rattle.rules.specs.Rule.{lowest}
+use Rattle.rules.proofs.Lowest.{clear-lowest, lowest-clear, pass, stop}
+use Rattle.sigma.proofs.Answer.{unlessRefused-positive, unlessRefused-zero}
+use Rattle.formats.specs.Append.{appendAfter, appendRules, appended, emptyFile}
+use Rattle.formats.specs.Meaning.{InUse}
+use Rattle.formats.specs.RoundFile.{challengeWidth, countField, noRounds, recordBytes, recordLength, roundMark}
+use Rattle.formats.specs.Write.{short, written, writtenAtStart}
+use Rattle.formats.proofs.Appending.{in-use-long, length-recordBytes}
+use Rattle.formats.proofs.Files.{in-use-passes, length-roundMark}
+use Rattle.formats.proofs.Writing.{length-noRounds, short-passes}
+
+-- three runs stored one behind the other from the start on are one run stored there
+three-runs : (l xs ys zs : List ℕ) (i j : ℕ) → length xs ≡ i → i + length ys ≡ j
+    → sets (sets (sets l 0 xs) i ys) j zs ≡ sets l 0 (xs ++ ys ++ zs)
+three-runs l xs ys zs i j is-i is-j =
+    let behind-xs : i ≡ 0 + length xs = omega arith in
+    let behind-ys : j ≡ 0 + length (xs ++ ys) = omega (arith, length-append xs ys) in
+    ap₂ (λ (m n : ℕ). sets (sets (sets l 0 xs) m ys) n zs) behind-xs behind-ys
+    ∙ ap (λ (m : List ℕ). sets m (0 + length (xs ++ ys)) zs) (sets-sets l 0 xs ys) ∙ sets-sets l 0 (xs ++ ys) zs
+
+module _ (buffer : List ℕ) where
+  -- the mark, the version and the count of no rounds stored one behind the other are the file of no rounds stored
+  no-rounds-stored : sets (sets (sets buffer 0 roundMark) 3 (bytesOf 2 1)) 5 (bytesOf 2 0) ≡ sets buffer 0 noRounds
+  unfolding noRounds
+  no-rounds-stored =
+      three-runs buffer roundMark (bytesOf 2 1) (bytesOf 2 0) 3 5 length-roundMark (ap (λ (n : ℕ). 3 + n) (length-bytesOf 2 1))
+
+  -- a buffer of under seven bytes is kept
+  pub empty-none : length buffer < 7
+      → (record { refusal = 22; length = 0 } ≡ emptyFile buffer .answer) × (buffer ≡ emptyFile buffer .buffer)
+  unfolding emptyFile writtenAtStart written short lowest unlessRefused
+  empty-none less =
+      let few = lt-ltb (length buffer) (length noRounds) (omega (arith, length-noRounds)) in (rw few, rw few)
+
+  -- in any other the mark, the version and the count of no rounds are stored
+  pub empty-made : {after : List ℕ} → 7 ≤ length buffer
+      → after ≡ sets (sets (sets buffer 0 roundMark) 3 (bytesOf 2 1)) 5 (bytesOf 2 0)
+      → (record { refusal = 0; length = 7 } ≡ emptyFile buffer .answer) × (after ≡ emptyFile buffer .buffer)
+  unfolding emptyFile writtenAtStart written short lowest unlessRefused
+  empty-made room is-after =
+      let enough = le-ltb (length buffer) (length noRounds) (omega (arith, length-noRounds)) in
+      (rw (enough, length-noRounds), rw (enough, is-after) no-rounds-stored)
+
+-- the three fields of a record stored one behind the other are the record stored
+pub record-stored : (width : ℕ) (h : Header) (round : Round) (l : List ℕ)
+    → sets (sets (sets l 0 (bytesOfEach 4 (places (h .rows) (round .commitment)))) (4 * h .rows) (bytesOf width (round .challenge)))
+    (4 * h .rows + width) (bytesOfEach 4 (places (h .columns) (round .response)))
+    ≡ sets l 0 (recordBytes width h round)
+unfolding recordBytes
+record-stored width h round l =
+    let t = places (h .rows) (round .commitment) in
+    let c = bytesOf width (round .challenge) in
+    let r = bytesOfEach 4 (places (h .columns) (round .response)) in
+    three-runs l (bytesOfEach 4 t) c r (4 * h .rows) (4 * h .rows + width)
+    (omega (arith, length-bytesOfEach 4 t, length-places (h .rows) (round .commitment)))
+    (omega (arith, length-bytesOf width (round .challenge)))
+
+module _ (h : Header) (buffer : List ℕ) (used : ℕ) where
+  -- bytes in use that are no round file with room for a round are refused
+  pub in-use-refused : ¬ InUse h buffer used → 12 ≡ lowest (appendRules h buffer used)
+  unfolding appendRules
+  in-use-refused other = sym (stop 12 _ (not-eq-not {b = true} .0 (λ e. other (in-use-passes h buffer used .0 e))))
+
+  module _ (u : InUse h buffer used) where
+    -- a buffer without room for the record is refused
+    pub room-refused : length buffer < used + recordLength challengeWidth h → 22 ≡ lowest (appendRules h buffer used)
+    unfolding appendRules short
+    room-refused less = sym (pass 12 _ (in-use-passes h buffer used .1 u) ∙ stop 22 [] (lt-ltb _ _ less))
+
+    -- one with room is not
+    pub append-passes : used + recordLength challengeWidth h ≤ length buffer → 0 ≡ lowest (appendRules h buffer used)
+    unfolding appendRules
+    append-passes fits = sym (lowest-clear _ (in-use-passes h buffer used .1 u, (short-passes buffer _ .1 fits, tt)))
+
+  module _ {n : ℕ} (tested : n ≡ lowest (appendRules h buffer used)) where
+    -- where nothing is refused, the fixed fields and the record have room
+    pub record-room : n ≡ 0 → (7 ≤ length buffer) × (used + recordLength challengeWidth h ≤ length buffer)
+    unfolding appendRules
+    record-room e =
+        let (file, (room, none)) = clear-lowest (appendRules h buffer used) tt (sym tested ∙ e) in
+        let u = in-use-passes h buffer used .0 file in
+        (omega (arith, in-use-long u, u .inside), short-passes buffer _ .0 room)
+
+    module _ (round : Round) where
+      -- a refused call keeps the buffer
+      pub append-none : n ≢ 0
+          → (record { refusal = n; length = 0 } ≡ appendAfter [] h buffer used round .answer)
+          × (buffer ≡ appendAfter [] h buffer used round .buffer)
+      unfolding appendAfter written
+      append-none some = (
+        rw (← tested, unlessRefused-positive (used + recordLength challengeWidth h) 0 n (omega arith)),
+        rw (← tested) (sym (unlessRefused-positive (appended h buffer used round) buffer n (omega arith))),
+      )
+
+      -- a call that is not refused answers the bytes in use and leaves the record and the raised count
+      pub append-record : {count size : ℕ} {part after : List ℕ} → n ≡ 0 → count ≡ countField buffer → size ≡ recordLength challengeWidth h
+          → part ≡ sets (take (length buffer - used) (drop used buffer)) 0 (recordBytes challengeWidth h round)
+          → after ≡ sets (take used buffer ++ (part ++ drop (length buffer - used) (drop used buffer))) 5 (bytesOf 2 (count + 1))
+          → (record { refusal = 0; length = used + size } ≡ appendAfter [] h buffer used round .answer)
+          × (after ≡ appendAfter [] h buffer used round .buffer)
+      unfolding appendAfter written appended
+      append-record e is-count is-size is-part is-after =
+          let room : length (recordBytes challengeWidth h round) ≤ length buffer - used = omega (arith, length-recordBytes challengeWidth h round, record-room e) in
+          let back = part-replaced-front used (length buffer - used) buffer (recordBytes challengeWidth h round) room in
+          (rw (← tested, e, is-size, unlessRefused-zero), rw (← tested, e, unlessRefused-zero, is-after, is-part, is-count, back))

@@ -1,0 +1,85 @@
+-- `round_file::writing::append_in` meets its contract: the part that is lent comes back with the record at its start.
+-- Assumes nothing.
+use native.Mathlib.Omega.{arith}
+use lib.ListN.{length-take, length-drop}
+use Rattle.formats.specs.RoundFile.{countField}
+use Rattle.round_file.proofs.FileWriting.{append-none, append-record, record-room}
+use Rattle.round_file.proofs.writing.append_in.Statement.{statement}
+use Rattle.round_file.proofs.writing.append_in.Tie as tie
+
+append-refusal-requires : tie.Need-append-refusal-requires
+append-refusal-requires c κs = omega arith
+
+same-length : tie.Need-same-length
+same-length c = omega arith
+
+returns : tie.Need-returns
+returns c = append-none _ _ _ (c .before .append-refusal .ensures) _ (c .if1 .taken)
+
+read-u16-requires : tie.Need-read-u16-requires
+read-u16-requires c κs = omega (arith, record-room _ _ _ (c .before .before .append-refusal .ensures) (c .before .if1 .left))
+
+record-length-requires : tie.Need-record-length-requires
+record-length-requires c κs = omega arith
+
+add-length : tie.Need-add-length
+add-length c =
+    let at-test = c .before .before .before in
+    omega (arith, record-room _ _ _ (at-test .before .append-refusal .ensures) (at-test .if1 .left))
+
+sub-write-record : tie.Need-sub-write-record
+sub-write-record c =
+    let at-test = c .before .before .before in
+    omega (arith, record-room _ _ _ (at-test .before .append-refusal .ensures) (at-test .if1 .left))
+
+part-write-record-start : tie.Need-part-write-record-start
+part-write-record-start c =
+    let at-test = c .before .before .before in
+    omega (arith, record-room _ _ _ (at-test .before .append-refusal .ensures) (at-test .if1 .left))
+
+part-write-record-end : tie.Need-part-write-record-end
+part-write-record-end c = omega arith
+
+write-record-requires : tie.Need-write-record-requires
+write-record-requires c κs =
+    let at-test = c .before .before .before .before in
+    let room = record-room _ _ _ (at-test .before .append-refusal .ensures) (at-test .if1 .left) in
+    simp (length-take, length-drop) (omega arith)
+
+add-write-u16 : tie.Need-add-write-u16
+add-write-u16 c = omega arith
+
+write-u16-requires : tie.Need-write-u16-requires
+write-u16-requires c κs =
+    let at-test = c .before .before .before .before .before .before .before .before in
+    omega (arith, record-room _ _ _ (at-test .before .append-refusal .ensures) (at-test .if1 .left))
+
+same-length-2 : tie.Need-same-length-2
+same-length-2 c = omega arith
+
+returns-2 : tie.Need-returns-2
+unfolding countField
+returns-2 c =
+    let stored = c .before .before .before .before .before .before in
+    let at-test = stored .before .before .before .before .before in
+    append-record _ _ _ (at-test .before .append-refusal .ensures) _ (at-test .if1 .left) (stored .before .before .before .read-u16 .ensures .0)
+    (stored .before .before .record-length .ensures .0) (stored .write-record .ensures) (c .before .before .write-u16 .ensures)
+
+pub append-in-spec : {M : Type 1} → statement M
+append-in-spec =
+    tie.close
+    (tie.spec
+    append-refusal-requires
+    same-length
+    returns
+    read-u16-requires
+    record-length-requires
+    add-length
+    sub-write-record
+    part-write-record-start
+    part-write-record-end
+    write-record-requires
+    add-write-u16
+    write-u16-requires
+    same-length-2
+    returns-2)

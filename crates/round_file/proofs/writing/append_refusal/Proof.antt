@@ -1,0 +1,65 @@
+-- `round_file::writing::append_refusal` meets its contract: the bytes in use are a round file where the first three returns are passed.
+-- Assumes nothing.
+use mathlib.Core.Path.{sym}
+use native.Mathlib.Omega.{arith}
+use lib.Seq.{length-take-le}
+use Rattle.formats.specs.RoundFile.{countField}
+use Rattle.round_file.proofs.FileWriting.{append-passes, in-use-refused, room-refused}
+use Rattle.round_file.proofs.FileTest.{file-clear, file-taken}
+use Rattle.round_file.proofs.FileReading.{fixed-fields}
+use Rattle.round_file.proofs.writing.append_refusal.Statement.{statement}
+use Rattle.round_file.proofs.writing.append_refusal.Tie as tie
+
+returns : tie.Need-returns
+returns c = in-use-refused _ _ _ (λ u. omega (arith, u .inside))
+
+slice-aggregate-file : tie.Need-slice-aggregate-file
+slice-aggregate-file c = sym (length-take-le _ _ (omega arith))
+
+file-refusal-requires : tie.Need-file-refusal-requires
+file-refusal-requires c κs = omega arith
+
+returns-2 : tie.Need-returns-2
+returns-2 c = in-use-refused _ _ _ (λ u. omega (arith, file-taken _ _ (u .file)))
+
+read-u16-requires : tie.Need-read-u16-requires
+read-u16-requires c κs = fixed-fields _ _ (c .before .file-refusal .ensures) (c .if2 .left)
+
+returns-3 : tie.Need-returns-3
+unfolding countField
+returns-3 c = in-use-refused _ _ _ (λ u. omega (arith, u .room))
+
+sub-if4 : tie.Need-sub-if4
+sub-if4 c = omega arith
+
+record-length-requires : tie.Need-record-length-requires
+record-length-requires c κs = omega arith
+
+returns-4 : tie.Need-returns-4
+unfolding countField
+returns-4 c =
+    let at-file = c .before .before .before .before in
+    let file = file-clear _ _ (at-file .before .file-refusal .ensures) (at-file .if2 .left) in
+    room-refused _ _ _ (record { inside = omega arith; file = file; room = omega arith }) (omega arith)
+
+returns-5 : tie.Need-returns-5
+unfolding countField
+returns-5 c =
+    let at-file = c .before .before .before .before in
+    let file = file-clear _ _ (at-file .before .file-refusal .ensures) (at-file .if2 .left) in
+    append-passes _ _ _ (record { inside = omega arith; file = file; room = omega arith }) (omega arith)
+
+pub append-refusal-spec : {M : Type 1} → statement M
+append-refusal-spec =
+    tie.close
+    (tie.spec
+    returns
+    slice-aggregate-file
+    file-refusal-requires
+    returns-2
+    read-u16-requires
+    returns-3
+    sub-if4
+    record-length-requires
+    returns-4
+    returns-5)

@@ -1,0 +1,18 @@
+// The calls on round files (01, "A round"). The functions on fixed fields are for callers that have loaded the sheet.
+mod layout; // layout.rt: the places of the fields, and the test of a file
+mod reading; // reading.rt: reading for loaded fixed fields
+mod writing; // writing.rt: the file of no rounds, and the record writer for loaded fixed fields
+
+pub use layout::MARK;
+pub use layout::file_refusal;
+pub use layout::record_length;
+pub use layout::record_start;
+pub use reading::check_in;
+pub use reading::count_in;
+pub use reading::part_in;
+pub use reading::read_in;
+pub use reading::round_at;
+pub use writing::append_in;
+pub use writing::append_refusal;
+pub use writing::empty;
+pub use writing::write_record;

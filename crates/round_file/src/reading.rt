@@ -1,0 +1,113 @@
+// Reading a round file for a sheet whose fixed fields are loaded (01, "A round" and refusals 12 and 13).
+use crate::layout::file_refusal;
+use crate::layout::record_length;
+use crate::layout::record_start;
+use fields::read_u16;
+use fields::read_u32;
+use fields::read_words;
+use types::Counted;
+use types::Fetched;
+use types::Header;
+use types::Round;
+ghost use Prim.Native.Nat.{_+_, _≤_};
+ghost use mathlib.Core.Path.{_≡_};
+ghost use mathlib.Core.List.{[]};
+ghost use lib.ListN.{length};
+ghost use Rattle.formats.specs.RoundFile.{challengeWidth, recordLength, roundAt};
+ghost use Rattle.formats.specs.RoundCalls.{noRound, countAfter, checkAfter, partAfter, fetchAfter};
+
+// How many rounds a file has; 0 beside the number where it is refused.
+pub fn count_in(h: Header, file: &[u8]) -> Counted
+    requires rows { ⌜ h .rows ≤ 8 ⌝ }
+    requires columns { ⌜ h .columns ≤ 8 ⌝ }
+    ensures { λ r. ⌜ r ≡ countAfter [] h (now (file .entry)) ⌝ }
+{
+    let refusal = file_refusal(h, file);
+    if refusal != 0 {
+        return Counted { refusal, count: 0 };
+    }
+    Counted {
+        refusal: 0,
+        count: read_u16(file, 5),
+    }
+}
+
+// The number that round k of a file is refused with, 12, 13 or 0.
+pub fn check_in(h: Header, file: &[u8], k: usize) -> u32
+    requires rows { ⌜ h .rows ≤ 8 ⌝ }
+    requires columns { ⌜ h .columns ≤ 8 ⌝ }
+    ensures { λ r. ⌜ r ≡ checkAfter [] h (now (file .entry)) k ⌝ }
+{
+    let refusal = file_refusal(h, file);
+    if refusal != 0 {
+        return refusal;
+    }
+    let count = read_u16(file, 5);
+    if count as usize <= k {
+        return 13;
+    }
+    0
+}
+
+// The part of a file that is round k, empty where it is refused.
+pub fn part_in<'a>(h: Header, file: &'a [u8], k: usize) -> &'a [u8]
+    requires rows { ⌜ h .rows ≤ 8 ⌝ }
+    requires columns { ⌜ h .columns ≤ 8 ⌝ }
+    ensures { λ r. ⌜ now r ≡ partAfter [] h (now (file .entry)) k ⌝ }
+{
+    if check_in(h, file, k) != 0 {
+        return &file[0..0];
+    }
+    let start = record_start(h, k);
+    let end = start + record_length(h);
+    &file[start..end]
+}
+
+// The values of the record that begins at index at of a file.
+pub fn round_at(h: Header, file: &[u8], at: usize) -> Round
+    requires rows { ⌜ h .rows ≤ 8 ⌝ }
+    requires columns { ⌜ h .columns ≤ 8 ⌝ }
+    requires within { ⌜ at + recordLength challengeWidth h ≤ length (now file) ⌝ }
+    ensures { λ r. ⌜ r ≡ roundAt challengeWidth h (now (file .entry)) at ⌝ }
+{
+    let rows = h.rows as usize;
+    let columns = h.columns as usize;
+    let commitment = read_words(file, at, rows);
+    let challenge = read_u32(file, at + 4 * rows);
+    let response = read_words(file, at + 4 * rows + 4, columns);
+    Round {
+        commitment,
+        challenge,
+        response,
+    }
+}
+
+// A round of zeros.
+fn no_round() -> Round
+    ensures { λ r. ⌜ r ≡ noRound ⌝ }
+{
+    let zeros = [0u32; 8];
+    Round {
+        commitment: zeros,
+        challenge: 0,
+        response: zeros,
+    }
+}
+
+// The values of round k of a file, which are not tested; zeros beside the number where it is refused.
+pub fn read_in(h: Header, file: &[u8], k: usize) -> Fetched
+    requires rows { ⌜ h .rows ≤ 8 ⌝ }
+    requires columns { ⌜ h .columns ≤ 8 ⌝ }
+    ensures { λ r. ⌜ r ≡ fetchAfter [] h (now (file .entry)) k ⌝ }
+{
+    let refusal = check_in(h, file, k);
+    if refusal != 0 {
+        return Fetched {
+            refusal,
+            round: no_round(),
+        };
+    }
+    let start = record_start(h, k);
+    let round = round_at(h, file, start);
+    Fetched { refusal: 0, round }
+}
