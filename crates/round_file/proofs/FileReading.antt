@@ -6,8 +6,7 @@ use mathlib.Core.List.{List, [], _∷_}
 use mathlib.Core.Logic.{_≢_}
 use native.Mathlib.Omega.{arith}
 use lib.ListN.{length, take, drop}
-use Rattle.types.specs.declared.Counted.{Counted}
-use Rattle.types.specs.declared.Fetched.{Fetched}
+use borrow.Author.Tests.{le-leb}
 use Rattle.types.specs.declared.Header.{Header}
 use Rattle.types.specs.declared.Round.{Round}
 use Rattle.rules.specs.Rule.{_when_, lowest}
@@ -24,16 +23,15 @@ use Rattle.formats.specs.RoundCalls.{
   roundRules,
 }
 use Rattle.formats.specs.RoundFile.{challengeWidth, countField, recordLength, recordPart, recordStart, roundAt}
-use Rattle.formats.proofs.Growing.{file-long}
 use Rattle.formats.proofs.Files.{number-passes}
+use Rattle.formats.proofs.Growing.{file-long}
 use Rattle.formats.proofs.Part.{record-inside}
-use borrow.Author.Tests.{le-leb}
 use Rattle.round_file.proofs.FileTest.{file-clear}
 
 module _ (h : Header) (f : List ℕ) {n : ℕ} (tested : n ≡ lowest (fileRules h f)) where
-  -- a file that passes has the seven bytes of the fixed fields
-  pub fixed-fields : n ≡ 0 → 7 ≤ length f
-  fixed-fields e = file-long (file-clear h f tested e)
+  -- a file that passes has the seven bytes before the records
+  pub seven-bytes : n ≡ 0 → 7 ≤ length f
+  seven-bytes e = file-long (file-clear h f tested e)
 
   -- a refused file has no count
   pub count-none : n ≢ 0 → record { refusal = n; count = 0 } ≡ countAfter [] h f

@@ -1,32 +1,34 @@
 -- The test of a round file: 12 exactly where it is no round file of the sheet.
 -- Assumes nothing.
 use Prim.Native.Nat.{ℕ, _≤_}
-use mathlib.Core.Path.{_≡_, sym, _∙_}
+use mathlib.Core.Path.{_≡_, sym, ap, _∙_}
 use mathlib.Core.Bool.{Bool, true, false, not, false≢true, not-eq-not}
 use mathlib.Core.List.{List, []}
 use lib.ListN.{length, take}
 use borrow.Author.Tests.{not-true, not-false}
 use Rattle.types.specs.declared.Header.{Header}
-use Rattle.numbers.specs.Search.{any}
 use Rattle.fields.specs.Mark.{hasMark}
 use Rattle.rules.specs.Rule.{lowest}
 use Rattle.rules.specs.Says.{Says}
 use Rattle.rules.proofs.Lowest.{clear-lowest, stop}
-use Rattle.sigma.specs.Comparison.{differ, firstDifference}
 use Rattle.sigma.proofs.Comparison.{differ-false}
 use Rattle.formats.specs.Meaning.{IsRoundFile}
 use Rattle.formats.specs.RoundCalls.{fileRules}
-use Rattle.formats.specs.RoundFile.{badFile, roundMark}
+use Rattle.formats.specs.RoundFile.{roundMark}
 use Rattle.formats.proofs.Files.{file-passes, length-roundMark}
 use Rattle.formats.proofs.Loads.{begins}
+use Rattle.instance.proofs.ShapeNumber.{mark-differs}
 
--- a list of at least three bytes agrees with a mark in three places exactly where it begins with it
+-- the test of a mark says that a list of at least three bytes begins with it
 says-mark : (s mark : List ℕ) → length mark ≡ 3 → 3 ≤ length s → Says (hasMark s mark) (take 3 s ≡ mark)
-unfolding hasMark any differ firstDifference
 says-mark s mark e h =
     let agree = differ-false 3 s mark in
     let same = begins 3 s mark e h in
-    record { sound = λ t. same .0 (agree .0 (not-true (differ 3 s mark) t)); complete = λ p. rw (agree .1 (same .1 p)) }
+    let differs = mark-differs s mark in
+    record {
+      sound = λ t. same .0 (agree .0 (differs ∙ ap not t));
+      complete = λ p. not-false (hasMark s mark) (sym differs ∙ agree .1 (same .1 p));
+    }
 
 module _ (h : Header) (f : List ℕ) where
   -- a file that is no round file of the sheet is refused

@@ -3,7 +3,7 @@
 use Prim.Native.Nat.{ℕ, _+_, _-_, _*_, _≤_, _<_}
 use mathlib.Core.Path.{_≡_, sym, ap, ap₂, _∙_}
 use mathlib.Core.Bool.{true, not-eq-not}
-use mathlib.Core.List.{List, [], _∷_, _++_}
+use mathlib.Core.List.{List, [], _++_}
 use mathlib.Core.Logic.{_≢_}
 use native.Mathlib.Omega.{arith}
 use lib.ListN.{length, take, drop, length-append}
@@ -24,10 +24,14 @@ use Rattle.sigma.proofs.Answer.{unlessRefused-positive, unlessRefused-zero}
 use Rattle.formats.specs.Append.{appendAfter, appendRules, appended, emptyFile}
 use Rattle.formats.specs.Meaning.{InUse}
 use Rattle.formats.specs.RoundFile.{challengeWidth, countField, noRounds, recordBytes, recordLength, roundMark}
-use Rattle.formats.specs.Write.{short, written, writtenAtStart}
+use Rattle.formats.specs.Write.{Writing, short, written, writtenAtStart}
 use Rattle.formats.proofs.Appending.{in-use-long, length-recordBytes}
 use Rattle.formats.proofs.Files.{in-use-passes, length-roundMark}
 use Rattle.formats.proofs.Writing.{length-noRounds, short-passes}
+
+-- a call's answer and the bytes that it leaves in the buffer are those of an outcome
+abbrev pub Leaves : Written → List ℕ → Writing → Type 0
+Leaves answer bytes w = (answer ≡ w .answer) × (bytes ≡ w .buffer)
 
 -- three runs stored one behind the other from the start on are one run stored there
 three-runs : (l xs ys zs : List ℕ) (i j : ℕ) → length xs ≡ i → i + length ys ≡ j
@@ -46,34 +50,35 @@ module _ (buffer : List ℕ) where
       three-runs buffer roundMark (bytesOf 2 1) (bytesOf 2 0) 3 5 length-roundMark (ap (λ (n : ℕ). 3 + n) (length-bytesOf 2 1))
 
   -- a buffer of under seven bytes is kept
-  pub empty-none : length buffer < 7
-      → (record { refusal = 22; length = 0 } ≡ emptyFile buffer .answer) × (buffer ≡ emptyFile buffer .buffer)
+  pub empty-none : length buffer < 7 → Leaves (record { refusal = 22; length = 0 }) buffer (emptyFile buffer)
   unfolding emptyFile writtenAtStart written short lowest unlessRefused
   empty-none less =
       let few = lt-ltb (length buffer) (length noRounds) (omega (arith, length-noRounds)) in (rw few, rw few)
 
   -- in any other the mark, the version and the count of no rounds are stored
-  pub empty-made : {after : List ℕ} → 7 ≤ length buffer
-      → after ≡ sets (sets (sets buffer 0 roundMark) 3 (bytesOf 2 1)) 5 (bytesOf 2 0)
-      → (record { refusal = 0; length = 7 } ≡ emptyFile buffer .answer) × (after ≡ emptyFile buffer .buffer)
+  pub empty-made : {marked versioned after : List ℕ} → 7 ≤ length buffer
+      → marked ≡ sets buffer 0 roundMark → versioned ≡ sets marked 3 (bytesOf 2 1) → after ≡ sets versioned 5 (bytesOf 2 0)
+      → Leaves (record { refusal = 0; length = 7 }) after (emptyFile buffer)
   unfolding emptyFile writtenAtStart written short lowest unlessRefused
-  empty-made room is-after =
+  empty-made room is-marked is-versioned is-after =
       let enough = le-ltb (length buffer) (length noRounds) (omega (arith, length-noRounds)) in
-      (rw (enough, length-noRounds), rw (enough, is-after) no-rounds-stored)
+      (rw (enough, length-noRounds), rw (enough, is-after, is-versioned, is-marked) no-rounds-stored)
 
 -- the three fields of a record stored one behind the other are the record stored
-pub record-stored : (width : ℕ) (h : Header) (round : Round) (l : List ℕ)
-    → sets (sets (sets l 0 (bytesOfEach 4 (places (h .rows) (round .commitment)))) (4 * h .rows) (bytesOf width (round .challenge)))
-    (4 * h .rows + width) (bytesOfEach 4 (places (h .columns) (round .response)))
-    ≡ sets l 0 (recordBytes width h round)
+pub record-stored : (width : ℕ) (h : Header) (round : Round) (l : List ℕ) {with-t with-c with-r : List ℕ}
+    → with-t ≡ sets l 0 (bytesOfEach 4 (places (h .rows) (round .commitment)))
+    → with-c ≡ sets with-t (4 * h .rows) (bytesOf width (round .challenge))
+    → with-r ≡ sets with-c (4 * h .rows + width) (bytesOfEach 4 (places (h .columns) (round .response)))
+    → with-r ≡ sets l 0 (recordBytes width h round)
 unfolding recordBytes
-record-stored width h round l =
+record-stored width h round l is-t is-c is-r =
     let t = places (h .rows) (round .commitment) in
     let c = bytesOf width (round .challenge) in
     let r = bytesOfEach 4 (places (h .columns) (round .response)) in
-    three-runs l (bytesOfEach 4 t) c r (4 * h .rows) (4 * h .rows + width)
+    rw (is-r, is-c, is-t)
+    (three-runs l (bytesOfEach 4 t) c r (4 * h .rows) (4 * h .rows + width)
     (omega (arith, length-bytesOfEach 4 t, length-places (h .rows) (round .commitment)))
-    (omega (arith, length-bytesOf width (round .challenge)))
+    (omega (arith, length-bytesOf width (round .challenge))))
 
 module _ (h : Header) (buffer : List ℕ) (used : ℕ) where
   -- bytes in use that are no round file with room for a round are refused
@@ -93,7 +98,7 @@ module _ (h : Header) (buffer : List ℕ) (used : ℕ) where
     append-passes fits = sym (lowest-clear _ (in-use-passes h buffer used .1 u, (short-passes buffer _ .1 fits, tt)))
 
   module _ {n : ℕ} (tested : n ≡ lowest (appendRules h buffer used)) where
-    -- where nothing is refused, the fixed fields and the record have room
+    -- where nothing is refused, the buffer has the seven bytes before the records and room for the record
     pub record-room : n ≡ 0 → (7 ≤ length buffer) × (used + recordLength challengeWidth h ≤ length buffer)
     unfolding appendRules
     record-room e =
@@ -103,9 +108,7 @@ module _ (h : Header) (buffer : List ℕ) (used : ℕ) where
 
     module _ (round : Round) where
       -- a refused call keeps the buffer
-      pub append-none : n ≢ 0
-          → (record { refusal = n; length = 0 } ≡ appendAfter [] h buffer used round .answer)
-          × (buffer ≡ appendAfter [] h buffer used round .buffer)
+      pub append-none : n ≢ 0 → Leaves (record { refusal = n; length = 0 }) buffer (appendAfter [] h buffer used round)
       unfolding appendAfter written
       append-none some = (
         rw (← tested, unlessRefused-positive (used + recordLength challengeWidth h) 0 n (omega arith)),
@@ -113,13 +116,14 @@ module _ (h : Header) (buffer : List ℕ) (used : ℕ) where
       )
 
       -- a call that is not refused answers the bytes in use and leaves the record and the raised count
-      pub append-record : {count size : ℕ} {part after : List ℕ} → n ≡ 0 → count ≡ countField buffer → size ≡ recordLength challengeWidth h
+      pub append-record : {count size : ℕ} {part after : List ℕ}
+          → n ≡ 0 → count ≡ countField buffer → size ≡ recordLength challengeWidth h
           → part ≡ sets (take (length buffer - used) (drop used buffer)) 0 (recordBytes challengeWidth h round)
           → after ≡ sets (take used buffer ++ (part ++ drop (length buffer - used) (drop used buffer))) 5 (bytesOf 2 (count + 1))
-          → (record { refusal = 0; length = used + size } ≡ appendAfter [] h buffer used round .answer)
-          × (after ≡ appendAfter [] h buffer used round .buffer)
+          → Leaves (record { refusal = 0; length = used + size }) after (appendAfter [] h buffer used round)
       unfolding appendAfter written appended
       append-record e is-count is-size is-part is-after =
-          let room : length (recordBytes challengeWidth h round) ≤ length buffer - used = omega (arith, length-recordBytes challengeWidth h round, record-room e) in
-          let back = part-replaced-front used (length buffer - used) buffer (recordBytes challengeWidth h round) room in
+          let bytes = recordBytes challengeWidth h round in
+          let room : length bytes ≤ length buffer - used = omega (arith, length-recordBytes challengeWidth h round, record-room e) in
+          let back = part-replaced-front used (length buffer - used) buffer bytes room in
           (rw (← tested, e, is-size, unlessRefused-zero), rw (← tested, e, unlessRefused-zero, is-after, is-part, is-count, back))

@@ -2,3 +2,4 @@
 pub mod FileTest
 pub mod FileReading
 pub mod FileWriting
+pub mod SheetFirst

@@ -83,7 +83,7 @@ pub fn round_at(h: Header, file: &[u8], at: usize) -> Round
 }
 
 // A round of zeros.
-fn no_round() -> Round
+pub fn no_round() -> Round
     ensures { λ r. ⌜ r ≡ noRound ⌝ }
 {
     let zeros = [0u32; 8];

@@ -2,7 +2,7 @@
 -- Assumes nothing.
 use native.Mathlib.Omega.{arith}
 use Rattle.formats.specs.RoundFile.{countField}
-use Rattle.round_file.proofs.FileReading.{fixed-fields, check-file, check-beyond, check-passes}
+use Rattle.round_file.proofs.FileReading.{seven-bytes, check-file, check-beyond, check-passes}
 use Rattle.round_file.proofs.reading.check_in.Statement.{statement}
 use Rattle.round_file.proofs.reading.check_in.Tie as tie
 
@@ -13,7 +13,7 @@ returns : tie.Need-returns
 returns c = check-file _ _ (c .before .file-refusal .ensures) _ (c .if1 .taken)
 
 read-u16-requires : tie.Need-read-u16-requires
-read-u16-requires c κs = fixed-fields _ _ (c .before .file-refusal .ensures) (c .if1 .left)
+read-u16-requires c κs = omega (arith, seven-bytes _ _ (c .before .file-refusal .ensures) (c .if1 .left))
 
 cast-if2 : tie.Need-cast-if2
 cast-if2 c = omega arith

@@ -2,7 +2,7 @@
 -- Assumes nothing.
 use native.Mathlib.Omega.{arith}
 use Rattle.formats.specs.RoundFile.{countField}
-use Rattle.round_file.proofs.FileReading.{fixed-fields, count-none, count-field}
+use Rattle.round_file.proofs.FileReading.{seven-bytes, count-none, count-field}
 use Rattle.round_file.proofs.reading.count_in.Statement.{statement}
 use Rattle.round_file.proofs.reading.count_in.Tie as tie
 
@@ -13,7 +13,7 @@ returns : tie.Need-returns
 returns c = count-none _ _ (c .before .file-refusal .ensures) (c .if1 .taken)
 
 read-u16-requires : tie.Need-read-u16-requires
-read-u16-requires c κs = fixed-fields _ _ (c .before .file-refusal .ensures) (c .if1 .left)
+read-u16-requires c κs = omega (arith, seven-bytes _ _ (c .before .file-refusal .ensures) (c .if1 .left))
 
 returns-2 : tie.Need-returns-2
 unfolding countField

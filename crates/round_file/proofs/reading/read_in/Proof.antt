@@ -25,7 +25,8 @@ round-at-requires c κs =
 returns-2 : tie.Need-returns-2
 returns-2 c =
     let at-test = c .before .before in
-    fetch-record _ _ _ (at-test .before .check-in .ensures) (at-test .if1 .left) (c .before .record-start .ensures .0) (c .round-at .ensures)
+    fetch-record _ _ _ (at-test .before .check-in .ensures) (at-test .if1 .left) (c .before .record-start .ensures .0)
+    (c .round-at .ensures)
 
 pub read-in-spec : {M : Type 1} → statement M
 read-in-spec =

@@ -1,6 +1,5 @@
 -- `round_file::reading::round_at` meets its contract: the three fields of a record stand one behind the other.
 -- Assumes nothing.
-use mathlib.Core.Path.{ap}
 use native.Mathlib.Omega.{arith}
 use Rattle.formats.specs.RoundFile.{challengeWidth, recordLength, roundAt}
 use Rattle.round_file.proofs.reading.round_at.Statement.{statement}

@@ -62,8 +62,9 @@ unfolding countField
 returns-2 c =
     let stored = c .before .before .before .before .before .before in
     let at-test = stored .before .before .before .before .before in
-    append-record _ _ _ (at-test .before .append-refusal .ensures) _ (at-test .if1 .left) (stored .before .before .before .read-u16 .ensures .0)
-    (stored .before .before .record-length .ensures .0) (stored .write-record .ensures) (c .before .before .write-u16 .ensures)
+    let measured = stored .before .before in
+    append-record _ _ _ (at-test .before .append-refusal .ensures) _ (at-test .if1 .left) (measured .before .read-u16 .ensures .0)
+    (measured .record-length .ensures .0) (stored .write-record .ensures) (c .before .before .write-u16 .ensures)
 
 pub append-in-spec : {M : Type 1} → statement M
 append-in-spec =

@@ -1,4 +1,4 @@
--- `round_file::writing::append_refusal` meets its contract: the bytes in use are a round file where the first three returns are passed.
+-- `round_file::writing::append_refusal` meets its contract: behind the first three returns the bytes in use are a round file.
 -- Assumes nothing.
 use mathlib.Core.Path.{sym}
 use native.Mathlib.Omega.{arith}
@@ -6,7 +6,7 @@ use lib.Seq.{length-take-le}
 use Rattle.formats.specs.RoundFile.{countField}
 use Rattle.round_file.proofs.FileWriting.{append-passes, in-use-refused, room-refused}
 use Rattle.round_file.proofs.FileTest.{file-clear, file-taken}
-use Rattle.round_file.proofs.FileReading.{fixed-fields}
+use Rattle.round_file.proofs.FileReading.{seven-bytes}
 use Rattle.round_file.proofs.writing.append_refusal.Statement.{statement}
 use Rattle.round_file.proofs.writing.append_refusal.Tie as tie
 
@@ -23,7 +23,7 @@ returns-2 : tie.Need-returns-2
 returns-2 c = in-use-refused _ _ _ (λ u. omega (arith, file-taken _ _ (u .file)))
 
 read-u16-requires : tie.Need-read-u16-requires
-read-u16-requires c κs = fixed-fields _ _ (c .before .file-refusal .ensures) (c .if2 .left)
+read-u16-requires c κs = seven-bytes _ _ (c .before .file-refusal .ensures) (c .if2 .left)
 
 returns-3 : tie.Need-returns-3
 unfolding countField

@@ -1,6 +1,5 @@
 -- `round_file::writing::empty` meets its contract: the three fields of a file of no rounds stand one behind the other.
 -- Assumes nothing.
-use mathlib.Core.Path.{_∙_}
 use native.Mathlib.Omega.{arith}
 use Rattle.encoding.specs.Text.{ascii}
 use Rattle.formats.specs.RoundFile.{roundMark}
@@ -29,7 +28,7 @@ returns-2 c =
     let third = c .before .before in
     let second = third .before .before .before .before in
     let first = second .before .before .before .before in
-    empty-made _ (omega arith) (rw (third .write-u162 .ensures, second .write-u16 .ensures, first .write-mark .ensures))
+    empty-made _ (omega arith) (first .write-mark .ensures) (second .write-u16 .ensures) (third .write-u162 .ensures)
 
 pub empty-spec : {M : Type 1} → statement M
 empty-spec =

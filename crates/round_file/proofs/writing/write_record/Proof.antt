@@ -1,4 +1,4 @@
--- `round_file::writing::write_record` meets its contract: the three fields of a record stored one behind the other are the record.
+-- `round_file::writing::write_record` meets its contract: the three fields of a record stand one behind the other.
 -- Assumes nothing.
 use native.Mathlib.Omega.{arith}
 use Rattle.formats.specs.RoundFile.{challengeWidth, recordLength}
@@ -42,7 +42,7 @@ returns c =
     let third = c .before .before in
     let second = third .before .before .before .before in
     let first = second .before .before .before .before in
-    rw (third .write-words2 .ensures, second .write-u32 .ensures, first .write-words .ensures) (record-stored 4 _ _ _)
+    record-stored 4 _ _ _ (first .write-words .ensures) (second .write-u32 .ensures) (third .write-words2 .ensures)
 
 pub write-record-spec : {M : Type 1} → statement M
 write-record-spec =
