@@ -1,7 +1,13 @@
 // Page K of 01, and the largest sheet and round file: each line says what was tried, and then the number that was answered.
 use instance::load;
-use round_file::{append, check, count, empty, read};
-use types::{Header, Round, Written};
+use round_file::append;
+use round_file::check;
+use round_file::count;
+use round_file::empty;
+use round_file::read;
+use types::Header;
+use types::Round;
+use types::Written;
 
 // Prints a label and a number on a line.
 fn line(label: &[u8], number: u64) {
@@ -94,9 +100,15 @@ fn rounds(sheet: &[u8]) {
     let last = read(sheet, front(&file, used), 511);
     line(b"bytes of the largest round file: ", used as u64);
     line(b"its count: ", counted.count as u64);
-    line(b"512 rounds: ", check(sheet, front(&file, used), 511) as u64);
+    line(
+        b"512 rounds: ",
+        check(sheet, front(&file, used), 511) as u64,
+    );
     line(b"challenge of the last: ", last.round.challenge as u64);
-    line(b"one more appended: ", append_one(sheet, &mut file, used, 512).refusal as u64);
+    line(
+        b"one more appended: ",
+        append_one(sheet, &mut file, used, 512).refusal as u64,
+    );
     store(&mut file, 6, 1);
     line(b"513 rounds: ", count(sheet, &file).refusal as u64);
 }
