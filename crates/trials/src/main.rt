@@ -16,12 +16,17 @@ fn line(label: &[u8], number: u64) {
     io::write_all(1, b"\n");
 }
 
+// A number of 32 bits as one of 64.
+fn wide(number: u32) -> u64 {
+    number as u64
+}
+
 // The first n bytes, or all where there are fewer.
 fn front(bytes: &[u8], n: usize) -> &[u8] {
     if bytes.len() <= n {
         return bytes;
     }
-    &bytes[..n]
+    &bytes[0..n]
 }
 
 // Stores a byte where there is room.
@@ -69,8 +74,8 @@ fn largest(sheet: &[u8]) {
     line(b"bytes of the largest sheet: ", sheet.len() as u64);
     line(b"its refusal: ", loaded.refusal as u64);
     line(b"its modulus: ", loaded.header.modulus as u64);
-    line(b"its last entry: ", entries[7][7] as u64);
-    line(b"its last statement value: ", loaded.statement[7] as u64);
+    line(b"its last entry: ", wide(entries[7][7]));
+    line(b"its last statement value: ", wide(loaded.statement[7]));
 }
 
 // Appends the round of this number to the bytes of the file that are in use.
@@ -92,25 +97,26 @@ fn append_all(sheet: &[u8], file: &mut [u8]) -> usize {
     used
 }
 
-// Page K, a file of 512 rounds and one of 513, and the file that cannot grow.
-fn rounds(sheet: &[u8]) {
-    let mut file = [0u8; 34891];
-    let used = append_all(sheet, &mut file);
-    let counted = count(sheet, front(&file, used));
-    let last = read(sheet, front(&file, used), 511);
-    line(b"bytes of the largest round file: ", used as u64);
-    line(b"its count: ", counted.count as u64);
-    line(
-        b"512 rounds: ",
-        check(sheet, front(&file, used), 511) as u64,
-    );
-    line(b"challenge of the last: ", last.round.challenge as u64);
-    line(
-        b"one more appended: ",
-        append_one(sheet, &mut file, used, 512).refusal as u64,
-    );
-    store(&mut file, 6, 1);
-    line(b"513 rounds: ", count(sheet, &file).refusal as u64);
+// The largest round file, and page K: 512 rounds are read.
+fn full(sheet: &[u8], file: &[u8]) {
+    line(b"bytes of the largest round file: ", file.len() as u64);
+    line(b"its count: ", count(sheet, file).count as u64);
+    line(b"challenge of its last round: ", read(sheet, file, 511).round.challenge as u64);
+    line(b"512 rounds: ", check(sheet, file, 511) as u64);
+}
+
+// One round more is not appended, and page K: a file of 513 rounds is refused.
+fn beyond(sheet: &[u8], file: &mut [u8], used: usize) {
+    line(b"one round more: ", append_one(sheet, file, used, 512).refusal as u64);
+    store(file, 6, 1);
+    line(b"513 rounds: ", count(sheet, file).refusal as u64);
+}
+
+// The trials of round files, in a buffer that has room for 513 rounds.
+fn rounds(sheet: &[u8], file: &mut [u8]) {
+    let used = append_all(sheet, file);
+    full(sheet, front(file, used));
+    beyond(sheet, file, used);
 }
 
 fn main() {
@@ -118,5 +124,6 @@ fn main() {
     let mut sheet = [0u8; 400];
     let length = make_largest(&mut sheet);
     largest(front(&sheet, length));
-    rounds(front(&sheet, length));
+    let mut file = [0u8; 34891];
+    rounds(front(&sheet, length), &mut file);
 }
