@@ -14,6 +14,7 @@ pub mod SheetRead
 pub mod SheetRoundTrip
 pub mod Patterns
 pub mod Making
+pub mod Maker
 pub mod PatternMeaning
 pub mod Records
 pub mod Rounds

@@ -82,7 +82,7 @@ module _ (number modulus order challenges : ℕ) (values statement : List ℕ) w
   inst = made number modulus order challenges values statement
 
   -- the kind is 1 or 2
-  made-kind : (inst .header .kind ≡ 1) ⊎ (inst .header .kind ≡ 2)
+  pub made-kind : (inst .header .kind ≡ 1) ⊎ (inst .header .kind ≡ 2)
   unfolding made
   made-kind = elim (ℕ-discrete number 6) [
     | yes e ↦ inr (made-root number modulus order challenges e)
@@ -90,14 +90,14 @@ module _ (number modulus order challenges : ℕ) (values statement : List ℕ) w
   ]
 
   -- kind 1 is not that of pattern 6
-  made-other : inst .header .kind ≡ 1 → number ≢ 6
+  pub made-other : inst .header .kind ≡ 1 → number ≢ 6
   unfolding made
   made-other k e =
       let two = made-root number modulus order challenges e in
       omega arith
 
   -- pattern 6 has as many columns as rows
-  made-square : inst .header .kind ≡ 2 → inst .header .rows ≡ inst .header .columns
+  pub made-square : inst .header .kind ≡ 2 → inst .header .rows ≡ inst .header .columns
   unfolding made madeHeader patternOf patterns
   made-square k = elim (ℕ-discrete number 6) [
     | yes e ↦ rw e

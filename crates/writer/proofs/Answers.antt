@@ -1,0 +1,141 @@
+-- What the writers answer and leave in the buffer, return by return.
+-- Assumes nothing.
+use Prim.Native.Nat.{ℕ, _≤_, _<_}
+use mathlib.Core.Path.{_≡_, refl, sym, ap, _∙_}
+use mathlib.Core.Bool.{cond}
+use mathlib.Core.List.{List, [], _∷_, _++_, append-assoc}
+use native.Mathlib.Omega.{arith}
+use lib.Dec.{eqb}
+use lib.ListN.{length}
+use lib.Seq.{sets}
+use borrow.Author.Tests.{lt-ltb}
+use Rattle.types.specs.declared.Pattern.{Pattern}
+use Rattle.types.specs.declared.Written.{Written}
+use Rattle.lists.specs.Places.{pad8}
+use Rattle.rules.specs.Answer.{unlessRefused}
+use Rattle.rules.specs.Rule.{Rule, _when_, lowest}
+use Rattle.rules.proofs.Lowest.{lowest-clear, lowest-earlier, lowest-later-zero, stop}
+use Rattle.sigma.specs.Admission.{elementRules, headerRules}
+use Rattle.sigma.specs.Instance.{Instance}
+use Rattle.sigma.proofs.Answer.{unlessRefused-positive}
+use Rattle.sigma.proofs.Order.{element-positive, header-positive}
+use Rattle.formats.specs.Encode.{encode, encodeRules, sheetOf}
+use Rattle.formats.specs.Pattern.{fromPattern, made, madeHeader, makeRules, patternEntries, patternOf}
+use Rattle.formats.specs.Refusals.{Refusal1}
+use Rattle.formats.specs.Sheet.{sheetLength, zeros64}
+use Rattle.formats.specs.Write.{Writing, short, written, writtenAtStart}
+use Rattle.formats.proofs.Maker.{maker-encodes}
+use Rattle.formats.proofs.Making.{pattern-passes}
+use Rattle.formats.proofs.Tests.{says-badPattern}
+use Rattle.formats.proofs.Writing.{length-sheetOf, short-passes}
+use Rattle.writer.specs.Tested.{testedRules, valuesOf, writeTested}
+
+-- a call answers this and leaves these bytes in the buffer
+abbrev pub Leaves : Written → List ℕ → Writing → Type 0
+Leaves answer after w = (answer ≡ w .answer) × (after ≡ w .buffer)
+
+-- the answer of a refused call: the number, and length 0
+abbrev pub refusedWith : ℕ → Written
+refusedWith number = record { refusal = number; length = 0 }
+
+-- a number that is not above 0 refuses nothing
+pub not-refused : {n m : ℕ} → n ≡ m → n ≤ 0 → m ≡ 0
+not-refused e none = omega arith
+
+-- a call with a refusal's number answers it and keeps the buffer
+start-refused : (n m : ℕ) (bytes buffer : List ℕ) {answer : Written} → answer ≡ refusedWith n → n ≡ m → 0 < n
+    → Leaves answer buffer (writtenAtStart m bytes buffer)
+unfolding writtenAtStart written
+start-refused n m bytes buffer answered e some =
+    rw (answered, ← e, unlessRefused-positive (length bytes) 0 n some, unlessRefused-positive (sets buffer 0 bytes) buffer n some)
+    (refl, refl)
+
+-- a call that is not refused answers the length of its bytes and stores them at the buffer's start
+start-stored : (m : ℕ) (bytes buffer : List ℕ) {used : ℕ} {after : List ℕ} → m ≡ 0 → used ≡ length bytes → after ≡ sets buffer 0 bytes
+    → Leaves (record { refusal = 0; length = used }) after (writtenAtStart m bytes buffer)
+unfolding writtenAtStart written unlessRefused
+start-stored m bytes buffer e size stored = rw (e, size, stored) (refl, refl)
+
+module _ (i : Instance) (buffer : List ℕ) where
+  -- the rule of the buffer's room
+  abbrev room : List Rule
+  room = (22 when short buffer (sheetLength (i .header))) ∷ []
+
+  -- ---- behind the fixed fields
+
+  -- an entry or a statement value is no group element
+  pub tested-elements : {n : ℕ} {answer : Written} → answer ≡ refusedWith n → n ≡ lowest (elementRules i) → 0 < n
+      → Leaves answer buffer (writeTested i buffer)
+  unfolding writeTested testedRules
+  tested-elements {n} answered e some =
+      start-refused n _ (sheetOf i) buffer answered (e ∙ sym (lowest-earlier (elementRules i) room (omega arith))) some
+
+  -- the buffer is too short
+  pub tested-short : {answer : Written} → answer ≡ refusedWith 22 → lowest (elementRules i) ≡ 0 → length buffer < sheetLength (i .header)
+      → Leaves answer buffer (writeTested i buffer)
+  unfolding writeTested testedRules short
+  tested-short answered passed less =
+      let number = lowest-later-zero (elementRules i) room (element-positive i) passed ∙ stop 22 [] (lt-ltb _ _ less) in
+      start-refused 22 _ (sheetOf i) buffer answered (sym number) (omega arith)
+
+  -- the sheet is written
+  pub tested-written : {used : ℕ} {after : List ℕ} → lowest (elementRules i) ≡ 0 → used ≡ sheetLength (i .header)
+      → used ≤ length buffer → after ≡ sets buffer 0 (sheetOf i)
+      → Leaves (record { refusal = 0; length = used }) after (writeTested i buffer)
+  unfolding writeTested testedRules
+  tested-written passed size fits stored =
+      let clear = short-passes buffer (sheetLength (i .header)) .1 (omega arith) in
+      let number = lowest-later-zero (elementRules i) room (element-positive i) passed ∙ lowest-clear room (clear, tt) in
+      start-stored _ (sheetOf i) buffer number (size ∙ sym (length-sheetOf i)) stored
+
+  -- ---- the second writer
+
+  -- the rules of the fixed fields stand in front of the others
+  in-front : lowest (encodeRules i buffer) ≡ lowest (headerRules (i .header) ++ testedRules i buffer)
+  unfolding encodeRules testedRules
+  in-front = ap (λ (rules : List Rule). lowest rules) (append-assoc (headerRules (i .header)) (elementRules i) room)
+
+  -- the fixed fields are refused
+  pub encode-fields : {n : ℕ} {answer : Written} → answer ≡ refusedWith n → n ≡ lowest (headerRules (i .header)) → 0 < n
+      → Leaves answer buffer (encode i buffer)
+  unfolding encode
+  encode-fields {n} answered e some =
+      let number = in-front ∙ lowest-earlier (headerRules (i .header)) (testedRules i buffer) (omega arith) in
+      start-refused n _ (sheetOf i) buffer answered (e ∙ sym number) some
+
+  -- the fixed fields pass, and what is behind them decides
+  pub encode-tested : {answer : Written} {after : List ℕ} → lowest (headerRules (i .header)) ≡ 0
+      → Leaves answer after (writeTested i buffer) → Leaves answer after (encode i buffer)
+  unfolding encode writeTested
+  encode-tested passed leaves =
+      let number = in-front ∙ lowest-later-zero (headerRules (i .header)) (testedRules i buffer) (header-positive (i .header)) passed in
+      rw number leaves
+
+-- ---- the sheet maker
+
+module _ (number modulus order challenges : ℕ) (values statement buffer : List ℕ) {answer : Written} where
+  -- the number or a count is wrong
+  pub maker-refused : answer ≡ refusedWith 1 → Refusal1 number values statement
+      → Leaves answer buffer (fromPattern number modulus order challenges values statement buffer)
+  unfolding fromPattern makeRules
+  maker-refused answered bad =
+      let first = stop 1 _ (says-badPattern number values statement .complete bad) in
+      start-refused 1 _ (sheetOf (made number modulus order challenges values statement)) buffer answered (sym first) (omega arith)
+
+  -- they are right, and what is behind them is the second writer's
+  pub maker-written : {kind : ℕ} {p : Pattern} {entries : List (List ℕ)} {eight after : List ℕ}
+      → 1 ≤ number → number ≤ 6 → p ≡ patternOf number → length values ≡ p .values → length statement ≡ p .rows
+      → kind ≡ cond (eqb number 6) 2 1 → entries ≡ cond (eqb number 6) zeros64 (patternEntries p values) → eight ≡ pad8 0 statement
+      → Leaves answer after (encode (valuesOf (record {
+        kind = kind;
+        modulus = modulus;
+        order = order;
+        challenges = challenges;
+        rows = p .rows;
+        columns = p .columns;
+      }) entries eight) buffer)
+      → Leaves answer after (fromPattern number modulus order challenges values statement buffer)
+  unfolding made madeHeader
+  maker-written low high pattern counted rowed kinded entered padded leaves =
+      let fits = pattern-passes number values statement .1 (low, high, rw pattern at counted, rw pattern at rowed) in
+      rw (maker-encodes number modulus order challenges values statement fits buffer) (rw (kinded, entered, padded, pattern) at leaves)

@@ -1,0 +1,5 @@
+-- Laws of the two sheet writers.
+pub mod Stored
+pub mod Parts
+pub mod Table
+pub mod Answers

@@ -1,0 +1,5 @@
+-- Definitions of the two sheet writers' inner functions.
+pub mod Parts
+pub mod Place
+pub mod Rows
+pub mod Tested

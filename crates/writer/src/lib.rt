@@ -1,0 +1,106 @@
+// The two writers of sheets: `encode` writes the sheet of any values, as the loader gives them, and `from_pattern` the
+// sheet of one of 01's patterns. Both put the sheet at the start of the lent buffer and change no byte after it; a refused
+// call changes no byte.
+mod pattern; // pattern.rt: the table of the patterns, and their entries
+mod sheet; // sheet.rt: the bytes of a sheet
+
+use crate::pattern::eight_of;
+use crate::pattern::entries_of;
+use crate::pattern::kind_of;
+use crate::pattern::pattern_at;
+use crate::pattern::place_of;
+use crate::sheet::write_sheet;
+use instance::element_refusal;
+use instance::header_refusal;
+use instance::sheet_length;
+use types::Header;
+use types::Written;
+ghost use Prim.Native.Nat.{_≤_, _<_};
+ghost use mathlib.Core.Path.{_≡_};
+ghost use Rattle.formats.specs.Encode.{encode};
+ghost use Rattle.formats.specs.Pattern.{fromPattern};
+ghost use Rattle.writer.specs.Tested.{valuesOf, writeTested};
+pub use pattern::PATTERNS;
+pub use pattern::Place;
+
+// What a refused writer answers: the number, and length 0.
+fn refused(number: u32) -> Written
+    ensures { λ r. ⌜ r ≡ record { refusal = number; length = 0 } ⌝ }
+{
+    Written {
+        refusal: number,
+        length: 0,
+    }
+}
+
+// Writes the sheet of values whose fixed fields have passed their tests, unless an entry (10) or a statement value (11) is
+// no group element or the buffer is shorter than the sheet (22).
+pub fn tested(h: Header, entries: [[u32; 8]; 8], statement: [u32; 8], buffer: &mut [u8]) -> Written
+    requires modulus { ⌜ 0 < h .modulus ⌝ }
+    requires rows { ⌜ h .rows ≤ 8 ⌝ }
+    requires columns { ⌜ h .columns ≤ 8 ⌝ }
+    ensures answer { λ r. ⌜ r ≡ writeTested (valuesOf h entries statement) (now (buffer .entry)) .answer ⌝ }
+    ensures left { λ _. ⌜ now (buffer .exit) ≡ writeTested (valuesOf h entries statement) (now (buffer .entry)) .buffer ⌝ }
+{
+    let refusal = element_refusal(h, entries, statement);
+    if refusal > 0 {
+        return refused(refusal);
+    }
+    let length = sheet_length(h);
+    if buffer.len() < length {
+        return refused(22);
+    }
+    write_sheet(buffer, h, entries, statement);
+    Written { refusal: 0, length }
+}
+
+// The second writer: writes the sheet of any values and answers its length, or the number that they are refused with, 4 to
+// 8, 10, 11 or 22. In kind 2 no entry is read.
+pub fn encode(h: Header, entries: [[u32; 8]; 8], statement: [u32; 8], buffer: &mut [u8]) -> Written
+    ensures answer { λ r. ⌜ r ≡ encode (valuesOf h entries statement) (now (buffer .entry)) .answer ⌝ }
+    ensures left { λ _. ⌜ now (buffer .exit) ≡ encode (valuesOf h entries statement) (now (buffer .entry)) .buffer ⌝ }
+{
+    let refusal = header_refusal(h);
+    if refusal > 0 {
+        return refused(refusal);
+    }
+    tested(h, entries, statement, buffer)
+}
+
+// The sheet maker: writes the sheet of the pattern with this number over the public values and the statement and answers
+// its length, or the number that it is refused with, 1, 5, 6, 8, 10, 11 or 22. Behind 1 it is the second writer: 4 and 7
+// cannot apply to a pattern, and its entries are group elements exactly if the public values are.
+pub fn from_pattern(
+    number: u32,
+    modulus: u32,
+    order: u32,
+    challenges: u32,
+    values: &[u32],
+    statement: &[u32],
+    buffer: &mut [u8],
+) -> Written
+    ensures answer { λ r. ⌜ r ≡ fromPattern number modulus order challenges (now (values .entry)) (now (statement .entry)) (now (buffer .entry)) .answer ⌝ }
+    ensures left { λ _. ⌜ now (buffer .exit) ≡
+        fromPattern number modulus order challenges (now (values .entry)) (now (statement .entry)) (now (buffer .entry)) .buffer ⌝ }
+{
+    let Place::At(k) = place_of(number) else {
+        return refused(1);
+    };
+    let p = pattern_at(k);
+    if values.len() != p.values as usize {
+        return refused(1);
+    }
+    if statement.len() != p.rows as usize {
+        return refused(1);
+    }
+    let h = Header {
+        kind: kind_of(number),
+        modulus,
+        order,
+        challenges,
+        rows: p.rows,
+        columns: p.columns,
+    };
+    let entries = entries_of(number, p, values);
+    encode(h, entries, eight_of(statement), buffer)
+}
