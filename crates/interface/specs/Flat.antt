@@ -3,7 +3,9 @@
 use Prim.Native.Nat.{ℕ, _+_, _*_, _/_, _%_}
 use mathlib.Core.List.{List, []}
 use lib.ListN.{getD}
+use Rattle.types.specs.declared.Header.{Header}
 use Rattle.lists.specs.Places.{tabulate}
+use Rattle.sigma.specs.Instance.{Instance}
 
 -- the number in row k / 8 and column k % 8
 unfoldable pub flatAt : List (List ℕ) → ℕ → ℕ
@@ -24,3 +26,7 @@ squareRow xs i = tabulate 8 (squareAt xs i)
 -- the eight rows of eight of 64 numbers that stand row by row
 unfoldable pub square : List ℕ → List (List ℕ)
 square xs = tabulate 8 (squareRow xs)
+
+-- the values of a sheet whose entries are 64 numbers
+abbrev pub flatInstance : Header → List ℕ → List ℕ → Instance
+flatInstance header entries statement = record { header = header; entries = square entries; statement = statement }

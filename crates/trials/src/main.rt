@@ -101,13 +101,19 @@ fn append_all(sheet: &[u8], file: &mut [u8]) -> usize {
 fn full(sheet: &[u8], file: &[u8]) {
     line(b"bytes of the largest round file: ", file.len() as u64);
     line(b"its count: ", count(sheet, file).count as u64);
-    line(b"challenge of its last round: ", read(sheet, file, 511).round.challenge as u64);
+    line(
+        b"challenge of its last round: ",
+        read(sheet, file, 511).round.challenge as u64,
+    );
     line(b"512 rounds: ", check(sheet, file, 511) as u64);
 }
 
 // One round more is not appended, and page K: a file of 513 rounds is refused.
 fn beyond(sheet: &[u8], file: &mut [u8], used: usize) {
-    line(b"one round more: ", append_one(sheet, file, used, 512).refusal as u64);
+    line(
+        b"one round more: ",
+        append_one(sheet, file, used, 512).refusal as u64,
+    );
     store(file, 6, 1);
     line(b"513 rounds: ", count(sheet, file).refusal as u64);
 }
