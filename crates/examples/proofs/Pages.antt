@@ -1,7 +1,7 @@
 -- Every starred page and the marker's example hold of the definitions, by computation.
 -- Assumes nothing.
 use mathlib.Core.Path.{_≡_, refl}
-use mathlib.Core.List.{map, flatten}
+use mathlib.Core.List.{[], _∷_, map, flatten}
 use Rattle.numbers.specs.Gcd.{euclid, gcd}
 use Rattle.numbers.specs.Integer.{residue, quotient, power, bezoutRight, bezoutLeft}
 use Rattle.numbers.specs.Inverse.{inverse}
@@ -142,8 +142,11 @@ use Rattle.examples.specs.Sheets.{
   rootSheet,
 }
 
--- what the definitions give is what 01 prints
-pub every-page : map (λ (page : Page). page .given) pages ≡ map (λ (page : Page). page .printed) pages
+-- the table has every page, and what the definitions give is what 01 prints
+pub every-page :
+    (map (λ (page : Page). page .letter) pages
+    ≡ "A" ∷ "B" ∷ "C" ∷ "D" ∷ "E" ∷ "F" ∷ "G" ∷ "H" ∷ "I" ∷ "J" ∷ "marker" ∷ [])
+    × (map (λ (page : Page). page .given) pages ≡ map (λ (page : Page). page .printed) pages)
 unfolding euclid gcd residue quotient power bezoutRight bezoutLeft inverse product find any itemsAt tabulate places
     pad8 zeros8 unlessRefused lowest numberAt bytesOf bytesOfEach ascii digits decimal firstDivisor badKind badModulus
     badOrder badSize badCount badEntries badStatement headerRules elementRules outcome isAccepted judged eightPlaces
@@ -161,4 +164,4 @@ unfolding euclid gcd residue quotient power bezoutRight bezoutLeft inverse produ
     takeChallengeRules takeChallengeAfter takeResponseRules takeResponseAfter takeCommitment takeChallenge
     takeResponse exampleFile exampleText array roundOf run bothWays judgedNumber pages smallSheet schnorrSheet
     madeSheet okamotoSheet diffieHellmanSheet productSheet rootSheet flatten
-every-page = refl
+every-page = (refl, refl)

@@ -22,3 +22,6 @@ pub mod Growing
 pub mod RoundFileRoundTrip
 pub mod Part
 pub mod LongFiles
+pub mod MadeSheet
+pub mod FieldPlaces
+pub mod FilesByCalls

@@ -97,7 +97,7 @@ module _ (number modulus order challenges : ℕ) (values statement : List ℕ) (
       let other : number ≢ 6 = λ (e : number ≡ 6). omega (arith, right .2, ap (λ (n : ℕ). patternOf n .values) e) in
       let (r, a, (c, b, digit)) = pattern-uses number (right .0) (right .1) j (omega (arith, right .2)) in
       let same = made-entry number modulus order challenges values statement other r c a b ∙ ap (entryOf values) digit ∙ entryOf-value values j in
-      (made-exponent number modulus order challenges values statement other, (r, a, (c, b, same)))
+      (made-exponent number modulus order challenges other, (r, a, (c, b, same)))
 
   -- 10 of the entries is 10 of the public values
   values-tested : 3 ≤ modulus → badEntries inst ≡ badValues (inst .header) values

@@ -4,3 +4,4 @@ pub mod ShapeNumber
 pub mod SheetRows
 pub mod ElementNumber
 pub mod LoadSteps
+pub mod Answers

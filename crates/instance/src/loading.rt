@@ -28,10 +28,10 @@ pub fn load_refusal(sheet: &[u8]) -> u32
 pub fn load(sheet: &[u8]) -> Loaded
     ensures { λ r. ⌜ r ≡ load (now (sheet .entry)) ⌝ }
 {
-    let refused = load_refusal(sheet);
-    if refused > 0 {
+    let refusal = load_refusal(sheet);
+    if refusal > 0 {
         return Loaded {
-            refusal: refused,
+            refusal,
             header: Header {
                 kind: 0,
                 modulus: 0,

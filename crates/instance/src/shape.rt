@@ -17,7 +17,7 @@ ghost use Rattle.formats.specs.Load.{shapeRules};
 // The three bytes that a sheet begins with.
 pub const MARK: [u8; 3] = *b"HOM";
 
-// The fixed fields of a sheet.
+// The fixed fields of a sheet that has at least 20 bytes.
 pub fn header(sheet: &[u8]) -> Header
     requires { ⌜ 20 ≤ length (now sheet) ⌝ }
     ensures { λ r. ⌜ r ≡ headerOf (now (sheet .entry)) ⌝ }
@@ -115,7 +115,7 @@ pub fn entry_count(h: Header) -> usize
     0
 }
 
-// The length that fixed fields give a sheet.
+// The length that fixed fields of at most eight rows and columns give a sheet.
 pub fn sheet_length(h: Header) -> usize
     requires rows { ⌜ h .rows ≤ 8 ⌝ }
     requires columns { ⌜ h .columns ≤ 8 ⌝ }

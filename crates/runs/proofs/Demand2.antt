@@ -2,7 +2,7 @@
 -- steps are those of the main protocol in section 5 of Maurer's paper, as 01 writes it down.
 -- Assumes nothing.
 use Prim.Native.Nat.{ℕ, zero, suc, _<_, _≤_}
-use mathlib.Core.Path.{_≡_, sym, ap, _∙_}
+use mathlib.Core.Path.{_≡_, refl, sym, ap, _∙_}
 use mathlib.Core.Logic.{_↔_, _≢_, inl, inr, ⊎-elim}
 use mathlib.Core.List.{List}
 use native.Mathlib.Omega.{arith}
@@ -33,9 +33,9 @@ use Rattle.sigma.proofs.Values.{length-image, length-response, image-at, respon
 use Rattle.sigma.proofs.Verdict.{verdict-decided}
 use Rattle.runs.specs.Calls.{judgeRound}
 use Rattle.runs.specs.Demand2.{CommitsToImage, RespondsBySlot, JudgesByRows, VerifiesInTurn}
-use Rattle.runs.specs.Demand2.{OneAnswer, StepsInOrder, SessionsReadAlone, Demand2}
-use Rattle.runs.specs.Prover.{proverStep, commitAfter, commit, respondAfter, respond}
-use Rattle.runs.specs.Verifier.{takeCommitment, takeChallenge, takeResponse}
+use Rattle.runs.specs.Demand2.{OneAnswer, StepsInOrder, SessionsReadAlone, StartsAndDrops, Demand2}
+use Rattle.runs.specs.Prover.{newProver, proverStep, commitAfter, commit, respondAfter, respond}
+use Rattle.runs.specs.Verifier.{newVerifier, takeCommitment, takeChallenge, takeResponse}
 use Rattle.runs.proofs.JointRun.{sheet-joint-run}
 use Rattle.runs.proofs.Loaded.{judge-loaded}
 use Rattle.runs.proofs.OneAnswer.{one-answer, one-commit, answer-after-commit, answer-wipes, drop-wipes}
@@ -44,8 +44,9 @@ use Rattle.runs.proofs.OrderOfSteps.{one-commitment, one-challenge, one
 use Rattle.runs.proofs.OrderOfSteps.{challenge-after-commitment, verdict-after-challenge, commitment-fixed, challenge-fixed}
 use Rattle.runs.proofs.OrderOfSteps.{judged-refuses-all, judged-stays}
 use Rattle.runs.proofs.ProverSteps.{commitAfter-runs, commitAfter-given, respondAfter-runs, respondAfter-given}
+use Rattle.runs.proofs.ProverSteps.{drop-runs, drop-given}
 use Rattle.runs.proofs.Unread.{commitAfter-same, respondAfter-same, respondAfter-held}
-use Rattle.runs.proofs.Unread.{takeCommitmentAfter-same, takeResponseAfter-same, takeResponseAfter-held}
+use Rattle.runs.proofs.Unread.{takeCommitmentAfter-same, takeChallengeAfter-held, takeResponseAfter-same, takeResponseAfter-held}
 use Rattle.runs.proofs.Verdicts.{takeResponse-judged}
 use Rattle.runs.proofs.VerifierCalls.{verifier-next}
 use Rattle.runs.proofs.VerifierSteps.{takeCommitmentAfter-runs, takeCommitmentAfter-given}
@@ -83,9 +84,14 @@ unfolding eightPlaces
 eight-beyond zero xs i h = rw unlessRefused-zero (getD-pad8 0 xs i ∙ List·getD-eq-default xs 0 h)
 eight-beyond (suc n) xs i h = rw (unlessRefused-positive (pad8 0 xs) _ (suc n) (omega arith)) (getD-zeros8 i)
 
+-- new sessions hold zeros, and dropping leads to Dropped
+pub starts-and-drops : StartsAndDrops
+unfolding newProver newVerifier
+starts-and-drops = record { new-prover = refl; new-verifier = refl; drop-runs = drop-runs; drop-moves = drop-given }
+
 -- no answer of a session depends on unread places
 pub sessions-read-alone : (sheet : List ℕ) → SessionsReadAlone sheet
-unfolding commit respond takeCommitment takeResponse
+unfolding commit respond takeCommitment takeChallenge takeResponse
 sessions-read-alone sheet =
     let before = loadRules sheet in
     let inst = instanceOf sheet in
@@ -94,6 +100,7 @@ sessions-read-alone sheet =
       responded = respondAfter-same before inst;
       responded-held = λ p p′ c x s. respondAfter-held before inst p p′ s c x;
       commitment = takeCommitmentAfter-same before inst;
+      challenge-held = λ v v′ c s. takeChallengeAfter-held before inst v v′ (s .phase) (s .commitment) c;
       response = takeResponseAfter-same before inst;
       response-held = λ v v′ r s. takeResponseAfter-held before inst v v′ s r;
     }
@@ -205,6 +212,7 @@ module _ (sheet : List ℕ) (loaded : loadRefusal sheet ≡ 0) where
     verdicts = verdicts;
     verifier = verifier;
     joint-run = sheet-joint-run sheet loaded;
+    starts-and-drops = starts-and-drops;
     one-answer = prover-once;
     steps-in-order = verifier-ordered;
     read-alone = sessions-read-alone sheet;

@@ -21,3 +21,4 @@ pub mod OrderOfSteps
 pub mod Verdicts
 pub mod JointRun
 pub mod Marker
+pub mod MarkerVerdict

@@ -8,11 +8,11 @@ use mathlib.Core.Bool.{true}
 use mathlib.Core.List.{List, _∷_, _++_}
 use lib.ListN.{getD}
 use Rattle.types.specs.declared.Prover.{Prover}
-use Rattle.types.specs.declared.ProverPhase.the-variants.{Committed, Answered}
+use Rattle.types.specs.declared.ProverPhase.the-variants.{New, Committed, Answered, Dropped}
 use Rattle.types.specs.declared.Round.{Round}
 use Rattle.types.specs.declared.Verdict.the-variants.{Accepted, Rejected}
 use Rattle.types.specs.declared.Verifier.{Verifier}
-use Rattle.types.specs.declared.VerifierPhase.the-variants.{Holding, Asked, Judged}
+use Rattle.types.specs.declared.VerifierPhase.the-variants.{Waiting, Holding, Asked, Judged}
 use Rattle.lists.specs.Places.{pad8, zeros8}
 use Rattle.formats.specs.Sheet.{instanceOf}
 use Rattle.sigma.specs.Answer.{outcome}
@@ -22,13 +22,13 @@ use Rattle.sigma.specs.Meaning.{Holds, FailsFirst, Fits}
 use Rattle.sigma.specs.Reads.{roundOf}
 use Rattle.runs.specs.Calls.{judgeRound}
 use Rattle.runs.specs.JointRun.{jointRun, Succeeds}
-use Rattle.runs.specs.Meaning.{Commits, Responds, TakesCommitment, TakesChallenge, ReadyToJudge, TakesResponse}
+use Rattle.runs.specs.Meaning.{Commits, Responds, Drops, TakesCommitment, TakesChallenge, ReadyToJudge, TakesResponse}
 use Rattle.runs.specs.OnSheet.{readSlots, readValues, SameSlots, SameValues, Below}
-use Rattle.runs.specs.Prover.{commit, respond}
+use Rattle.runs.specs.Prover.{newProver, commit, respond, dropSession}
 use Rattle.runs.specs.ProverCalls.{ProverCall, callProver, proverAfter, answers, drops}
 use Rattle.runs.specs.ProverCalls.{countCommits, countAnswers, Ended}
 use Rattle.runs.specs.Reads.{SameProver, SameVerifier}
-use Rattle.runs.specs.Verifier.{verifierState, takeCommitment, takeChallenge, takeResponse}
+use Rattle.runs.specs.Verifier.{newVerifier, verifierState, takeCommitment, takeChallenge, takeResponse}
 use Rattle.runs.specs.VerifierCalls.{VerifierCall, callVerifier, refusalOf, sessionOf, verifierAfter}
 use Rattle.runs.specs.VerifierCalls.{takesChallenge, judges, countCommitments, countChallenges, countVerdicts}
 
@@ -155,10 +155,25 @@ pub record SessionsReadAlone (sheet : List ℕ) : Type 0 where
       → (respond sheet p c x .refusal ≡ respond sheet p′ c x .refusal) × (respond sheet p c x .values ≡ respond sheet p′ c x .values)
   pub commitment : (v : Verifier) (t t′ : List ℕ) → SameValues sheet t t′
       → takeCommitment sheet v t ≡ takeCommitment sheet v t′
+  pub challenge-held : (v v′ : Verifier) (c : ℕ) → SameVerifier (instanceOf sheet .header) v v′
+      → takeChallenge sheet v c .refusal ≡ takeChallenge sheet v′ c .refusal
   pub response : (v : Verifier) (r r′ : List ℕ) → SameSlots sheet r r′
       → takeResponse sheet v r ≡ takeResponse sheet v r′
   pub response-held : (v v′ : Verifier) (r : List ℕ) → SameVerifier (instanceOf sheet .header) v v′
       → takeResponse sheet v r .verdict ≡ takeResponse sheet v′ r .verdict
+
+-- new sessions hold zeros, and dropping leads from New or Committed to Dropped
+pub record StartsAndDrops : Type 0 where
+  pub new-prover : newProver ≡ record { phase = New; nonce = zeros8; commitment = zeros8 }
+  pub new-verifier : newVerifier ≡ record { phase = Waiting; commitment = zeros8; challenge = 0 }
+  pub drop-runs : (p : Prover) → (dropSession p .refusal ≡ 0) ↔ Drops p
+  pub drop-moves : (p : Prover) → dropSession p .refusal ≡ 0
+      → dropSession p
+      ≡ record {
+        refusal = 0;
+        session = record { phase = Dropped; nonce = zeros8; commitment = p .commitment };
+        values = zeros8;
+      }
 
 -- demand 2's protocol half of a sheet
 pub record Demand2 (sheet : List ℕ) : Type 0 where
@@ -172,7 +187,8 @@ pub record Demand2 (sheet : List ℕ) : Type 0 where
   pub joint-run : (x k : List ℕ) (c : ℕ) → Witness (instanceOf sheet) (readSlots sheet x)
       → Choice (instanceOf sheet) (readSlots sheet k) → Below sheet c
       → Succeeds (jointRun sheet x c k)
-  -- the order of steps of both
+  -- new sessions, dropping, and the order of steps of both
+  pub starts-and-drops : StartsAndDrops
   pub one-answer : OneAnswer
   pub steps-in-order : StepsInOrder
   -- places beyond s and n play no part in any of this

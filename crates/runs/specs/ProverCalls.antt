@@ -10,7 +10,7 @@ use Rattle.types.specs.declared.Prover.{Prover}
 use Rattle.types.specs.declared.ProverPhase.the-variants.{Answered, Dropped}
 use Rattle.types.specs.declared.ProverStep.{ProverStep}
 use Rattle.runs.specs.Prover.{commit, respond, dropSession}
-use Rattle.runs.specs.Run.{outcomes, sessionAfter, countOf}
+use Rattle.runs.specs.Run.{sessionAfter, countOf}
 
 -- a call with what it brings: a sheet and a nonce, a sheet, a challenge and a witness, or nothing
 pub data ProverCall : Type 0 where
@@ -23,10 +23,6 @@ unfoldable pub callProver : ProverCall → Prover → ProverStep
 callProver (Commit sheet nonce) p = commit sheet p nonce
 callProver (Respond sheet c witness) p = respond sheet p c witness
 callProver Drop p = dropSession p
-
--- the steps of a list of calls
-unfoldable pub runProver : List ProverCall → Prover → List ProverStep
-runProver calls p = outcomes callProver (λ step. step .session) calls p
 
 -- the session after a list of calls
 unfoldable pub proverAfter : List ProverCall → Prover → Prover

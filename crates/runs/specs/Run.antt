@@ -5,11 +5,6 @@ use mathlib.Core.Bool.{Bool, cond}
 use mathlib.Core.List.{List, [], _∷_}
 
 module _ {Call Session Outcome : Type 0} (answer : Call → Session → Outcome) (session : Outcome → Session) where
-  -- the outcomes of the calls, in order
-  unfoldable pub outcomes : List Call → Session → List Outcome
-  outcomes [] s = []
-  outcomes (call ∷ calls) s = answer call s ∷ outcomes calls (session (answer call s))
-
   -- the session after the last of the calls
   unfoldable pub sessionAfter : List Call → Session → Session
   sessionAfter [] s = s

@@ -8,7 +8,7 @@ use Rattle.types.specs.declared.Verifier.{Verifier}
 use Rattle.types.specs.declared.VerifierStep.{VerifierStep}
 use Rattle.types.specs.declared.VerifierVerdict.{VerifierVerdict}
 use Rattle.sigma.specs.Answer.{outcome}
-use Rattle.runs.specs.Run.{outcomes, sessionAfter, countOf}
+use Rattle.runs.specs.Run.{sessionAfter, countOf}
 use Rattle.runs.specs.Verifier.{takeCommitment, takeChallenge, takeResponse}
 
 -- a call with what it brings: a sheet and a commitment, a challenge or a response
@@ -37,10 +37,6 @@ unfoldable pub callVerifier : VerifierCall → Verifier → VerifierAnswer
 callVerifier (Commitment sheet t) v = Step (takeCommitment sheet v t)
 callVerifier (Challenge sheet c) v = Step (takeChallenge sheet v c)
 callVerifier (Response sheet r) v = Told (takeResponse sheet v r)
-
--- the answers of a list of calls
-unfoldable pub runVerifier : List VerifierCall → Verifier → List VerifierAnswer
-runVerifier calls v = outcomes callVerifier sessionOf calls v
 
 -- the session after a list of calls
 unfoldable pub verifierAfter : List VerifierCall → Verifier → Verifier

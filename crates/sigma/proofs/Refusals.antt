@@ -2,21 +2,27 @@
 -- Assumes nothing.
 use Prim.Native.Nat.{ℕ}
 use mathlib.Core.Path.{refl}
+use mathlib.Core.Bool.{not}
 use mathlib.Core.List.{List}
 use Rattle.types.specs.declared.Header.{Header}
 use Rattle.rules.specs.Condition.{Tests}
-use Rattle.rules.proofs.Says.{says-equal, says-or}
+use Rattle.rules.specs.Says.{Says}
+use Rattle.rules.proofs.Says.{says-equal, says-or, says-not, says-iff}
 use Rattle.sigma.specs.Admission.{headerRules, elementRules}
+use Rattle.sigma.specs.Answer.{isAccepted}
 use Rattle.sigma.specs.Extractor.{extractRules}
 use Rattle.sigma.specs.Instance.{Instance}
 use Rattle.sigma.specs.Judge.{judgeRules}
+use Rattle.sigma.specs.Meaning.{Holds}
+use Rattle.sigma.specs.Reads.{roundOf}
 use Rattle.sigma.specs.Refusals.{headerConditions, elementConditions, judgeConditions, simulateConditions, extractConditions}
 use Rattle.sigma.specs.Round.{verdict}
 use Rattle.sigma.specs.Simulator.{simulateRules}
 use Rattle.sigma.proofs.Comparison.{says-differ}
 use Rattle.sigma.proofs.Tests.{says-badKind, says-badModulus, says-badOrder, says-badSize, says-badCount}
 use Rattle.sigma.proofs.Tests.{says-badEntries, says-badStatement}
-use Rattle.sigma.proofs.Tests.{says-badCommitment, says-badChallenge, says-badCoordinates, says-not-both-accepted}
+use Rattle.sigma.proofs.Tests.{says-badCommitment, says-badChallenge, says-badCoordinates, says-accepted}
+use Rattle.sigma.proofs.Verdict.{verdict-accepted}
 
 -- 4 to 8
 pub header-tests : (h : Header) → Tests (headerRules h) (headerConditions h)
@@ -39,6 +45,11 @@ pub simulate-tests : (i : Instance) (c : ℕ) (r : List ℕ) → Tests (simulate
 unfolding simulateRules
 simulate-tests i c r = (refl, says-badChallenge i c, (refl, says-badCoordinates i r, tt))
 
+-- 20: a round is not accepted exactly when the two sides of some row differ
+says-rejected : (i : Instance) (t : List ℕ) (c : ℕ) (r : List ℕ)
+    → Says (not (isAccepted (verdict i t c r))) (¬ Holds i (roundOf t c r))
+says-rejected i t c r = says-not (says-iff (says-accepted (verdict i t c r)) (verdict-accepted i t c r))
+
 -- 14 to 16 of both rounds, then 18 to 20
 pub extract-tests : (i : Instance) (t : List ℕ) (c : ℕ) (r t′ : List ℕ) (c′ : ℕ) (r′ : List ℕ)
     → Tests (extractRules i t c r t′ c′ r′) (extractConditions i t c r t′ c′ r′)
@@ -58,7 +69,7 @@ extract-tests i t c r t′ c′ r′ = (
         (
           refl,
           says-equal c c′,
-          (refl, says-not-both-accepted (verdict i t c r) (verdict i t′ c′ r′), tt),
+          (refl, says-or (says-rejected i t c r) (says-rejected i t′ c′ r′), tt),
         ),
       ),
     ),

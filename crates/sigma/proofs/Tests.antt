@@ -2,8 +2,8 @@
 -- Assumes nothing.
 use Prim.Native.Nat.{ℕ, _-_, _%_, _<_, _≤_, _∣_}
 use mathlib.Core.Path.{_≡_, refl, sym, _∙_}
-use mathlib.Core.Logic.{_≢_, _⊎_}
-use mathlib.Core.Bool.{Bool, true, false, cond, not, _||_, or-assoc, false≢true}
+use mathlib.Core.Logic.{_≢_}
+use mathlib.Core.Bool.{Bool, true, false, cond, or-assoc, false≢true}
 use mathlib.Core.List.{List}
 use native.Mathlib.Decide.{decLt}
 use native.Mathlib.Omega.{arith}
@@ -171,7 +171,3 @@ unfolding isAccepted
 says-accepted Accepted = record { sound = λ e. refl; complete = λ e. refl }
 says-accepted (Rejected row) = record { sound = λ e. absurd (false≢true e); complete = λ e. cc }
 says-accepted (Refused number) = record { sound = λ e. absurd (false≢true e); complete = λ e. cc }
-
--- 20: one of two verdicts is not accepted
-pub says-not-both-accepted : (v w : Verdict) → Says (not (isAccepted v) || not (isAccepted w)) ((v ≢ Accepted) ⊎ (w ≢ Accepted))
-says-not-both-accepted v w = says-or (says-not (says-accepted v)) (says-not (says-accepted w))

@@ -7,12 +7,12 @@ use mathlib.Core.Logic.{_⊎_, _≢_}
 use mathlib.Core.List.{List, [], _∷_}
 use lib.ListN.{getD}
 use Rattle.types.specs.declared.Header.{Header}
-use Rattle.types.specs.declared.Verdict.the-variants.{Accepted}
 use Rattle.rules.specs.Condition.{Condition, _if_}
 use Rattle.sigma.specs.Element.{Element, Coordinate}
 use Rattle.sigma.specs.Image.{rowImage}
 use Rattle.sigma.specs.Instance.{Instance, entry, statementAt}
-use Rattle.sigma.specs.Round.{verdict}
+use Rattle.sigma.specs.Meaning.{Holds}
+use Rattle.sigma.specs.Reads.{roundOf}
 
 -- the kind is neither 1 nor 2
 abbrev pub Refusal4 : Header → Type 0
@@ -98,4 +98,4 @@ extractConditions inst t c r t′ c′ r′ =
     (16 if (Refusal16 inst r ⊎ Refusal16 inst r′)) ∷
     (18 if Refusal18 inst t t′) ∷
     (19 if (c ≡ c′)) ∷
-    (20 if ((verdict inst t c r ≢ Accepted) ⊎ (verdict inst t′ c′ r′ ≢ Accepted))) ∷ []
+    (20 if ((¬ Holds inst (roundOf t c r)) ⊎ (¬ Holds inst (roundOf t′ c′ r′)))) ∷ []

@@ -17,10 +17,12 @@ cast-read-rows-2 c = omega arith
 read-rows-requires : tie.Need-read-rows-requires
 read-rows-requires c κs =
     let start = c .before .before .before .before .before in
-    ((start .pre .few-columns, start .pre .few-rows), rows-within _ _ (start .pre) (c .before .before .if1 .taken))
+    omega (arith, rows-within _ _ (start .pre) (c .before .before .if1 .taken))
 
 returns : tie.Need-returns
-returns c = c .read-rows .ensures ∙ entries-rows _ _ (c .before .before .before .if1 .taken)
+returns c =
+    let start = c .before .before .before .before .before .before in
+    c .read-rows .ensures ∙ entries-rows _ (start .args .h) (c .before .before .before .if1 .taken)
 
 returns-2 : tie.Need-returns-2
 unfolding zeros64 zeros8

@@ -1,6 +1,5 @@
 -- `instance::shape::entry_count` meets its contract: eight times eight is 64.
 -- Assumes nothing.
-use mathlib.Core.Path.{refl}
 use native.Mathlib.Nat.{mul-le-mul}
 use native.Mathlib.Omega.{arith}
 use borrow.Author.Tests.{eq-eqb, ne-eqb}

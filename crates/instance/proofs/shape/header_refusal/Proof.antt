@@ -1,11 +1,12 @@
 -- `instance::shape::header_refusal` meets its contract: the tests stand in the order of the rules.
 -- Assumes nothing.
-use mathlib.Core.Path.{sym, _∙_}
-use native.Mathlib.Omega.{arith}
+use mathlib.Core.Path.{_≡_, sym, _∙_}
+use mathlib.Core.List.{[], _∷_}
 use borrow.Author.Needs.{needs}
 use borrow.Author.Tests.{lt-ltb, le-ltb}
-use Rattle.rules.specs.Rule.{lowest}
-use Rattle.sigma.specs.Admission.{badModulus, badOrder, headerRules}
+use Rattle.rules.specs.Rule.{_when_, lowest}
+use Rattle.rules.proofs.Lowest.{pass, stop}
+use Rattle.sigma.specs.Admission.{badModulus, badOrder, badSize, badCount, headerRules}
 use Rattle.instance.proofs.shape.header_refusal.Statement.{statement}
 use Rattle.instance.proofs.shape.header_refusal.Tie as tie
 
@@ -32,51 +33,34 @@ returns-3 c =
 bad-size-requires : tie.Need-bad-size-requires
 bad-size-requires c κs = search needs
 
-returns-4 : tie.Need-returns-4
+-- past the first three tests 7 and 8 are left
+size-left : (c : tie.Else3)
+    → let h = c .before .before .before .before .before .before .args .h in
+    lowest (headerRules h) ≡ lowest ((7 when badSize h) ∷ (8 when badCount h) ∷ [])
 unfolding lowest headerRules badModulus badOrder
-returns-4 c =
-    let order = c .before .before in
-    let modulus = order .before .before in
+size-left c =
+    let modulus = c .before .before in
     let kind = modulus .before .before in
-    rw (
-      sym (kind .before .bad-kind .ensures) ∙ kind .if1 .left,
-      le-ltb _ 3 (modulus .if2 .left),
-      le-ltb _ 2 (order .if3 .left),
-      sym (c .before .bad-size .ensures) ∙ c .if4 .taken,
-    )
+    rw (sym (kind .before .bad-kind .ensures) ∙ kind .if1 .left, le-ltb _ 3 (modulus .if2 .left), le-ltb _ 2 (c .if3 .left))
+
+returns-4 : tie.Need-returns-4
+returns-4 c = sym (size-left (c .before .before) ∙ stop 7 _ (sym (c .before .bad-size .ensures) ∙ c .if4 .taken))
 
 bad-count-requires : tie.Need-bad-count-requires
 bad-count-requires c κs = search needs
 
+-- past the fourth, 8 is left
+count-left : (c : tie.Else4)
+    → let h = c .before .before .before .before .before .before .before .before .args .h in
+    lowest (headerRules h) ≡ lowest ((8 when badCount h) ∷ [])
+count-left c = size-left (c .before .before) ∙ pass 7 _ (sym (c .before .bad-size .ensures) ∙ c .if4 .left)
+
 returns-5 : tie.Need-returns-5
-unfolding lowest headerRules badModulus badOrder
-returns-5 c =
-    let size = c .before .before in
-    let order = size .before .before in
-    let modulus = order .before .before in
-    let kind = modulus .before .before in
-    rw (
-      sym (kind .before .bad-kind .ensures) ∙ kind .if1 .left,
-      le-ltb _ 3 (modulus .if2 .left),
-      le-ltb _ 2 (order .if3 .left),
-      sym (size .before .bad-size .ensures) ∙ size .if4 .left,
-      sym (c .before .bad-count .ensures) ∙ c .if5 .taken,
-    )
+returns-5 c = sym (count-left (c .before .before) ∙ stop 8 _ (sym (c .before .bad-count .ensures) ∙ c .if5 .taken))
 
 returns-6 : tie.Need-returns-6
-unfolding lowest headerRules badModulus badOrder
-returns-6 c =
-    let size = c .before .before in
-    let order = size .before .before in
-    let modulus = order .before .before in
-    let kind = modulus .before .before in
-    rw (
-      sym (kind .before .bad-kind .ensures) ∙ kind .if1 .left,
-      le-ltb _ 3 (modulus .if2 .left),
-      le-ltb _ 2 (order .if3 .left),
-      sym (size .before .bad-size .ensures) ∙ size .if4 .left,
-      sym (c .before .bad-count .ensures) ∙ c .if5 .left,
-    )
+unfolding lowest
+returns-6 c = sym (count-left (c .before .before) ∙ pass 8 [] (sym (c .before .bad-count .ensures) ∙ c .if5 .left))
 
 pub header-refusal-spec : {M : Type 1} → statement M
 header-refusal-spec =

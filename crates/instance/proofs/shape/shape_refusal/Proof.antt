@@ -40,7 +40,7 @@ unfolding sheetMark ascii versionOf
 returns-3 c =
     let mark = c .before .before in
     version-refused _ (mark .before .before .if1 .left) (sym (mark .before .has-mark .ensures) ∙ not-false _ (mark .if2 .left))
-    (λ e. c .if3 .taken (c .before .read-u16 .ensures .0 ∙ e))
+    (λ e. omega arith)
 
 header-requires : tie.Need-header-requires
 header-requires c κs = omega arith
@@ -56,7 +56,7 @@ begun c =
     record {
       long = mark .before .before .if1 .left;
       marked = sym (mark .before .has-mark .ensures) ∙ not-false _ (mark .if2 .left);
-      version = sym (c .before .read-u16 .ensures .0) ∙ c .if3 .left;
+      version = omega arith;
     }
 
 -- the fixed fields' number
@@ -78,14 +78,14 @@ returns-5 c =
     let asked = c .before .before .before in
     let read = asked .before in
     let given = c .before .sheet-length .ensures .0 ∙ ap sheetLength (read .header .ensures) in
-    length-refused _ (begun (read .before)) (omega (arith, number asked)) (λ e. c .if5 .taken (e ∙ sym given))
+    length-refused _ (begun (read .before)) (omega (arith, number asked)) (λ e. omega (arith, given))
 
 returns-6 : tie.Need-returns-6
 returns-6 c =
     let asked = c .before .before .before in
     let read = asked .before in
     let given = c .before .sheet-length .ensures .0 ∙ ap sheetLength (read .header .ensures) in
-    shape-right _ (begun (read .before)) (omega (arith, number asked)) (c .if5 .left ∙ given)
+    shape-right _ (begun (read .before)) (omega (arith, number asked)) (omega (arith, given))
 
 pub shape-refusal-spec : {M : Type 1} → statement M
 shape-refusal-spec =

@@ -1,0 +1,7 @@
+-- Laws that the proofs of the functions cite, by topic.
+pub mod Filling
+pub mod RowImage
+pub mod Slots
+pub mod FirstDifference
+pub mod Unread
+pub mod Tested

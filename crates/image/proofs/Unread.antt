@@ -1,0 +1,62 @@
+-- The image, the two sides, the verdict and the response read only the places that 01 reads, and zeros behind a side do not
+-- count in a comparison.
+-- Assumes nothing.
+use mathlib.Core.Path.{_≡_, sym, ap, ap₂, _∙_}
+use mathlib.Core.Bool.{not}
+use mathlib.Core.List.{List}
+use Prim.Native.Nat.{ℕ, _*_, _%_, _^_}
+use lib.Dec.{eqb}
+use lib.ListN.{getD}
+use Rattle.types.specs.declared.Verdict.{Verdict}
+use Rattle.lists.specs.Places.{places, pad8}
+use Rattle.lists.proofs.Places.{getD-pad8, getD-places, tabulate-agree}
+use Rattle.numbers.proofs.Search.{find-agree}
+use Rattle.sigma.specs.Comparison.{firstDifference, differ, compareSides}
+use Rattle.sigma.specs.Image.{image}
+use Rattle.sigma.specs.Instance.{Instance, statementAt}
+use Rattle.sigma.specs.Round.{responseCoordinate, response, expectedImage, verdict}
+use Rattle.sigma.specs.Valid.{Valid}
+use Rattle.sigma.proofs.Unread.{rowImage-agree}
+
+-- zeros behind two lists do not change where they first differ
+difference-pad8 : (n : ℕ) (xs ys : List ℕ) → firstDifference n (pad8 0 xs) (pad8 0 ys) ≡ firstDifference n xs ys
+unfolding firstDifference
+difference-pad8 n xs ys = find-agree _ _ 0 n (λ i h k. rw (getD-pad8 0 xs i, getD-pad8 0 ys i))
+
+-- nor the verdict on them
+pub compare-pad8 : (n : ℕ) (xs ys : List ℕ) → compareSides n (pad8 0 xs) (pad8 0 ys) ≡ compareSides n xs ys
+unfolding compareSides differ
+compare-pad8 n xs ys = rw (difference-pad8 n xs ys)
+
+module _ (inst : Instance) where
+  -- the image reads n places, in a Valid instance
+  pub image-places : Valid inst → (x : List ℕ) → image inst (places (inst .header .columns) x) ≡ image inst x
+  unfolding image
+  image-places v x =
+      tabulate-agree (inst .header .rows) _ _
+      (λ i h. rowImage-agree v _ x (λ j l. getD-places (inst .header .columns) x j l) i h)
+
+  -- t · z^c reads s places
+  pub expected-places : (t : List ℕ) (c : ℕ) → expectedImage inst (places (inst .header .rows) t) c ≡ expectedImage inst t c
+  unfolding expectedImage
+  expected-places t c =
+      tabulate-agree (inst .header .rows) _ _
+      (λ i h. ap (λ (k : ℕ). k * statementAt inst i ^ c % inst .header .modulus) (getD-places (inst .header .rows) t i h))
+
+  -- the response reads n places
+  pub response-places : (k : List ℕ) (c : ℕ) (x : List ℕ)
+      → response inst (places (inst .header .columns) k) c (places (inst .header .columns) x) ≡ response inst k c x
+  unfolding response
+  response-places k c x =
+      tabulate-agree (inst .header .columns) _ _
+      (λ j h.
+      ap₂ (λ (a b : ℕ). responseCoordinate (inst .header) a c b) (getD-places (inst .header .columns) k j h)
+      (getD-places (inst .header .columns) x j h))
+
+  -- the verdict is what comparing the two sides in eight places gives
+  pub verdict-compared : Valid inst → (t : List ℕ) (c : ℕ) (r : List ℕ) {left right : List ℕ} {answer : Verdict}
+      → left ≡ pad8 0 (image inst r) → right ≡ pad8 0 (expectedImage inst t c) → answer ≡ compareSides (inst .header .rows) left right
+      → answer ≡ verdict inst (places (inst .header .rows) t) c (places (inst .header .columns) r)
+  unfolding verdict
+  verdict-compared v t c r is-left is-right is-answer =
+      rw (is-answer, is-left, is-right, image-places v r, expected-places t c) (compare-pad8 (inst .header .rows) _ _)

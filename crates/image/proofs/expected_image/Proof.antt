@@ -1,0 +1,87 @@
+-- `image::expected_image` meets its contract. The invariant: the first i places hold the first i rows, and those beyond hold 0.
+-- The measure: how many rows are left. Assumes nothing.
+use mathlib.Core.Path.{_≡_}
+use Prim.Native.Nat.{_-_, _*_, _%_, _^_, _≤_}
+use native.Mathlib.Omega.{arith}
+use lib.ListN.{getD}
+use Rattle.lists.specs.Places.{tabulate, pad8}
+use Rattle.sigma.specs.Instance.{statementAt}
+use Rattle.sigma.specs.Round.{expectedImage}
+use Rattle.image.proofs.Filling.{filled-start, filled-turn, filled-end}
+use Rattle.image.proofs.Slots.{product-reduced}
+use Rattle.image.proofs.expected_image.Statement.{statement}
+use Rattle.image.proofs.expected_image.Tie as tie
+
+abbrev Inv-loop : tie.InvT-loop
+Inv-loop h c statement t rows values₀ i₀ values i =
+    (i ≤ rows) × (values ≡ pad8 0 (tabulate i (λ row. getD t row 0 * getD statement row 0 ^ c % h .modulus)))
+
+abbrev μ-loop : tie.MeasureT-loop
+μ-loop h c statement t rows values₀ i₀ values i = rows - i
+
+cast-rows : tie.Need-cast-rows Inv-loop μ-loop
+cast-rows c = omega arith
+
+loop-holds : tie.Need-loop-holds Inv-loop μ-loop
+loop-holds c = (omega arith, filled-start _)
+
+mul-mul-mod : tie.Need-mul-mul-mod Inv-loop μ-loop
+mul-mul-mod c = omega arith
+
+array-read-mul-mod : tie.Need-array-read-mul-mod Inv-loop μ-loop
+array-read-mul-mod c = omega arith
+
+mul-pow-mod : tie.Need-mul-pow-mod Inv-loop μ-loop
+mul-pow-mod c = omega arith
+
+array-read-pow-mod : tie.Need-array-read-pow-mod Inv-loop μ-loop
+array-read-pow-mod c = omega arith
+
+pow-mod-requires : tie.Need-pow-mod-requires Inv-loop μ-loop
+pow-mod-requires c κs = omega arith
+
+mul-mod-requires : tie.Need-mul-mod-requires Inv-loop μ-loop
+mul-mod-requires c κs = omega arith
+
+mul-values : tie.Need-mul-values Inv-loop μ-loop
+mul-values c = omega arith
+
+array-write-values : tie.Need-array-write-values Inv-loop μ-loop
+array-write-values c = omega arith
+
+add-i : tie.Need-add-i Inv-loop μ-loop
+add-i c = omega arith
+
+loop-less : tie.Need-loop-less Inv-loop μ-loop
+loop-less c = omega arith
+
+loop-again : tie.Need-loop-again Inv-loop μ-loop
+loop-again c =
+    let at-loop = c .before .before .before in
+    let row = product-reduced _ _ _ (c .before .pow-mod .ensures .0) (c .mul-mod .ensures .0) in
+    (omega arith, filled-turn _ _ (omega arith) (at-loop .loop .inv .1) row)
+
+returns : tie.Need-returns Inv-loop μ-loop
+unfolding expectedImage statementAt
+returns c = λ entries. filled-end _ _ _ (c .before .loop .inv .0) (c .loop-test .left) (c .before .loop .inv .1)
+
+pub expected-image-spec : {M : Type 1} → statement M
+expected-image-spec =
+    tie.close
+    (tie.spec
+    Inv-loop
+    μ-loop
+    cast-rows
+    loop-holds
+    mul-mul-mod
+    array-read-mul-mod
+    mul-pow-mod
+    array-read-pow-mod
+    pow-mod-requires
+    mul-mod-requires
+    mul-values
+    array-write-values
+    add-i
+    loop-less
+    loop-again
+    returns)

@@ -1,0 +1,144 @@
+// The values of a round on loaded values (01, "A round"): the image, the verifier's two sides and their comparison, the
+// response, and a power by a negative exponent. Nothing is refused here.
+use modular::inverse;
+use modular::mul_mod;
+use modular::pow_mod;
+use types::Header;
+use types::Verdict;
+ghost use mathlib.Core.Path.{_≡_};
+ghost use mathlib.Core.List.{List};
+ghost use Prim.Native.Nat.{ℕ, _≤_, _<_};
+ghost use lib.IntN.{pos, negℤ};
+ghost use Rattle.lists.specs.Places.{places, pad8};
+ghost use Rattle.numbers.specs.Integer.{power};
+ghost use Rattle.sigma.specs.Comparison.{firstDifference, compareSides};
+ghost use Rattle.sigma.specs.Element.{Element};
+ghost use Rattle.sigma.specs.Image.{rowImage, image};
+ghost use Rattle.sigma.specs.Round.{responseCoordinate, response, expectedImage, verdict};
+ghost use Rattle.sigma.specs.Valid.{Valid};
+ghost use Rattle.image.specs.Values.{instanceWith};
+
+// Row i of the image of x: in kind 1 the product over the columns of the entry by x's slot, in kind 2 slot i by the exponent.
+pub fn row_image(h: Header, entries: [[u32; 8]; 8], x: [u32; 8], i: usize) -> u32
+    requires { ⌜ (0 < h .modulus) × (h .columns ≤ 8) × (i < 8) ⌝ }
+    ensures { λ r. ⌜ ((statement : List ℕ) → r ≡ rowImage (instanceWith h entries statement) x i) ⌝ }
+{
+    if h.kind != 1 {
+        return pow_mod(x[i], h.order, h.modulus);
+    }
+    let columns = h.columns as usize;
+    let mut value = 1 % h.modulus;
+    for j in 0..columns {
+        value = mul_mod(value, pow_mod(entries[i][j], x[j], h.modulus), h.modulus);
+    }
+    value
+}
+
+// The image of x, a value for each row.
+pub fn image(h: Header, entries: [[u32; 8]; 8], x: [u32; 8]) -> [u32; 8]
+    requires { ⌜ (0 < h .modulus) × (h .rows ≤ 8) × (h .columns ≤ 8) ⌝ }
+    ensures { λ r. ⌜ ((statement : List ℕ) → r ≡ pad8 0 (image (instanceWith h entries statement) x)) ⌝ }
+{
+    let rows = h.rows as usize;
+    let mut values = [0u32; 8];
+    for i in 0..rows {
+        values[i] = row_image(h, entries, x, i);
+    }
+    values
+}
+
+// What the response's image has to be: t times the statement by the challenge, a value for each row.
+pub fn expected_image(h: Header, statement: [u32; 8], t: [u32; 8], c: u32) -> [u32; 8]
+    requires { ⌜ (0 < h .modulus) × (h .rows ≤ 8) ⌝ }
+    ensures { λ r. ⌜ ((entries : List (List ℕ)) → r ≡ pad8 0 (expectedImage (instanceWith h entries statement) t c)) ⌝ }
+{
+    let rows = h.rows as usize;
+    let mut values = [0u32; 8];
+    for i in 0..rows {
+        values[i] = mul_mod(t[i], pow_mod(statement[i], c, h.modulus), h.modulus);
+    }
+    values
+}
+
+// The first place below n at which xs and ys differ, or n where there is none.
+pub fn first_difference(xs: [u32; 8], ys: [u32; 8], n: usize) -> usize
+    requires { ⌜ n ≤ 8 ⌝ }
+    ensures value { λ r. ⌜ r ≡ firstDifference n xs ys ⌝ }
+    ensures within { λ r. ⌜ r ≤ n ⌝ }
+{
+    let mut i: usize = 0;
+    while i < n {
+        if xs[i] != ys[i] {
+            return i;
+        }
+        i += 1;
+    }
+    i
+}
+
+// The verdict on two sides of n rows: accepted where they agree in each, else rejected with the first row that differs.
+pub fn compare(xs: [u32; 8], ys: [u32; 8], n: usize) -> Verdict
+    requires { ⌜ n ≤ 8 ⌝ }
+    ensures { λ r. ⌜ r ≡ compareSides n xs ys ⌝ }
+{
+    let row = first_difference(xs, ys, n);
+    if row < n {
+        return Verdict::Rejected(row as u32);
+    }
+    Verdict::Accepted
+}
+
+// The verdict on a commitment t, a challenge c and a response r: accepted where the two sides agree in every row, else
+// rejected with the first row in which they differ.
+pub fn verdict(
+    h: Header,
+    entries: [[u32; 8]; 8],
+    statement: [u32; 8],
+    t: [u32; 8],
+    c: u32,
+    r: [u32; 8],
+) -> Verdict
+    requires { ⌜ Valid (instanceWith h entries statement) ⌝ }
+    ensures { λ answer. ⌜ answer ≡ verdict (instanceWith h entries statement) (places (h .rows) t) c (places (h .columns) r) ⌝ }
+{
+    compare(
+        image(h, entries, r),
+        expected_image(h, statement, t, c),
+        h.rows as usize,
+    )
+}
+
+// A slot of the response to c, of the nonce's slot k and the witness's slot x: k + c x mod q in kind 1, k x^c mod m in kind 2.
+pub fn response_coordinate(h: Header, k: u32, c: u32, x: u32) -> u32
+    requires { ⌜ (0 < h .modulus) × (0 < h .order) ⌝ }
+    ensures { λ r. ⌜ r ≡ responseCoordinate h k c x ⌝ }
+{
+    if h.kind == 1 {
+        return ((k as u64 + c as u64 * x as u64) % h.order as u64) as u32;
+    }
+    mul_mod(k, pow_mod(x, c, h.modulus), h.modulus)
+}
+
+// The response to c, of nonce k and witness x, a value for each column.
+pub fn response(h: Header, k: [u32; 8], c: u32, x: [u32; 8]) -> [u32; 8]
+    requires { ⌜ (0 < h .modulus) × (0 < h .order) × (h .columns ≤ 8) ⌝ }
+    ensures { λ r. ⌜ ((entries : List (List ℕ)) (statement : List ℕ) → r ≡ pad8 0 (response (instanceWith h entries statement) k c x)) ⌝ }
+{
+    let columns = h.columns as usize;
+    let mut values = [0u32; 8];
+    for j in 0..columns {
+        values[j] = response_coordinate(h, k[j], c, x[j]);
+    }
+    values
+}
+
+// The group element v by the exponent -n, modulo m: in kind 1 v by q - n, in kind 2 the inverse of v by n.
+pub fn negative_power(h: Header, v: u32, n: u32) -> u32
+    requires { ⌜ (1 < h .modulus) × (0 < h .order) × (n ≤ h .order) × Element h v ⌝ }
+    ensures { λ r. ⌜ r ≡ power (h .modulus) v (negℤ (pos n)) ⌝ }
+{
+    if h.kind == 1 {
+        return pow_mod(v, h.order - n, h.modulus);
+    }
+    pow_mod(inverse(v, h.modulus), n, h.modulus)
+}

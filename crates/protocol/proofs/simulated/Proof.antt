@@ -1,0 +1,92 @@
+-- `protocol::simulated` meets its contract. The invariant: the first i places hold the first i rows, and those beyond hold 0.
+-- The measure: how many rows are left. Assumes nothing.
+use mathlib.Core.Path.{_≡_}
+use Prim.Native.Nat.{_-_, _≤_}
+use native.Mathlib.Nat.{le-of-lt}
+use native.Mathlib.Omega.{arith}
+use Rattle.lists.specs.Places.{tabulate, pad8}
+use Rattle.sigma.specs.Instance.{statementAt}
+use Rattle.sigma.proofs.Valid.{valid-modulus, valid-order, valid-challenge}
+use Rattle.image.specs.Values.{instanceWith}
+use Rattle.image.proofs.Filling.{filled-start, filled-turn, filled-end}
+use Rattle.protocol.proofs.Simulating.{simulatedRow, simulated-row, simulated-rows}
+use Rattle.protocol.proofs.simulated.Statement.{statement}
+use Rattle.protocol.proofs.simulated.Tie as tie
+
+abbrev Inv-loop : tie.InvT-loop
+Inv-loop h entries c r statement rows values₀ i₀ values i =
+    (i ≤ rows) × (values ≡ pad8 0 (tabulate i (simulatedRow (instanceWith h entries statement) c r)))
+
+abbrev μ-loop : tie.MeasureT-loop
+μ-loop h entries c r statement rows values₀ i₀ values i = rows - i
+
+cast-rows : tie.Need-cast-rows Inv-loop μ-loop
+cast-rows c = omega arith
+
+loop-holds : tie.Need-loop-holds Inv-loop μ-loop
+loop-holds c = (omega arith, filled-start _)
+
+row-image-requires : tie.Need-row-image-requires Inv-loop μ-loop
+row-image-requires c κs = omega arith
+
+mul-negative-power : tie.Need-mul-negative-power Inv-loop μ-loop
+mul-negative-power c = omega arith
+
+array-read-negative-power : tie.Need-array-read-negative-power Inv-loop μ-loop
+array-read-negative-power c = omega arith
+
+negative-power-requires : tie.Need-negative-power-requires Inv-loop μ-loop
+unfolding statementAt
+negative-power-requires c κs =
+    let (valid, below) = c .before .before .before .before .pre in
+    let inside = c .before .loop-test .taken in
+    (valid-modulus valid, valid-order valid, le-of-lt (valid-challenge valid _ below), valid .statement _ inside)
+
+mul-mod-requires : tie.Need-mul-mod-requires Inv-loop μ-loop
+mul-mod-requires c κs = omega arith
+
+mul-values : tie.Need-mul-values Inv-loop μ-loop
+mul-values c = omega arith
+
+array-write-values : tie.Need-array-write-values Inv-loop μ-loop
+array-write-values c = omega arith
+
+add-i : tie.Need-add-i Inv-loop μ-loop
+add-i c = omega arith
+
+loop-less : tie.Need-loop-less Inv-loop μ-loop
+loop-less c = omega arith
+
+loop-again : tie.Need-loop-again Inv-loop μ-loop
+loop-again c =
+    let at-loop = c .before .before .before .before in
+    let args = at-loop .before .before .args in
+    let row = simulated-row (instanceWith (args .h) (args .entries) (args .t3)) (args .c) (args .r) (at-loop .loop .i)
+    (c .before .before .row-image .ensures (args .t3)) (c .before .negative-power .ensures) (c .mul-mod .ensures .0) in
+    (omega arith, filled-turn _ _ (omega arith) (at-loop .loop .inv .1) row)
+
+returns : tie.Need-returns Inv-loop μ-loop
+returns c =
+    let at-loop = c .before in
+    rw (simulated-rows _ (at-loop .before .before .pre .0) _ _)
+    (filled-end _ _ _ (at-loop .loop .inv .0) (c .loop-test .left) (at-loop .loop .inv .1))
+
+pub simulated-spec : {M : Type 1} → statement M
+simulated-spec =
+    tie.close
+    (tie.spec
+    Inv-loop
+    μ-loop
+    cast-rows
+    loop-holds
+    row-image-requires
+    mul-negative-power
+    array-read-negative-power
+    negative-power-requires
+    mul-mod-requires
+    mul-values
+    array-write-values
+    add-i
+    loop-less
+    loop-again
+    returns)
