@@ -77,7 +77,7 @@ module _ (s : List ℕ) {loaded : Loaded} (is-load : loaded ≡ load s) where
     clear = load-clear s .1 sheet-loads
 
     -- the fixed fields are the sheet's
-    header-loaded : loaded .header ≡ headerOf s
+    pub header-loaded : loaded .header ≡ headerOf s
     unfolding loadRefusal instanceOf
     header-loaded = ap (λ (l : Loaded). l .header) (is-load ∙ load-given s (sym sheet-number ∙ passes))
 

@@ -1,0 +1,4 @@
+-- Laws of the interface's definitions.
+pub mod Filling
+pub mod Flat
+pub mod RoundPlace

@@ -1,0 +1,3 @@
+-- What the interface adds to the definitions of the calls.
+pub mod Flat
+pub mod RoundPlace

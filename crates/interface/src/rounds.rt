@@ -1,0 +1,68 @@
+// The calls on round files.
+use crate::Part;
+use crate::place::part_place;
+use types::Counted;
+use types::Fetched;
+use types::Round;
+use types::Written;
+ghost use mathlib.Core.Path.{_≡_};
+ghost use Rattle.formats.specs.Append.{append, emptyFile};
+ghost use Rattle.formats.specs.RoundCalls.{checkRound, countRounds, fetchRound};
+ghost use Rattle.interface.specs.RoundPlace.{partPlace};
+
+// How many rounds a file has; 0 beside the number, 2 to 12, where the sheet or the file is refused.
+#[no_mangle]
+pub extern "C" fn dimkhoros_count(sheet: &[u8], file: &[u8]) -> Counted
+    ensures { λ r. ⌜ r ≡ countRounds (now (sheet .entry)) (now (file .entry)) ⌝ }
+{
+    round_file::count(sheet, file)
+}
+
+// The number, 2 to 13, that the round of this number is refused with, or 0.
+#[no_mangle]
+pub extern "C" fn dimkhoros_check(sheet: &[u8], file: &[u8], number: usize) -> u32
+    ensures { λ r. ⌜ r ≡ checkRound (now (sheet .entry)) (now (file .entry)) number ⌝ }
+{
+    round_file::check(sheet, file, number)
+}
+
+// Where the round of this number stands in the file, 0 and 0 where it is refused; `dimkhoros_check` gives the refusal.
+#[no_mangle]
+pub extern "C" fn dimkhoros_part(sheet: &[u8], file: &[u8], number: usize) -> Part
+    ensures { λ r. ⌜ r ≡ partPlace (now (sheet .entry)) (now (file .entry)) number ⌝ }
+{
+    part_place(sheet, file, number)
+}
+
+// The values of the round of this number, which are not tested; zeros beside the number, 2 to 13, where it is refused.
+#[no_mangle]
+pub extern "C" fn dimkhoros_read(sheet: &[u8], file: &[u8], number: usize) -> Fetched
+    ensures { λ r. ⌜ r ≡ fetchRound (now (sheet .entry)) (now (file .entry)) number ⌝ }
+{
+    round_file::read(sheet, file, number)
+}
+
+// Puts the file of no rounds at the start of buffer and answers its length. No byte behind it is changed, and a buffer that
+// is shorter, 22, keeps its bytes.
+#[no_mangle]
+pub extern "C" fn dimkhoros_empty(buffer: &mut [u8]) -> Written
+    ensures answer { λ r. ⌜ r ≡ emptyFile (now (buffer .entry)) .answer ⌝ }
+    ensures bytes { λ _. ⌜ now (buffer .exit) ≡ emptyFile (now (buffer .entry)) .buffer ⌝ }
+{
+    round_file::empty(buffer)
+}
+
+// Writes round straight behind the first used bytes of buffer, which are a round file, raises its count by one and answers
+// the count of bytes in use. Where it is refused, with 2 to 12 or 22, buffer keeps its bytes.
+#[no_mangle]
+pub extern "C" fn dimkhoros_append(
+    sheet: &[u8],
+    buffer: &mut [u8],
+    used: usize,
+    round: Round,
+) -> Written
+    ensures answer { λ r. ⌜ r ≡ append (now (sheet .entry)) (now (buffer .entry)) used round .answer ⌝ }
+    ensures bytes { λ _. ⌜ now (buffer .exit) ≡ append (now (sheet .entry)) (now (buffer .entry)) used round .buffer ⌝ }
+{
+    round_file::append(sheet, buffer, used, round)
+}

@@ -1,0 +1,71 @@
+// The calls on sheets.
+use crate::table::flat;
+use crate::table::square;
+use types::Header;
+use types::Loaded;
+use types::Written;
+ghost use mathlib.Core.Path.{_≡_};
+ghost use Rattle.formats.specs.Encode.{encode};
+ghost use Rattle.formats.specs.Load.{load, loadEntries};
+ghost use Rattle.formats.specs.Pattern.{fromPattern};
+ghost use Rattle.interface.specs.Flat.{flat, flatInstance};
+
+// Loads a sheet: its fixed fields and its statement, and zeros beside the number of one that is refused.
+#[no_mangle]
+pub extern "C" fn dimkhoros_load(sheet: &[u8]) -> Loaded
+    ensures { λ r. ⌜ r ≡ load (now (sheet .entry)) ⌝ }
+{
+    instance::load(sheet)
+}
+
+// Puts a sheet's entries into entries, row by row, and zeros for one that is refused; `dimkhoros_load` gives the number.
+#[no_mangle]
+pub extern "C" fn dimkhoros_entries(sheet: &[u8], entries: &mut [u32; 64])
+    ensures { λ _. ⌜ now (entries .exit) ≡ flat (loadEntries (now (sheet .entry))) ⌝ }
+{
+    let numbers = flat(instance::entries(sheet));
+    *entries = numbers;
+}
+
+// The second writer: puts the sheet of these values at the start of buffer and answers its length, or the number that they
+// are refused with, 4 to 8, 10, 11 or 22. The entries stand row by row, as `dimkhoros_entries` gives them, and none is read
+// in kind 2. No byte after the sheet is changed, and a refused call changes none.
+#[no_mangle]
+pub extern "C" fn dimkhoros_encode(
+    header: Header,
+    entries: &[u32; 64],
+    statement: &[u32; 8],
+    buffer: &mut [u8],
+) -> Written
+    ensures answer { λ r. ⌜ r ≡ encode (flatInstance header (now (entries .entry)) (now (statement .entry))) (now (buffer .entry)) .answer ⌝ }
+    ensures bytes { λ _. ⌜ now (buffer .exit) ≡ encode (flatInstance header (now (entries .entry)) (now (statement .entry))) (now (buffer .entry)) .buffer ⌝ }
+{
+    writer::encode(header, square(entries), *statement, buffer)
+}
+
+// The sheet maker: puts the sheet of the pattern of this number, over the public values and the statement, at the start of
+// buffer and answers its length, or the number that it is refused with, 1, 5, 6, 8, 10, 11 or 22. No byte after the sheet is
+// changed, and a refused call changes none.
+#[no_mangle]
+pub extern "C" fn dimkhoros_from_pattern(
+    number: u32,
+    modulus: u32,
+    order: u32,
+    challenges: u32,
+    values: &[u32],
+    statement: &[u32],
+    buffer: &mut [u8],
+) -> Written
+    ensures answer { λ r. ⌜ r ≡ fromPattern number modulus order challenges (now (values .entry)) (now (statement .entry)) (now (buffer .entry)) .answer ⌝ }
+    ensures bytes { λ _. ⌜ now (buffer .exit) ≡ fromPattern number modulus order challenges (now (values .entry)) (now (statement .entry)) (now (buffer .entry)) .buffer ⌝ }
+{
+    writer::from_pattern(
+        number,
+        modulus,
+        order,
+        challenges,
+        values,
+        statement,
+        buffer,
+    )
+}

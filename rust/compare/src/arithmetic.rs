@@ -1,0 +1,111 @@
+//! Numbers modulo m, divisors and prime factors, for the making of sheets.
+
+use std::sync::OnceLock;
+
+/// The product a · b mod m.
+pub fn multiply(a: u32, b: u32, m: u32) -> u32 {
+    (u64::from(a) * u64::from(b) % u64::from(m)) as u32
+}
+
+/// The power base^exponent mod m, for an m of at least 2.
+pub fn power(base: u32, exponent: u32, m: u32) -> u32 {
+    let (mut result, mut square, mut left) = (1, base % m, exponent);
+    while left > 0 {
+        if left & 1 == 1 {
+            result = multiply(result, square, m);
+        }
+        square = multiply(square, square, m);
+        left >>= 1;
+    }
+    result
+}
+
+/// The greatest common divisor.
+pub fn gcd(a: u32, b: u32) -> u32 {
+    if b == 0 {
+        a
+    } else {
+        gcd(b, a % b)
+    }
+}
+
+/// The primes below 65,536. Every composite 32-bit number has one of them.
+fn primes() -> &'static [u32] {
+    static PRIMES: OnceLock<Vec<u32>> = OnceLock::new();
+    PRIMES.get_or_init(|| {
+        let mut composite = vec![false; 65_536];
+        let mut primes = Vec::new();
+        for candidate in 2..composite.len() {
+            if !composite[candidate] {
+                primes.push(candidate as u32);
+                for multiple in (2 * candidate..composite.len()).step_by(candidate) {
+                    composite[multiple] = true;
+                }
+            }
+        }
+        primes
+    })
+}
+
+/// The least divisor above 1 of an n of at least 2, which is a prime.
+pub fn least_divisor(n: u32) -> u32 {
+    let candidates = primes().iter().take_while(|prime| *prime * *prime <= n);
+    let mut divisors = candidates.filter(|prime| n.is_multiple_of(**prime));
+    divisors.next().copied().unwrap_or(n)
+}
+
+/// The prime factors of an n of at least 1, each as often as it divides n.
+pub fn prime_factors(n: u32) -> Vec<u32> {
+    let mut factors = Vec::new();
+    let mut left = n;
+    while left > 1 {
+        let divisor = least_divisor(left);
+        factors.push(divisor);
+        left /= divisor;
+    }
+    factors
+}
+
+/// How many numbers from 1 to m have no common divisor with m.
+pub fn totient(m: u32) -> u32 {
+    let mut factors = prime_factors(m);
+    factors.dedup();
+    factors
+        .iter()
+        .fold(m, |count, prime| count / prime * (prime - 1))
+}
+
+#[cfg(test)]
+mod tests {
+    use super::*;
+
+    #[test]
+    fn least_divisors_and_totients_of_small_numbers() {
+        for n in 2_u32..3000 {
+            let least = (2..=n).find(|d| n.is_multiple_of(*d));
+            assert_eq!(Some(least_divisor(n)), least);
+            let coprime = (1..=n).filter(|v| gcd(*v, n) == 1).count();
+            assert_eq!(totient(n) as usize, coprime);
+        }
+    }
+
+    #[test]
+    fn least_divisors_of_wide_numbers() {
+        for (n, least) in [
+            (u32::MAX, 3),
+            (4_294_967_291, 4_294_967_291),
+            (65_521 * 65_521, 65_521),
+            (65_521 * 65_537, 65_521),
+            (65_519 * 65_521, 65_519),
+        ] {
+            assert_eq!(least_divisor(n), least);
+        }
+        assert_eq!(prime_factors(u32::MAX), [3, 5, 17, 257, 65_537]);
+    }
+
+    #[test]
+    fn powers_of_wide_numbers() {
+        assert_eq!(power(2, 32, 4_294_967_291), 5);
+        assert_eq!(power(u32::MAX - 1, u32::MAX, u32::MAX), u32::MAX - 1);
+    }
+}

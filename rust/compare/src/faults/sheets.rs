@@ -1,0 +1,131 @@
+//! Faults of the two calls that read a sheet.
+
+use crate::faults::Fault;
+use crate::judged::Judge;
+use crate::library::{Library, Loaded};
+
+/// Where the modulus, the order and the challenge count stand.
+const MODULUS: usize = 6;
+const ORDER: usize = 10;
+const CHALLENGES: usize = 14;
+
+/// The 32-bit number at this place, or 0 where there is none.
+fn word(sheet: &[u8], at: usize) -> u32 {
+    let bytes = sheet
+        .get(at..at + 4)
+        .and_then(|bytes| bytes.try_into().ok());
+    bytes.map_or(0, u32::from_be_bytes)
+}
+
+/// The sheet with another number at this place.
+fn with_word(sheet: &[u8], at: usize, value: u32) -> Vec<u8> {
+    let mut changed = sheet.to_vec();
+    changed[at..at + 4].copy_from_slice(&value.to_be_bytes());
+    changed
+}
+
+/// The places of the statement's values, or of the entries, of a sheet whose
+/// length is right.
+fn places(sheet: &[u8], statement: bool) -> impl Iterator<Item = usize> {
+    let (rows, columns) = (sheet[18] as usize, sheet[19] as usize);
+    let entries = if sheet[5] == 1 { rows * columns } else { 0 };
+    let (from, count) = if statement {
+        (entries, rows)
+    } else {
+        (0, entries)
+    };
+    (from..from + count).map(|place| 20 + 4 * place)
+}
+
+/// What loading answers with another challenge count, which is then put back.
+fn with_challenges(sheet: &[u8], count: u32) -> Loaded {
+    let mut loaded = Judge.load(&with_word(sheet, CHALLENGES, count));
+    if loaded.refusal == 0 {
+        loaded.header.challenges = word(sheet, CHALLENGES);
+    }
+    loaded
+}
+
+/// What loading answers with other statement values, which are then put back.
+fn with_statement(sheet: &[u8], change: impl Fn(u32) -> u32) -> Loaded {
+    let changed = places(sheet, true).fold(sheet.to_vec(), |changed, at| {
+        with_word(&changed, at, change(word(sheet, at)))
+    });
+    let mut loaded = Judge.load(&changed);
+    if loaded.refusal == 0 {
+        for (value, at) in loaded.statement.iter_mut().zip(places(sheet, true)) {
+            *value = word(sheet, at);
+        }
+    }
+    loaded
+}
+
+pub fn load(fault: Fault, sheet: &[u8]) -> Loaded {
+    let mut right = Judge.load(sheet);
+    let (modulus, order) = (word(sheet, MODULUS), word(sheet, ORDER));
+    let challenges = word(sheet, CHALLENGES);
+    match (fault, right.refusal) {
+        (Fault::MarkInPart, 2) if sheet.len() >= 20 && sheet.starts_with(b"HO") => {
+            Judge.load(&[b"HOM", &sheet[3..]].concat())
+        }
+        (Fault::OrderPrime, 8) if (2..=order.min(65_536)).contains(&challenges) => {
+            with_challenges(sheet, 2)
+        }
+        (Fault::MostChallenges, 8) if challenges == 65_537 => with_challenges(sheet, 65_536),
+        (Fault::SidesDiffer, 7) if sheet[5] == 2 => {
+            let mut square = sheet.to_vec();
+            square[19] = square[18];
+            let mut loaded = Judge.load(&square);
+            if loaded.refusal == 0 {
+                loaded.header.columns = u32::from(sheet[19]);
+            }
+            loaded
+        }
+        (Fault::LongSheet, 9) => Judge.load(&sheet[..sheet.len() - 1]),
+        (Fault::LengthCut, 9) if sheet.len() > 0xffff => Judge.load(&sheet[..sheet.len() & 0xffff]),
+        (Fault::RangeOnly, 11) => {
+            with_statement(sheet, |z| if (1..modulus).contains(&z) { 1 } else { 0 })
+        }
+        (Fault::Congruent, 11) => with_statement(sheet, |z| z % modulus),
+        (Fault::StatementFirst, 10) => {
+            let sheet =
+                places(sheet, false).fold(sheet.to_vec(), |sheet, at| with_word(&sheet, at, 1));
+            if Judge.load(&sheet).refusal == 11 {
+                right.refusal = 11;
+            }
+            right
+        }
+        (Fault::LastEntry, 10) if sheet[18..20] == [8, 8] => {
+            Judge.load(&with_word(sheet, 20 + 4 * 63, 1))
+        }
+        (Fault::LastStatement, 0) => {
+            right.statement[7] = 0;
+            right
+        }
+        (Fault::HeaderKept, 11) => {
+            right.header = with_statement(sheet, |_| 1).header;
+            right
+        }
+        _ => right,
+    }
+}
+
+pub fn entries(fault: Fault, sheet: &[u8], entries: &mut [u32; 64]) {
+    let loaded = Judge.load(sheet);
+    if fault == Fault::EntriesLeft && loaded.refusal != 0 {
+        return;
+    }
+    Judge.entries(sheet, entries);
+    if fault == Fault::EntriesPacked {
+        let mut packed = [0; 64];
+        let columns = loaded.header.columns as usize;
+        for (i, row) in entries
+            .chunks(8)
+            .enumerate()
+            .take(loaded.header.rows as usize)
+        {
+            packed[columns * i..][..columns].copy_from_slice(&row[..columns]);
+        }
+        *entries = packed;
+    }
+}

@@ -1,0 +1,152 @@
+//! Faults of the calls that write into a lent buffer.
+
+use crate::faults::Fault;
+use crate::judged::Judge;
+use crate::library::{Header, Library, Plan, Round, Written};
+use crate::sheets::record_length;
+
+/// A refusal with this number.
+fn refused(refusal: u32) -> Written {
+    Written { refusal, length: 0 }
+}
+
+/// The length of the sheet that a right header gives.
+fn sheet_length(header: &Header) -> usize {
+    let entries = if header.kind == 1 {
+        header.rows * header.columns
+    } else {
+        0
+    };
+    20 + 4 * (entries + header.rows) as usize
+}
+
+/// The header as the writer takes it.
+fn cut(fault: Fault, mut header: Header) -> Header {
+    match fault {
+        Fault::KindCut => header.kind &= 0xff,
+        Fault::RowsCut => {
+            header.rows &= 0xff;
+            header.columns &= 0xff;
+        }
+        _ => {}
+    }
+    header
+}
+
+/// The number that a writer gives which tests a place that is not to be read.
+fn unread(fault: Fault, header: &Header, entries: &[u32; 64], statement: &[u32; 8]) -> u32 {
+    let bad = |value: u32| value == 0 || value >= header.modulus;
+    let (rows, columns) = (header.rows as usize, header.columns as usize);
+    match fault {
+        Fault::UnreadEntry if header.kind == 1 && columns < 8 && bad(entries[columns]) => 10,
+        Fault::UnreadStatement if rows < 8 && bad(statement[rows]) => 11,
+        Fault::RootEntry if header.kind == 2 && bad(entries[0]) => 10,
+        _ => 0,
+    }
+}
+
+pub fn encode(
+    fault: Fault,
+    header: Header,
+    entries: &[u32; 64],
+    statement: &[u32; 8],
+    buffer: &mut [u8],
+) -> Written {
+    let before = buffer.to_vec();
+    let header = cut(fault, header);
+    let right = Judge.encode(header, entries, statement, buffer);
+    match (fault, right.refusal) {
+        (_, 0) if unread(fault, &header, entries, statement) != 0 => {
+            buffer.copy_from_slice(&before);
+            refused(unread(fault, &header, entries, statement))
+        }
+        (Fault::ByteAfter, 0) => {
+            buffer[right.length..]
+                .iter_mut()
+                .take(1)
+                .for_each(|byte| *byte = 0);
+            right
+        }
+        (Fault::ShortFirst, 10 | 11) if buffer.len() < sheet_length(&header) => refused(22),
+        (Fault::ShortWritten, 22) => {
+            let mut whole = vec![0; sheet_length(&header)];
+            Judge.encode(header, entries, statement, &mut whole);
+            buffer.copy_from_slice(&whole[..buffer.len()]);
+            right
+        }
+        (Fault::OneMoreNeeded, 0) if buffer.len() == right.length => {
+            buffer.copy_from_slice(&before);
+            refused(22)
+        }
+        _ => right,
+    }
+}
+
+pub fn from_pattern(
+    fault: Fault,
+    mut plan: Plan,
+    mut values: &[u32],
+    statement: &[u32],
+    buffer: &mut [u8],
+) -> Written {
+    if fault == Fault::PatternCut {
+        plan.number &= 0xff;
+    }
+    if fault == Fault::ExtraValue && (1..=5).contains(&plan.number) {
+        let count = [1, 2, 2, 2, 3][plan.number as usize - 1];
+        values = &values[..values.len().min(count)];
+    }
+    let right = Judge.sheet_from_pattern(plan, values, statement, buffer);
+    if fault == Fault::ProductDigits && plan.number == 5 && right.refusal == 0 {
+        buffer[36..44].rotate_left(4);
+    }
+    right
+}
+
+pub fn empty(fault: Fault, buffer: &mut [u8]) -> Written {
+    if fault == Fault::EmptyNeedsEight && buffer.len() == 7 {
+        return refused(22);
+    }
+    if fault == Fault::EmptyClears && buffer.len() > 7 {
+        buffer[7] = 0;
+    }
+    Judge.empty(buffer)
+}
+
+pub fn append(fault: Fault, sheet: &[u8], buffer: &mut [u8], used: usize, round: Round) -> Written {
+    let before = buffer.to_vec();
+    if fault == Fault::UsedCut {
+        return Judge.append(sheet, buffer, used & 0xffff_ffff, round);
+    }
+    let right = Judge.append(sheet, buffer, used, round);
+    let header = Judge.load(sheet).header;
+    match (fault, right.refusal) {
+        (Fault::CountCarry, 0) => {
+            buffer[5] = before[5];
+            right
+        }
+        (Fault::FullFileShort, 12) if used <= buffer.len() => {
+            let full = Judge.count(sheet, &buffer[..used]).count == 512;
+            let short = buffer.len() < used + record_length(&header);
+            if full && short {
+                refused(22)
+            } else {
+                right
+            }
+        }
+        (Fault::UsedBeyond, 12) if used > buffer.len() => refused(22),
+        (Fault::ValuesTested, 0) if round.challenge >= header.challenges => {
+            buffer.copy_from_slice(&before);
+            refused(15)
+        }
+        (Fault::CountRaised, 22) => {
+            buffer[6] = buffer[6].wrapping_add(1);
+            right
+        }
+        (Fault::RecordExact, 0) if buffer.len() == right.length => {
+            buffer.copy_from_slice(&before);
+            refused(22)
+        }
+        _ => right,
+    }
+}

@@ -1,0 +1,85 @@
+//! Compares the proved library with the judge.
+//!
+//! Each case is one call with inputs made from the seed. Both libraries get
+//! it, and every field of the answer and every byte of a lent buffer must be
+//! the same. The first difference is printed and ends the run. Exit status: 0
+//! no difference, 1 a difference or a number met too seldom, 2 wrong words or
+//! no library.
+
+#![deny(unsafe_code)]
+
+mod arithmetic;
+mod calls;
+mod cases;
+mod damage;
+mod faults;
+mod files;
+mod groups;
+mod judged;
+mod lent;
+mod library;
+mod making;
+mod options;
+mod outcome;
+mod printing;
+#[cfg(all(proved, not(test)))]
+#[allow(unsafe_code)]
+mod proved;
+mod random;
+mod run;
+mod sheets;
+mod tally;
+
+use std::process::ExitCode;
+
+use faults::Faulty;
+use judged::Judge;
+use library::Library;
+use options::{Options, Other, COUNT};
+
+/// The library to compare the judge with, where there is one.
+fn library(other: Other) -> Option<Box<dyn Library>> {
+    match other {
+        #[cfg(all(proved, not(test)))]
+        Other::Proved => Some(Box::new(proved::Proved)),
+        #[cfg(any(not(proved), test))]
+        Other::Proved => None,
+        Other::Judge => Some(Box::new(Judge)),
+        Other::Faulty(fault) => Some(Box::new(Faulty(fault))),
+    }
+}
+
+fn main() -> ExitCode {
+    let options = match options::options(std::env::args().skip(1)) {
+        Ok(options) => options,
+        Err(text) => {
+            eprintln!("{text}");
+            return ExitCode::from(2);
+        }
+    };
+    let Some(library) = library(options.other) else {
+        eprintln!("compare: built without libinterface.a; see DIMKHOROS_LIB in build.rs");
+        return ExitCode::from(2);
+    };
+    compare(&options, library.as_ref())
+}
+
+fn compare(options: &Options, library: &dyn Library) -> ExitCode {
+    let Options { seed, count, .. } = options;
+    println!("seed {seed}, {count} calls");
+    let tally = match run::run(*seed, *count, library) {
+        Ok(tally) => tally,
+        Err(difference) => {
+            println!("{difference}");
+            return ExitCode::FAILURE;
+        }
+    };
+    println!("{tally}");
+    let faults = tally.faults();
+    if *count >= COUNT && !faults.is_empty() {
+        println!("{}", faults.join("\n"));
+        return ExitCode::FAILURE;
+    }
+    println!("no difference");
+    ExitCode::SUCCESS
+}

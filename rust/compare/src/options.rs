@@ -1,0 +1,99 @@
+//! The words of the command line.
+
+use crate::faults::{Fault, FAULTS};
+
+/// The seed of a run that names none.
+const SEED: u64 = 1;
+
+/// How many cases a run has that names no count.
+pub const COUNT: u64 = 250_000;
+
+/// What the judge is compared with.
+#[derive(Clone, Copy, Debug, PartialEq, Eq)]
+pub enum Other {
+    Proved,
+    Judge,
+    Faulty(Fault),
+}
+
+/// What a run is to do.
+#[derive(Debug, PartialEq, Eq)]
+pub struct Options {
+    pub seed: u64,
+    pub count: u64,
+    pub other: Other,
+}
+
+const USAGE: &str = "usage: compare [--seed N] [--count N] [--self | --fault NAME]";
+
+/// Reads the words after the program's name. An error is the text to print.
+pub fn options(mut words: impl Iterator<Item = String>) -> Result<Options, String> {
+    let mut options = Options {
+        seed: SEED,
+        count: COUNT,
+        other: Other::Proved,
+    };
+    while let Some(word) = words.next() {
+        match word.as_str() {
+            "--seed" => options.seed = number(words.next())?,
+            "--count" => options.count = number(words.next())?,
+            "--self" => options.other = Other::Judge,
+            "--fault" => options.other = Other::Faulty(fault(words.next())?),
+            _ => return Err(USAGE.to_string()),
+        }
+    }
+    Ok(options)
+}
+
+fn number(word: Option<String>) -> Result<u64, String> {
+    let parsed = word.and_then(|word| word.parse().ok());
+    parsed.ok_or_else(|| USAGE.to_string())
+}
+
+fn fault(word: Option<String>) -> Result<Fault, String> {
+    let found = FAULTS
+        .iter()
+        .find(|planted| word.as_deref() == Some(planted.name));
+    found.map(|planted| planted.fault).ok_or_else(|| {
+        let lines = FAULTS.iter().map(|planted| {
+            let (name, what) = (planted.name, planted.what);
+            format!("  {name:<22}{what}")
+        });
+        format!("{USAGE}\nfaults:\n{}", lines.collect::<Vec<_>>().join("\n"))
+    })
+}
+
+#[cfg(test)]
+mod tests {
+    use super::*;
+
+    fn read(words: &str) -> Result<Options, String> {
+        options(words.split_whitespace().map(str::to_string))
+    }
+
+    #[test]
+    fn words_are_read() {
+        let plain = read("").unwrap();
+        assert_eq!((plain.seed, plain.count), (SEED, COUNT));
+        assert_eq!(plain.other, Other::Proved);
+        let named = read("--seed 9 --count 10 --self").unwrap();
+        assert_eq!((named.seed, named.count), (9, 10));
+        assert_eq!(named.other, Other::Judge);
+        let name = FAULTS[0].name;
+        let faulty = read(&format!("--fault {name}")).unwrap();
+        assert_eq!(faulty.other, Other::Faulty(FAULTS[0].fault));
+    }
+
+    #[test]
+    fn other_words_are_errors() {
+        for words in [
+            "--seed",
+            "--seed x",
+            "--count -1",
+            "--other",
+            "--fault none",
+        ] {
+            assert!(read(words).is_err());
+        }
+    }
+}
