@@ -14,11 +14,10 @@ use Rattle.numbers.proofs.Difference.{difference-add, difference-mul, differenc
 use Rattle.numbers.proofs.Inverse.{inverse-inverts}
 use Rattle.extractor.specs.Coefficients.{leftCoefficient}
 
--- a is at most delta, since b is below ℓ
-pub left-within : (order delta : ℕ) {b : ℕ} → b ≡ inverse order delta → b < order → leftCoefficient order delta ≤ delta
-unfolding leftCoefficient
-left-within order delta is-inverse below =
-    rw (sym is-inverse) (div-le-of-le-mul order (rw (mul-comm order delta) (mul-le-mul-left delta (le-of-lt below))))
+-- the quotient of delta · b by ℓ is at most delta, for a b below ℓ
+pub quotient-within : (order delta b : ℕ) → b < order → delta * b / order ≤ delta
+quotient-within order delta b below =
+    div-le-of-le-mul order (rw (mul-comm order delta) (mul-le-mul-left delta (le-of-lt below)))
 
 -- a from its parts
 pub left-is : (order delta : ℕ) {b : ℕ} → b ≡ inverse order delta → delta * b / order ≡ leftCoefficient order delta

@@ -1,6 +1,6 @@
 -- The extractor's formula slot by slot, in each kind.
 -- Assumes nothing.
-use mathlib.Core.Path.{_≡_, refl, sym, ap, _∙_}
+use mathlib.Core.Path.{_≡_, sym}
 use mathlib.Core.Logic.{_≢_}
 use mathlib.Core.List.{List}
 use Prim.Native.Nat.{ℕ, _+_, _-_, _*_, _%_, _^_}
@@ -8,7 +8,7 @@ use native.Mathlib.Nat.{mod-mod, zero-mod, zero-add}
 use lib.IntN.{pos, negℤ, *ℤ-zero}
 use lib.ListN.{getD}
 use Rattle.types.specs.declared.Header.{Header}
-use Rattle.lists.specs.Places.{tabulate}
+use Rattle.lists.specs.Places.{tabulate, pad8}
 use Rattle.numbers.specs.Integer.{power}
 use Rattle.numbers.specs.Inverse.{inverse}
 use Rattle.numbers.proofs.Exponent.{power-pos}
@@ -56,8 +56,9 @@ module _ (h : Header) (statement : List ℕ) (a b : ℕ) (r s : List ℕ) where
   unfolding slotsFormula
   slot-at j is-value = is-value
 
-  -- the formula is its slots
-  pub formula-slots : (entries : List (List ℕ))
-      → tabulate (h .columns) (slotsFormula h statement a b r s) ≡ formula (instanceWith h entries statement) (negℤ (pos a)) (pos b) r s
+  -- the formula from its slots and its two exponents
+  pub formula-filled : (entries : List (List ℕ)) {a′ b′ : ℕ} {values : List ℕ} → a ≡ a′ → b ≡ b′
+      → values ≡ pad8 0 (tabulate (h .columns) (slotsFormula h statement a b r s))
+      → values ≡ pad8 0 (formula (instanceWith h entries statement) (negℤ (pos a′)) (pos b′) r s)
   unfolding formula baseCoordinate statementAt slotsFormula slotFormula
-  formula-slots entries = refl
+  formula-filled entries is-left is-right is-values = rw (sym is-left, sym is-right) is-values
