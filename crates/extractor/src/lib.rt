@@ -1,7 +1,17 @@
 // Extracting a witness from two rounds on loaded values (01, "A round"; refusals 14 to 16 of both rounds, then 18 to 20).
-use types::{Computed, Header, Round, Verdict};
-use modular::{first_non_coordinate, first_non_element, inverse, mul_mod, pow_mod, sub_mod};
-use image::{first_difference, negative_power, verdict};
+use image::first_difference;
+use image::negative_power;
+use image::verdict;
+use modular::first_non_coordinate;
+use modular::first_non_element;
+use modular::inverse;
+use modular::mul_mod;
+use modular::pow_mod;
+use modular::sub_mod;
+use types::Computed;
+use types::Header;
+use types::Round;
+use types::Verdict;
 ghost use mathlib.Core.Path.{_≡_};
 ghost use mathlib.Core.List.{List};
 ghost use Prim.Native.Nat.{ℕ, _≤_, _<_};
@@ -19,9 +29,7 @@ ghost use Rattle.extractor.specs.Rules.{pairRules};
 // the next; 18 is for commitments that differ, 19 for equal challenges.
 pub fn pair_refusal(h: Header, first: Round, second: Round) -> u32
     requires { ⌜ (0 < h .modulus) × (h .rows ≤ 8) × (h .columns ≤ 8) ⌝ }
-    ensures {
-        λ r. ⌜ ((entries : List (List ℕ)) (statement : List ℕ) → r ≡ lowest (pairRules (instanceWith h entries statement) first second)) ⌝
-    }
+    ensures { λ r. ⌜ ((entries : List (List ℕ)) (statement : List ℕ) → r ≡ lowest (pairRules (instanceWith h entries statement) first second)) ⌝ }
 {
     let t = first.commitment;
     let u = second.commitment;
@@ -75,17 +83,19 @@ fn witness_slot(h: Header, z: u32, a: u32, b: u32, r: u32, s: u32) -> u32
         return mul_mod(b, sub_mod(r, s, h.order), h.order);
     }
     let quotient = mul_mod(r, inverse(s, h.modulus), h.modulus);
-    mul_mod(negative_power(h, z, a), pow_mod(quotient, b, h.modulus), h.modulus)
+    mul_mod(
+        negative_power(h, z, a),
+        pow_mod(quotient, b, h.modulus),
+        h.modulus,
+    )
 }
 
 // The witness from the responses r and s to two challenges, the first larger by delta: the formula with the exponents -a
 // and b, where b inverts delta modulo ℓ, and delta b is ℓ a + 1.
 pub fn witness(h: Header, statement: [u32; 8], delta: u32, r: [u32; 8], s: [u32; 8]) -> [u32; 8]
     requires { ⌜ WitnessFits h statement delta s ⌝ }
-    ensures {
-        λ x. ⌜ ((entries : List (List ℕ)) → x ≡ pad8 0 (formula (instanceWith h entries statement)
-            (negℤ (pos (leftCoefficient (h .order) delta))) (pos (inverse (h .order) delta)) r s)) ⌝
-    }
+    ensures { λ x. ⌜ ((entries : List (List ℕ)) → x ≡ pad8 0 (formula (instanceWith h entries statement)
+        (negℤ (pos (leftCoefficient (h .order) delta))) (pos (inverse (h .order) delta)) r s)) ⌝ }
 {
     let b = inverse(delta, h.order);
     let a = (delta as u64 * b as u64 / h.order as u64) as u32;
@@ -99,7 +109,13 @@ pub fn witness(h: Header, statement: [u32; 8], delta: u32, r: [u32; 8], s: [u32;
 
 // The witness from two accepted rounds with one commitment and different challenges, or the number of a refusal and zeros;
 // a round that is not accepted is 20. The round with the larger challenge is taken first: the witness is the same.
-pub fn extract_loaded(h: Header, entries: [[u32; 8]; 8], statement: [u32; 8], first: Round, second: Round) -> Computed
+pub fn extract_loaded(
+    h: Header,
+    entries: [[u32; 8]; 8],
+    statement: [u32; 8],
+    first: Round,
+    second: Round,
+) -> Computed
     requires { ⌜ Valid (instanceWith h entries statement) ⌝ }
     ensures { λ answer. ⌜ answer ≡ extract (instanceWith h entries statement) first second ⌝ }
 {
