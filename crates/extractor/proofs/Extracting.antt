@@ -1,0 +1,161 @@
+-- Extracting, return by return: the rules before any round is judged, 20 where a round is not accepted, else the formula's value.
+-- Assumes nothing.
+use mathlib.Core.Path.{_≡_, refl, sym, ap, _∙_}
+use mathlib.Core.Bool.{Bool, true, false, cond, not, _||_, or-true}
+use mathlib.Core.Logic.{_≢_, _⊎_, ⊎-elim}
+use mathlib.Core.List.{List, [], _∷_, _++_}
+use Prim.Native.Nat.{ℕ, _+_, _-_, _<_}
+use native.Mathlib.Omega.{arith}
+use lib.Dec.{T}
+use lib.IntN.{pos, negℤ}
+use denote.Enum.Declared.{tagOf}
+use Rattle.types.specs.declared.Round.{Round}
+use Rattle.types.specs.declared.Verdict.{Verdict}
+use Rattle.types.specs.declared.Verdict.the-variants.{Accepted, Rejected, Refused}
+use Rattle.types.proofs.Verdict.{the-type}
+use Rattle.lists.specs.Places.{places, pad8, zeros8}
+use Rattle.numbers.specs.Inverse.{inverse}
+use Rattle.numbers.proofs.Coprime.{coprime-below}
+use Rattle.rules.specs.Rule.{_when_, lowest, positive}
+use Rattle.rules.proofs.Lowest.{lowest-earlier, lowest-later-zero}
+use Rattle.rules.proofs.Says.{says-false}
+use Rattle.sigma.specs.Answer.{isAccepted, computed}
+use Rattle.sigma.specs.Extractor.{formula, extractRules, extractAfter, extract}
+use Rattle.sigma.specs.Instance.{Instance, statementAt}
+use Rattle.sigma.specs.Knowledge.{AcceptedRound, AcceptedPair}
+use Rattle.sigma.specs.Meaning.{Extracts}
+use Rattle.sigma.specs.Round.{verdict}
+use Rattle.sigma.specs.Valid.{Valid}
+use Rattle.sigma.proofs.Answer.{computed-positive}
+use Rattle.sigma.proofs.Calls.{valid-judge-accepted, extract-refusal, valid-extract-runs}
+use Rattle.sigma.proofs.Extractor.{extraction}
+use Rattle.sigma.proofs.Tests.{says-accepted}
+use Rattle.sigma.proofs.Valid.{valid-modulus, valid-order, valid-kind, valid-challenge}
+use Rattle.extractor.specs.Coefficients.{leftCoefficient, WitnessFits}
+use Rattle.extractor.specs.Rules.{pairRules}
+use Rattle.extractor.proofs.Coefficients.{coefficients-fit}
+
+-- a round's verdict on what is read of it
+abbrev pub judgedRound : Instance → Round → Verdict
+judgedRound inst round =
+    verdict inst (places (inst .header .rows) (round .commitment)) (round .challenge) (places (inst .header .columns) (round .response))
+
+-- ---- refused
+
+-- a verdict with the tag of one of the other two cases is not accepted
+pub not-accepted : (v : Verdict) → (tagOf the-type v ≡ 1) ⊎ (tagOf the-type v ≡ 2) → v ≢ Accepted
+not-accepted Accepted told same = ⊎-elim (λ (w : 0 ≡ 1). omega arith) (λ (w : 0 ≡ 2). omega arith) told
+not-accepted (Rejected row) told same = let z : _≡_ {A = ℕ} 0 1 = cc in omega arith
+not-accepted (Refused number) told same = let z : _≡_ {A = ℕ} 0 1 = cc in omega arith
+
+-- the number that one rule gives
+only-rule : (n : ℕ) (b : Bool) → lowest ((n when b) ∷ []) ≡ cond b n 0
+unfolding lowest
+only-rule n b = refl
+
+module _ (inst : Instance) (first second : Round) where
+  -- the number is that of the rules before judging, or 20
+  refusal-split : extract inst first second .refusal
+      ≡ lowest
+      (pairRules inst first second
+      ++ (20 when (not (isAccepted (judgedRound inst first)) || not (isAccepted (judgedRound inst second)))) ∷ [])
+  unfolding pairRules extractRules
+  refusal-split = extract-refusal inst first second
+
+  -- where the number is above 0 it is the whole answer
+  refused-with : (n : ℕ) → 0 < n → extract inst first second .refusal ≡ n → record { refusal = n; values = zeros8 } ≡ extract inst first second
+  unfolding extract extractAfter computed
+  refused-with n some e = rw (sym e) (sym (computed-positive _ _ (rw e some)))
+
+  -- a rule before judging gives the answer
+  pub pair-refused : {n : ℕ} → n ≡ lowest (pairRules inst first second) → n ≢ 0
+      → record { refusal = n; values = zeros8 } ≡ extract inst first second
+  pair-refused {n} is-lowest other =
+      let some : 0 < n = omega arith in
+      refused-with n some (refusal-split ∙ lowest-earlier _ _ (rw (sym is-lowest) some) ∙ sym is-lowest)
+
+  -- the numbers of these rules are above 0
+  pair-positive : T (positive (pairRules inst first second))
+  unfolding pairRules
+  pair-positive = tt
+
+  module _ (none : 0 ≡ lowest (pairRules inst first second)) where
+    -- behind them 20 is left
+    judging-left : {b : Bool} → (not (isAccepted (judgedRound inst first)) || not (isAccepted (judgedRound inst second))) ≡ b
+        → extract inst first second .refusal ≡ cond b 20 0
+    judging-left e =
+        refusal-split ∙ lowest-later-zero _ _ pair-positive (sym none) ∙ only-rule 20 _ ∙ ap (λ (b : Bool). cond b 20 0) e
+
+    -- a first round that is not accepted is 20
+    pub first-rejected : {answer : Verdict} → answer ≡ judgedRound inst first → answer ≢ Accepted
+        → record { refusal = 20; values = zeros8 } ≡ extract inst first second
+    first-rejected {answer} is-answer other =
+        refused-with 20 (omega arith) (judging-left {b = true} (rw (sym is-answer, says-false (says-accepted answer) .1 other)))
+
+    -- so is a second one
+    pub second-rejected : {answer : Verdict} → answer ≡ judgedRound inst second → answer ≢ Accepted
+        → record { refusal = 20; values = zeros8 } ≡ extract inst first second
+    second-rejected {answer} is-answer other =
+        refused-with 20 (omega arith) (judging-left {b = true} (rw (sym is-answer, says-false (says-accepted answer) .1 other, or-true)))
+
+    -- two accepted rounds are what the extractor asks for
+    pub both-accepted : Valid inst → {answer answer′ : Verdict} → answer ≡ judgedRound inst first → answer ≡ Accepted
+        → answer′ ≡ judgedRound inst second → answer′ ≡ Accepted → Extracts inst first second
+    unfolding isAccepted
+    both-accepted v is-answer accepted is-answer′ accepted′ =
+        valid-extract-runs inst first second v .0
+        (judging-left {b = false} (rw (sym is-answer ∙ accepted, sym is-answer′ ∙ accepted′)))
+
+-- ---- accepted
+
+-- what the extractor asks for holds with the rounds swapped
+pub swapped-rounds : {inst : Instance} {first second : Round} → Extracts inst first second → Extracts inst second first
+swapped-rounds x = record {
+  first-fits = x .second-fits;
+  second-fits = x .first-fits;
+  commitments = λ i h. sym (x .commitments i h);
+  challenges = λ e. x .challenges (sym e);
+  first-holds = x .second-holds;
+  second-holds = x .first-holds;
+}
+
+module _ {inst : Instance} (v : Valid inst) (first second : Round) (x : Extracts inst first second)
+    (larger : second .challenge < first .challenge) where
+  -- what the formula asks for, where the first challenge is the larger
+  pub witness-fits : WitnessFits (inst .header) (inst .statement) (first .challenge - second .challenge) (second .response)
+  unfolding statementAt
+  witness-fits =
+      let below = x .first-fits .challenge in
+      record {
+        modulus = valid-modulus v;
+        order = v .order;
+        columns = v .few-columns;
+        below = omega (arith, valid-challenge v _ below);
+        coprime = coprime-below (inst .header .challenges) _ (v .no-divisor) _ (omega arith) (omega arith);
+        base = λ other j inside. v .statement j (omega (arith, v .square (valid-kind v other)));
+        divisors = x .second-fits .response;
+      }
+
+  -- both rounds are accepted
+  pair : AcceptedPair (inst .header) (AcceptedRound inst) first second
+  pair = record {
+    first-accepted = valid-judge-accepted inst first v .1 (x .first-fits, x .first-holds);
+    second-accepted = valid-judge-accepted inst second v .1 (x .second-fits, x .second-holds);
+    commitments = x .commitments;
+    challenges = x .challenges;
+  }
+
+  module _ {values : List ℕ}
+      (is-values : values ≡ pad8 0 (formula inst (negℤ (pos (leftCoefficient (inst .header .order) (first .challenge - second .challenge))))
+      (pos (inverse (inst .header .order) (first .challenge - second .challenge))) (first .response) (second .response))) where
+    -- the formula's value is the answer
+    pub witness-given : record { refusal = 0; values = values } ≡ extract inst first second
+    witness-given =
+        let e = extraction v first second pair in
+        let delta = first .challenge - second .challenge in
+        let fit = coefficients-fit (inst .header .order) delta (v .order) (witness-fits .coprime) (first .challenge) (second .challenge) (omega arith) in
+        rw is-values (ap (λ (y : List ℕ). record { refusal = 0; values = pad8 0 y }) (e .any-integers _ _ fit) ∙ sym (e .answer))
+
+    -- and the answer with the rounds swapped
+    pub witness-swapped : record { refusal = 0; values = values } ≡ extract inst second first
+    witness-swapped = witness-given ∙ sym (extraction v first second pair .swapped)

@@ -1,0 +1,64 @@
+-- The extractor's formula slot by slot, in each kind.
+-- Assumes nothing.
+use mathlib.Core.Path.{_≡_, sym}
+use mathlib.Core.Logic.{_≢_}
+use mathlib.Core.List.{List}
+use Prim.Native.Nat.{ℕ, _+_, _-_, _*_, _%_, _^_}
+use native.Mathlib.Nat.{mod-mod, zero-mod, zero-add}
+use lib.IntN.{pos, negℤ, *ℤ-zero}
+use lib.ListN.{getD}
+use Rattle.types.specs.declared.Header.{Header}
+use Rattle.lists.specs.Places.{tabulate, pad8}
+use Rattle.numbers.specs.Integer.{power}
+use Rattle.numbers.specs.Inverse.{inverse}
+use Rattle.numbers.proofs.Exponent.{power-pos}
+use Rattle.numbers.proofs.Integer.{residue-pos}
+use Rattle.sigma.specs.Extractor.{combine, divide, raise, baseCoordinate, formula}
+use Rattle.sigma.specs.Instance.{statementAt}
+use Rattle.sigma.proofs.ByKind.{exponent-kind, root-kind}
+use Rattle.image.specs.Values.{instanceWith}
+use Rattle.extractor.specs.Coefficients.{slotFormula}
+
+module _ (h : Header) (z a b r s : ℕ) where
+  -- a slot of kind 1
+  pub slot-exponent : {difference value : ℕ} → h .kind ≡ 1 → difference ≡ (r + (h .order - s)) % h .order
+      → value ≡ b * difference % h .order → value ≡ slotFormula h z a b r s
+  unfolding slotFormula combine raise divide
+  slot-exponent kind is-difference is-value =
+      rw (
+        exponent-kind h kind,
+        *ℤ-zero (negℤ (pos a)),
+        residue-pos (h .order) 0,
+        residue-pos (h .order) _,
+        zero-mod (h .order),
+        zero-add,
+        mod-mod,
+        is-value,
+        is-difference,
+      )
+
+  -- a slot of kind 2
+  pub slot-root : {w quotient left right value : ℕ} → h .kind ≢ 1 → w ≡ inverse (h .modulus) s → quotient ≡ r * w % h .modulus
+      → left ≡ power (h .modulus) z (negℤ (pos a)) → right ≡ quotient ^ b % h .modulus → value ≡ left * right % h .modulus
+      → value ≡ slotFormula h z a b r s
+  unfolding slotFormula combine raise divide
+  slot-root kind is-inverse is-quotient is-left is-right is-value =
+      rw (root-kind h kind, power-pos (h .modulus) _ b, is-value, is-left, is-right, is-quotient, is-inverse)
+
+-- slot j of the formula with the exponents −a and b
+pub slotsFormula : Header → List ℕ → ℕ → ℕ → List ℕ → List ℕ → ℕ → ℕ
+slotsFormula h statement a b r s j = slotFormula h (getD statement j 0) a b (getD r j 0) (getD s j 0)
+
+module _ (h : Header) (statement : List ℕ) (a b : ℕ) (r s : List ℕ) where
+  -- a slot from its values
+  pub slot-at : (j : ℕ) {value : ℕ} → value ≡ slotFormula h (getD statement j 0) a b (getD r j 0) (getD s j 0)
+      → value ≡ slotsFormula h statement a b r s j
+  unfolding slotsFormula
+  slot-at j is-value = is-value
+
+  -- the formula from its slots and its two exponents
+  pub formula-filled : (entries : List (List ℕ)) {a′ b′ : ℕ} {values : List ℕ} → a ≡ a′ → b ≡ b′
+      → values ≡ pad8 0 (tabulate (h .columns) (slotsFormula h statement a b r s))
+      → values ≡ pad8 0 (formula (instanceWith h entries statement) (negℤ (pos a′)) (pos b′) r s)
+  unfolding formula baseCoordinate statementAt slotsFormula slotFormula
+  formula-filled entries is-left is-right is-values = rw (sym is-left, sym is-right) is-values
