@@ -4,6 +4,7 @@
 mod pattern; // pattern.rt: the table of the patterns, and their entries
 mod sheet; // sheet.rt: the bytes of a sheet
 
+use crate::pattern::Place;
 use crate::pattern::eight_of;
 use crate::pattern::entries_of;
 use crate::pattern::kind_of;
@@ -20,8 +21,6 @@ ghost use mathlib.Core.Path.{_≡_};
 ghost use Rattle.formats.specs.Encode.{encode};
 ghost use Rattle.formats.specs.Pattern.{fromPattern};
 ghost use Rattle.writer.specs.Tested.{valuesOf, writeTested};
-pub use pattern::PATTERNS;
-pub use pattern::Place;
 
 // What a refused writer answers: the number, and length 0.
 fn refused(number: u32) -> Written
@@ -35,7 +34,7 @@ fn refused(number: u32) -> Written
 
 // Writes the sheet of values whose fixed fields have passed their tests, unless an entry (10) or a statement value (11) is
 // no group element or the buffer is shorter than the sheet (22).
-pub fn tested(h: Header, entries: [[u32; 8]; 8], statement: [u32; 8], buffer: &mut [u8]) -> Written
+fn tested(h: Header, entries: [[u32; 8]; 8], statement: [u32; 8], buffer: &mut [u8]) -> Written
     requires modulus { ⌜ 0 < h .modulus ⌝ }
     requires rows { ⌜ h .rows ≤ 8 ⌝ }
     requires columns { ⌜ h .columns ≤ 8 ⌝ }
@@ -60,9 +59,9 @@ pub fn encode(h: Header, entries: [[u32; 8]; 8], statement: [u32; 8], buffer: &m
     ensures answer { λ r. ⌜ r ≡ encode (valuesOf h entries statement) (now (buffer .entry)) .answer ⌝ }
     ensures left { λ _. ⌜ now (buffer .exit) ≡ encode (valuesOf h entries statement) (now (buffer .entry)) .buffer ⌝ }
 {
-    let refusal = header_refusal(h);
-    if refusal > 0 {
-        return refused(refusal);
+    let number = header_refusal(h);
+    if number > 0 {
+        return refused(number);
     }
     tested(h, entries, statement, buffer)
 }

@@ -59,6 +59,6 @@ pub fn write_sheet(buffer: &mut [u8], h: Header, entries: [[u32; 8]; 8], stateme
 {
     write_header(buffer, h);
     let end = write_entries(buffer, h, entries);
-    let rows = h.rows as usize;
-    write_words(buffer, end, statement, rows);
+    let count = h.rows as usize;
+    write_words(buffer, end, statement, count);
 }

@@ -14,8 +14,8 @@ write-entries-requires : tie.Need-write-entries-requires
 unfolding sheetLength
 write-entries-requires c κs = (c .before .before .before .before .before .before .pre .0, omega arith)
 
-cast-rows : tie.Need-cast-rows
-cast-rows c = omega arith
+cast-count : tie.Need-cast-count
+cast-count c = omega arith
 
 write-words-requires : tie.Need-write-words-requires
 unfolding sheetLength
@@ -39,7 +39,7 @@ write-sheet-spec =
     (tie.spec
     write-header-requires
     write-entries-requires
-    cast-rows
+    cast-count
     write-words-requires
     same-length
     returns)
