@@ -1,0 +1,3 @@
+-- The demands hold.
+pub mod ReadsBack
+pub mod Demands

@@ -1,0 +1,32 @@
+-- Sheets and round files read back, by the calls' own answers.
+-- Assumes nothing.
+use Prim.Native.Nat.{ℕ}
+use mathlib.Core.Path.{sym, subst}
+use mathlib.Core.List.{List}
+use Rattle.sigma.specs.Instance.{Instance}
+use Rattle.formats.specs.Outcome.{Puts}
+use Rattle.formats.specs.Write.{Writing}
+use Rattle.formats.proofs.FilesByCalls.{rewritten, appended-read}
+use Rattle.formats.proofs.Loads.{loads}
+use Rattle.formats.proofs.Making.{make-loads}
+use Rattle.formats.proofs.SheetRoundTrip.{encode-loads, load-encodes}
+use Rattle.formats.proofs.Writing.{puts-front}
+use Rattle.demands.specs.ReadsBack.{front, LoadsAs, ReadsBack}
+
+-- a sheet that was put at the front loads there
+front-loads : {sheet buffer : List ℕ} {w : Writing} {inst : Instance} → Puts sheet buffer w → LoadsAs sheet inst
+    → LoadsAs (front w) inst
+front-loads {inst = inst} put = subst (λ (s : List ℕ). LoadsAs s inst) (sym (puts-front put))
+
+pub reads-back : ReadsBack
+reads-back = record {
+  encoded = λ inst buffer small short e.
+      let (put, none, same) = encode-loads inst buffer small short e in
+      front-loads put (none, same);
+  from-pattern = λ number modulus order challenges values statement buffer small short e.
+      let (put, none, same) = make-loads number modulus order challenges values statement buffer small short e in
+      front-loads put (none, same);
+  sheet-again = λ sheet buffer bytes e fits. load-encodes sheet bytes e buffer fits;
+  appended = λ sheet buffer e. appended-read sheet buffer (loads sheet .0 e);
+  file-again = rewritten;
+}

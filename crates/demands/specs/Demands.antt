@@ -1,0 +1,23 @@
+-- The three demands (00), each once. A contract of a public call is an equation with one of the definitions that these
+-- statements speak of, so that what is said here of a definition holds of the call's code.
+-- Assumes nothing.
+use Prim.Native.Nat.{ℕ}
+use mathlib.Core.Path.{_≡_}
+use mathlib.Core.List.{List}
+use Rattle.formats.specs.Load.{loadRefusal}
+use Rattle.runs.specs.Demand1.{Demand1}
+use Rattle.runs.specs.Demand2.{Demand2}
+use Rattle.runs.specs.Demand3.{Demand3}
+use Rattle.demands.specs.ReadsBack.{ReadsBack}
+
+pub record Demands : Type 0 where
+  -- 1: every call, for any bytes and any numbers, ends in a result or in one of its refusals, whose conditions are fixed, and a
+  -- refused call changes neither a lent buffer nor a session
+  pub refusals : Demand1
+  -- 2: commitments, responses and verdicts are those of Maurer's main protocol, in its order of steps, for every sheet that loads
+  pub protocol : (sheet : List ℕ) → loadRefusal sheet ≡ 0 → Demand2 sheet
+  -- and what is written reads back, and what reads is written back
+  pub files : ReadsBack
+  -- 3: the extractor gives a witness, and simulated and honest rounds are exactly the accepted ones, each met once, for every
+  -- sheet that loads
+  pub knowledge : (sheet : List ℕ) → loadRefusal sheet ≡ 0 → Demand3 sheet

@@ -1,0 +1,3 @@
+-- What is demanded of the calls.
+pub mod ReadsBack
+pub mod Demands

@@ -1,0 +1,57 @@
+-- Demand 2's half on files (00): sheets and round files that the calls write read back as the same values, and a file that
+-- reads is written back as the same bytes. What a call wrote is the buffer's front of the length that it answered.
+-- Assumes nothing.
+use Prim.Native.Nat.{ℕ, _^_, _<_, _≤_}
+use mathlib.Core.Path.{_≡_}
+use mathlib.Core.List.{List, map}
+use lib.ListN.{length, getD, take}
+use Rattle.types.specs.declared.Round.{Round}
+use Rattle.lists.specs.Member.{Member}
+use Rattle.lists.specs.Places.{tabulate}
+use Rattle.encoding.specs.Bytes.{AllBytes}
+use Rattle.sigma.specs.Instance.{Instance}
+use Rattle.formats.specs.Append.{emptyFile}
+use Rattle.formats.specs.Encode.{encode}
+use Rattle.formats.specs.Load.{loadRefusal, loaded}
+use Rattle.formats.specs.Meaning.{readInstance}
+use Rattle.formats.specs.Outcome.{Puts}
+use Rattle.formats.specs.Pattern.{fromPattern, made}
+use Rattle.formats.specs.RoundCalls.{countRounds, fetchRound, noRound}
+use Rattle.formats.specs.RoundFile.{challengeWidth, recordStart}
+use Rattle.formats.specs.Rounds.{Words, appendEach, storedRound}
+use Rattle.formats.specs.Sheet.{headerOf}
+use Rattle.formats.specs.Write.{Writing}
+
+-- the bytes that a call has put at the front of a lent buffer
+abbrev pub front : Writing → List ℕ
+front w = take (w .answer .length) (w .buffer)
+
+-- a sheet loads, and loading gives these values
+abbrev pub LoadsAs : List ℕ → Instance → Type 0
+LoadsAs sheet inst = (loadRefusal sheet ≡ 0) × (loaded sheet ≡ inst)
+
+pub record ReadsBack : Type 0 where
+  -- what the second writer writes loads as the values that it read, with 0 in the places that are not read
+  pub encoded : (inst : Instance) (buffer : List ℕ) → inst .header .modulus < 2 ^ 32 → inst .header .order < 2 ^ 32
+      → encode inst buffer .answer .refusal ≡ 0
+      → LoadsAs (front (encode inst buffer)) (readInstance inst)
+  -- what the sheet maker writes loads as the pattern's entries over the public values, and z
+  pub from-pattern : (number modulus order challenges : ℕ) (values statement buffer : List ℕ) → modulus < 2 ^ 32 → order < 2 ^ 32
+      → fromPattern number modulus order challenges values statement buffer .answer .refusal ≡ 0
+      → LoadsAs (front (fromPattern number modulus order challenges values statement buffer))
+      (made number modulus order challenges values statement)
+  -- a sheet that loads is written back as the same bytes from what loading gives
+  pub sheet-again : (sheet buffer : List ℕ) → AllBytes sheet → loadRefusal sheet ≡ 0 → length sheet ≤ length buffer
+      → Puts sheet buffer (encode (loaded sheet) buffer)
+  -- rounds of 32-bit values, appended one by one to an empty file, are counted and read back as what is stored of them
+  pub appended : (sheet buffer : List ℕ) → loadRefusal sheet ≡ 0 → (rounds : List Round) → length rounds ≤ 512
+      → recordStart challengeWidth (headerOf sheet) (length rounds) ≤ length buffer
+      → ((round : Round) → Member round rounds → Words (headerOf sheet) round)
+      → (w : Writing) → w ≡ appendEach sheet (emptyFile buffer) rounds
+      → (countRounds sheet (front w) ≡ record { refusal = 0; count = length rounds })
+      × ((k : ℕ) → k < length rounds
+      → fetchRound sheet (front w) k ≡ record { refusal = 0; round = getD (map (storedRound (headerOf sheet)) rounds) k noRound })
+  -- a round file that reads is written back as the same bytes from what the read call gives
+  pub file-again : (sheet file buffer : List ℕ) → AllBytes file → countRounds sheet file .refusal ≡ 0 → length file ≤ length buffer
+      → Puts file buffer
+      (appendEach sheet (emptyFile buffer) (tabulate (countRounds sheet file .count) (λ k. fetchRound sheet file k .round)))
