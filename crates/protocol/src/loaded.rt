@@ -23,20 +23,20 @@ pub fn judge_loaded(h: Header, entries: [[u32; 8]; 8], statement: [u32; 8], roun
     requires { ⌜ Valid (instanceWith h entries statement) ⌝ }
     ensures { λ r. ⌜ r ≡ judge (instanceWith h entries statement) round ⌝ }
 {
-    let t = round.commitment;
-    let r = round.response;
+    let commitment = round.commitment;
+    let response = round.response;
     let rows = h.rows as usize;
     let columns = h.columns as usize;
-    if first_non_element(h, t, rows) < rows {
+    if first_non_element(h, commitment, rows) < rows {
         return Verdict::Refused(14);
     }
     if round.challenge >= h.challenges {
         return Verdict::Refused(15);
     }
-    if first_non_coordinate(h, r, columns) < columns {
+    if first_non_coordinate(h, response, columns) < columns {
         return Verdict::Refused(16);
     }
-    verdict(h, entries, statement, t, round.challenge, r)
+    verdict(h, entries, statement, commitment, round.challenge, response)
 }
 
 // The simulated commitment for challenge c and response r: the image of r times the statement by -c, a value for each row.

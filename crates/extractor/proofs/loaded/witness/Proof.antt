@@ -19,7 +19,7 @@ abbrev μ-loop : tie.MeasureT-loop
 μ-loop h delta statement r s b a columns values₀ j₀ values j = columns - j
 
 inverse-requires : tie.Need-inverse-requires Inv-loop μ-loop
-inverse-requires c κs = (c .pre .order, c .pre .coprime)
+inverse-requires c κs = (omega arith, c .pre .coprime)
 
 cast-a : tie.Need-cast-a Inv-loop μ-loop
 cast-a c = omega arith

@@ -2,7 +2,6 @@
 -- The measure: how many rows are left. Assumes nothing.
 use mathlib.Core.Path.{_≡_}
 use Prim.Native.Nat.{_-_, _≤_}
-use native.Mathlib.Nat.{le-of-lt}
 use native.Mathlib.Omega.{arith}
 use Rattle.lists.specs.Places.{tabulate, pad8}
 use Rattle.sigma.specs.Instance.{statementAt}
@@ -40,7 +39,7 @@ unfolding statementAt
 negative-power-requires c κs =
     let (valid, below) = c .before .before .before .before .pre in
     let inside = c .before .loop-test .taken in
-    (valid-modulus valid, valid-order valid, le-of-lt (valid-challenge valid _ below), valid .statement _ inside)
+    (valid-modulus valid, valid-order valid, omega (arith, valid-challenge valid _ below), valid .statement _ inside)
 
 mul-mod-requires : tie.Need-mul-mod-requires Inv-loop μ-loop
 mul-mod-requires c κs = omega arith
