@@ -138,7 +138,8 @@ pub fn negative_power(h: Header, v: u32, n: u32) -> u32
     ensures { λ r. ⌜ r ≡ power (h .modulus) v (negℤ (pos n)) ⌝ }
 {
     if h.kind == 1 {
-        return pow_mod(v, h.order - n, h.modulus);
+        let opposite = h.order - n;
+        return pow_mod(v, opposite, h.modulus);
     }
     pow_mod(inverse(v, h.modulus), n, h.modulus)
 }

@@ -7,8 +7,8 @@ use Rattle.image.proofs.Slots.{negative-exponent, negative-root}
 use Rattle.image.proofs.negative_power.Statement.{statement}
 use Rattle.image.proofs.negative_power.Tie as tie
 
-sub-pow-mod : tie.Need-sub-pow-mod
-sub-pow-mod c = search needs
+sub-opposite : tie.Need-sub-opposite
+sub-opposite c = search needs
 
 pow-mod-requires : tie.Need-pow-mod-requires
 pow-mod-requires c κs = search needs
@@ -32,4 +32,4 @@ returns-2 c = negative-root _ _ _ (c .before .inverse .ensures .0) (c .pow-mod2 
 pub negative-power-spec : {M : Type 1} → statement M
 negative-power-spec =
     tie.close
-    (tie.spec sub-pow-mod pow-mod-requires returns inverse-requires pow-mod-requires-2 returns-2)
+    (tie.spec sub-opposite pow-mod-requires returns inverse-requires pow-mod-requires-2 returns-2)

@@ -27,7 +27,8 @@ rem-result c = search needs
 cast-result-2 : tie.Need-cast-result-2
 cast-result-2 c =
     let start = c .before .before .before in
-    omega (arith, mod-lt (start .args .k + start .args .c * start .args .x) (start .pre .1))
+    let sum = start .args .k + start .args .c * start .args .x in
+    omega (arith, mod-lt sum (start .pre .0), mod-lt sum (start .pre .1))
 
 returns : tie.Need-returns
 returns c = response-exponent _ _ _ _ (c .before .if1 .taken)

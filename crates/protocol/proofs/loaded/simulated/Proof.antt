@@ -1,8 +1,7 @@
--- `protocol::simulated` meets its contract. The invariant: the first i places hold the first i rows, and those beyond hold 0.
+-- `protocol::loaded::simulated` meets its contract. The invariant: the first i places hold the first i rows, and those beyond hold 0.
 -- The measure: how many rows are left. Assumes nothing.
 use mathlib.Core.Path.{_≡_}
 use Prim.Native.Nat.{_-_, _≤_}
-use native.Mathlib.Nat.{le-of-lt}
 use native.Mathlib.Omega.{arith}
 use Rattle.lists.specs.Places.{tabulate, pad8}
 use Rattle.sigma.specs.Instance.{statementAt}
@@ -10,8 +9,8 @@ use Rattle.sigma.proofs.Valid.{valid-modulus, valid-order, valid-challenge}
 use Rattle.image.specs.Values.{instanceWith}
 use Rattle.image.proofs.Filling.{filled-start, filled-turn, filled-end}
 use Rattle.protocol.proofs.Simulating.{simulatedRow, simulated-row, simulated-rows}
-use Rattle.protocol.proofs.simulated.Statement.{statement}
-use Rattle.protocol.proofs.simulated.Tie as tie
+use Rattle.protocol.proofs.loaded.simulated.Statement.{statement}
+use Rattle.protocol.proofs.loaded.simulated.Tie as tie
 
 abbrev Inv-loop : tie.InvT-loop
 Inv-loop h entries c r statement rows values₀ i₀ values i =
@@ -40,7 +39,7 @@ unfolding statementAt
 negative-power-requires c κs =
     let (valid, below) = c .before .before .before .before .pre in
     let inside = c .before .loop-test .taken in
-    (valid-modulus valid, valid-order valid, le-of-lt (valid-challenge valid _ below), valid .statement _ inside)
+    (valid-modulus valid, valid-order valid, omega (arith, valid-challenge valid _ below), valid .statement _ inside)
 
 mul-mod-requires : tie.Need-mul-mod-requires Inv-loop μ-loop
 mul-mod-requires c κs = omega arith
