@@ -75,13 +75,13 @@ fn unfit(h: Header, entries: [[u32; 8]; 8], session: Prover) -> bool
     ensures { λ r. ⌜ ((statement : List ℕ) → Valid (instanceWith h entries statement)
         → r ≡ unfitProver (instanceWith h entries statement) session) ⌝ }
 {
-    let nonce = session.nonce;
-    let commitment = session.commitment;
+    let k = session.nonce;
+    let t = session.commitment;
     let columns = h.columns as usize;
-    if first_non_coordinate(h, nonce, columns) < columns {
+    if first_non_coordinate(h, k, columns) < columns {
         return true;
     }
-    first_difference(image(h, entries, nonce), commitment, 8) < 8
+    first_difference(image(h, entries, k), t, 8) < 8
 }
 
 // The number that responding is refused with: 15 for a challenge of K or more, 16 for a witness slot that is no domain slot,

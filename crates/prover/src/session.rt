@@ -64,10 +64,11 @@ pub fn ended(session: Prover, phase: ProverPhase) -> Prover
 pub fn new() -> Prover
     ensures { λ r. ⌜ r ≡ newProver ⌝ }
 {
+    let zeros = [0u32; 8];
     Prover {
         phase: ProverPhase::New,
-        nonce: [0u32; 8],
-        commitment: [0u32; 8],
+        nonce: zeros,
+        commitment: zeros,
     }
 }
 
