@@ -22,27 +22,27 @@ use Rattle.image.specs.Values.{instanceWith}
 use Rattle.instance.proofs.Answers.{answer-number, answer-header, answer-instance}
 
 module _ (s : List ℕ) {loaded : Loaded} (is-load : loaded ≡ load s) where
+  -- the number of the sheet is that of its rules
+  sheet-number : loaded .refusal ≡ lowest (loadRules s)
+  unfolding loadRefusal
+  sheet-number = answer-number s loaded is-load
+
   -- ---- a refused sheet
 
   module _ (refused : loaded .refusal ≢ 0) {p : Prover} {step : ProverStep}
       (is-step : step ≡ record { refusal = loaded .refusal; session = p; values = zeros8 }) where
-    -- its rules give the number
-    sheet-number : loaded .refusal ≡ lowest (loadRules s)
-    unfolding loadRefusal
-    sheet-number = answer-number s loaded is-load
-
-    some : 0 < lowest (loadRules s)
-    some = omega (arith, sheet-number)
-
     -- committing is refused with it
     pub commit-unloaded : (nonce : List ℕ) → step ≡ commit s p nonce
     unfolding commit
-    commit-unloaded nonce = rw (is-step, sheet-number) (sym (commitAfter-refused (loadRules s) (instanceOf s) some p nonce))
+    commit-unloaded nonce =
+        let some : 0 < lowest (loadRules s) = omega (arith, sheet-number) in
+        rw (is-step, sheet-number) (sym (commitAfter-refused (loadRules s) (instanceOf s) some p nonce))
 
     -- and so is responding
     pub respond-unloaded : (c : ℕ) (witness : List ℕ) → step ≡ respond s p c witness
     unfolding respond
     respond-unloaded c witness =
+        let some : 0 < lowest (loadRules s) = omega (arith, sheet-number) in
         rw (is-step, sheet-number) (sym (respondAfter-refused (loadRules s) (instanceOf s) some p c witness))
 
   -- ---- a sheet that loads
