@@ -39,6 +39,7 @@ module _ (order delta : ℕ) (big : 1 < order) (coprime : gcd delta order ≡ 1)
   coefficients-fit c c′ larger =
       let a = leftCoefficient order delta in
       let b = inverse order delta in
-      let first = difference-mul (pos-difference {n = order} {a = order} {b = 0} (omega arith)) (neg-difference a {a = 0} {b = a} (omega arith)) in
+      let whole = pos-difference {n = order} {a = order} {b = 0} (omega arith) in
+      let first = difference-mul whole (neg-difference a {a = 0} {b = a} (omega arith)) in
       let second = difference-mul (minus-difference c c′) (pos-difference {n = b} {a = b} {b = 0} (omega arith)) in
       difference-same (difference-add first second) (pos-difference (rw larger (omega (arith, one-more))))

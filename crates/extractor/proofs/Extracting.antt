@@ -63,7 +63,8 @@ module _ (inst : Instance) (first second : Round) where
   refusal-split = extract-refusal inst first second
 
   -- where the number is above 0 it is the whole answer
-  refused-with : (n : ℕ) → 0 < n → extract inst first second .refusal ≡ n → record { refusal = n; values = zeros8 } ≡ extract inst first second
+  refused-with : (n : ℕ) → 0 < n → extract inst first second .refusal ≡ n
+      → record { refusal = n; values = zeros8 } ≡ extract inst first second
   unfolding extract extractAfter computed
   refused-with n some e = rw (sym e) (sym (computed-positive _ _ (rw e some)))
 
@@ -153,7 +154,8 @@ module _ {inst : Instance} (v : Valid inst) (first second : Round) (x : Extracts
     witness-given =
         let e = extraction v first second pair in
         let delta = first .challenge - second .challenge in
-        let fit = coefficients-fit (inst .header .order) delta (v .order) (witness-fits .coprime) (first .challenge) (second .challenge) (omega arith) in
+        let coprime = witness-fits .coprime in
+        let fit = coefficients-fit (inst .header .order) delta (v .order) coprime (first .challenge) (second .challenge) (omega arith) in
         rw is-values (ap (λ (y : List ℕ). record { refusal = 0; values = pad8 0 y }) (e .any-integers _ _ fit) ∙ sym (e .answer))
 
     -- and the answer with the rounds swapped

@@ -4,11 +4,11 @@ use mathlib.Core.Path.{_≡_, ap, sym, _∙_}
 use Prim.Native.Nat.{ℕ, _<_}
 use lib.IntN.{ℤ, pos, negℤ}
 use lib.ListN.{getD}
-use Rattle.groups.specs.Group.{power, quotient}
+use Rattle.groups.specs.Group.{power}
 use Rattle.groups.specs.Homomorphism.{Homomorphism}
 use Rattle.groups.specs.Vector.{Vector, NumberGroup, numberPower, vectorGroup, same-slots}
-use Rattle.groups.specs.Round.{Accepts, response, simulated, witnessFormula}
-use Rattle.groups.proofs.Vectors.{value-of-product, value-of-quotient, value-of-power}
+use Rattle.groups.specs.Round.{Accepts, response, simulated}
+use Rattle.groups.proofs.Vectors.{value-of-product, value-of-power}
 
 module _ {P : ℕ → Type 0} (N : NumberGroup P) (n : ℕ) where
   -- the j-th value of y · x^k
@@ -22,16 +22,6 @@ module _ {P : ℕ → Type 0} (N : NumberGroup P) (n : ℕ) where
       → getD ((response (vectorGroup N n) x c k) .0) j 0 ≡ N .product (getD (k .0) j 0) (numberPower N (getD (x .0) j 0) (pos c))
   unfolding response
   value-of-response x c k j h = value-of-side k x (pos c) j h
-
-  -- the j-th value of the extractor's formula: u_j^a · (r_j / r′_j)^b
-  pub value-of-formula : (u : Vector P n) (a b : ℤ) (r r′ : Vector P n) (j : ℕ) → j < n
-      → getD ((witnessFormula (vectorGroup N n) u a b r r′) .0) j 0
-      ≡ N .product (numberPower N (getD (u .0) j 0) a)
-      (numberPower N (N .product (getD (r .0) j 0) (N .inverse (getD (r′ .0) j 0))) b)
-  unfolding witnessFormula
-  value-of-formula u a b r r′ j h =
-      let G = vectorGroup N n in
-      cc (value-of-side (power G u a) (quotient G r r′) b j h, value-of-power N n u a j h, value-of-quotient N n r r′ j h)
 
 module _ {P Q : ℕ → Type 0} (N : NumberGroup P) (n : ℕ) (M : NumberGroup Q) (s : ℕ)
     (f : Homomorphism (vectorGroup N n) (vectorGroup M s)) (z : Vector Q s) (c : ℕ) where

@@ -1,18 +1,33 @@
--- What callers know of a sheet by the answer to `load`: its number, and where that is 0 its values.
+-- What callers know of a sheet by the answer to `load`: its number, and where that is 0 its values. A call on the sheet's bytes
+-- is refused with that number, or is the call on those values.
 -- Assumes nothing.
-use Prim.Native.Nat.{ℕ}
+use Prim.Native.Nat.{ℕ, _<_}
 use mathlib.Core.Path.{_≡_, sym, ap, _∙_}
+use mathlib.Core.Logic.{_≢_}
 use mathlib.Core.List.{List}
+use native.Mathlib.Omega.{arith}
 use Rattle.types.specs.declared.Loaded.{Loaded}
+use Rattle.rules.specs.Rule.{Rule, Clear, lowest}
+use Rattle.sigma.specs.Instance.{Instance}
+use Rattle.sigma.specs.Valid.{Valid}
 use Rattle.formats.specs.Sheet.{headerOf, entriesOf, instanceOf}
-use Rattle.formats.specs.Load.{loadRefusal, load}
-use Rattle.formats.proofs.Loads.{load-given}
+use Rattle.formats.specs.Load.{loadRules, loadRefusal, load}
+use Rattle.formats.proofs.Loads.{load-clear, load-given, loads, loads-valid}
 
 module _ (s : List ℕ) (answer : Loaded) (same : answer ≡ load s) where
   -- the answer has the sheet's number
   pub answer-number : answer .refusal ≡ loadRefusal s
   unfolding load
   answer-number = ap (λ (a : Loaded). a .refusal) same
+
+  -- where that is not 0, a call that the sheet's rules come before is refused with it
+  pub answer-refused : answer .refusal ≢ 0 → {A : Type 0} (refused : ℕ → A) {call : List Rule → Instance → A}
+      → ((before : List Rule) (inst : Instance) → 0 < lowest before → call before inst ≡ refused (lowest before))
+      → refused (answer .refusal) ≡ call (loadRules s) (instanceOf s)
+  unfolding loadRefusal
+  answer-refused other refused is-refused =
+      let some : 0 < lowest (loadRules s) = omega (arith, answer-number) in
+      ap refused answer-number ∙ sym (is-refused (loadRules s) (instanceOf s) some)
 
   module _ (passed : answer .refusal ≡ 0) where
     -- where that is 0 the sheet loads, and the answer has its fixed fields
@@ -31,3 +46,18 @@ module _ (s : List ℕ) (answer : Loaded) (same : answer ≡ load s) where
         let whole = same ∙ load-given s loads in
         let entered = read ∙ ap (entriesOf s) header in
         λ j. record { header = whole j .header; entries = entered j; statement = whole j .statement }
+
+    -- which is Valid
+    pub answer-valid : {entries : List (List ℕ)} → entries ≡ entriesOf s (answer .header)
+        → Valid (record { header = answer .header; entries = entries; statement = answer .statement })
+    answer-valid read = rw (answer-instance read) (loads-valid s (answer-header .0))
+
+    -- a call that the sheet's rules come before is the call on these values
+    pub answer-call : {A : Type 0} {call : List Rule → Instance → A} {onValues : Instance → A}
+        → ((before : List Rule) (inst : Instance) → Clear before → call before inst ≡ onValues inst)
+        → {entries : List (List ℕ)} → entries ≡ entriesOf s (answer .header) → {result : A}
+        → result ≡ onValues (record { header = answer .header; entries = entries; statement = answer .statement })
+        → result ≡ call (loadRules s) (instanceOf s)
+    answer-call {onValues = onValues} is-clear read is-result =
+        let clear = load-clear s .1 (loads s .0 (answer-header .0)) in
+        is-result ∙ ap onValues (answer-instance read) ∙ sym (is-clear (loadRules s) (instanceOf s) clear)

@@ -1,94 +1,10 @@
-// Judging a round and simulating a commitment on loaded values (01, "A round"; refusals 14 to 16).
-use image::negative_power;
-use image::row_image;
-use image::verdict;
-use modular::first_non_coordinate;
-use modular::first_non_element;
-use modular::mul_mod;
-use types::Computed;
-use types::Header;
-use types::Round;
-use types::Verdict;
-ghost use mathlib.Core.Path.{_≡_};
-ghost use Prim.Native.Nat.{_<_};
-ghost use Rattle.lists.specs.Places.{pad8, places};
-ghost use Rattle.sigma.specs.Judge.{judge};
-ghost use Rattle.sigma.specs.Simulator.{simulated, simulate};
-ghost use Rattle.sigma.specs.Valid.{Valid};
-ghost use Rattle.image.specs.Values.{instanceWith};
+// Judging a round and simulating a commitment (01, "A round"). The functions on loaded values are for callers that have
+// loaded the sheet.
+mod calls; // calls.rt: the calls on a sheet's bytes
+mod loaded; // loaded.rt: judging and simulating on loaded values
 
-// The verdict on a round: accepted, rejected with the first row whose two sides differ, or refused with 14 for a commitment
-// value that is no group element, 15 for a challenge of K or more, 16 for a response slot that is no domain slot.
-pub fn judge_loaded(h: Header, entries: [[u32; 8]; 8], statement: [u32; 8], round: Round) -> Verdict
-    requires { ⌜ Valid (instanceWith h entries statement) ⌝ }
-    ensures { λ r. ⌜ r ≡ judge (instanceWith h entries statement) round ⌝ }
-{
-    let t = round.commitment;
-    let r = round.response;
-    let rows = h.rows as usize;
-    let columns = h.columns as usize;
-    if first_non_element(h, t, rows) < rows {
-        return Verdict::Refused(14);
-    }
-    if round.challenge >= h.challenges {
-        return Verdict::Refused(15);
-    }
-    if first_non_coordinate(h, r, columns) < columns {
-        return Verdict::Refused(16);
-    }
-    verdict(h, entries, statement, t, round.challenge, r)
-}
-
-// The simulated commitment for challenge c and response r: the image of r times the statement by -c, a value for each row.
-pub fn simulated(
-    h: Header,
-    entries: [[u32; 8]; 8],
-    statement: [u32; 8],
-    c: u32,
-    r: [u32; 8],
-) -> [u32; 8]
-    requires { ⌜ Valid (instanceWith h entries statement) × (c < h .challenges) ⌝ }
-    ensures { λ t. ⌜ t ≡ pad8 0 (simulated (instanceWith h entries statement) c (places (h .columns) r)) ⌝ }
-{
-    let rows = h.rows as usize;
-    let mut values = [0u32; 8];
-    for i in 0..rows {
-        values[i] = mul_mod(
-            row_image(h, entries, r, i),
-            negative_power(h, statement[i], c),
-            h.modulus,
-        );
-    }
-    values
-}
-
-// The simulated commitment for challenge c and response r, or refused with 15 for a challenge of K or more, 16 for a response
-// slot that is no domain slot, and zeros.
-pub fn simulate_loaded(
-    h: Header,
-    entries: [[u32; 8]; 8],
-    statement: [u32; 8],
-    c: u32,
-    r: [u32; 8],
-) -> Computed
-    requires { ⌜ Valid (instanceWith h entries statement) ⌝ }
-    ensures { λ answer. ⌜ answer ≡ simulate (instanceWith h entries statement) c r ⌝ }
-{
-    let columns = h.columns as usize;
-    if c >= h.challenges {
-        return Computed {
-            refusal: 15,
-            values: [0u32; 8],
-        };
-    }
-    if first_non_coordinate(h, r, columns) < columns {
-        return Computed {
-            refusal: 16,
-            values: [0u32; 8],
-        };
-    }
-    Computed {
-        refusal: 0,
-        values: simulated(h, entries, statement, c, r),
-    }
-}
+pub use calls::judge;
+pub use calls::simulate;
+pub use loaded::judge_loaded;
+pub use loaded::simulate_loaded;
+pub use loaded::simulated;

@@ -1,9 +1,9 @@
--- `extractor::refused` meets its contract: eight zeros are written out.
+-- `extractor::loaded::refused` meets its contract: eight zeros are written out.
 -- Assumes nothing.
 use mathlib.Core.Path.{refl}
 use Rattle.lists.specs.Places.{zeros8}
-use Rattle.extractor.proofs.refused.Statement.{statement}
-use Rattle.extractor.proofs.refused.Tie as tie
+use Rattle.extractor.proofs.loaded.refused.Statement.{statement}
+use Rattle.extractor.proofs.loaded.refused.Tie as tie
 
 returns : tie.Need-returns
 unfolding zeros8

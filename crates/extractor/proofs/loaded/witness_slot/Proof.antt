@@ -1,11 +1,11 @@
--- `extractor::witness_slot` meets its contract: each kind has its law.
+-- `extractor::loaded::witness_slot` meets its contract: each kind has its law.
 -- Assumes nothing.
 use native.Mathlib.Nat.{le-of-lt}
 use borrow.Author.Needs.{needs}
 use Rattle.sigma.proofs.ElementGroup.{element-coprime}
 use Rattle.extractor.proofs.Slots.{slot-exponent, slot-root}
-use Rattle.extractor.proofs.witness_slot.Statement.{statement}
-use Rattle.extractor.proofs.witness_slot.Tie as tie
+use Rattle.extractor.proofs.loaded.witness_slot.Statement.{statement}
+use Rattle.extractor.proofs.loaded.witness_slot.Tie as tie
 
 sub-mod-requires : tie.Need-sub-mod-requires
 sub-mod-requires c κs =

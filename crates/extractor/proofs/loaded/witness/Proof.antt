@@ -1,4 +1,4 @@
--- `extractor::witness` meets its contract. The invariant: the first j places hold the first j slots, and those beyond hold 0.
+-- `extractor::loaded::witness` meets its contract. The invariant: the first j places hold the first j slots, and those beyond hold 0.
 -- The measure: how many columns are left. Assumes nothing.
 use mathlib.Core.Path.{_≡_}
 use Prim.Native.Nat.{_-_, _^_, _≤_, _<_}
@@ -8,8 +8,8 @@ use Rattle.lists.specs.Places.{tabulate, pad8}
 use Rattle.image.proofs.Filling.{filled-start, filled-turn, filled-end}
 use Rattle.extractor.proofs.Coefficients.{quotient-within, left-is}
 use Rattle.extractor.proofs.Slots.{slotsFormula, slot-at, formula-filled}
-use Rattle.extractor.proofs.witness.Statement.{statement}
-use Rattle.extractor.proofs.witness.Tie as tie
+use Rattle.extractor.proofs.loaded.witness.Statement.{statement}
+use Rattle.extractor.proofs.loaded.witness.Tie as tie
 
 abbrev Inv-loop : tie.InvT-loop
 Inv-loop h delta statement r s b a columns values₀ j₀ values j =

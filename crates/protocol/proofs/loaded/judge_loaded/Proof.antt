@@ -1,9 +1,9 @@
--- `protocol::judge_loaded` meets its contract: each return is a law of judging.
+-- `protocol::loaded::judge_loaded` meets its contract: each return is a law of judging.
 -- Assumes nothing.
 use borrow.Author.Needs.{needs}
 use Rattle.protocol.proofs.Judging.{judge-commitment, judge-challenge, judge-response, judge-passed}
-use Rattle.protocol.proofs.judge_loaded.Statement.{statement}
-use Rattle.protocol.proofs.judge_loaded.Tie as tie
+use Rattle.protocol.proofs.loaded.judge_loaded.Statement.{statement}
+use Rattle.protocol.proofs.loaded.judge_loaded.Tie as tie
 
 cast-rows : tie.Need-cast-rows
 cast-rows c = search needs

@@ -1,10 +1,10 @@
--- `protocol::simulate_loaded` meets its contract: each return is a law of simulating.
+-- `protocol::loaded::simulate_loaded` meets its contract: each return is a law of simulating.
 -- Assumes nothing.
 use borrow.Author.Needs.{needs}
 use Rattle.lists.specs.Places.{zeros8}
 use Rattle.protocol.proofs.Simulating.{simulate-challenge, simulate-response, simulate-passed}
-use Rattle.protocol.proofs.simulate_loaded.Statement.{statement}
-use Rattle.protocol.proofs.simulate_loaded.Tie as tie
+use Rattle.protocol.proofs.loaded.simulate_loaded.Statement.{statement}
+use Rattle.protocol.proofs.loaded.simulate_loaded.Tie as tie
 
 cast-columns : tie.Need-cast-columns
 cast-columns c = search needs

@@ -1,4 +1,4 @@
--- `protocol::simulated` meets its contract. The invariant: the first i places hold the first i rows, and those beyond hold 0.
+-- `protocol::loaded::simulated` meets its contract. The invariant: the first i places hold the first i rows, and those beyond hold 0.
 -- The measure: how many rows are left. Assumes nothing.
 use mathlib.Core.Path.{_≡_}
 use Prim.Native.Nat.{_-_, _≤_}
@@ -10,8 +10,8 @@ use Rattle.sigma.proofs.Valid.{valid-modulus, valid-order, valid-challenge}
 use Rattle.image.specs.Values.{instanceWith}
 use Rattle.image.proofs.Filling.{filled-start, filled-turn, filled-end}
 use Rattle.protocol.proofs.Simulating.{simulatedRow, simulated-row, simulated-rows}
-use Rattle.protocol.proofs.simulated.Statement.{statement}
-use Rattle.protocol.proofs.simulated.Tie as tie
+use Rattle.protocol.proofs.loaded.simulated.Statement.{statement}
+use Rattle.protocol.proofs.loaded.simulated.Tie as tie
 
 abbrev Inv-loop : tie.InvT-loop
 Inv-loop h entries c r statement rows values₀ i₀ values i =

@@ -1,0 +1,147 @@
+// Extracting a witness from two rounds on loaded values (01, "A round"; refusals 14 to 16 of both rounds, then 18 to 20).
+use image::first_difference;
+use image::negative_power;
+use image::verdict;
+use modular::first_non_coordinate;
+use modular::first_non_element;
+use modular::inverse;
+use modular::mul_mod;
+use modular::pow_mod;
+use modular::sub_mod;
+use types::Computed;
+use types::Header;
+use types::Round;
+use types::Verdict;
+ghost use mathlib.Core.Path.{_≡_};
+ghost use mathlib.Core.List.{List};
+ghost use Prim.Native.Nat.{ℕ, _≤_, _<_};
+ghost use lib.IntN.{pos, negℤ};
+ghost use Rattle.lists.specs.Places.{pad8, zeros8};
+ghost use Rattle.numbers.specs.Inverse.{inverse};
+ghost use Rattle.rules.specs.Rule.{lowest};
+ghost use Rattle.sigma.specs.Extractor.{formula, extract};
+ghost use Rattle.sigma.specs.Valid.{Valid};
+ghost use Rattle.image.specs.Values.{instanceWith};
+ghost use Rattle.extractor.specs.Coefficients.{slotFormula, leftCoefficient, SlotFits, WitnessFits};
+ghost use Rattle.extractor.specs.Rules.{pairRules};
+
+// The number of 14 to 16, 18 and 19 that two rounds are refused with, or 0. Each of 14 to 16 is asked of both rounds before
+// the next; 18 is for commitments that differ, 19 for equal challenges.
+pub fn pair_refusal(h: Header, first: Round, second: Round) -> u32
+    requires { ⌜ (0 < h .modulus) × (h .rows ≤ 8) × (h .columns ≤ 8) ⌝ }
+    ensures { λ r. ⌜ ((entries : List (List ℕ)) (statement : List ℕ)
+        → r ≡ lowest (pairRules (instanceWith h entries statement) first second)) ⌝ }
+{
+    let t = first.commitment;
+    let u = second.commitment;
+    let r = first.response;
+    let s = second.response;
+    let rows = h.rows as usize;
+    let columns = h.columns as usize;
+    if first_non_element(h, t, rows) < rows {
+        return 14;
+    }
+    if first_non_element(h, u, rows) < rows {
+        return 14;
+    }
+    if first.challenge >= h.challenges {
+        return 15;
+    }
+    if second.challenge >= h.challenges {
+        return 15;
+    }
+    if first_non_coordinate(h, r, columns) < columns {
+        return 16;
+    }
+    if first_non_coordinate(h, s, columns) < columns {
+        return 16;
+    }
+    if first_difference(t, u, rows) < rows {
+        return 18;
+    }
+    if first.challenge == second.challenge {
+        return 19;
+    }
+    0
+}
+
+// The answer of a refused call: the number and zeros.
+pub fn refused(number: u32) -> Computed
+    ensures { λ r. ⌜ r ≡ record { refusal = number; values = zeros8 } ⌝ }
+{
+    Computed {
+        refusal: number,
+        values: [0u32; 8],
+    }
+}
+
+// A slot of the formula with the exponents -a and b: in kind 1 b (r - s) mod q, in kind 2 z^(-a) (r/s)^b mod m.
+fn witness_slot(h: Header, z: u32, a: u32, b: u32, r: u32, s: u32) -> u32
+    requires { ⌜ SlotFits h z a s ⌝ }
+    ensures { λ x. ⌜ x ≡ slotFormula h z a b r s ⌝ }
+{
+    if h.kind == 1 {
+        return mul_mod(b, sub_mod(r, s, h.order), h.order);
+    }
+    let quotient = mul_mod(r, inverse(s, h.modulus), h.modulus);
+    mul_mod(
+        negative_power(h, z, a),
+        pow_mod(quotient, b, h.modulus),
+        h.modulus,
+    )
+}
+
+// The witness from the responses r and s to two challenges, the first larger by delta: the formula with the exponents -a
+// and b, where b inverts delta modulo ℓ, and delta b is ℓ a + 1.
+pub fn witness(h: Header, statement: [u32; 8], delta: u32, r: [u32; 8], s: [u32; 8]) -> [u32; 8]
+    requires { ⌜ WitnessFits h statement delta s ⌝ }
+    ensures { λ x. ⌜ ((entries : List (List ℕ)) → x ≡ pad8 0 (formula (instanceWith h entries statement)
+        (negℤ (pos (leftCoefficient (h .order) delta))) (pos (inverse (h .order) delta)) r s)) ⌝ }
+{
+    let b = inverse(delta, h.order);
+    let a = (delta as u64 * b as u64 / h.order as u64) as u32;
+    let columns = h.columns as usize;
+    let mut values = [0u32; 8];
+    for j in 0..columns {
+        values[j] = witness_slot(h, statement[j], a, b, r[j], s[j]);
+    }
+    values
+}
+
+// The witness from two accepted rounds with one commitment and different challenges, or the number of a refusal and zeros;
+// a round that is not accepted is 20. The round with the larger challenge is taken first: the witness is the same.
+pub fn extract_loaded(
+    h: Header,
+    entries: [[u32; 8]; 8],
+    statement: [u32; 8],
+    first: Round,
+    second: Round,
+) -> Computed
+    requires { ⌜ Valid (instanceWith h entries statement) ⌝ }
+    ensures { λ answer. ⌜ answer ≡ extract (instanceWith h entries statement) first second ⌝ }
+{
+    let refusal = pair_refusal(h, first, second);
+    if refusal != 0 {
+        return refused(refusal);
+    }
+    let t = first.commitment;
+    let u = second.commitment;
+    let r = first.response;
+    let s = second.response;
+    let Verdict::Accepted = verdict(h, entries, statement, t, first.challenge, r) else {
+        return refused(20);
+    };
+    let Verdict::Accepted = verdict(h, entries, statement, u, second.challenge, s) else {
+        return refused(20);
+    };
+    if first.challenge > second.challenge {
+        return Computed {
+            refusal: 0,
+            values: witness(h, statement, first.challenge - second.challenge, r, s),
+        };
+    }
+    Computed {
+        refusal: 0,
+        values: witness(h, statement, second.challenge - first.challenge, s, r),
+    }
+}
