@@ -1,5 +1,5 @@
 // The values of a round on loaded values (01, "A round"): the image, the verifier's two sides and their comparison, the
-// response, and a power by a negative exponent. Nothing is refused here.
+// response, a power by a negative exponent, and the places of an array that are read. Nothing is refused here.
 use modular::inverse;
 use modular::mul_mod;
 use modular::pow_mod;
@@ -58,6 +58,18 @@ pub fn expected_image(h: Header, statement: [u32; 8], t: [u32; 8], c: u32) -> [u
         values[i] = mul_mod(t[i], pow_mod(statement[i], c, h.modulus), h.modulus);
     }
     values
+}
+
+// The first n places of values, and zeros beyond them.
+pub fn first_places(values: [u32; 8], n: usize) -> [u32; 8]
+    requires { ⌜ n ≤ 8 ⌝ }
+    ensures { λ r. ⌜ r ≡ pad8 0 (places n values) ⌝ }
+{
+    let mut kept = [0u32; 8];
+    for i in 0..n {
+        kept[i] = values[i];
+    }
+    kept
 }
 
 // The first place below n at which xs and ys differ, or n where there is none.

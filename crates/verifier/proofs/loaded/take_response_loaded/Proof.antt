@@ -1,0 +1,24 @@
+-- `verifier::loaded::take_response_loaded` meets its contract: the number is that of the rules, and decides the outcome.
+-- Assumes nothing.
+use borrow.Author.Needs.{needs}
+use Rattle.verifier.proofs.Outcomes.{response-refused, response-judged}
+use Rattle.verifier.proofs.loaded.take_response_loaded.Statement.{statement}
+use Rattle.verifier.proofs.loaded.take_response_loaded.Tie as tie
+
+response-refusal-requires : tie.Need-response-refusal-requires
+response-refusal-requires c κs = search needs
+
+returns : tie.Need-returns
+returns c = response-refused _ _ _ (c .before .response-refusal .ensures _ _) (c .if1 .taken)
+
+verdict-requires : tie.Need-verdict-requires
+verdict-requires c κs = search needs
+
+returns-2 : tie.Need-returns-2
+returns-2 c =
+    let passed = c .before .before in
+    response-judged _ _ _ (passed .before .response-refusal .ensures _ _) (passed .if1 .left) (c .verdict .ensures)
+
+pub take-response-loaded-spec : {M : Type 1} → statement M
+take-response-loaded-spec =
+    tie.close (tie.spec response-refusal-requires returns verdict-requires returns-2)
