@@ -1,0 +1,38 @@
+-- `prover::loaded::unfit` meets its contract: the held slots are searched first, then the held commitment is compared.
+-- Assumes nothing.
+use borrow.Author.Needs.{needs}
+use Rattle.prover.proofs.Refusing.{unfit-slot, unfit-commitment}
+use Rattle.prover.proofs.loaded.unfit.Statement.{statement}
+use Rattle.prover.proofs.loaded.unfit.Tie as tie
+
+cast-columns : tie.Need-cast-columns
+cast-columns c = search needs
+
+first-non-coordinate-requires : tie.Need-first-non-coordinate-requires
+first-non-coordinate-requires c κs = search needs
+
+returns : tie.Need-returns
+returns c = λ statement v. unfit-slot _ _ (c .before .first-non-coordinate .ensures .0) (c .if1 .taken)
+
+image-requires : tie.Need-image-requires
+image-requires c κs = search needs
+
+first-difference-requires : tie.Need-first-difference-requires
+first-difference-requires c κs = search needs
+
+returns-2 : tie.Need-returns-2
+returns-2 c = λ statement v.
+    let slots = c .before .before in
+    unfit-commitment _ _ (slots .before .first-non-coordinate .ensures .0) (slots .if1 .left) v (c .before .image .ensures statement)
+    (c .first-difference .ensures .0)
+
+pub unfit-spec : {M : Type 1} → statement M
+unfit-spec =
+    tie.close
+    (tie.spec
+    cast-columns
+    first-non-coordinate-requires
+    returns
+    image-requires
+    first-difference-requires
+    returns-2)
