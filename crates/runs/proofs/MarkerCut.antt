@@ -1,7 +1,7 @@
 -- The marker's text on long files: the first 309 bytes of a sheet and the first 34,824 of a round file give the text of the
 -- whole, so a program that reads no more prints what it must.
 -- Assumes nothing.
-use Prim.Native.Nat.{ℕ, _<_, _≤_}
+use Prim.Native.Nat.{ℕ, _≤_}
 use mathlib.Core.Path.{_≡_, sym, ap, _∙_}
 use mathlib.Core.List.{List}
 use native.Mathlib.Decide.{decLt}

@@ -1,7 +1,7 @@
 -- How long the marker's text is: `rounds 512`, 512 lines of at most 15 bytes such as `511 refused 16`, and `fail` are 7,696 bytes.
 -- Assumes nothing.
 use Prim.Native.Nat.{ℕ, zero, suc, _+_, _*_, _<_, _≤_}
-use mathlib.Core.Path.{_≡_, refl, sym, ap, _∙_}
+use mathlib.Core.Path.{_≡_, refl, ap, _∙_}
 use mathlib.Core.Logic.{_⊎_, inl, inr}
 use mathlib.Core.Bool.{Bool, true, false, cond, not, _&&_}
 use mathlib.Core.List.{List, [], _∷_, _++_, flatten}
@@ -24,9 +24,8 @@ use Rattle.rules.proofs.Lowest.{lowest-member}
 use Rattle.formats.specs.Load.{loadRules, loadRefusal}
 use Rattle.formats.specs.RoundCalls.{countRounds, fetchRound}
 use Rattle.formats.specs.RoundFile.{countField}
-use Rattle.formats.specs.Sheet.{headerOf, instanceOf}
 use Rattle.formats.proofs.Files.{count-runs}
-use Rattle.formats.proofs.Loads.{loads, loads-valid}
+use Rattle.formats.proofs.Loads.{loads-valid}
 use Rattle.formats.proofs.Order.{load-numbers}
 use Rattle.sigma.specs.Answer.{isAccepted}
 use Rattle.runs.specs.Marker.{newline, wordLine, verdictText, verdictOn, roundLine, roundLines, markerText}

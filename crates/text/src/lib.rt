@@ -1,9 +1,9 @@
 // Text in a slice of bytes: words and decimal numbers. Each function asks that its bytes have room, stores them from an index
 // on, changes no other byte and answers the index behind them.
 ghost use Prim.Native.Nat.{_+_, _≤_, _<_};
-ghost use mathlib.Core.List.{[], _∷_};
+ghost use mathlib.Core.List.{[], _∷_, _++_};
 ghost use lib.ListN.{length};
-ghost use Rattle.encoding.specs.Text.{decimal};
+ghost use Rattle.encoding.specs.Text.{ascii, decimal};
 ghost use Rattle.text.specs.Placed.{Placed};
 
 // Stores a word.
@@ -37,4 +37,14 @@ pub fn write_decimal(s: &mut [u8], at: usize, number: u32) -> usize
     }
     let last = write_decimal(s, at, number / 10);
     write_digit(s, last, number % 10)
+}
+
+// Stores a word, a space and a number in decimal.
+pub fn write_numbered(s: &mut [u8], at: usize, word: &[u8], number: u32) -> usize
+    requires room { ⌜ at + length (now word) + 1 + length (decimal number) ≤ length (now s) ⌝ }
+    ensures { λ r. ⌜ Placed (now (s .entry)) at (now (word .entry) ++ ascii " " ++ decimal number) (now (s .exit)) r ⌝ }
+{
+    let space = write_word(s, at, word);
+    let digits = write_word(s, space, b" ");
+    write_decimal(s, digits, number)
 }
