@@ -4,10 +4,11 @@ use report::LONGEST;
 use report::mark;
 ghost use Rattle.io.specs.Counts.{Counts};
 
-// How many bytes of each file are read: one more than the longest sheet and the longest round file have, so that the text on
-// what is read of a longer file is the text on the whole.
+// How many bytes of a sheet are read: one more than the longest has, so that the text on what is read of a longer one is the
+// text on the whole.
 const SHEET: usize = 309;
 
+// The same of a round file.
 const ROUNDS: usize = 34824;
 
 // Reads into buffer until it is full or the input ends, and answers how many bytes were put at its start, 0 where a read fails.
