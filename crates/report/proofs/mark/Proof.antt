@@ -40,8 +40,9 @@ returns-2 c =
     let refused = c .before .before .before in
     let counted = refused .before in
     let loaded = counted .before .before in
-    text-placed _ _ (omega arith) (file-text _ _ (loaded .before .load .ensures) (loaded .if1 .left) (counted .count-in .ensures) (refused .if2 .taken))
-    (c .write-line2 .ensures)
+    let text =
+    file-text _ _ (loaded .before .load .ensures) (loaded .if1 .left) (counted .count-in .ensures) (refused .if2 .taken) in
+    text-placed _ _ (omega arith) text (c .write-line2 .ensures)
 
 loaded-entries-requires : tie.Need-loaded-entries-requires
 loaded-entries-requires c κs =
