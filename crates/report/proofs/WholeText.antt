@@ -7,7 +7,7 @@ use mathlib.Core.Bool.{not}
 use mathlib.Core.List.{List, [], _++_, append-assoc, flatten}
 use native.Mathlib.Omega.{arith}
 use lib.ListN.{length, length-append}
-use lib.Seq.{sets}
+use lib.Seq.{length-sets, sets}
 use Rattle.types.specs.declared.Counted.{Counted}
 use Rattle.types.specs.declared.Loaded.{Loaded}
 use Rattle.types.specs.declared.Verdict.{Verdict}
@@ -34,9 +34,13 @@ use Rattle.image.specs.Values.{instanceWith}
 use Rattle.text.specs.Placed.{Placed}
 use Rattle.report.specs.Lines.{failsIn, linesIn, resultLine, roundsIn, verdictIn, verdictLine}
 
--- text placed at the start is the answer and the bytes of the contract
-pub placed-text : {l bytes m text : List ℕ} {r : ℕ} → text ≡ bytes → Placed l 0 bytes m r → (r ≡ length text) × (m ≡ sets l 0 text)
-placed-text e placed = (rw e (omega (arith, placed .behind)), rw e (placed .stored))
+-- the marker's text placed at the start of 7,696 bytes is what the contract asks for
+pub text-placed : (s f : List ℕ) {l bytes m : List ℕ} {r : ℕ} → 7696 ≤ length l → markerText s f ≡ bytes → Placed l 0 bytes m r
+    → (r ≤ length m) × ((r ≡ length (markerText s f)) × (m ≡ sets l 0 (markerText s f)))
+text-placed s f {l} {bytes} {m} {r} room e placed =
+    let size : r ≡ length (markerText s f) = rw e (omega (arith, placed .behind)) in
+    let kept : length m ≡ length l = rw (placed .stored) (length-sets l 0 bytes) in
+    (omega (arith, text-short s f), (size, rw e (placed .stored)))
 
 -- ---- the rounds of a sheet that loads and a file that reads
 

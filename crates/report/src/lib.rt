@@ -7,6 +7,7 @@ use instance::loaded_entries;
 use lines::write_line;
 use round_file::count_in;
 use rounds::write_rounds;
+ghost use Prim.Native.Nat.{_≤_};
 ghost use mathlib.Core.Path.{_≡_};
 ghost use lib.ListN.{length};
 ghost use lib.Seq.{sets};
@@ -18,6 +19,7 @@ pub const LONGEST: usize = 7696;
 // Stores the marker's text at the start of text and answers its length; no byte behind it is changed. A refused sheet gives
 // the one line `sheet N` and a refused file `file N`; else the text has the count, a line for each round, and `pass` or `fail`.
 pub fn mark(sheet: &[u8], file: &[u8], text: &mut [u8; LONGEST]) -> usize
+    ensures inside { λ r. ⌜ r ≤ length (now (text .exit)) ⌝ }
     ensures answer { λ r. ⌜ r ≡ length (markerText (now (sheet .entry)) (now (file .entry))) ⌝ }
     ensures bytes { λ _. ⌜ now (text .exit) ≡ sets (now (text .entry)) 0 (markerText (now (sheet .entry)) (now (file .entry))) ⌝ }
 {

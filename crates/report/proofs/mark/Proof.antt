@@ -6,7 +6,7 @@ use Rattle.encoding.specs.Text.{ascii}
 use Rattle.instance.proofs.Answers.{answer-header}
 use Rattle.round_file.proofs.SheetFirst.{few-loaded}
 use Rattle.text.proofs.Laws.{placed-behind}
-use Rattle.report.proofs.WholeText.{file-reads, file-text, placed-text, rounds-fit, rounds-text, sheet-text, values-valid}
+use Rattle.report.proofs.WholeText.{file-reads, file-text, rounds-fit, rounds-text, sheet-text, text-placed, values-valid}
 use Rattle.report.proofs.mark.Statement.{statement}
 use Rattle.report.proofs.mark.Tie as tie
 
@@ -23,7 +23,7 @@ returns : tie.Need-returns
 unfolding ascii
 returns c =
     let refused = c .before .before .before in
-    placed-text (sheet-text _ _ (refused .before .load .ensures) (refused .if1 .taken)) (c .write-line .ensures)
+    text-placed _ _ (omega arith) (sheet-text _ _ (refused .before .load .ensures) (refused .if1 .taken)) (c .write-line .ensures)
 
 count-in-requires : tie.Need-count-in-requires
 count-in-requires c κs = few-loaded _ (c .before .before .load .ensures) (c .before .if1 .left)
@@ -40,8 +40,9 @@ returns-2 c =
     let refused = c .before .before .before in
     let counted = refused .before in
     let loaded = counted .before .before in
-    placed-text (file-text _ _ (loaded .before .load .ensures) (loaded .if1 .left) (counted .count-in .ensures) (refused .if2 .taken))
-    (c .write-line2 .ensures)
+    let text =
+    file-text _ _ (loaded .before .load .ensures) (loaded .if1 .left) (counted .count-in .ensures) (refused .if2 .taken) in
+    text-placed _ _ (omega arith) text (c .write-line2 .ensures)
 
 loaded-entries-requires : tie.Need-loaded-entries-requires
 loaded-entries-requires c κs =
@@ -79,7 +80,7 @@ returns-3 c =
     let text =
     rounds-text _ _ (loaded .before .load .ensures) (loaded .if1 .left) (counted .count-in .ensures) (entered .before .if2 .left)
     (entered .loaded-entries .ensures) in
-    placed-text text (placed-behind (line .write-line3 .ensures) (c .write-rounds .ensures))
+    text-placed _ _ (omega arith) text (placed-behind (line .write-line3 .ensures) (c .write-rounds .ensures))
 
 pub mark-spec : {M : Type 1} → statement M
 mark-spec =
