@@ -5,6 +5,8 @@ use mathlib.Core.List.{List, []}
 use lib.ListN.{getD}
 use Rattle.types.specs.declared.Header.{Header}
 use Rattle.lists.specs.Places.{tabulate}
+use Rattle.rules.specs.Answer.{unlessRefused}
+use Rattle.formats.specs.Load.{loadEntries, loadRefusal}
 use Rattle.sigma.specs.Instance.{Instance}
 
 -- the number in row k / 8 and column k % 8
@@ -30,3 +32,8 @@ square xs = tabulate 8 (squareRow xs)
 -- the values of a sheet whose entries are 64 numbers
 abbrev pub flatInstance : Header → List ℕ → List ℕ → Instance
 flatInstance header entries statement = record { header = header; entries = square entries; statement = statement }
+
+-- what stands in a caller's 64 numbers when a sheet's entries were asked for: the entries, or what stood there where the sheet
+-- is refused
+unfoldable pub flatUnlessRefused : List ℕ → List ℕ → List ℕ
+flatUnlessRefused sheet before = unlessRefused (loadRefusal sheet) (flat (loadEntries sheet)) before

@@ -6,9 +6,9 @@ use types::Loaded;
 use types::Written;
 ghost use mathlib.Core.Path.{_≡_};
 ghost use Rattle.formats.specs.Encode.{encode};
-ghost use Rattle.formats.specs.Load.{load, loadEntries};
+ghost use Rattle.formats.specs.Load.{load, loadRefusal};
 ghost use Rattle.formats.specs.Pattern.{fromPattern};
-ghost use Rattle.interface.specs.Flat.{flat, flatInstance};
+ghost use Rattle.interface.specs.Flat.{flatInstance, flatUnlessRefused};
 
 // Loads a sheet: its fixed fields and its statement, and zeros beside the number of one that is refused.
 #[no_mangle]
@@ -18,13 +18,22 @@ pub extern "C" fn dimkhoros_load(sheet: &[u8]) -> Loaded
     instance::load(sheet)
 }
 
-// Puts a sheet's entries into entries, row by row, and zeros for one that is refused; `dimkhoros_load` gives the number.
+// Puts a sheet's entries into entries, row by row, and answers 0. The number of a sheet that is refused, 2 to 11, is the answer,
+// and entries keeps its numbers.
 #[no_mangle]
-pub extern "C" fn dimkhoros_entries(sheet: &[u8], entries: &mut [u32; 64])
-    ensures { λ _. ⌜ now (entries .exit) ≡ flat (loadEntries (now (sheet .entry))) ⌝ }
+pub extern "C" fn dimkhoros_entries(sheet: &[u8], entries: &mut [u32; 64]) -> u32
+    ensures answer { λ r. ⌜ r ≡ loadRefusal (now (sheet .entry)) ⌝ }
+    ensures numbers { λ _. ⌜ now (entries .exit) ≡ flatUnlessRefused (now (sheet .entry)) (now (entries .entry)) ⌝ }
 {
-    let numbers = flat(instance::entries(sheet));
+    let loaded = instance::load(sheet);
+    let refusal = loaded.refusal;
+    if refusal != 0 {
+        return refusal;
+    }
+    let h = loaded.header;
+    let numbers = flat(instance::loaded_entries(sheet, h));
     *entries = numbers;
+    0
 }
 
 // The second writer: puts the sheet of these values at the start of buffer and answers its length, or the number that they

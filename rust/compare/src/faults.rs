@@ -27,8 +27,8 @@ impl Library for Faulty {
         sheets::load(self.0, sheet)
     }
 
-    fn entries(&self, sheet: &[u8], entries: &mut [u32; 64]) {
-        sheets::entries(self.0, sheet, entries);
+    fn entries(&self, sheet: &[u8], entries: &mut [u32; 64]) -> u32 {
+        sheets::entries(self.0, sheet, entries)
     }
 
     fn encode(

@@ -21,9 +21,14 @@ impl Library for Judge {
         loaded(judge::load(sheet))
     }
 
-    fn entries(&self, sheet: &[u8], entries: &mut [u32; 64]) {
-        let table = judge::load(sheet).map_or([[0; 8]; 8], |sheet| sheet.entries);
-        entries.copy_from_slice(table.as_flattened());
+    fn entries(&self, sheet: &[u8], entries: &mut [u32; 64]) -> u32 {
+        match judge::load(sheet) {
+            Ok(sheet) => {
+                entries.copy_from_slice(sheet.entries.as_flattened());
+                0
+            }
+            Err(number) => number,
+        }
     }
 
     fn encode(

@@ -17,7 +17,7 @@ pub const TEXT: usize = 7696;
 pub trait Library {
     fn load(&self, sheet: &[u8]) -> Loaded;
 
-    fn entries(&self, sheet: &[u8], entries: &mut [u32; 64]);
+    fn entries(&self, sheet: &[u8], entries: &mut [u32; 64]) -> u32;
 
     fn encode(
         &self,

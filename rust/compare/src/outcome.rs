@@ -10,7 +10,11 @@ use crate::library::{
 #[derive(Clone, Debug, PartialEq, Eq)]
 pub enum Answer {
     Loaded(Loaded),
-    Entries(Vec<u32>),
+    /// The answered number, and the numbers in the lent array.
+    Entries {
+        refusal: u32,
+        numbers: Vec<u32>,
+    },
     Written(Written),
     Counted(Counted),
     Checked(u32),
@@ -54,6 +58,7 @@ impl Answer {
             Answer::Written(written) => written.refusal,
             Answer::Counted(counted) => counted.refusal,
             Answer::Checked(number) => *number,
+            Answer::Entries { refusal, .. } => *refusal,
             Answer::Fetched(fetched) => fetched.refusal,
             Answer::Judged(judgement) => judgement.refusal,
             Answer::Computed(computed) => computed.refusal,
@@ -61,10 +66,7 @@ impl Answer {
             Answer::Verifier(answer) => answer.refusal,
             Answer::VerifierJudged(answer) => answer.verdict.refusal,
             Answer::Marked { text, .. } => marked(text),
-            Answer::Entries(_)
-            | Answer::Part(_)
-            | Answer::ProverNew(_)
-            | Answer::VerifierNew(_) => 0,
+            Answer::Part(_) | Answer::ProverNew(_) | Answer::VerifierNew(_) => 0,
         }
     }
 

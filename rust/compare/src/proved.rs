@@ -22,7 +22,7 @@ impl Library for Proved {
         unsafe { dimkhoros_load(sheet.as_ptr(), sheet.len()) }
     }
 
-    fn entries(&self, sheet: &[u8], entries: &mut [u32; 64]) {
+    fn entries(&self, sheet: &[u8], entries: &mut [u32; 64]) -> u32 {
         unsafe { dimkhoros_entries(sheet.as_ptr(), sheet.len(), entries.as_mut_ptr()) }
     }
 

@@ -4,7 +4,6 @@ use std::fmt;
 
 use crate::calls::Call;
 use crate::cases::Case;
-use crate::judged::Judge;
 use crate::library::Library;
 use crate::outcome::{Answer, Outcome};
 use crate::printing::{hex, numbers};
@@ -30,19 +29,11 @@ impl Case for SheetCase {
             }
             SheetCase::Entries { sheet, before } => {
                 let mut entries = **before;
-                library.entries(sheet, &mut entries);
-                Outcome::of(Call::Entries, Answer::Entries(entries.to_vec()))
+                let refusal = library.entries(sheet, &mut entries);
+                let numbers = entries.to_vec();
+                Outcome::of(Call::Entries, Answer::Entries { refusal, numbers })
             }
         }
-    }
-
-    /// Entries come without a number, so that the judge loads the sheet.
-    fn numbers(&self, _: &Outcome) -> Vec<(Call, u32)> {
-        let (call, sheet) = match self {
-            SheetCase::Load { sheet } => (Call::Load, sheet),
-            SheetCase::Entries { sheet, .. } => (Call::Entries, sheet),
-        };
-        vec![(call, Judge.load(sheet).refusal)]
     }
 }
 

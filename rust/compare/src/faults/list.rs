@@ -41,7 +41,7 @@ faults! {
     LastStatement, "last-statement", "load answers 0 for the eighth statement value";
     HeaderKept, "header-kept", "load answers the header beside 11";
     RefusesAll, "refuses-all", "load refuses every sheet";
-    EntriesLeft, "entries-left", "entries leaves the array alone where refused";
+    EntriesCleared, "entries-cleared", "entries sets the array to zeros where refused";
     EntriesPacked, "entries-packed", "entries has the rows without a gap";
     KindCut, "kind-cut", "encode cuts the kind to a byte";
     RowsCut, "rows-cut", "encode cuts rows and columns to a byte";

@@ -136,13 +136,13 @@ fn load_values(fault: Fault, sheet: &[u8], mut right: Loaded) -> Loaded {
     right
 }
 
-pub fn entries(fault: Fault, sheet: &[u8], entries: &mut [u32; 64]) {
+pub fn entries(fault: Fault, sheet: &[u8], entries: &mut [u32; 64]) -> u32 {
     let loaded = Judge.load(sheet);
-    if fault == Fault::EntriesLeft && loaded.refusal != 0 {
-        return;
+    let right = Judge.entries(sheet, entries);
+    if fault == Fault::EntriesCleared && right != 0 {
+        *entries = [0; 64];
     }
-    Judge.entries(sheet, entries);
-    if fault == Fault::EntriesPacked {
+    if fault == Fault::EntriesPacked && right == 0 {
         let mut packed = [0; 64];
         let columns = loaded.header.columns as usize;
         for (i, row) in entries
@@ -154,4 +154,5 @@ pub fn entries(fault: Fault, sheet: &[u8], entries: &mut [u32; 64]) {
         }
         *entries = packed;
     }
+    right
 }
