@@ -11,14 +11,15 @@ use Rattle.types.specs.declared.ProverPhase.the-variants.{New, Committed, Answe
 use Rattle.types.specs.declared.ProverStep.{ProverStep}
 use Rattle.sigma.proofs.Answer.{unlessRefused-positive}
 use Rattle.runs.specs.Prover.{proverState}
-use Rattle.runs.specs.ProverCalls.{ProverCall, callProver, proverAfter}
+use Rattle.runs.specs.ProverCalls.{ProverCall, Commit, Respond, Drop, callProver, proverAfter, answers, countAnswers}
 use Rattle.runs.specs.Run.{sessionAfter}
+use Rattle.runs.proofs.OneAnswer.{one-answer}
 use Rattle.runs.proofs.ProverCalls.{prover-kept, ended-refuses}
-use Rattle.crossing.specs.Calls.{answeredProver}
+use Rattle.crossing.specs.Calls.{answeredProver, answersAcross, countAnswersAcross}
 use Rattle.crossing.specs.OfFour.{ofFour}
 use Rattle.crossing.specs.Provers.{proverPhase, proverOf, proverSession, proverAnswer}
 use Rattle.crossing.specs.declared.ProverSession.{ProverSession}
-use Rattle.crossing.proofs.HandedBack.{handed-back, handed-on-after}
+use Rattle.crossing.proofs.HandedBack.{handed-back, handed-on-after, handed-on-count}
 use Rattle.crossing.proofs.Phases.{ofFour-beyond, ofFour-number}
 
 -- ---- the session
@@ -75,3 +76,20 @@ pub handed-on-all : (calls : List ProverCall) (s : ProverSession)
 unfolding proverAfter
 handed-on-all =
     handed-on-after answeredProver (λ answer. answer .session) callProver (λ step. step .session) proverOf handed-on
+
+-- a call that crossed answers a challenge exactly where the call on the session does
+answers-across : (call : ProverCall) (s : ProverSession)
+    → answersAcross call (answeredProver call s) ≡ answers call (callProver call (proverOf s))
+unfolding answersAcross answers proverAnswer
+answers-across (Commit sheet nonce) s = refl
+answers-across (Respond sheet c witness) s = refl
+answers-across Drop s = refl
+
+-- so over any calls, each given the session that the last one handed back, at most one challenge is answered
+pub one-answer-across : (calls : List ProverCall) (s : ProverSession) → countAnswersAcross calls s ≤ 1
+unfolding countAnswersAcross countAnswers
+one-answer-across calls s =
+    rw
+    (handed-on-count answeredProver (λ answer. answer .session) callProver (λ step. step .session) proverOf handed-on
+    answersAcross answers answers-across calls s)
+    (one-answer calls (proverOf s))
