@@ -1,0 +1,9 @@
+//! The tests of this crate's public face, of the header and of the examples.
+
+mod cc;
+mod header;
+mod pages;
+mod refusals;
+mod rounds;
+mod sessions;
+mod sheets;
