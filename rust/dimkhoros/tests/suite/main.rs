@@ -1,6 +1,7 @@
 //! The tests of this crate's public face, of the header and of the examples.
 
 mod cc;
+mod examples;
 mod header;
 mod pages;
 mod refusals;
