@@ -11,7 +11,7 @@
  *
  * What a call takes. Any bytes and any numbers: each call is proved to end in the answer that is described here. The caller
  * owes four things. A pointer with a length behind it points to that many bytes or numbers (where the length is 0 it is
- * not used and may be NULL). A pointer written with [8] or [64] points to that many numbers. A buffer that a call writes to
+ * not used and may be NULL). A pointer written with the size of an array points to that much. A buffer that a call writes to
  * shares no byte with anything else that the same call is given. And nobody else changes these bytes during the call.
  *
  * Sheets. A sheet describes a homomorphism, its table, with a statement, and comes as bytes. Each call that takes one tests
@@ -46,6 +46,7 @@ extern "C" {
 #define DIMKHOROS_EMPTY_FILE 7       /* bytes of a round file without rounds */
 #define DIMKHOROS_MOST_ROUNDS 512    /* rounds in the fullest round file */
 #define DIMKHOROS_LONGEST_FILE 34823 /* bytes of the longest round file */
+#define DIMKHOROS_LONGEST_TEXT 7696  /* bytes that hold the marker's longest text */
 
 /* Kinds of sheets. */
 #define DIMKHOROS_EXPONENT 1 /* the image multiplies powers of the table's entries; the witness is in the exponents */
@@ -296,6 +297,18 @@ DimkhorosComputed dimkhoros_simulate(const uint8_t *sheet, size_t sheet_length, 
  * same one in either order. Refuses 2 to 11, 14 to 16 and 18 to 20.
  */
 DimkhorosComputed dimkhoros_extract(const uint8_t *sheet, size_t sheet_length, DimkhorosRound first, DimkhorosRound second);
+
+/* --- The marker --- */
+
+/*
+ * Judges a round file and writes the marker's text, in ASCII and without a zero at its end, to the start of `text`. Answers its
+ * length; no byte behind it is changed. A refused sheet gives the one line `sheet N` and a refused file `file N`, N being
+ * the refusal. Else there are a line `rounds` with the count, a line for each round (its number from 0 and `accepted`,
+ * `rejected` with the first row that differs, or `refused` with 14 to 16), and `pass` if every round is accepted or `fail`.
+ * Each line ends in a newline.
+ */
+size_t dimkhoros_mark(const uint8_t *sheet, size_t sheet_length, const uint8_t *file, size_t file_length,
+                      uint8_t text[DIMKHOROS_LONGEST_TEXT]);
 
 /* --- Peggy's session --- */
 

@@ -51,5 +51,8 @@ int main(void) {
     for (size_t number = 0; number <= counted.count; number++) {
         show_round(sheet, length, file, file_length, number);
     }
+    uint8_t text[DIMKHOROS_LONGEST_TEXT];
+    size_t text_length = dimkhoros_mark(sheet, length, file, file_length, text);
+    printf("The marker's text:\n%.*s", (int)text_length, (const char *)text);
     return 0;
 }

@@ -4,7 +4,8 @@ mod common;
 
 use common::page_a;
 use dimkhoros::{
-    EMPTY_FILE, Instance, LONGEST_FILE, Refusal, Round, RoundFile, RoundWriter, places,
+    EMPTY_FILE, Instance, LONGEST_FILE, LONGEST_TEXT, Refusal, Round, RoundFile, RoundWriter, mark,
+    places,
 };
 
 /// A round of page A's sheet.
@@ -40,5 +41,7 @@ fn main() -> Result<(), Refusal> {
             describe(&instance, &file, number).unwrap_or_else(|refusal| refusal.to_string())
         );
     }
+    let mut text = [0; LONGEST_TEXT];
+    print!("The marker's text:\n{}", mark(instance.bytes(), file.bytes(), &mut text));
     Ok(())
 }

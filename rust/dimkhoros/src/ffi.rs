@@ -4,7 +4,7 @@
 //!
 //! - A slice crosses as its pointer and length, and the library reads or writes nothing outside it. It uses no pointer of an
 //!   empty slice, so that a dangling one does no harm.
-//! - An array crosses as the pointer to its 8 or 64 numbers.
+//! - An array crosses as the pointer to its 8 or 64 numbers or its 7,696 bytes.
 //! - What is written to is borrowed as `&mut`, so it shares no byte with the rest, and all borrows live through the call.
 //! - The structs have the layout of C, and any bits are values of their fields.
 
@@ -19,7 +19,7 @@ mod echo;
 #[cfg(test)]
 mod layout;
 
-use crate::{PLACES, Places, Plan, Round, Values};
+use crate::{LONGEST_TEXT, PLACES, Places, Plan, Round, Values};
 use exports::*;
 pub use structs::*;
 
@@ -106,6 +106,12 @@ pub fn simulate(sheet: &[u8], challenge: u32, response: &Places) -> Computed {
 pub fn extract(sheet: &[u8], first: &Round, second: &Round) -> Computed {
     // SAFETY: the slice is given by its pointer and length.
     unsafe { dimkhoros_extract(sheet.as_ptr(), sheet.len(), *first, *second) }
+}
+
+pub fn mark(sheet: &[u8], file: &[u8], text: &mut [u8; LONGEST_TEXT]) -> usize {
+    let (pointer, length) = (sheet.as_ptr(), sheet.len());
+    // SAFETY: the slices are given by their pointers and lengths, and `text` has the bytes that may be written.
+    unsafe { dimkhoros_mark(pointer, length, file.as_ptr(), file.len(), text.as_mut_ptr()) }
 }
 
 pub fn prover_new() -> ProverSession {

@@ -6,6 +6,7 @@
 #[allow(unsafe_code)]
 mod ffi;
 mod instance;
+mod marker;
 mod pattern;
 mod places;
 mod protocol;
@@ -17,6 +18,7 @@ mod round_file;
 mod verifier;
 
 pub use instance::{EXPONENT, Header, Instance, LONGEST_SHEET, ROOT, Values};
+pub use marker::{LONGEST_TEXT, mark};
 pub use pattern::{Pattern, Plan};
 pub use places::{PLACES, Places, places};
 pub use prover::{Prover, ProverParts, ProverPhase};

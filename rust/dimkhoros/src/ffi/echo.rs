@@ -140,6 +140,23 @@ fn verifiers(text: &mut String) {
     );
 }
 
+/// The marker's text on two files, and the bytes behind it, which stay.
+fn marks(text: &mut String) {
+    let (_, wide) = wide();
+    let mut file = [0; 200];
+    let mut marked = [238; LONGEST_TEXT];
+    empty(&mut file);
+    append(&wide, &mut file, 7, &honest_round(1, RESPONSE));
+    let used = append(&wide, &mut file, 75, &honest_round(5, RESPONSE)).length;
+    let length = mark(&wide, &file[..used], &mut marked);
+    writeln!(text, "{length}").unwrap();
+    text.push_str(std::str::from_utf8(&marked[..length]).unwrap());
+    writeln!(text, "{} {}", marked[length], marked[LONGEST_TEXT - 1]).unwrap();
+    let length = mark(&[], &[], &mut marked);
+    writeln!(text, "{length}").unwrap();
+    text.push_str(std::str::from_utf8(&marked[..length]).unwrap());
+}
+
 /// Every slice of every call is empty.
 fn empty_slices(text: &mut String) {
     let (values, wide) = wide();
@@ -181,6 +198,7 @@ fn fields_cross_from_rust() {
     rounds(&mut text);
     provers(&mut text);
     verifiers(&mut text);
+    marks(&mut text);
     empty_slices(&mut text);
     assert_eq!(text, EXPECTED);
 }

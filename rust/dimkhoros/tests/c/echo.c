@@ -233,6 +233,21 @@ static void verifiers(void) {
     print_verifier_judgement(dimkhoros_verifier_response(wide, sizeof wide, odd, response));
 }
 
+/* The marker's text on two files, and the bytes behind it, which stay. */
+static void marks(void) {
+    uint8_t file[200];
+    uint8_t text[DIMKHOROS_LONGEST_TEXT];
+    memset(text, 238, sizeof text);
+    dimkhoros_empty(file, sizeof file);
+    size_t used = dimkhoros_append(wide, sizeof wide, file, sizeof file, 7, honest_round(1, response)).length;
+    used = dimkhoros_append(wide, sizeof wide, file, sizeof file, used, honest_round(5, response)).length;
+    size_t length = dimkhoros_mark(wide, sizeof wide, file, used, text);
+    printf("%zu\n%.*s", length, (int)length, (const char *)text);
+    printf("%u %u\n", text[length], text[sizeof text - 1]);
+    length = dimkhoros_mark(NULL, 0, NULL, 0, text);
+    printf("%zu\n%.*s", length, (int)length, (const char *)text);
+}
+
 /* Every slice of every call is empty. */
 static void empty_slices(void) {
     uint32_t entries[64];
@@ -268,6 +283,7 @@ int main(void) {
     rounds();
     provers();
     verifiers();
+    marks();
     empty_slices();
     return 0;
 }

@@ -29,6 +29,7 @@ fn constants() -> String {
     line("EMPTY_FILE".into(), dimkhoros::EMPTY_FILE);
     line("MOST_ROUNDS".into(), dimkhoros::MOST_ROUNDS);
     line("LONGEST_FILE".into(), dimkhoros::LONGEST_FILE);
+    line("LONGEST_TEXT".into(), dimkhoros::LONGEST_TEXT);
     line("EXPONENT".into(), dimkhoros::EXPONENT as usize);
     line("ROOT".into(), dimkhoros::ROOT as usize);
     use Pattern::*;

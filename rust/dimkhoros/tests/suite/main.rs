@@ -3,6 +3,7 @@
 mod cc;
 mod examples;
 mod header;
+mod marks;
 mod pages;
 mod refusals;
 mod rounds;
