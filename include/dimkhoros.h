@@ -9,10 +9,11 @@
  * The archive needs memcpy and memset and nothing else. It allocates nothing and keeps nothing between calls, so calls may
  * run in several threads at once.
  *
- * What a call takes. Any bytes and any numbers: each call is proved to end in the answer that is described here. The caller
- * owes four things. A pointer with a length behind it points to that many bytes or numbers (where the length is 0 it is
- * not used and may be NULL). A pointer written with the size of an array points to that much. A buffer that a call writes to
- * shares no byte with anything else that the same call is given. And nobody else changes these bytes during the call.
+ * What a call takes. Any bytes and any numbers: every call ends in an answer, and it is proved to be the one that the call's
+ * definition gives (docs/PROMISES.md lists the definitions). The caller owes four things. A pointer with a length behind it
+ * points to that many bytes or numbers (where the length is 0 it is not used and may be NULL). A pointer written with the
+ * size of an array points to that much. A buffer that a call writes to shares no byte with anything else that the same call
+ * is given. And nobody else changes these bytes during the call.
  *
  * Sheets. A sheet describes a homomorphism, its table, with a statement, and comes as bytes. Each call that takes one tests
  * it from the start and refuses a bad one with 2 to 11. m is the modulus, q the order and e the exponent, K the challenge
@@ -21,7 +22,8 @@
  * response, is a number below q (exponent sheets) or a group element (root sheets).
  *
  * Arrays of eight. Commitments and statements have s values, witnesses, nonces and responses n. They cross in arrays of
- * eight. The places behind these values are not read where a call takes them, and are 0 where a call answers them.
+ * eight. The places behind these values are not read where a call takes them, and are 0 where a call answers them. A
+ * session keeps what it holds in all eight, and the commitment that Peggy's holds is tested in all eight (by 21).
  *
  * Refusals. An answer's field `refusal` is 0, or the number of what was refused, the lowest where several apply. A refused
  * call changes no buffer, hands a session back exactly as it was given and has 0 in every other field of its answer.

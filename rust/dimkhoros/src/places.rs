@@ -10,7 +10,8 @@ pub const PLACES: usize = 8;
 /// A commitment, statement, witness, nonce or response.
 ///
 /// A sheet of s rows and n columns uses the first s places for commitments and statements and the first n for the others.
-/// The places behind them are not read where a call takes them, and are 0 where a call answers them.
+/// The places behind them are not read where a call takes them, and are 0 where a call answers them. A session keeps what
+/// it holds in all eight, and the commitment that a prover's holds is tested in all eight (by refusal 21).
 ///
 /// ```
 /// let witness: dimkhoros::Places = [2, 1, 0, 0, 0, 0, 0, 0];
