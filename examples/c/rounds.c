@@ -1,0 +1,58 @@
+/* Vic keeps a file of rounds, and a marker judges each of them. */
+#include "common.h"
+
+static const DimkhorosRound rounds[] = {
+    {{9}, 3, {4}},
+    {{9}, 1, {1}},
+    {{9}, 1, {2}},
+    {{5}, 0, {0}},
+};
+
+/* Writes the file of all rounds and answers its length. */
+static size_t write_file(const uint8_t *sheet, size_t length, uint8_t file[DIMKHOROS_LONGEST_FILE]) {
+    DimkhorosWritten written = dimkhoros_empty(file, DIMKHOROS_LONGEST_FILE);
+    expect(written.refusal);
+    for (size_t i = 0; i < sizeof rounds / sizeof rounds[0]; i++) {
+        written = dimkhoros_append(sheet, length, file, DIMKHOROS_LONGEST_FILE, written.length, rounds[i]);
+        expect(written.refusal);
+    }
+    return written.length;
+}
+
+/* Shows a round of the file with the verdict on it, and where it stands in the file. */
+static void show_round(const uint8_t *sheet, size_t length, const uint8_t *file, size_t file_length, size_t number) {
+    printf("round %zu: ", number);
+    DimkhorosFetched fetched = dimkhoros_read(sheet, length, file, file_length, number);
+    if (fetched.refusal != 0) {
+        show_refusal(fetched.refusal);
+        return;
+    }
+    DimkhorosPart part = dimkhoros_part(sheet, length, file, file_length, number);
+    printf("%zu bytes from byte %zu on, t = %u, c = %u, r = %u, ", part.length, part.offset,
+           fetched.round.commitment[0], fetched.round.challenge, fetched.round.response[0]);
+    DimkhorosJudgement verdict = dimkhoros_judge(sheet, length, fetched.round);
+    if (verdict.refusal != 0) {
+        show_refusal(verdict.refusal);
+    } else if (verdict.accepted) {
+        printf("accepted\n");
+    } else {
+        printf("rejected in row %u\n", verdict.row);
+    }
+}
+
+int main(void) {
+    uint8_t sheet[DIMKHOROS_LONGEST_SHEET];
+    uint8_t file[DIMKHOROS_LONGEST_FILE];
+    size_t length = page_a(sheet);
+    size_t file_length = write_file(sheet, length, file);
+    DimkhorosCounted counted = dimkhoros_count(sheet, length, file, file_length);
+    expect(counted.refusal);
+    printf("The file: %u rounds in %zu bytes.\n", counted.count, file_length);
+    for (size_t number = 0; number <= counted.count; number++) {
+        show_round(sheet, length, file, file_length, number);
+    }
+    uint8_t text[DIMKHOROS_LONGEST_TEXT];
+    size_t text_length = dimkhoros_mark(sheet, length, file, file_length, text);
+    printf("The marker's text:\n%.*s", (int)text_length, (const char *)text);
+    return 0;
+}

@@ -1,0 +1,360 @@
+/*
+ * The C interface of Dimkhoros: Maurer's proof of knowledge of a preimage under a group homomorphism, on numbers of at
+ * most 32 bits. It is for C11 and C++ on x86-64 Linux.
+ *
+ * To link. `rt staticlib interface` writes target/staticlib/libinterface.a. A program is built by
+ *
+ *     cc -std=c11 -I include program.c target/staticlib/libinterface.a
+ *
+ * The archive needs memcpy and memset and nothing else. It allocates nothing and keeps nothing between calls, so calls may
+ * run in several threads at once.
+ *
+ * What a call takes. Any bytes and any numbers: every call ends in an answer, and it is proved to be the one that the call's
+ * definition gives (docs/PROMISES.md lists the definitions). The caller owes four things. A pointer with a length behind it
+ * points to that many bytes or numbers (where the length is 0 it is not used and may be NULL). A pointer written with the
+ * size of an array points to that much. A buffer that a call writes to shares no byte with anything else that the same call
+ * is given. And nobody else changes these bytes during the call.
+ *
+ * Sheets. A sheet describes a homomorphism, its table, with a statement, and comes as bytes. Each call that takes one tests
+ * it from the start and refuses a bad one with 2 to 11. m is the modulus, q the order and e the exponent, K the challenge
+ * count, s the rows and n the columns. A group element is a number from 1 to m - 1 whose q-th power modulo m is 1
+ * (exponent sheets) or that has no factor in common with m (root sheets). A coordinate, one value of a witness, nonce or
+ * response, is a number below q (exponent sheets) or a group element (root sheets).
+ *
+ * Arrays of eight. Commitments and statements have s values, witnesses, nonces and responses n. They cross in arrays of
+ * eight. The places behind these values are not read where a call takes them, and are 0 where a call answers them. A
+ * session keeps what it holds in all eight, and the commitment that Peggy's holds is tested in all eight (by 21).
+ *
+ * Refusals. An answer's field `refusal` is 0, or the number of what was refused, the lowest where several apply. A refused
+ * call changes no buffer, hands a session back exactly as it was given and has 0 in every other field of its answer.
+ *
+ * Random numbers are the caller's: nonces, challenges and simulated responses are handed in. A nonce has to be drawn at
+ * random from all coordinates for each session, or the responses give the witness away.
+ */
+#ifndef DIMKHOROS_H
+#define DIMKHOROS_H
+
+#include <stddef.h>
+#include <stdint.h>
+
+#ifdef __cplusplus
+extern "C" {
+#endif
+
+/* Sizes. */
+#define DIMKHOROS_PLACES 8           /* numbers in a commitment, statement, witness, nonce or response */
+#define DIMKHOROS_ENTRIES 64         /* numbers in a table: row i, column j, both from 0, stands at 8 * i + j */
+#define DIMKHOROS_LONGEST_SHEET 308  /* bytes of the longest sheet */
+#define DIMKHOROS_EMPTY_FILE 7       /* bytes of a round file without rounds */
+#define DIMKHOROS_MOST_ROUNDS 512    /* rounds in the fullest round file */
+#define DIMKHOROS_LONGEST_FILE 34823 /* bytes of the longest round file */
+#define DIMKHOROS_LONGEST_TEXT 7696  /* bytes that hold the marker's longest text */
+
+/* Kinds of sheets. */
+#define DIMKHOROS_EXPONENT 1 /* the image multiplies powers of the table's entries; the witness is in the exponents */
+#define DIMKHOROS_ROOT 2     /* the image is the e-th power of each value; the witness is a list of e-th roots */
+
+/* Patterns of sheets, with their public values and the entries made of them. */
+#define DIMKHOROS_PATTERN_SCHNORR 1        /* value h; row h */
+#define DIMKHOROS_PATTERN_OKAMOTO 2        /* values h1 h2; row h1 h2 */
+#define DIMKHOROS_PATTERN_EQUALITY 3       /* values h1 h2; rows h1 and h2 */
+#define DIMKHOROS_PATTERN_DIFFIE_HELLMAN 4 /* values h B; rows h and B */
+#define DIMKHOROS_PATTERN_PRODUCT 5        /* values g h B; rows g h 1 and B 1 h */
+#define DIMKHOROS_PATTERN_ROOT 6           /* no values; a root sheet of one row */
+
+/* States of Peggy's session. */
+#define DIMKHOROS_PROVER_NEW 0       /* nothing has happened */
+#define DIMKHOROS_PROVER_COMMITTED 1 /* a nonce and its commitment are held */
+#define DIMKHOROS_PROVER_ANSWERED 2  /* a challenge was answered and the nonce is gone */
+#define DIMKHOROS_PROVER_DROPPED 3   /* the session was given up and the nonce is gone */
+
+/* States of Vic's session. */
+#define DIMKHOROS_VERIFIER_WAITING 0 /* nothing has been heard */
+#define DIMKHOROS_VERIFIER_HOLDING 1 /* a commitment is held */
+#define DIMKHOROS_VERIFIER_ASKED 2   /* a commitment and the challenge given on it are held */
+#define DIMKHOROS_VERIFIER_JUDGED 3  /* a response was judged */
+
+/* Every refusal: its number, its name and what it says. */
+#define DIMKHOROS_REFUSALS(REFUSAL)                                                                               \
+    REFUSAL(1, PATTERN, "there is no pattern of this number, or it takes another count of values")                \
+    REFUSAL(2, SHEET_MARK, "the sheet is shorter than a header or does not begin with HOM")                       \
+    REFUSAL(3, SHEET_VERSION, "the sheet's version is another than 1")                                            \
+    REFUSAL(4, KIND, "the kind has to be 1, exponent, or 2, root")                                                \
+    REFUSAL(5, MODULUS, "the modulus has to be 3 or more")                                                        \
+    REFUSAL(6, ORDER, "the order or exponent has to be 2 or more")                                                \
+    REFUSAL(7, SHAPE, "rows and columns have to be 1 to 8 each, and equal in a root sheet")                       \
+    REFUSAL(8, CHALLENGES, "the challenge count has to be 2 to 65536, and no smaller number from 2 on may divide" \
+                           " the order or exponent")                                                              \
+    REFUSAL(9, SHEET_LENGTH, "the sheet is longer or shorter than its header says")                               \
+    REFUSAL(10, ENTRY, "a table entry or public value lies outside the group")                                    \
+    REFUSAL(11, STATEMENT, "a statement value lies outside the group")                                            \
+    REFUSAL(12, FILE, "the bytes are no round file of this sheet, or the file is full")                           \
+    REFUSAL(13, ROUND_NUMBER, "the file has no round of this number")                                             \
+    REFUSAL(14, COMMITMENT, "a commitment value lies outside the group")                                          \
+    REFUSAL(15, CHALLENGE, "the challenge has to be below the sheet's challenge count")                           \
+    REFUSAL(16, COORDINATE, "a value of the witness, nonce or response lies outside the domain")                  \
+    REFUSAL(17, WITNESS, "the table does not carry the witness to the statement")                                 \
+    REFUSAL(18, COMMITMENTS_DIFFER, "the two rounds have different commitments")                                  \
+    REFUSAL(19, CHALLENGES_EQUAL, "the two rounds have the same challenge")                                       \
+    REFUSAL(20, ROUND_REJECTED, "one of the two rounds, or both, would be rejected")                              \
+    REFUSAL(21, SESSION, "the session's state does not allow the call, or what it holds does not fit this sheet") \
+    REFUSAL(22, BUFFER, "the buffer is too short for the result")
+
+/* The refusals by name: DIMKHOROS_REFUSED_PATTERN is 1, and so on to DIMKHOROS_REFUSED_BUFFER, which is 22. */
+enum {
+#define DIMKHOROS_REFUSAL(number, name, sentence) DIMKHOROS_REFUSED_##name = number,
+    DIMKHOROS_REFUSALS(DIMKHOROS_REFUSAL)
+#undef DIMKHOROS_REFUSAL
+};
+
+/* What a refusal says. 0 is "nothing is refused", and any other number that is no refusal is "no refusal has this number". */
+static inline const char *dimkhoros_sentence(uint32_t refusal) {
+    switch (refusal) {
+    case 0:
+        return "nothing is refused";
+#define DIMKHOROS_REFUSAL(number, name, sentence) \
+    case number:                                  \
+        return sentence;
+        DIMKHOROS_REFUSALS(DIMKHOROS_REFUSAL)
+#undef DIMKHOROS_REFUSAL
+    default:
+        return "no refusal has this number";
+    }
+}
+
+/* The fixed fields of a sheet. */
+typedef struct {
+    uint32_t kind;       /* DIMKHOROS_EXPONENT or DIMKHOROS_ROOT */
+    uint32_t modulus;    /* m */
+    uint32_t order;      /* q of an exponent sheet, e of a root sheet */
+    uint32_t challenges; /* K: the challenges are 0 to K - 1 */
+    uint32_t rows;       /* s */
+    uint32_t columns;    /* n */
+} DimkhorosHeader;
+
+/* A loaded sheet, but for its entries, which dimkhoros_entries gives. */
+typedef struct {
+    uint32_t refusal;
+    DimkhorosHeader header;
+    uint32_t statement[DIMKHOROS_PLACES];
+} DimkhorosLoaded;
+
+/* What a call that writes to a buffer answers. */
+typedef struct {
+    uint32_t refusal;
+    size_t length; /* how many bytes of the buffer are in use */
+} DimkhorosWritten;
+
+/* One run of the protocol. */
+typedef struct {
+    uint32_t commitment[DIMKHOROS_PLACES]; /* t */
+    uint32_t challenge;                    /* c */
+    uint32_t response[DIMKHOROS_PLACES];   /* r */
+} DimkhorosRound;
+
+/* How many rounds a round file has. */
+typedef struct {
+    uint32_t refusal;
+    uint32_t count;
+} DimkhorosCounted;
+
+/* A round that was read from a round file. */
+typedef struct {
+    uint32_t refusal;
+    DimkhorosRound round;
+} DimkhorosFetched;
+
+/* Where a round stands in the caller's own file: file + offset is its first byte. The length is 0 where it is refused. */
+typedef struct {
+    size_t offset;
+    size_t length;
+} DimkhorosPart;
+
+/* A simulated commitment or an extracted witness. */
+typedef struct {
+    uint32_t refusal;
+    uint32_t values[DIMKHOROS_PLACES];
+} DimkhorosComputed;
+
+/* A verdict. It is accepted only where `accepted` is 1: a refused round has 0 there too. */
+typedef struct {
+    uint32_t refusal;
+    uint32_t accepted; /* 1 if the two sides agree in every row, else 0 */
+    uint32_t row;      /* of a rejected round, the first row, from 0, in which they differ */
+} DimkhorosJudgement;
+
+/*
+ * Peggy's session. Each call takes one and hands one back, which the caller uses from then on in the place of the old. Over
+ * any calls in which each is given the session that the last one handed back, at most one challenge is answered: this is
+ * proved. The library cannot know of copies. Whoever answers two challenges from two copies of one session gives the
+ * witness away, so a box that stores a session must store the new one, over the old, before it sends the response.
+ *
+ * Any phase beyond the four is a state that allows no call.
+ */
+typedef struct {
+    uint32_t phase;
+    uint32_t nonce[DIMKHOROS_PLACES];
+    uint32_t commitment[DIMKHOROS_PLACES];
+} DimkhorosProverSession;
+
+/* What a call on Peggy's session answers. */
+typedef struct {
+    uint32_t refusal;
+    DimkhorosProverSession session;
+    uint32_t values[DIMKHOROS_PLACES]; /* the commitment or the response */
+} DimkhorosProverAnswer;
+
+/* Vic's session. Each call takes one and hands one back. Any phase beyond the four is a state that allows no call. */
+typedef struct {
+    uint32_t phase;
+    uint32_t commitment[DIMKHOROS_PLACES];
+    uint32_t challenge;
+} DimkhorosVerifierSession;
+
+/* What bringing a commitment or a challenge to Vic's session answers. */
+typedef struct {
+    uint32_t refusal;
+    DimkhorosVerifierSession session;
+} DimkhorosVerifierAnswer;
+
+/* What bringing a response to Vic's session answers. */
+typedef struct {
+    DimkhorosJudgement verdict;
+    DimkhorosVerifierSession session;
+} DimkhorosVerifierJudgement;
+
+/* --- Sheets --- */
+
+/* Loads a sheet: answers its fixed fields and its statement. Refuses 2 to 11. */
+DimkhorosLoaded dimkhoros_load(const uint8_t *sheet, size_t sheet_length);
+
+/*
+ * Gives the entries of a sheet that dimkhoros_load does not refuse: all 64 numbers of `entries` are set, to 0 outside the
+ * sheet's rows and columns, everywhere in a root sheet, and everywhere where the sheet is refused.
+ */
+void dimkhoros_entries(const uint8_t *sheet, size_t sheet_length, uint32_t entries[DIMKHOROS_ENTRIES]);
+
+/*
+ * Writes the sheet of these values, given as dimkhoros_load and dimkhoros_entries answer them, to the start of `buffer`, and
+ * answers its length. The entries of a root sheet are not read. No byte behind the sheet is changed. Refuses 4 to 8, 10,
+ * 11 and 22.
+ */
+DimkhorosWritten dimkhoros_encode(DimkhorosHeader header, const uint32_t entries[DIMKHOROS_ENTRIES],
+                                  const uint32_t statement[DIMKHOROS_PLACES], uint8_t *buffer, size_t buffer_length);
+
+/*
+ * Writes the sheet of a pattern, DIMKHOROS_PATTERN_SCHNORR to DIMKHOROS_PATTERN_ROOT, to the start of `buffer`, and answers
+ * its length. `order` is q, or e in pattern 6; `values` are the public values, `value_count` of them, and `statement` has
+ * a value for each row. No byte behind the sheet is changed. Refuses 1, 5, 6, 8, 10, 11 and 22.
+ */
+DimkhorosWritten dimkhoros_from_pattern(uint32_t pattern, uint32_t modulus, uint32_t order, uint32_t challenges,
+                                        const uint32_t *values, size_t value_count, const uint32_t *statement,
+                                        size_t statement_count, uint8_t *buffer, size_t buffer_length);
+
+/* --- Round files --- */
+
+/* Answers how many rounds a file has, 0 to 512. Refuses 2 to 12. */
+DimkhorosCounted dimkhoros_count(const uint8_t *sheet, size_t sheet_length, const uint8_t *file, size_t file_length);
+
+/* Answers the refusal of the round of this number, from 0, in a file: 2 to 13, or 0 where it can be read. */
+uint32_t dimkhoros_check(const uint8_t *sheet, size_t sheet_length, const uint8_t *file, size_t file_length, size_t number);
+
+/*
+ * Answers where the round of this number stands in the caller's own file. Where it is refused, offset and length are 0, and
+ * dimkhoros_check answers the refusal, 2 to 13.
+ */
+DimkhorosPart dimkhoros_part(const uint8_t *sheet, size_t sheet_length, const uint8_t *file, size_t file_length,
+                             size_t number);
+
+/* Answers the values of the round of this number as they stand in the file, without testing them. Refuses 2 to 13. */
+DimkhorosFetched dimkhoros_read(const uint8_t *sheet, size_t sheet_length, const uint8_t *file, size_t file_length,
+                                size_t number);
+
+/* Writes a file without rounds to the start of `buffer` and answers its length, 7. Refuses 22. */
+DimkhorosWritten dimkhoros_empty(uint8_t *buffer, size_t buffer_length);
+
+/*
+ * Adds a round to the file in the first `used` bytes of `buffer`, without testing its values, and answers how many bytes are
+ * then in use. The round is written straight behind these bytes, the file's count rises by one, and no other byte is
+ * changed. Refuses 2 to 12 and 22: 12 where the bytes in use are no file of this sheet, are more than the buffer has or
+ * hold 512 rounds, and 22 where the buffer has no room for the round.
+ */
+DimkhorosWritten dimkhoros_append(const uint8_t *sheet, size_t sheet_length, uint8_t *buffer, size_t buffer_length,
+                                  size_t used, DimkhorosRound round);
+
+/* --- Rounds --- */
+
+/* Answers Vic's verdict on a round. Refuses 2 to 11 and 14 to 16. */
+DimkhorosJudgement dimkhoros_judge(const uint8_t *sheet, size_t sheet_length, DimkhorosRound round);
+
+/*
+ * The simulator: answers the one commitment with which Vic accepts this challenge and response. No witness is needed for it.
+ * Refuses 2 to 11, 15 and 16.
+ */
+DimkhorosComputed dimkhoros_simulate(const uint8_t *sheet, size_t sheet_length, uint32_t challenge,
+                                     const uint32_t response[DIMKHOROS_PLACES]);
+
+/*
+ * The extractor: answers the witness that two accepted rounds with one commitment and different challenges give away, the
+ * same one in either order. Refuses 2 to 11, 14 to 16 and 18 to 20.
+ */
+DimkhorosComputed dimkhoros_extract(const uint8_t *sheet, size_t sheet_length, DimkhorosRound first, DimkhorosRound second);
+
+/* --- The marker --- */
+
+/*
+ * Judges a round file and writes the marker's text, in ASCII and without a zero at its end, to the start of `text`. Answers its
+ * length; no byte behind it is changed. A refused sheet gives the one line `sheet N` and a refused file `file N`, N being
+ * the refusal. Else there are a line `rounds` with the count, a line for each round (its number from 0 and `accepted`,
+ * `rejected` with the first row that differs, or `refused` with 14 to 16), and `pass` if every round is accepted or `fail`.
+ * Each line ends in a newline.
+ */
+size_t dimkhoros_mark(const uint8_t *sheet, size_t sheet_length, const uint8_t *file, size_t file_length,
+                      uint8_t text[DIMKHOROS_LONGEST_TEXT]);
+
+/* --- Peggy's session --- */
+
+/* A new session: DIMKHOROS_PROVER_NEW, with zeros. */
+DimkhorosProverSession dimkhoros_prover_new(void);
+
+/* Commits a new session to a nonce, and answers the commitment. Leads to Committed. Refuses 2 to 11, 16 and 21. */
+DimkhorosProverAnswer dimkhoros_prover_commit(const uint8_t *sheet, size_t sheet_length, DimkhorosProverSession session,
+                                              const uint32_t nonce[DIMKHOROS_PLACES]);
+
+/*
+ * Answers the response of a committed session to a challenge, by a witness, and sets the nonce to zeros. Leads to Answered.
+ * Refuses 2 to 11, 15 to 17 and 21; a refused session can still answer.
+ */
+DimkhorosProverAnswer dimkhoros_prover_respond(const uint8_t *sheet, size_t sheet_length, DimkhorosProverSession session,
+                                               uint32_t challenge, const uint32_t witness[DIMKHOROS_PLACES]);
+
+/* Gives up a new or committed session and sets the nonce to zeros. Leads to Dropped. Refuses 21. */
+DimkhorosProverAnswer dimkhoros_prover_drop(DimkhorosProverSession session);
+
+/* --- Vic's session --- */
+
+/* A new session: DIMKHOROS_VERIFIER_WAITING, with zeros. */
+DimkhorosVerifierSession dimkhoros_verifier_new(void);
+
+/* Brings the commitment to a waiting session. Leads to Holding. Refuses 2 to 11, 14 and 21. */
+DimkhorosVerifierAnswer dimkhoros_verifier_commitment(const uint8_t *sheet, size_t sheet_length,
+                                                      DimkhorosVerifierSession session,
+                                                      const uint32_t commitment[DIMKHOROS_PLACES]);
+
+/* Brings the challenge to a session that holds a commitment. Leads to Asked. Refuses 2 to 11, 15 and 21. */
+DimkhorosVerifierAnswer dimkhoros_verifier_challenge(const uint8_t *sheet, size_t sheet_length,
+                                                     DimkhorosVerifierSession session, uint32_t challenge);
+
+/*
+ * Brings the response to a session that has asked, and answers the verdict. An accepted verdict and a rejected one both lead
+ * to Judged. Refuses 2 to 11, 16 and 21.
+ */
+DimkhorosVerifierJudgement dimkhoros_verifier_response(const uint8_t *sheet, size_t sheet_length,
+                                                       DimkhorosVerifierSession session,
+                                                       const uint32_t response[DIMKHOROS_PLACES]);
+
+#ifdef __cplusplus
+}
+#endif
+
+#endif

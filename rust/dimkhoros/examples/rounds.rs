@@ -1,0 +1,47 @@
+//! Vic keeps a file of rounds, and a marker judges each of them.
+
+mod common;
+
+use common::page_a;
+use dimkhoros::{
+    EMPTY_FILE, Instance, LONGEST_FILE, LONGEST_TEXT, Refusal, Round, RoundFile, RoundWriter, mark,
+    places,
+};
+
+/// A round of page A's sheet.
+fn round(t: u32, c: u32, r: u32) -> Round {
+    Round { commitment: places([t]), challenge: c, response: places([r]) }
+}
+
+/// Where a round of the file stands, its values and the verdict on it.
+fn describe(instance: &Instance, file: &RoundFile<'_>, number: usize) -> Result<String, Refusal> {
+    let round = file.read(number)?;
+    let length = file.part(number)?.len();
+    let offset = EMPTY_FILE + number * length;
+    let verdict = match instance.judge(&round) {
+        Ok(verdict) => verdict.to_string(),
+        Err(refusal) => refusal.to_string(),
+    };
+    let (t, c, r) = (round.commitment[0], round.challenge, round.response[0]);
+    Ok(format!("{length} bytes from byte {offset} on, t = {t}, c = {c}, r = {r}, {verdict}"))
+}
+
+fn main() -> Result<(), Refusal> {
+    let instance = page_a()?;
+    let mut buffer = [0; LONGEST_FILE];
+    let mut writer = RoundWriter::start(&instance, &mut buffer)?;
+    for round in [round(9, 3, 4), round(9, 1, 1), round(9, 1, 2), round(5, 0, 0)] {
+        writer.append(&round)?;
+    }
+    let file = writer.file();
+    println!("The file: {} rounds in {} bytes.", file.count(), file.bytes().len());
+    for number in 0..=file.count() {
+        println!(
+            "round {number}: {}",
+            describe(&instance, &file, number).unwrap_or_else(|refusal| refusal.to_string())
+        );
+    }
+    let mut text = [0; LONGEST_TEXT];
+    print!("The marker's text:\n{}", mark(instance.bytes(), file.bytes(), &mut text));
+    Ok(())
+}

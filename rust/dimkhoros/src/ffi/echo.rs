@@ -1,0 +1,209 @@
+//! Every field crosses to and from the archive where C and this crate have it: each export is called with values that differ
+//! from field to field, and every field of what comes back is compared with one text, in Rust and in C.
+
+use super::*;
+use crate::Header;
+use std::fmt::Write;
+
+const WITNESS: Places = [1, 2, 3, 4, 5, 6, 7, 8];
+const STATEMENT: Places = [2, 4, 8, 16, 9, 18, 13, 3];
+const NONCE: Places = [0, 3, 6, 9, 1, 4, 7, 10];
+const COMMITMENT: Places = [1, 8, 18, 6, 2, 16, 13, 12];
+const RESPONSE: Places = [1, 5, 9, 2, 6, 10, 3, 7];
+
+/// A sheet of 8 rows and 8 columns with 2 on the diagonal and 1 elsewhere: row i's image is 2 to the i-th coordinate.
+fn wide() -> (Values, [u8; 308]) {
+    let mut entries = [[1; 8]; 8];
+    for (i, row) in entries.iter_mut().enumerate() {
+        row[i] = 2;
+    }
+    let header = Header { kind: 1, modulus: 23, order: 11, challenges: 5, rows: 8, columns: 8 };
+    let values = Values { header, entries, statement: STATEMENT };
+    let mut sheet = [0; 308];
+    assert_eq!(encode(&values, &mut sheet).length, 308);
+    (values, sheet)
+}
+
+/// Eight numbers that rise from one.
+fn rise(first: u32) -> Places {
+    core::array::from_fn(|i| first + i as u32)
+}
+
+fn rising_round(first: u32) -> Round {
+    Round { commitment: rise(first), challenge: first + 8, response: rise(first + 9) }
+}
+
+fn honest_round(challenge: u32, response: Places) -> Round {
+    Round { commitment: COMMITMENT, challenge, response }
+}
+
+/// Adds a line for each value.
+macro_rules! print {
+    ($text:ident: $($value:expr),* $(,)?) => {
+        $(writeln!($text, "{:?}", $value).unwrap();)*
+    };
+}
+
+fn sheets(text: &mut String) {
+    let mut buffer = [0; 308];
+    let plan = Plan {
+        pattern: 5,
+        modulus: 23,
+        order: 11,
+        challenges: 5,
+        values: &[2, 3, 3],
+        statement: &[12, 9],
+    };
+    let made = from_pattern(&plan, &mut buffer);
+    let product = &buffer[..made.length];
+    print!(text: made, load(product), entries(product));
+
+    let (mut values, wide) = wide();
+    print!(text: encode(&values, &mut buffer), load(&wide), entries(&wide));
+    assert_eq!(buffer, wide);
+    values.header.rows = 9;
+    let root =
+        Plan { pattern: 6, modulus: 35, order: 5, challenges: 5, values: &[], statement: &[12] };
+    print!(text: encode(&values, &mut buffer), from_pattern(&root, &mut buffer));
+}
+
+fn files(text: &mut String) {
+    let (_, wide) = wide();
+    let mut buffer = [0; 200];
+    print!(text:
+        empty(&mut buffer),
+        append(&wide, &mut buffer, 7, &rising_round(101)),
+        append(&wide, &mut buffer, 75, &rising_round(201)),
+        append(&wide, &mut buffer, 143, &rising_round(301)),
+        count(&wide, &buffer[..143]),
+        count(&wide, &buffer[..142]),
+        part(&wide, &buffer[..143], 1),
+        part(&wide, &buffer[..143], 2),
+        read(&wide, &buffer[..143], 0),
+        read(&wide, &buffer[..143], 1),
+        read(&wide, &buffer[..143], 2),
+        check(&wide, &buffer[..143], 1),
+        check(&wide, &buffer[..143], usize::MAX),
+    );
+}
+
+fn rounds(text: &mut String) {
+    let (_, wide) = wide();
+    let mut wrong = RESPONSE;
+    wrong[5] = 0;
+    print!(text:
+        judge(&wide, &honest_round(1, RESPONSE)),
+        judge(&wide, &honest_round(2, RESPONSE)),
+        judge(&wide, &honest_round(1, wrong)),
+        judge(&wide, &honest_round(5, RESPONSE)),
+        simulate(&wide, 1, &RESPONSE),
+    );
+    wrong[5] = 11;
+    print!(text:
+        simulate(&wide, 1, &wrong),
+        extract(&wide, &honest_round(1, RESPONSE), &honest_round(0, NONCE)),
+        extract(&wide, &honest_round(0, NONCE), &honest_round(1, NONCE)),
+    );
+}
+
+fn provers(text: &mut String) {
+    let (_, wide) = wide();
+    let committed = || prover_commit(&wide, prover_new(), &NONCE);
+    let odd = || ProverSession { phase: 77, nonce: rise(401), commitment: rise(501) };
+    print!(text:
+        prover_new(),
+        committed(),
+        prover_drop(committed().session),
+        prover_respond(&wide, committed().session, 1, &WITNESS),
+        prover_commit(&wide, odd(), &NONCE),
+        prover_respond(&wide, odd(), 1, &WITNESS),
+        prover_drop(odd()),
+    );
+}
+
+fn verifiers(text: &mut String) {
+    let (_, wide) = wide();
+    let mut wrong = RESPONSE;
+    wrong[5] = 0;
+    let holding = || verifier_commitment(&wide, verifier_new(), &COMMITMENT);
+    let asked = || verifier_challenge(&wide, holding().session, 1);
+    let odd = || VerifierSession { phase: 78, commitment: rise(601), challenge: 609 };
+    print!(text:
+        verifier_new(),
+        holding(),
+        asked(),
+        verifier_response(&wide, asked().session, &RESPONSE),
+        verifier_response(&wide, asked().session, &wrong),
+        verifier_commitment(&wide, odd(), &COMMITMENT),
+        verifier_challenge(&wide, odd(), 1),
+        verifier_response(&wide, odd(), &RESPONSE),
+    );
+}
+
+/// The marker's text on two files, and the bytes behind it, which stay.
+fn marks(text: &mut String) {
+    let (_, wide) = wide();
+    let mut file = [0; 200];
+    let mut marked = [238; LONGEST_TEXT];
+    empty(&mut file);
+    append(&wide, &mut file, 7, &honest_round(1, RESPONSE));
+    let used = append(&wide, &mut file, 75, &honest_round(5, RESPONSE)).length;
+    let length = mark(&wide, &file[..used], &mut marked);
+    writeln!(text, "{length}").unwrap();
+    text.push_str(std::str::from_utf8(&marked[..length]).unwrap());
+    writeln!(text, "{} {}", marked[length], marked[LONGEST_TEXT - 1]).unwrap();
+    let length = mark(&[], &[], &mut marked);
+    writeln!(text, "{length}").unwrap();
+    text.push_str(std::str::from_utf8(&marked[..length]).unwrap());
+}
+
+/// Every slice of every call is empty.
+fn empty_slices(text: &mut String) {
+    let (values, wide) = wide();
+    let none =
+        Plan { pattern: 6, modulus: 35, order: 5, challenges: 5, values: &[], statement: &[] };
+    let root = Plan { statement: &[2], ..none };
+    print!(text:
+        entries(&[]),
+        load(&[]),
+        encode(&values, &mut []),
+        from_pattern(&none, &mut []),
+        from_pattern(&root, &mut []),
+        count(&[], &[]),
+        count(&wide, &[]),
+        check(&wide, &[], 0),
+        part(&wide, &[], 0),
+        read(&wide, &[], 0),
+        empty(&mut []),
+        append(&wide, &mut [], 0, &rising_round(1)),
+        append(&wide, &mut [], 7, &rising_round(1)),
+        judge(&[], &rising_round(1)),
+        simulate(&[], 0, &RESPONSE),
+        extract(&[], &rising_round(1), &rising_round(2)),
+        prover_commit(&[], prover_new(), &NONCE),
+        prover_respond(&[], prover_new(), 1, &WITNESS),
+        verifier_commitment(&[], verifier_new(), &COMMITMENT),
+        verifier_challenge(&[], verifier_new(), 1),
+        verifier_response(&[], verifier_new(), &RESPONSE),
+    );
+}
+
+const EXPECTED: &str = include_str!("../../tests/echo.txt");
+
+#[test]
+fn fields_cross_from_rust() {
+    let mut text = String::new();
+    sheets(&mut text);
+    files(&mut text);
+    rounds(&mut text);
+    provers(&mut text);
+    verifiers(&mut text);
+    marks(&mut text);
+    empty_slices(&mut text);
+    assert_eq!(text, EXPECTED);
+}
+
+#[test]
+fn fields_cross_from_c() {
+    assert_eq!(cc::run("echo.c"), EXPECTED);
+}

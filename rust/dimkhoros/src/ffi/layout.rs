@@ -1,0 +1,44 @@
+//! Sizes and places are the same in this crate as in C.
+
+use super::cc;
+use super::*;
+use crate::Header;
+use std::fmt::Write;
+use std::mem::offset_of;
+
+/// The size of the field that a function takes out of a struct.
+fn field_size<S, F>(_: fn(&S) -> &F) -> usize {
+    size_of::<F>()
+}
+
+/// A line with the size of a struct, then a line with the place and size of each of its fields, all of which are named.
+macro_rules! describe {
+    ($text:ident, $name:ident { $($field:ident),* }) => {
+        let _ = |$name { $($field: _),* }: $name| ();
+        writeln!($text, "Dimkhoros{} {}", stringify!($name), size_of::<$name>()).unwrap();
+        $(
+            let (place, size) = (offset_of!($name, $field), field_size(|value: &$name| &value.$field));
+            writeln!($text, "Dimkhoros{}.{} {place} {size}", stringify!($name), stringify!($field)).unwrap();
+        )*
+    };
+}
+
+#[test]
+fn every_struct_is_laid_out_as_in_c() {
+    let mut text = String::new();
+    describe!(text, Header { kind, modulus, order, challenges, rows, columns });
+    describe!(text, Loaded { refusal, header, statement });
+    describe!(text, Written { refusal, length });
+    describe!(text, Round { commitment, challenge, response });
+    describe!(text, Counted { refusal, count });
+    describe!(text, Fetched { refusal, round });
+    describe!(text, Part { offset, length });
+    describe!(text, Computed { refusal, values });
+    describe!(text, Judgement { refusal, accepted, row });
+    describe!(text, ProverSession { phase, nonce, commitment });
+    describe!(text, ProverAnswer { refusal, session, values });
+    describe!(text, VerifierSession { phase, commitment, challenge });
+    describe!(text, VerifierAnswer { refusal, session });
+    describe!(text, VerifierJudgement { verdict, session });
+    assert_eq!(text, cc::run("layout.c"));
+}

@@ -1,0 +1,285 @@
+//! Peggy's session.
+
+use crate::ffi::{self, ProverAnswer, ProverSession};
+use crate::{Instance, Places, Refused};
+use core::fmt;
+
+/// The states of a prover's session.
+///
+/// ```
+/// use dimkhoros::{Prover, ProverPhase};
+///
+/// assert_eq!(Prover::new().phase(), ProverPhase::New);
+/// ```
+#[derive(Clone, Copy, Debug, PartialEq, Eq, Hash)]
+#[repr(u32)]
+pub enum ProverPhase {
+    /// 0: nothing has happened.
+    New = 0,
+    /// 1: a nonce and its commitment are held.
+    Committed = 1,
+    /// 2: a challenge was answered and the nonce is gone.
+    Answered = 2,
+    /// 3: the session was given up and the nonce is gone.
+    Dropped = 3,
+}
+
+impl ProverPhase {
+    /// The state's number, 0 to 3, for a box that stores it.
+    ///
+    /// ```
+    /// assert_eq!(dimkhoros::ProverPhase::Answered.number(), 2);
+    /// ```
+    pub const fn number(self) -> u32 {
+        self as u32
+    }
+
+    /// The state of a number. A number that is no state's is taken as Dropped, which allows no call.
+    ///
+    /// ```
+    /// use dimkhoros::ProverPhase;
+    ///
+    /// assert_eq!(ProverPhase::from_number(2), ProverPhase::Answered);
+    /// assert_eq!(ProverPhase::from_number(7), ProverPhase::Dropped);
+    /// ```
+    pub const fn from_number(number: u32) -> ProverPhase {
+        match number {
+            0 => ProverPhase::New,
+            1 => ProverPhase::Committed,
+            2 => ProverPhase::Answered,
+            _ => ProverPhase::Dropped,
+        }
+    }
+}
+
+/// A prover's session.
+///
+/// Each call takes the session and hands it back, refused calls too, and there is no way to copy it by mistake: it is neither
+/// `Clone` nor `Copy`. Over any chain of calls in which each is given the session that the last one handed back, at most one
+/// challenge is answered: this is proved of the library. It cannot know of copies that are made by
+/// [`into_parts`](Prover::into_parts) and [`from_parts`](Prover::from_parts). Nor does it wipe the memory that a session was
+/// moved out of.
+///
+/// ```
+/// use dimkhoros::{places, Prover, ProverPhase, Refusal};
+/// # use dimkhoros::{Instance, Plan};
+/// # let plan = Plan { pattern: 1, modulus: 23, order: 11, challenges: 11, values: &[2], statement: &[13] };
+/// # let instance = Instance::from_pattern(&plan)?;
+///
+/// let (peggy, commitment) = Prover::new().commit(&instance, &places([5]))?;
+/// assert_eq!(commitment, places([9]));
+/// let (peggy, response) = peggy.respond(&instance, 3, &places([7]))?;
+/// assert_eq!(response, places([4]));
+///
+/// let again = peggy.respond(&instance, 1, &places([7])).unwrap_err();
+/// assert_eq!(again.refusal, Refusal::Session);
+/// assert_eq!(again.session.phase(), ProverPhase::Answered);
+/// # Ok::<(), Refusal>(())
+/// ```
+///
+/// A session that was used cannot be used again.
+///
+/// ```compile_fail,E0382
+/// # use dimkhoros::{places, Instance, Plan, Prover};
+/// # let plan = Plan { pattern: 1, modulus: 23, order: 11, challenges: 11, values: &[2], statement: &[13] };
+/// # let instance = Instance::from_pattern(&plan).unwrap();
+/// let (peggy, _) = Prover::new().commit(&instance, &places([5])).unwrap();
+/// let first = peggy.respond(&instance, 3, &places([7]));
+/// let second = peggy.respond(&instance, 1, &places([7]));
+/// ```
+///
+/// Nor can it be cloned.
+///
+/// ```compile_fail,E0599
+/// let copy = dimkhoros::Prover::new().clone();
+/// ```
+#[must_use = "this is the session to go on with"]
+pub struct Prover {
+    session: ProverSession,
+}
+
+impl Prover {
+    /// A new session, which holds zeros.
+    ///
+    /// ```
+    /// use dimkhoros::{Prover, ProverPhase};
+    ///
+    /// assert_eq!(Prover::new().phase(), ProverPhase::New);
+    /// ```
+    pub fn new() -> Prover {
+        Prover { session: ffi::prover_new() }
+    }
+
+    /// Commits a new session to a nonce, and answers the commitment. Refused with 16 or 21.
+    ///
+    /// The nonce is the caller's. It has to be drawn at random from all coordinates, anew for each session.
+    ///
+    /// ```
+    /// use dimkhoros::{places, Prover, ProverPhase};
+    /// # use dimkhoros::{Instance, Plan};
+    /// # let plan = Plan { pattern: 1, modulus: 23, order: 11, challenges: 11, values: &[2], statement: &[13] };
+    /// # let instance = Instance::from_pattern(&plan)?;
+    ///
+    /// let (peggy, commitment) = Prover::new().commit(&instance, &places([5]))?;
+    /// assert_eq!(commitment, places([9]));
+    /// assert_eq!(peggy.phase(), ProverPhase::Committed);
+    /// # Ok::<(), dimkhoros::Refusal>(())
+    /// ```
+    pub fn commit(
+        self,
+        instance: &Instance,
+        nonce: &Places,
+    ) -> Result<(Prover, Places), Refused<Prover>> {
+        step(ffi::prover_commit(instance.bytes(), self.session, nonce))
+    }
+
+    /// Answers the response of a committed session to a challenge, by a witness, and sets the held nonce to zeros. Refused with
+    /// 15 to 17 or 21; the session that a refused call hands back can still answer.
+    ///
+    /// ```
+    /// use dimkhoros::{places, Prover, Refusal};
+    /// # use dimkhoros::{Instance, Plan};
+    /// # let plan = Plan { pattern: 1, modulus: 23, order: 11, challenges: 11, values: &[2], statement: &[13] };
+    /// # let instance = Instance::from_pattern(&plan)?;
+    ///
+    /// let (peggy, _) = Prover::new().commit(&instance, &places([5]))?;
+    /// let refused = peggy.respond(&instance, 3, &places([8])).unwrap_err();
+    /// assert_eq!(refused.refusal, Refusal::Witness);
+    /// let (_, response) = refused.session.respond(&instance, 3, &places([7]))?;
+    /// assert_eq!(response, places([4]));
+    /// # Ok::<(), Refusal>(())
+    /// ```
+    pub fn respond(
+        self,
+        instance: &Instance,
+        challenge: u32,
+        witness: &Places,
+    ) -> Result<(Prover, Places), Refused<Prover>> {
+        step(ffi::prover_respond(instance.bytes(), self.session, challenge, witness))
+    }
+
+    /// Gives up a new or committed session, and sets the held nonce to zeros. Refused with 21.
+    ///
+    /// ```
+    /// use dimkhoros::{Prover, ProverPhase};
+    ///
+    /// let peggy = Prover::new().drop_session()?;
+    /// assert_eq!(peggy.phase(), ProverPhase::Dropped);
+    /// # Ok::<(), dimkhoros::Refusal>(())
+    /// ```
+    pub fn drop_session(self) -> Result<Prover, Refused<Prover>> {
+        let (session, _) = step(ffi::prover_drop(self.session))?;
+        Ok(session)
+    }
+
+    /// The session's state.
+    ///
+    /// ```
+    /// use dimkhoros::{Prover, ProverPhase};
+    ///
+    /// assert_eq!(Prover::default().phase(), ProverPhase::New);
+    /// ```
+    pub fn phase(&self) -> ProverPhase {
+        ProverPhase::from_number(self.session.phase)
+    }
+
+    /// The commitment that the session holds, zeros in a new one.
+    ///
+    /// ```
+    /// use dimkhoros::{places, Prover};
+    /// # use dimkhoros::{Instance, Plan};
+    /// # let plan = Plan { pattern: 1, modulus: 23, order: 11, challenges: 11, values: &[2], statement: &[13] };
+    /// # let instance = Instance::from_pattern(&plan)?;
+    ///
+    /// let (peggy, _) = Prover::new().commit(&instance, &places([5]))?;
+    /// assert_eq!(peggy.commitment(), &places([9]));
+    /// # Ok::<(), dimkhoros::Refusal>(())
+    /// ```
+    pub fn commitment(&self) -> &Places {
+        &self.session.commitment
+    }
+
+    /// Takes the session apart, for a box that stores it. See [`ProverParts`] for what such a box has to see to.
+    ///
+    /// ```
+    /// use dimkhoros::{places, Prover};
+    /// # use dimkhoros::{Instance, Plan};
+    /// # let plan = Plan { pattern: 1, modulus: 23, order: 11, challenges: 11, values: &[2], statement: &[13] };
+    /// # let instance = Instance::from_pattern(&plan)?;
+    ///
+    /// let (peggy, _) = Prover::new().commit(&instance, &places([5]))?;
+    /// assert_eq!(peggy.into_parts().nonce, places([5]));
+    /// # Ok::<(), dimkhoros::Refusal>(())
+    /// ```
+    pub fn into_parts(self) -> ProverParts {
+        ProverParts {
+            phase: self.phase(),
+            nonce: self.session.nonce,
+            commitment: self.session.commitment,
+        }
+    }
+
+    /// Puts a session together from its parts, which may be any: a committed session whose held values do not fit the sheet is
+    /// refused with 21 by the calls. See [`ProverParts`] for what a box that stores sessions has to see to.
+    ///
+    /// ```
+    /// use dimkhoros::{Prover, ProverPhase};
+    ///
+    /// let peggy = Prover::from_parts(Prover::new().into_parts());
+    /// assert_eq!(peggy.phase(), ProverPhase::New);
+    /// ```
+    pub fn from_parts(parts: ProverParts) -> Prover {
+        let session = ProverSession {
+            phase: parts.phase.number(),
+            nonce: parts.nonce,
+            commitment: parts.commitment,
+        };
+        Prover { session }
+    }
+}
+
+impl Default for Prover {
+    fn default() -> Prover {
+        Prover::new()
+    }
+}
+
+/// Shows the state and the commitment, and never the nonce.
+impl fmt::Debug for Prover {
+    fn fmt(&self, f: &mut fmt::Formatter<'_>) -> fmt::Result {
+        f.debug_struct("Prover")
+            .field("phase", &self.phase())
+            .field("commitment", self.commitment())
+            .finish_non_exhaustive()
+    }
+}
+
+/// A prover's session taken apart.
+///
+/// This is the one place where a session can be copied, by hand. Whoever answers two challenges on one nonce gives the witness
+/// away, and the library cannot know of copies: what is proved, that one session answers at most one challenge, is
+/// proved of chains of calls in which each is given the session that the last one handed back. So a box that stores a
+/// session stores what a call handed back in the place of what it gave, and does so before it sends the answer.
+///
+/// ```
+/// use dimkhoros::{Prover, ProverParts, ProverPhase};
+///
+/// let parts = ProverParts { phase: ProverPhase::New, nonce: [0; 8], commitment: [0; 8] };
+/// assert!(Prover::new().into_parts() == parts);
+/// ```
+#[derive(PartialEq, Eq)]
+pub struct ProverParts {
+    /// The state.
+    pub phase: ProverPhase,
+    /// The nonce, zeros where the session holds none.
+    pub nonce: Places,
+    /// The commitment.
+    pub commitment: Places,
+}
+
+/// The session of an answer with its values, or the session with why the call was refused.
+fn step(answer: ProverAnswer) -> Result<(Prover, Places), Refused<Prover>> {
+    let session = Prover { session: answer.session };
+    let session = Refused::check(session, answer.refusal)?;
+    Ok((session, answer.values))
+}

@@ -1,0 +1,247 @@
+//! Round files: reading them and adding rounds to them.
+
+use crate::{Instance, Refusal, Round, ffi};
+
+/// How many bytes a round file without rounds has.
+///
+/// ```
+/// assert_eq!(dimkhoros::EMPTY_FILE, 7);
+/// ```
+pub const EMPTY_FILE: usize = 7;
+
+/// How many rounds the fullest round file has.
+///
+/// ```
+/// assert_eq!(dimkhoros::MOST_ROUNDS, 512);
+/// ```
+pub const MOST_ROUNDS: usize = 512;
+
+/// How many bytes the longest round file has.
+///
+/// ```
+/// use dimkhoros::{EMPTY_FILE, LONGEST_FILE, MOST_ROUNDS, PLACES};
+///
+/// assert_eq!(LONGEST_FILE, EMPTY_FILE + MOST_ROUNDS * 4 * (PLACES + 1 + PLACES));
+/// ```
+pub const LONGEST_FILE: usize = 34_823;
+
+/// A round file of an instance, over the caller's own bytes.
+///
+/// ```
+/// use dimkhoros::{places, RoundFile};
+/// # use dimkhoros::{Instance, Plan};
+/// # let plan = Plan { pattern: 1, modulus: 23, order: 11, challenges: 11, values: &[2], statement: &[13] };
+/// # let instance = Instance::from_pattern(&plan)?;
+///
+/// let bytes = b"RND\x00\x01\x00\x01\x00\x00\x00\x09\x00\x00\x00\x03\x00\x00\x00\x04";
+/// let file = RoundFile::open(&instance, bytes)?;
+/// for round in file.rounds() {
+///     assert!(instance.judge(&round)?.is_accepted());
+/// }
+/// # Ok::<(), dimkhoros::Refusal>(())
+/// ```
+#[derive(Clone, Copy, Debug)]
+pub struct RoundFile<'a> {
+    instance: &'a Instance,
+    bytes: &'a [u8],
+    count: usize,
+}
+
+impl<'a> RoundFile<'a> {
+    /// Opens a round file, or refuses it with 12.
+    ///
+    /// ```
+    /// use dimkhoros::{Refusal, RoundFile};
+    /// # use dimkhoros::{Instance, Plan};
+    /// # let plan = Plan { pattern: 1, modulus: 23, order: 11, challenges: 11, values: &[2], statement: &[13] };
+    /// # let instance = Instance::from_pattern(&plan)?;
+    ///
+    /// assert_eq!(RoundFile::open(&instance, b"RND\x00\x01\x00\x00")?.count(), 0);
+    /// assert_eq!(RoundFile::open(&instance, b"RND\x00\x01\x00\x01").unwrap_err(), Refusal::File);
+    /// # Ok::<(), Refusal>(())
+    /// ```
+    pub fn open(instance: &'a Instance, bytes: &'a [u8]) -> Result<RoundFile<'a>, Refusal> {
+        let counted = ffi::count(instance.bytes(), bytes);
+        Refusal::check(counted.refusal)?;
+        Ok(RoundFile { instance, bytes, count: counted.count as usize })
+    }
+
+    /// How many rounds the file has.
+    ///
+    /// ```
+    /// # use dimkhoros::{Instance, Plan, RoundFile};
+    /// # let plan = Plan { pattern: 1, modulus: 23, order: 11, challenges: 11, values: &[2], statement: &[13] };
+    /// # let instance = Instance::from_pattern(&plan)?;
+    /// # let bytes = b"RND\x00\x01\x00\x01\x00\x00\x00\x09\x00\x00\x00\x03\x00\x00\x00\x04";
+    /// assert_eq!(RoundFile::open(&instance, bytes)?.count(), 1);
+    /// # Ok::<(), dimkhoros::Refusal>(())
+    /// ```
+    pub fn count(&self) -> usize {
+        self.count
+    }
+
+    /// The file's bytes.
+    ///
+    /// ```
+    /// # use dimkhoros::{Instance, Plan, RoundFile};
+    /// # let plan = Plan { pattern: 1, modulus: 23, order: 11, challenges: 11, values: &[2], statement: &[13] };
+    /// # let instance = Instance::from_pattern(&plan)?;
+    /// assert_eq!(RoundFile::open(&instance, b"RND\x00\x01\x00\x00")?.bytes(), b"RND\x00\x01\x00\x00");
+    /// # Ok::<(), dimkhoros::Refusal>(())
+    /// ```
+    pub fn bytes(&self) -> &'a [u8] {
+        self.bytes
+    }
+
+    /// The bytes of the round of this number, from 0, as that part of the caller's own file, or refusal 13.
+    ///
+    /// ```
+    /// # use dimkhoros::{Instance, Plan, Refusal, RoundFile};
+    /// # let plan = Plan { pattern: 1, modulus: 23, order: 11, challenges: 11, values: &[2], statement: &[13] };
+    /// # let instance = Instance::from_pattern(&plan)?;
+    /// # let bytes = b"RND\x00\x01\x00\x01\x00\x00\x00\x09\x00\x00\x00\x03\x00\x00\x00\x04";
+    /// let file = RoundFile::open(&instance, bytes)?;
+    /// assert_eq!(file.part(0), Ok(&bytes[7..19]));
+    /// assert_eq!(file.part(1), Err(Refusal::RoundNumber));
+    /// # Ok::<(), Refusal>(())
+    /// ```
+    pub fn part(&self, number: usize) -> Result<&'a [u8], Refusal> {
+        let sheet = self.instance.bytes();
+        Refusal::check(ffi::check(sheet, self.bytes, number))?;
+        let part = ffi::part(sheet, self.bytes, number);
+        Ok(&self.bytes[part.offset..part.offset + part.length])
+    }
+
+    /// The values of the round of this number, from 0, as they stand in the file, or refusal 13. They are not tested;
+    /// [`Instance::judge`] tests them.
+    ///
+    /// ```
+    /// # use dimkhoros::{places, Instance, Plan, Refusal, RoundFile};
+    /// # let plan = Plan { pattern: 1, modulus: 23, order: 11, challenges: 11, values: &[2], statement: &[13] };
+    /// # let instance = Instance::from_pattern(&plan)?;
+    /// # let bytes = b"RND\x00\x01\x00\x01\x00\x00\x00\x09\x00\x00\x00\x03\x00\x00\x00\x04";
+    /// let file = RoundFile::open(&instance, bytes)?;
+    /// assert_eq!(file.read(0)?.response, places([4]));
+    /// assert_eq!(file.read(1), Err(Refusal::RoundNumber));
+    /// # Ok::<(), Refusal>(())
+    /// ```
+    pub fn read(&self, number: usize) -> Result<Round, Refusal> {
+        let fetched = ffi::read(self.instance.bytes(), self.bytes, number);
+        Refusal::check(fetched.refusal)?;
+        Ok(fetched.round)
+    }
+
+    /// All rounds of the file, in order.
+    ///
+    /// ```
+    /// # use dimkhoros::{Instance, Plan, RoundFile};
+    /// # let plan = Plan { pattern: 1, modulus: 23, order: 11, challenges: 11, values: &[2], statement: &[13] };
+    /// # let instance = Instance::from_pattern(&plan)?;
+    /// # let bytes = b"RND\x00\x01\x00\x01\x00\x00\x00\x09\x00\x00\x00\x03\x00\x00\x00\x04";
+    /// let file = RoundFile::open(&instance, bytes)?;
+    /// assert_eq!(file.rounds().map(|round| round.challenge).collect::<Vec<_>>(), [3]);
+    /// # Ok::<(), dimkhoros::Refusal>(())
+    /// ```
+    pub fn rounds(&self) -> impl Iterator<Item = Round> + 'a {
+        let file = *self;
+        (0..file.count).map_while(move |number| file.read(number).ok())
+    }
+}
+
+/// A round file of an instance that grows in the caller's own buffer.
+///
+/// ```
+/// use dimkhoros::{places, Round, RoundWriter, LONGEST_FILE};
+/// # use dimkhoros::{Instance, Plan};
+/// # let plan = Plan { pattern: 1, modulus: 23, order: 11, challenges: 11, values: &[2], statement: &[13] };
+/// # let instance = Instance::from_pattern(&plan)?;
+///
+/// let mut buffer = [0; LONGEST_FILE];
+/// let mut writer = RoundWriter::start(&instance, &mut buffer)?;
+/// writer.append(&Round { commitment: places([9]), challenge: 3, response: places([4]) })?;
+/// assert_eq!(writer.file().bytes(), b"RND\x00\x01\x00\x01\x00\x00\x00\x09\x00\x00\x00\x03\x00\x00\x00\x04");
+/// # Ok::<(), dimkhoros::Refusal>(())
+/// ```
+#[derive(Debug)]
+pub struct RoundWriter<'a> {
+    instance: &'a Instance,
+    buffer: &'a mut [u8],
+    used: usize,
+    count: usize,
+}
+
+impl<'a> RoundWriter<'a> {
+    /// Writes a file without rounds to the start of a buffer, or refuses the buffer with 22 and changes nothing.
+    ///
+    /// ```
+    /// # use dimkhoros::{Instance, Plan, Refusal, RoundWriter};
+    /// # let plan = Plan { pattern: 1, modulus: 23, order: 11, challenges: 11, values: &[2], statement: &[13] };
+    /// # let instance = Instance::from_pattern(&plan)?;
+    /// assert_eq!(RoundWriter::start(&instance, &mut [0; 7])?.file().count(), 0);
+    /// assert_eq!(RoundWriter::start(&instance, &mut [0; 6]).unwrap_err(), Refusal::Buffer);
+    /// # Ok::<(), Refusal>(())
+    /// ```
+    pub fn start(instance: &'a Instance, buffer: &'a mut [u8]) -> Result<RoundWriter<'a>, Refusal> {
+        let written = ffi::empty(buffer);
+        Refusal::check(written.refusal)?;
+        Ok(RoundWriter { instance, buffer, used: written.length, count: 0 })
+    }
+
+    /// Goes on with the file in the first `used` bytes of a buffer, or refuses it with 12.
+    ///
+    /// ```
+    /// # use dimkhoros::{Instance, Plan, Refusal, RoundWriter};
+    /// # let plan = Plan { pattern: 1, modulus: 23, order: 11, challenges: 11, values: &[2], statement: &[13] };
+    /// # let instance = Instance::from_pattern(&plan)?;
+    /// let mut buffer = *b"RND\x00\x01\x00\x00 and room for more";
+    /// assert_eq!(RoundWriter::resume(&instance, &mut buffer, 7)?.file().count(), 0);
+    /// assert_eq!(RoundWriter::resume(&instance, &mut buffer, 8).unwrap_err(), Refusal::File);
+    /// # Ok::<(), Refusal>(())
+    /// ```
+    pub fn resume(
+        instance: &'a Instance,
+        buffer: &'a mut [u8],
+        used: usize,
+    ) -> Result<RoundWriter<'a>, Refusal> {
+        let bytes = buffer.get(..used).ok_or(Refusal::File)?;
+        let count = RoundFile::open(instance, bytes)?.count();
+        Ok(RoundWriter { instance, buffer, used, count })
+    }
+
+    /// Adds a round, whose values are not tested. A file of 512 rounds is refused with 12 and a buffer without room for the
+    /// round with 22, and neither is changed.
+    ///
+    /// ```
+    /// # use dimkhoros::{Instance, Plan, Refusal, Round, RoundWriter};
+    /// # let plan = Plan { pattern: 1, modulus: 23, order: 11, challenges: 11, values: &[2], statement: &[13] };
+    /// # let instance = Instance::from_pattern(&plan)?;
+    /// let mut buffer = [0; 20];
+    /// let mut writer = RoundWriter::start(&instance, &mut buffer)?;
+    /// assert_eq!(writer.append(&Round::default()), Ok(()));
+    /// assert_eq!(writer.append(&Round::default()), Err(Refusal::Buffer));
+    /// assert_eq!(writer.file().count(), 1);
+    /// # Ok::<(), Refusal>(())
+    /// ```
+    pub fn append(&mut self, round: &Round) -> Result<(), Refusal> {
+        let written = ffi::append(self.instance.bytes(), self.buffer, self.used, round);
+        Refusal::check(written.refusal)?;
+        self.used = written.length;
+        self.count += 1;
+        Ok(())
+    }
+
+    /// The file as far as it is written.
+    ///
+    /// ```
+    /// # use dimkhoros::{Instance, Plan, RoundWriter};
+    /// # let plan = Plan { pattern: 1, modulus: 23, order: 11, challenges: 11, values: &[2], statement: &[13] };
+    /// # let instance = Instance::from_pattern(&plan)?;
+    /// let mut buffer = [0; 100];
+    /// let writer = RoundWriter::start(&instance, &mut buffer)?;
+    /// assert_eq!(writer.file().bytes(), b"RND\x00\x01\x00\x00");
+    /// # Ok::<(), dimkhoros::Refusal>(())
+    /// ```
+    pub fn file(&self) -> RoundFile<'_> {
+        RoundFile { instance: self.instance, bytes: &self.buffer[..self.used], count: self.count }
+    }
+}

@@ -1,0 +1,289 @@
+/*
+ * Calls every export with values that differ from field to field, and prints every field of what comes back, in the form in
+ * which Rust prints a struct. An empty slice crosses as NULL here.
+ */
+#include "dimkhoros.h"
+#include <stdio.h>
+#include <string.h>
+
+/* --- What is printed --- */
+
+static void print_places(const uint32_t places[8]) {
+    printf("[");
+    for (int i = 0; i < 8; i++) {
+        printf("%s%u", i ? ", " : "", places[i]);
+    }
+    printf("]");
+}
+
+static void print_loaded(DimkhorosLoaded a) {
+    printf("Loaded { refusal: %u, header: Header { kind: %u, modulus: %u, order: %u, challenges: %u, rows: %u, columns: %u }",
+           a.refusal, a.header.kind, a.header.modulus, a.header.order, a.header.challenges, a.header.rows,
+           a.header.columns);
+    printf(", statement: ");
+    print_places(a.statement);
+    printf(" }\n");
+}
+
+static void print_entries(const uint32_t entries[64]) {
+    printf("[");
+    for (int i = 0; i < 8; i++) {
+        printf("%s", i ? ", " : "");
+        print_places(entries + 8 * i);
+    }
+    printf("]\n");
+}
+
+static void print_written(DimkhorosWritten a) {
+    printf("Written { refusal: %u, length: %zu }\n", a.refusal, a.length);
+}
+
+static void print_counted(DimkhorosCounted a) {
+    printf("Counted { refusal: %u, count: %u }\n", a.refusal, a.count);
+}
+
+static void print_part(DimkhorosPart a) {
+    printf("Part { offset: %zu, length: %zu }\n", a.offset, a.length);
+}
+
+static void print_fetched(DimkhorosFetched a) {
+    printf("Fetched { refusal: %u, round: Round { commitment: ", a.refusal);
+    print_places(a.round.commitment);
+    printf(", challenge: %u, response: ", a.round.challenge);
+    print_places(a.round.response);
+    printf(" } }\n");
+}
+
+static void print_computed(DimkhorosComputed a) {
+    printf("Computed { refusal: %u, values: ", a.refusal);
+    print_places(a.values);
+    printf(" }\n");
+}
+
+static void print_verdict(DimkhorosJudgement a) {
+    printf("Judgement { refusal: %u, accepted: %u, row: %u }", a.refusal, a.accepted, a.row);
+}
+
+static void print_judgement(DimkhorosJudgement a) {
+    print_verdict(a);
+    printf("\n");
+}
+
+static void print_prover_session(DimkhorosProverSession a) {
+    printf("ProverSession { phase: %u, nonce: ", a.phase);
+    print_places(a.nonce);
+    printf(", commitment: ");
+    print_places(a.commitment);
+    printf(" }");
+}
+
+static void print_prover_answer(DimkhorosProverAnswer a) {
+    printf("ProverAnswer { refusal: %u, session: ", a.refusal);
+    print_prover_session(a.session);
+    printf(", values: ");
+    print_places(a.values);
+    printf(" }\n");
+}
+
+static void print_verifier_session(DimkhorosVerifierSession a) {
+    printf("VerifierSession { phase: %u, commitment: ", a.phase);
+    print_places(a.commitment);
+    printf(", challenge: %u }", a.challenge);
+}
+
+static void print_verifier_answer(DimkhorosVerifierAnswer a) {
+    printf("VerifierAnswer { refusal: %u, session: ", a.refusal);
+    print_verifier_session(a.session);
+    printf(" }\n");
+}
+
+static void print_verifier_judgement(DimkhorosVerifierJudgement a) {
+    printf("VerifierJudgement { verdict: ");
+    print_verdict(a.verdict);
+    printf(", session: ");
+    print_verifier_session(a.session);
+    printf(" }\n");
+}
+
+/* --- What is called --- */
+
+/* A sheet of 8 rows and 8 columns with 2 on the diagonal and 1 elsewhere: row i's image is 2 to the i-th coordinate. */
+static uint8_t wide[DIMKHOROS_LONGEST_SHEET];
+
+static const uint32_t witness[8] = {1, 2, 3, 4, 5, 6, 7, 8};
+static const uint32_t statement[8] = {2, 4, 8, 16, 9, 18, 13, 3};
+static const uint32_t nonce[8] = {0, 3, 6, 9, 1, 4, 7, 10};
+static const uint32_t commitment[8] = {1, 8, 18, 6, 2, 16, 13, 12};
+static const uint32_t response[8] = {1, 5, 9, 2, 6, 10, 3, 7};
+
+/* Eight numbers that rise from one. */
+static void rise(uint32_t places[8], uint32_t first) {
+    for (uint32_t i = 0; i < 8; i++) {
+        places[i] = first + i;
+    }
+}
+
+static DimkhorosRound rising_round(uint32_t first) {
+    DimkhorosRound round;
+    rise(round.commitment, first);
+    round.challenge = first + 8;
+    rise(round.response, first + 9);
+    return round;
+}
+
+static DimkhorosRound honest_round(uint32_t challenge, const uint32_t r[8]) {
+    DimkhorosRound round;
+    memcpy(round.commitment, commitment, sizeof commitment);
+    round.challenge = challenge;
+    memcpy(round.response, r, 8 * sizeof r[0]);
+    return round;
+}
+
+static void sheets(void) {
+    uint8_t product[DIMKHOROS_LONGEST_SHEET];
+    const uint32_t values[3] = {2, 3, 3};
+    const uint32_t z[2] = {12, 9};
+    DimkhorosWritten made = dimkhoros_from_pattern(5, 23, 11, 5, values, 3, z, 2, product, sizeof product);
+    print_written(made);
+    print_loaded(dimkhoros_load(product, made.length));
+    uint32_t entries[64];
+    dimkhoros_entries(product, made.length, entries);
+    print_entries(entries);
+
+    DimkhorosHeader header = {1, 23, 11, 5, 8, 8};
+    for (int k = 0; k < 64; k++) {
+        entries[k] = k % 9 == 0 ? 2 : 1;
+    }
+    print_written(dimkhoros_encode(header, entries, statement, wide, sizeof wide));
+    print_loaded(dimkhoros_load(wide, sizeof wide));
+    dimkhoros_entries(wide, sizeof wide, entries);
+    print_entries(entries);
+    header.rows = 9;
+    print_written(dimkhoros_encode(header, entries, statement, product, sizeof product));
+    print_written(dimkhoros_from_pattern(6, 35, 5, 5, NULL, 0, z, 1, product, sizeof product));
+}
+
+static void files(void) {
+    uint8_t buffer[200];
+    print_written(dimkhoros_empty(buffer, sizeof buffer));
+    print_written(dimkhoros_append(wide, sizeof wide, buffer, sizeof buffer, 7, rising_round(101)));
+    print_written(dimkhoros_append(wide, sizeof wide, buffer, sizeof buffer, 75, rising_round(201)));
+    print_written(dimkhoros_append(wide, sizeof wide, buffer, sizeof buffer, 143, rising_round(301)));
+    print_counted(dimkhoros_count(wide, sizeof wide, buffer, 143));
+    print_counted(dimkhoros_count(wide, sizeof wide, buffer, 142));
+    print_part(dimkhoros_part(wide, sizeof wide, buffer, 143, 1));
+    print_part(dimkhoros_part(wide, sizeof wide, buffer, 143, 2));
+    print_fetched(dimkhoros_read(wide, sizeof wide, buffer, 143, 0));
+    print_fetched(dimkhoros_read(wide, sizeof wide, buffer, 143, 1));
+    print_fetched(dimkhoros_read(wide, sizeof wide, buffer, 143, 2));
+    printf("%u\n", dimkhoros_check(wide, sizeof wide, buffer, 143, 1));
+    printf("%u\n", dimkhoros_check(wide, sizeof wide, buffer, 143, (size_t)-1));
+}
+
+static void rounds(void) {
+    print_judgement(dimkhoros_judge(wide, sizeof wide, honest_round(1, response)));
+    print_judgement(dimkhoros_judge(wide, sizeof wide, honest_round(2, response)));
+    uint32_t wrong[8];
+    memcpy(wrong, response, sizeof wrong);
+    wrong[5] = 0;
+    print_judgement(dimkhoros_judge(wide, sizeof wide, honest_round(1, wrong)));
+    print_judgement(dimkhoros_judge(wide, sizeof wide, honest_round(5, response)));
+    print_computed(dimkhoros_simulate(wide, sizeof wide, 1, response));
+    wrong[5] = 11;
+    print_computed(dimkhoros_simulate(wide, sizeof wide, 1, wrong));
+    print_computed(dimkhoros_extract(wide, sizeof wide, honest_round(1, response), honest_round(0, nonce)));
+    print_computed(dimkhoros_extract(wide, sizeof wide, honest_round(0, nonce), honest_round(1, nonce)));
+}
+
+static void provers(void) {
+    print_prover_session(dimkhoros_prover_new());
+    printf("\n");
+    DimkhorosProverAnswer step = dimkhoros_prover_commit(wide, sizeof wide, dimkhoros_prover_new(), nonce);
+    print_prover_answer(step);
+    print_prover_answer(dimkhoros_prover_drop(step.session));
+    print_prover_answer(dimkhoros_prover_respond(wide, sizeof wide, step.session, 1, witness));
+    DimkhorosProverSession odd;
+    odd.phase = 77;
+    rise(odd.nonce, 401);
+    rise(odd.commitment, 501);
+    print_prover_answer(dimkhoros_prover_commit(wide, sizeof wide, odd, nonce));
+    print_prover_answer(dimkhoros_prover_respond(wide, sizeof wide, odd, 1, witness));
+    print_prover_answer(dimkhoros_prover_drop(odd));
+}
+
+static void verifiers(void) {
+    print_verifier_session(dimkhoros_verifier_new());
+    printf("\n");
+    DimkhorosVerifierAnswer step =
+        dimkhoros_verifier_commitment(wide, sizeof wide, dimkhoros_verifier_new(), commitment);
+    print_verifier_answer(step);
+    step = dimkhoros_verifier_challenge(wide, sizeof wide, step.session, 1);
+    print_verifier_answer(step);
+    print_verifier_judgement(dimkhoros_verifier_response(wide, sizeof wide, step.session, response));
+    uint32_t wrong[8];
+    memcpy(wrong, response, sizeof wrong);
+    wrong[5] = 0;
+    print_verifier_judgement(dimkhoros_verifier_response(wide, sizeof wide, step.session, wrong));
+    DimkhorosVerifierSession odd;
+    odd.phase = 78;
+    rise(odd.commitment, 601);
+    odd.challenge = 609;
+    print_verifier_answer(dimkhoros_verifier_commitment(wide, sizeof wide, odd, commitment));
+    print_verifier_answer(dimkhoros_verifier_challenge(wide, sizeof wide, odd, 1));
+    print_verifier_judgement(dimkhoros_verifier_response(wide, sizeof wide, odd, response));
+}
+
+/* The marker's text on two files, and the bytes behind it, which stay. */
+static void marks(void) {
+    uint8_t file[200];
+    uint8_t text[DIMKHOROS_LONGEST_TEXT];
+    memset(text, 238, sizeof text);
+    dimkhoros_empty(file, sizeof file);
+    size_t used = dimkhoros_append(wide, sizeof wide, file, sizeof file, 7, honest_round(1, response)).length;
+    used = dimkhoros_append(wide, sizeof wide, file, sizeof file, used, honest_round(5, response)).length;
+    size_t length = dimkhoros_mark(wide, sizeof wide, file, used, text);
+    printf("%zu\n%.*s", length, (int)length, (const char *)text);
+    printf("%u %u\n", text[length], text[sizeof text - 1]);
+    length = dimkhoros_mark(NULL, 0, NULL, 0, text);
+    printf("%zu\n%.*s", length, (int)length, (const char *)text);
+}
+
+/* Every slice of every call is empty. */
+static void empty_slices(void) {
+    uint32_t entries[64];
+    memset(entries, 1, sizeof entries);
+    dimkhoros_entries(NULL, 0, entries);
+    print_entries(entries);
+    print_loaded(dimkhoros_load(NULL, 0));
+    dimkhoros_entries(wide, sizeof wide, entries);
+    print_written(dimkhoros_encode(dimkhoros_load(wide, sizeof wide).header, entries, statement, NULL, 0));
+    print_written(dimkhoros_from_pattern(6, 35, 5, 5, NULL, 0, NULL, 0, NULL, 0));
+    print_written(dimkhoros_from_pattern(6, 35, 5, 5, NULL, 0, statement, 1, NULL, 0));
+    print_counted(dimkhoros_count(NULL, 0, NULL, 0));
+    print_counted(dimkhoros_count(wide, sizeof wide, NULL, 0));
+    printf("%u\n", dimkhoros_check(wide, sizeof wide, NULL, 0, 0));
+    print_part(dimkhoros_part(wide, sizeof wide, NULL, 0, 0));
+    print_fetched(dimkhoros_read(wide, sizeof wide, NULL, 0, 0));
+    print_written(dimkhoros_empty(NULL, 0));
+    print_written(dimkhoros_append(wide, sizeof wide, NULL, 0, 0, rising_round(1)));
+    print_written(dimkhoros_append(wide, sizeof wide, NULL, 0, 7, rising_round(1)));
+    print_judgement(dimkhoros_judge(NULL, 0, rising_round(1)));
+    print_computed(dimkhoros_simulate(NULL, 0, 0, response));
+    print_computed(dimkhoros_extract(NULL, 0, rising_round(1), rising_round(2)));
+    print_prover_answer(dimkhoros_prover_commit(NULL, 0, dimkhoros_prover_new(), nonce));
+    print_prover_answer(dimkhoros_prover_respond(NULL, 0, dimkhoros_prover_new(), 1, witness));
+    print_verifier_answer(dimkhoros_verifier_commitment(NULL, 0, dimkhoros_verifier_new(), commitment));
+    print_verifier_answer(dimkhoros_verifier_challenge(NULL, 0, dimkhoros_verifier_new(), 1));
+    print_verifier_judgement(dimkhoros_verifier_response(NULL, 0, dimkhoros_verifier_new(), response));
+}
+
+int main(void) {
+    sheets();
+    files();
+    rounds();
+    provers();
+    verifiers();
+    marks();
+    empty_slices();
+    return 0;
+}

@@ -1,0 +1,66 @@
+//! Each refusal is given under its number.
+
+use crate::pages::{SCHNORR, page_a, round};
+use dimkhoros::{Instance, Plan, Prover, Refusal, RoundFile, RoundWriter, places};
+
+/// What page A's sheet is refused with once a byte of it is changed.
+fn changed(place: usize, byte: u8) -> Refusal {
+    let mut sheet = page_a().bytes().to_vec();
+    sheet[place] = byte;
+    Instance::load(&sheet).unwrap_err()
+}
+
+/// What page A's sheet is refused with once a byte is added.
+fn longer() -> Refusal {
+    let sheet = [page_a().bytes(), &[0]].concat();
+    Instance::load(&sheet).unwrap_err()
+}
+
+/// What a response by a wrong witness is refused with.
+fn wrong_witness() -> Refusal {
+    let (peggy, _) = Prover::new().commit(&page_a(), &places([5])).unwrap();
+    peggy.respond(&page_a(), 3, &places([8])).unwrap_err().refusal
+}
+
+#[test]
+fn every_number_is_given() {
+    let a = page_a();
+    let first = round(9, 3, 4);
+    let file = b"RND\x00\x01\x00\x00";
+    let given = [
+        Instance::from_pattern(&Plan { pattern: 257, ..SCHNORR }).unwrap_err(),
+        changed(0, b'h'),
+        changed(4, 2),
+        changed(5, 3),
+        changed(9, 2),
+        changed(13, 1),
+        changed(18, 9),
+        changed(17, 12),
+        longer(),
+        changed(23, 5),
+        changed(27, 5),
+        RoundFile::open(&a, b"RND").unwrap_err(),
+        RoundFile::open(&a, file).unwrap().read(65536).unwrap_err(),
+        a.judge(&round(5, 3, 4)).unwrap_err(),
+        a.judge(&round(9, 11, 4)).unwrap_err(),
+        a.judge(&round(9, 3, 11)).unwrap_err(),
+        wrong_witness(),
+        a.extract(&first, &round(8, 1, 1)).unwrap_err(),
+        a.extract(&first, &first).unwrap_err(),
+        a.extract(&first, &round(9, 1, 2)).unwrap_err(),
+        Prover::new().respond(&a, 3, &places([7])).unwrap_err().refusal,
+        RoundWriter::start(&a, &mut [0; 6]).unwrap_err(),
+    ];
+    for (number, refusal) in (1..).zip(given) {
+        assert_eq!(refusal.number(), number, "{refusal}");
+        assert_eq!(Refusal::from_number(number), Some(refusal));
+        assert_eq!(refusal.to_string(), format!("refusal {number}: {}", refusal.sentence()));
+    }
+}
+
+#[test]
+fn the_lowest_number_is_given() {
+    let plan = Plan { modulus: 2, order: 1, challenges: 1, ..SCHNORR };
+    assert_eq!(Instance::from_pattern(&plan), Err(Refusal::Modulus));
+    assert_eq!(page_a().judge(&round(5, 11, 11)), Err(Refusal::Commitment));
+}

@@ -1,0 +1,101 @@
+//! Rounds are judged, simulated and extracted from, and round files read and written.
+
+use crate::pages::{page_a, round};
+use dimkhoros::{
+    EMPTY_FILE, Instance, LONGEST_FILE, MOST_ROUNDS, Refusal, Round, RoundFile, RoundWriter,
+    Values, Verdict, places,
+};
+
+#[test]
+fn a_verdict_names_the_first_row_that_differs() {
+    let instance = Instance::from_pattern(&crate::pages::PLANS[3]).unwrap();
+    let right = Round { commitment: places([9, 6]), challenge: 3, response: places([4]) };
+    assert_eq!(instance.judge(&right), Ok(Verdict::Accepted));
+    let second = Round { commitment: places([9, 9]), ..right };
+    assert_eq!(instance.judge(&second), Ok(Verdict::Rejected { row: 1 }));
+    let both = Round { commitment: places([6, 9]), ..right };
+    assert_eq!(instance.judge(&both), Ok(Verdict::Rejected { row: 0 }));
+}
+
+#[test]
+fn the_witness_is_the_same_either_way_round() {
+    let a = page_a();
+    assert_eq!(a.extract(&round(9, 3, 4), &round(9, 1, 1)), Ok(places([7])));
+    assert_eq!(a.extract(&round(9, 1, 1), &round(9, 3, 4)), Ok(places([7])));
+    let root = Instance::from_pattern(&crate::pages::PLANS[5]).unwrap();
+    assert_eq!(root.extract(&round(33, 1, 6), &round(33, 3, 24)), Ok(places([2])));
+}
+
+#[test]
+fn simulated_rounds_are_all_accepted_rounds() {
+    let a = page_a();
+    for c in 0..11 {
+        for r in 0..11 {
+            let t = a.simulate(c, &places([r])).unwrap()[0];
+            for other in 1..23 {
+                let accepted = a.judge(&round(other, c, r)) == Ok(Verdict::Accepted);
+                assert_eq!(accepted, other == t);
+            }
+        }
+    }
+}
+
+#[test]
+fn a_part_lies_in_the_callers_own_file() {
+    let a = page_a();
+    let mut buffer = [0; 100];
+    let mut writer = RoundWriter::start(&a, &mut buffer).unwrap();
+    writer.append(&round(9, 3, 4)).unwrap();
+    writer.append(&round(9, 1, 1)).unwrap();
+    let bytes = writer.file().bytes().to_vec();
+    let file = RoundFile::open(&a, &bytes).unwrap();
+    assert_eq!(file.part(1).unwrap().as_ptr_range(), bytes[19..31].as_ptr_range());
+    assert_eq!(file.part(2), Err(Refusal::RoundNumber));
+    assert_eq!(file.part(usize::MAX), Err(Refusal::RoundNumber));
+}
+
+#[test]
+fn only_the_count_and_the_record_are_written() {
+    let a = page_a();
+    let mut buffer = [0xee; 40];
+    let mut writer = RoundWriter::start(&a, &mut buffer).unwrap();
+    writer.append(&round(9, 3, 4)).unwrap();
+    let mut expected = [0xee; 40];
+    expected[..19].copy_from_slice(b"RND\0\x01\0\x01\0\0\0\x09\0\0\0\x03\0\0\0\x04");
+    assert_eq!(buffer, expected);
+    let mut writer = RoundWriter::resume(&a, &mut buffer[..30], 19).unwrap();
+    assert_eq!(writer.append(&round(9, 1, 1)), Err(Refusal::Buffer));
+    assert_eq!(writer.file().count(), 1);
+    assert_eq!(buffer, expected);
+}
+
+#[test]
+fn bytes_that_are_no_file_are_refused() {
+    let a = page_a();
+    let mut buffer = *b"RND\0\x01\0\0";
+    assert!(RoundWriter::resume(&a, &mut buffer, 7).is_ok());
+    for used in [0, 6, 8, usize::MAX] {
+        assert_eq!(RoundWriter::resume(&a, &mut buffer, used).unwrap_err(), Refusal::File);
+    }
+    assert_eq!(RoundFile::open(&a, &[]).unwrap_err(), Refusal::File);
+    assert_eq!(RoundFile::open(&a, &vec![b'R'; 1 << 20]).unwrap_err(), Refusal::File);
+    assert_eq!(RoundWriter::start(&a, &mut []).unwrap_err(), Refusal::Buffer);
+}
+
+#[test]
+fn the_longest_file_is_full() {
+    let mut values = Values { statement: [1; 8], entries: [[1; 8]; 8], ..*page_a().values() };
+    (values.header.rows, values.header.columns) = (8, 8);
+    let instance = Instance::encode(&values).unwrap();
+    let mut buffer = vec![0; LONGEST_FILE + 100];
+    let mut writer = RoundWriter::start(&instance, &mut buffer).unwrap();
+    let numbered = |k| Round { commitment: [k; 8], challenge: k + 1, response: [k + 2; 8] };
+    for k in 0..MOST_ROUNDS as u32 {
+        writer.append(&numbered(k)).unwrap();
+    }
+    assert_eq!(writer.append(&numbered(0)), Err(Refusal::File));
+    let file = writer.file();
+    assert_eq!((file.count(), file.bytes().len()), (MOST_ROUNDS, LONGEST_FILE));
+    assert!(file.rounds().eq((0..MOST_ROUNDS as u32).map(numbered)));
+    assert_eq!(file.part(0).unwrap().as_ptr(), file.bytes()[EMPTY_FILE..].as_ptr());
+}

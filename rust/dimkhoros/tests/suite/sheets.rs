@@ -1,0 +1,50 @@
+//! Sheets are loaded and made.
+
+use crate::pages::{PLANS, SCHNORR, page_a};
+use dimkhoros::{Instance, LONGEST_SHEET, Plan, Refusal, Values, places};
+
+#[test]
+fn every_pattern_reads_back() {
+    let shapes = [(1, 1, 28), (1, 2, 32), (2, 1, 36), (2, 1, 36), (2, 3, 52), (1, 1, 24)];
+    for (plan, (rows, columns, length)) in PLANS.iter().zip(shapes) {
+        let instance = Instance::from_pattern(plan).unwrap();
+        let header = instance.values().header;
+        assert_eq!((header.rows, header.columns, instance.bytes().len()), (rows, columns, length));
+        assert_eq!((header.modulus, header.order), (plan.modulus, plan.order));
+        assert_eq!(Instance::load(instance.bytes()), Ok(instance.clone()));
+        assert_eq!(Instance::encode(instance.values()), Ok(instance));
+    }
+}
+
+#[test]
+fn entries_stand_by_row_and_column() {
+    let product = Instance::from_pattern(&PLANS[4]).unwrap();
+    let entries = &product.values().entries;
+    assert_eq!(entries[0], places([2, 3, 1]));
+    assert_eq!(entries[1], places([3, 1, 3]));
+    assert_eq!(entries[2], places([]));
+    assert_eq!(product.values().statement, places([12, 9]));
+}
+
+#[test]
+fn the_longest_sheet_loads() {
+    let mut values = Values { statement: [1; 8], entries: [[1; 8]; 8], ..*page_a().values() };
+    values.header.rows = 8;
+    values.header.columns = 8;
+    let instance = Instance::encode(&values).unwrap();
+    assert_eq!(instance.bytes().len(), LONGEST_SHEET);
+    assert_eq!(instance.values(), &values);
+    values.header.columns = 9;
+    assert_eq!(Instance::encode(&values), Err(Refusal::Shape));
+}
+
+#[test]
+fn slices_of_any_length_are_taken() {
+    let mut long = vec![0; 1 << 20];
+    assert_eq!(Instance::load(&long), Err(Refusal::SheetMark));
+    long[..28].copy_from_slice(page_a().bytes());
+    assert_eq!(Instance::load(&long), Err(Refusal::SheetLength));
+    let values = vec![2; 1000];
+    let plan = Plan { values: &values, ..SCHNORR };
+    assert_eq!(Instance::from_pattern(&plan), Err(Refusal::Pattern));
+}
