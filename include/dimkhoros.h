@@ -229,10 +229,10 @@ typedef struct {
 DimkhorosLoaded dimkhoros_load(const uint8_t *sheet, size_t sheet_length);
 
 /*
- * Gives the entries of a sheet that dimkhoros_load does not refuse: all 64 numbers of `entries` are set, to 0 outside the
- * sheet's rows and columns, everywhere in a root sheet, and everywhere where the sheet is refused.
+ * Gives the entries of a sheet: all 64 numbers of `entries` are set, to 0 outside the sheet's rows and columns and everywhere in
+ * a root sheet, and 0 is answered. Refuses 2 to 11: the number is answered, and `entries` keeps its numbers.
  */
-void dimkhoros_entries(const uint8_t *sheet, size_t sheet_length, uint32_t entries[DIMKHOROS_ENTRIES]);
+uint32_t dimkhoros_entries(const uint8_t *sheet, size_t sheet_length, uint32_t entries[DIMKHOROS_ENTRIES]);
 
 /*
  * Writes the sheet of these values, given as dimkhoros_load and dimkhoros_entries answer them, to the start of `buffer`, and

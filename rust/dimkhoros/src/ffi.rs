@@ -28,11 +28,9 @@ pub fn load(sheet: &[u8]) -> Loaded {
     unsafe { dimkhoros_load(sheet.as_ptr(), sheet.len()) }
 }
 
-pub fn entries(sheet: &[u8]) -> [Places; PLACES] {
-    let mut entries = [[0; PLACES]; PLACES];
+pub fn entries(sheet: &[u8], entries: &mut [Places; PLACES]) -> u32 {
     // SAFETY: the slice is given by its pointer and length, and `entries` has the 64 numbers that are written.
-    unsafe { dimkhoros_entries(sheet.as_ptr(), sheet.len(), entries.as_mut_ptr().cast()) };
-    entries
+    unsafe { dimkhoros_entries(sheet.as_ptr(), sheet.len(), entries.as_mut_ptr().cast()) }
 }
 
 pub fn encode(values: &Values, buffer: &mut [u8]) -> Written {

@@ -96,13 +96,11 @@ impl Instance {
     pub fn load(bytes: &[u8]) -> Result<Instance, Refusal> {
         let loaded = ffi::load(bytes);
         Refusal::check(loaded.refusal)?;
+        let mut entries = [[0; PLACES]; PLACES];
+        Refusal::check(ffi::entries(bytes, &mut entries))?;
         let mut sheet = [0; LONGEST_SHEET];
         sheet[..bytes.len()].copy_from_slice(bytes);
-        let values = Values {
-            header: loaded.header,
-            entries: ffi::entries(bytes),
-            statement: loaded.statement,
-        };
+        let values = Values { header: loaded.header, entries, statement: loaded.statement };
         Ok(Instance { sheet, length: bytes.len(), values })
     }
 

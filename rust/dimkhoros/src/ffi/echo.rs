@@ -44,6 +44,12 @@ macro_rules! print {
     };
 }
 
+/// What asking for a sheet's entries answers, and what then stands in an array of ones in each byte.
+fn entries_over(sheet: &[u8]) -> (u32, [Places; PLACES]) {
+    let mut table = [[0x0101_0101; PLACES]; PLACES];
+    (entries(sheet, &mut table), table)
+}
+
 fn sheets(text: &mut String) {
     let mut buffer = [0; 308];
     let plan = Plan {
@@ -56,10 +62,10 @@ fn sheets(text: &mut String) {
     };
     let made = from_pattern(&plan, &mut buffer);
     let product = &buffer[..made.length];
-    print!(text: made, load(product), entries(product));
+    print!(text: made, load(product), entries_over(product));
 
     let (mut values, wide) = wide();
-    print!(text: encode(&values, &mut buffer), load(&wide), entries(&wide));
+    print!(text: encode(&values, &mut buffer), load(&wide), entries_over(&wide));
     assert_eq!(buffer, wide);
     values.header.rows = 9;
     let root =
@@ -164,7 +170,7 @@ fn empty_slices(text: &mut String) {
         Plan { pattern: 6, modulus: 35, order: 5, challenges: 5, values: &[], statement: &[] };
     let root = Plan { statement: &[2], ..none };
     print!(text:
-        entries(&[]),
+        entries_over(&[]),
         load(&[]),
         encode(&values, &mut []),
         from_pattern(&none, &mut []),

@@ -9,7 +9,7 @@ use crate::{Header, Round};
 unsafe extern "C" {
     pub fn dimkhoros_load(sheet: *const u8, sheet_length: usize) -> Loaded;
 
-    pub fn dimkhoros_entries(sheet: *const u8, sheet_length: usize, entries: *mut u32);
+    pub fn dimkhoros_entries(sheet: *const u8, sheet_length: usize, entries: *mut u32) -> u32;
 
     pub fn dimkhoros_encode(
         header: Header,

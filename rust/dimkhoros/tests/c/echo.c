@@ -25,13 +25,16 @@ static void print_loaded(DimkhorosLoaded a) {
     printf(" }\n");
 }
 
-static void print_entries(const uint32_t entries[64]) {
-    printf("[");
+/* What asking for a sheet's entries answers, and what then stands in an array of ones in each byte. */
+static void print_entries(const uint8_t *sheet, size_t length) {
+    uint32_t entries[64];
+    memset(entries, 1, sizeof entries);
+    printf("(%u, [", dimkhoros_entries(sheet, length, entries));
     for (int i = 0; i < 8; i++) {
         printf("%s", i ? ", " : "");
         print_places(entries + 8 * i);
     }
-    printf("]\n");
+    printf("])\n");
 }
 
 static void print_written(DimkhorosWritten a) {
@@ -146,18 +149,16 @@ static void sheets(void) {
     DimkhorosWritten made = dimkhoros_from_pattern(5, 23, 11, 5, values, 3, z, 2, product, sizeof product);
     print_written(made);
     print_loaded(dimkhoros_load(product, made.length));
-    uint32_t entries[64];
-    dimkhoros_entries(product, made.length, entries);
-    print_entries(entries);
+    print_entries(product, made.length);
 
+    uint32_t entries[64];
     DimkhorosHeader header = {1, 23, 11, 5, 8, 8};
     for (int k = 0; k < 64; k++) {
         entries[k] = k % 9 == 0 ? 2 : 1;
     }
     print_written(dimkhoros_encode(header, entries, statement, wide, sizeof wide));
     print_loaded(dimkhoros_load(wide, sizeof wide));
-    dimkhoros_entries(wide, sizeof wide, entries);
-    print_entries(entries);
+    print_entries(wide, sizeof wide);
     header.rows = 9;
     print_written(dimkhoros_encode(header, entries, statement, product, sizeof product));
     print_written(dimkhoros_from_pattern(6, 35, 5, 5, NULL, 0, z, 1, product, sizeof product));
@@ -250,11 +251,9 @@ static void marks(void) {
 
 /* Every slice of every call is empty. */
 static void empty_slices(void) {
-    uint32_t entries[64];
-    memset(entries, 1, sizeof entries);
-    dimkhoros_entries(NULL, 0, entries);
-    print_entries(entries);
+    print_entries(NULL, 0);
     print_loaded(dimkhoros_load(NULL, 0));
+    uint32_t entries[64];
     dimkhoros_entries(wide, sizeof wide, entries);
     print_written(dimkhoros_encode(dimkhoros_load(wide, sizeof wide).header, entries, statement, NULL, 0));
     print_written(dimkhoros_from_pattern(6, 35, 5, 5, NULL, 0, NULL, 0, NULL, 0));
