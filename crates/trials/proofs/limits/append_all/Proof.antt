@@ -1,12 +1,12 @@
--- `trials::append_all` is safe and ends. The invariant: the next number is at most 512,
+-- `trials::limits::append_all` is safe and ends. The invariant: the next number is at most 512,
 -- and the file keeps its length. The measure: how many rounds are left.
 -- Assumes nothing.
 use Prim.Native.Nat.{_≤_, _-_}
 use mathlib.Core.Path.{_≡_}
 use native.Mathlib.Omega.{arith}
 use lib.ListN.{length}
-use Rattle.trials.proofs.append_all.Statement.{statement}
-use Rattle.trials.proofs.append_all.Tie as tie
+use Rattle.trials.proofs.limits.append_all.Statement.{statement}
+use Rattle.trials.proofs.limits.append_all.Tie as tie
 
 abbrev Inv-loop : tie.InvT-loop
 Inv-loop sheet file₀ used₀ number₀ file used number = (number ≤ 512) × (length file ≡ length file₀)
