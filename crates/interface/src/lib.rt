@@ -1,4 +1,4 @@
-// The calls of 01, for programs in other languages: each export forwards to the call's function.
+// The calls of 01, for programs in other languages: each export hands its arguments to the call and its answer back, in forms that cross.
 mod judging; // judging.rt: the calls on a round's values
 mod marking; // marking.rt: the marker's text
 mod place; // place.rt: where a round stands in the caller's own file
