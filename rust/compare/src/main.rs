@@ -4,8 +4,8 @@
 //! seed. Both libraries get it, and every field of the answers and every byte
 //! of a lent buffer must be the same. The first difference is printed and ends
 //! the run. Then demand 3 is tried on small sheets. Exit status: 0 no
-//! difference, 1 a difference or a number met too seldom, 2 wrong words or no
-//! library.
+//! difference, 1 a difference or a number met too seldom, 2 wrong words, no
+//! library, or a folder in which nothing can be stored.
 
 #![deny(unsafe_code)]
 
@@ -31,8 +31,10 @@ mod proved;
 mod random;
 mod run;
 mod sheets;
+mod stored;
 mod tally;
 
+use std::path::Path;
 use std::process::ExitCode;
 
 use faults::Faulty;
@@ -63,11 +65,23 @@ fn main() -> ExitCode {
             return ExitCode::from(2);
         }
     };
+    if let Some(folder) = &options.store {
+        return store(folder);
+    }
     let Some(library) = library(options.other) else {
         eprintln!("compare: built without libinterface.a; see DIMKHOROS_LIB in build.rs");
         return ExitCode::from(2);
     };
     compare(&options, library.as_ref())
+}
+
+/// Stores cases of the marker in the folder of the program that runs them.
+fn store(folder: &Path) -> ExitCode {
+    if let Err(error) = stored::stored().write(folder) {
+        eprintln!("compare: {}: {error}", folder.display());
+        return ExitCode::from(2);
+    }
+    ExitCode::SUCCESS
 }
 
 /// Compares the library with the judge and prints what comes out.

@@ -18,6 +18,8 @@ use std::iter::repeat_n;
 use crate::cases::Case;
 use crate::random::Random;
 
+pub use marking::mark_case;
+
 /// Makes a case of one call or of a run.
 type Maker = fn(&mut Random) -> Box<dyn Case>;
 

@@ -1,5 +1,7 @@
 //! The words of the command line.
 
+use std::path::PathBuf;
+
 use crate::faults::{Fault, FAULTS};
 
 /// The seed of a run that names none.
@@ -22,9 +24,12 @@ pub struct Options {
     pub seed: u64,
     pub count: u64,
     pub other: Other,
+    /// The folder to store cases of the marker in, in place of a comparison.
+    pub store: Option<PathBuf>,
 }
 
-const USAGE: &str = "usage: compare [--seed N] [--count N] [--self | --fault NAME]";
+const USAGE: &str =
+    "usage: compare [--seed N] [--count N] [--self | --fault NAME] [--store FOLDER]";
 
 /// Reads the words after the program's name. An error is the text to print.
 pub fn options(mut words: impl Iterator<Item = String>) -> Result<Options, String> {
@@ -32,6 +37,7 @@ pub fn options(mut words: impl Iterator<Item = String>) -> Result<Options, Strin
         seed: SEED,
         count: COUNT,
         other: Other::Proved,
+        store: None,
     };
     while let Some(word) = words.next() {
         match word.as_str() {
@@ -39,6 +45,7 @@ pub fn options(mut words: impl Iterator<Item = String>) -> Result<Options, Strin
             "--count" => options.count = number(words.next())?,
             "--self" => options.other = Other::Judge,
             "--fault" => options.other = Other::Faulty(fault(words.next())?),
+            "--store" => options.store = Some(folder(words.next())?),
             _ => return Err(USAGE.to_string()),
         }
     }
@@ -48,6 +55,10 @@ pub fn options(mut words: impl Iterator<Item = String>) -> Result<Options, Strin
 fn number(word: Option<String>) -> Result<u64, String> {
     let parsed = word.and_then(|word| word.parse().ok());
     parsed.ok_or_else(|| USAGE.to_string())
+}
+
+fn folder(word: Option<String>) -> Result<PathBuf, String> {
+    word.map(PathBuf::from).ok_or_else(|| USAGE.to_string())
 }
 
 fn fault(word: Option<String>) -> Result<Fault, String> {
@@ -75,10 +86,12 @@ mod tests {
     fn words_are_read() {
         let plain = read("").unwrap();
         assert_eq!((plain.seed, plain.count), (SEED, COUNT));
-        assert_eq!(plain.other, Other::Proved);
+        assert_eq!((plain.other, plain.store), (Other::Proved, None));
         let named = read("--seed 9 --count 10 --self").unwrap();
         assert_eq!((named.seed, named.count), (9, 10));
         assert_eq!(named.other, Other::Judge);
+        let stored = read("--store folder").unwrap();
+        assert_eq!(stored.store, Some(PathBuf::from("folder")));
         let name = FAULTS[0].name;
         let faulty = read(&format!("--fault {name}")).unwrap();
         assert_eq!(faulty.other, Other::Faulty(FAULTS[0].fault));
@@ -92,6 +105,7 @@ mod tests {
             "--count -1",
             "--other",
             "--fault none",
+            "--store",
         ] {
             assert!(read(words).is_err());
         }

@@ -12,8 +12,13 @@ use crate::making::brought::{round, spoil_round};
 use crate::random::Random;
 use crate::sheets::record_length;
 
-/// A case of the marker. Sheet and file are whole, damaged or empty.
+/// A case of the marker.
 pub fn mark(random: &mut Random) -> Box<dyn Case> {
+    Box::new(mark_case(random))
+}
+
+/// A sheet and a file to mark, each of them whole, damaged or empty.
+pub fn mark_case(random: &mut Random) -> MarkCase {
     let group = Group::any(random);
     let instance = Instance::of_group(random, group);
     let record = record_length(&instance.sheet.header);
@@ -32,11 +37,11 @@ pub fn mark(random: &mut Random) -> Box<dyn Case> {
         }
         _ => instance.sheet.bytes(),
     };
-    Box::new(MarkCase {
+    MarkCase {
         sheet,
         file,
         lent: Lent::first(random, &[], TEXT),
-    })
+    }
 }
 
 /// How many rounds a file has that is to be marked. Large files are rare,
