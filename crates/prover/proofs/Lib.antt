@@ -2,4 +2,3 @@
 pub mod States
 pub mod Steps
 pub mod Refusing
-pub mod SheetFirst
