@@ -17,7 +17,7 @@ use Rattle.formats.proofs.Loads.{load-clear, load-given, loads, loads-few, load
 
 module _ (s : List ℕ) (answer : Loaded) (same : answer ≡ load s) where
   -- the answer has the sheet's number
-  answer-number : answer .refusal ≡ loadRefusal s
+  pub answer-number : answer .refusal ≡ loadRefusal s
   unfolding load
   answer-number = ap (λ (a : Loaded). a .refusal) same
 

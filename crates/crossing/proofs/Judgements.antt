@@ -1,0 +1,52 @@
+-- The three numbers of a verdict tell it: no two verdicts that calls give have the same.
+-- Assumes nothing.
+use Prim.Native.Nat.{ℕ, _<_}
+use mathlib.Core.Path.{_≡_, refl, sym, ap}
+use mathlib.Core.Logic.{_≢_}
+use mathlib.Core.List.{List}
+use native.Mathlib.Omega.{arith}
+use Rattle.types.specs.declared.Round.{Round}
+use Rattle.types.specs.declared.Verdict.{Verdict}
+use Rattle.types.specs.declared.Verdict.the-variants.{Accepted, Rejected, Refused}
+use Rattle.types.specs.declared.Verifier.{Verifier}
+use Rattle.sigma.specs.Answer.{outcome, judged}
+use Rattle.sigma.specs.Judge.{judgeAfter}
+use Rattle.sigma.proofs.Answer.{judged-refused}
+use Rattle.sigma.proofs.Verdict.{verdict-not-refused}
+use Rattle.runs.specs.Calls.{judgeRound}
+use Rattle.runs.specs.Verifier.{takeResponse, takeResponseAfter}
+use Rattle.crossing.specs.Verdicts.{judgement}
+use Rattle.crossing.specs.declared.Judgement.{Judgement}
+
+-- two verdicts with the same three numbers are the same, if neither is a refusal with 0
+pub judgement-injective : (v w : Verdict) → v ≢ Refused 0 → w ≢ Refused 0 → judgement v ≡ judgement w → v ≡ w
+unfolding judgement outcome
+judgement-injective v w some some′ e =
+    compare v w some some′ (ap (λ (j : Judgement). j .refusal) e) (ap (λ (j : Judgement). j .accepted) e)
+    (ap (λ (j : Judgement). j .row) e)
+  where
+    compare : (v w : Verdict) → v ≢ Refused 0 → w ≢ Refused 0 → judgement v .refusal ≡ judgement w .refusal
+        → judgement v .accepted ≡ judgement w .accepted → judgement v .row ≡ judgement w .row → v ≡ w
+    compare Accepted Accepted s t a b c = refl
+    compare Accepted (Rejected row) s t a b c = absurd (omega arith)
+    compare Accepted (Refused n) s t a b c = absurd (omega arith)
+    compare (Rejected row) Accepted s t a b c = absurd (omega arith)
+    compare (Rejected row) (Rejected row′) s t a b c = let same : row ≡ row′ = omega arith in ap Rejected same
+    compare (Rejected row) (Refused n) s t a b c = absurd (t (ap Refused (sym a)))
+    compare (Refused n) Accepted s t a b c = absurd (omega arith)
+    compare (Refused n) (Rejected row) s t a b c = absurd (s (ap Refused a))
+    compare (Refused n) (Refused n′) s t a b c = ap Refused a
+
+-- no call refuses with 0
+judged-not-zero : (n : ℕ) (v : Verdict) → ((k : ℕ) → v ≢ Refused k) → judged n v ≢ Refused 0
+judged-not-zero n v never e = let some : 0 < 0 = judged-refused n v 0 never .0 e .0 in omega arith
+
+-- judging does not
+pub judge-not-zero : (sheet : List ℕ) (round : Round) → judgeRound sheet round ≢ Refused 0
+unfolding judgeRound judgeAfter
+judge-not-zero sheet round = judged-not-zero _ _ (verdict-not-refused _ _ _ _)
+
+-- nor does Vic's session
+pub response-not-zero : (sheet : List ℕ) (v : Verifier) (r : List ℕ) → takeResponse sheet v r .verdict ≢ Refused 0
+unfolding takeResponse takeResponseAfter
+response-not-zero sheet v r = judged-not-zero _ _ (verdict-not-refused _ _ _ _)

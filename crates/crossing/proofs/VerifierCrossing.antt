@@ -1,0 +1,90 @@
+-- Vic's session crosses and comes back the same, and a call on a session that crossed is the call on the session.
+-- Assumes nothing.
+use Prim.Native.Nat.{ℕ, _≤_, _<_}
+use mathlib.Core.Path.{_≡_, refl}
+use mathlib.Core.List.{List}
+use native.Mathlib.Omega.{arith}
+use Rattle.types.specs.declared.Verifier.{Verifier}
+use Rattle.types.specs.declared.VerifierPhase.{VerifierPhase}
+use Rattle.types.specs.declared.VerifierPhase.the-variants.{Waiting, Holding, Asked, Judged}
+use Rattle.rules.specs.Answer.{unlessRefused}
+use Rattle.sigma.proofs.Answer.{unlessRefused-positive}
+use Rattle.runs.specs.Run.{sessionAfter}
+use Rattle.runs.specs.Verifier.{verifierState}
+use Rattle.runs.specs.VerifierCalls.{VerifierCall, Commitment, Challenge, Response, callVerifier}
+use Rattle.runs.specs.VerifierCalls.{refusalOf, sessionOf, verifierAfter}
+use Rattle.runs.proofs.VerifierCalls.{verifier-kept, judged-refuses}
+use Rattle.crossing.specs.Calls.{answeredRefusal, answeredSession}
+use Rattle.crossing.specs.OfFour.{ofFour}
+use Rattle.crossing.specs.Verdicts.{judgement}
+use Rattle.crossing.specs.Verifiers.{verifierPhase, verifierOf, verifierSession, verifierAnswer, verifierJudgement}
+use Rattle.crossing.specs.declared.VerifierSession.{VerifierSession}
+use Rattle.crossing.proofs.HandedBack.{handed-back, handed-on-after}
+use Rattle.crossing.proofs.Phases.{ofFour-beyond, ofFour-number}
+
+-- ---- the session
+
+-- a state's number has the state
+pub phase-of-state : (p : VerifierPhase) → verifierPhase (verifierState p) ≡ p
+unfolding verifierPhase ofFour verifierState
+phase-of-state Waiting = refl
+phase-of-state Holding = refl
+phase-of-state Asked = refl
+phase-of-state Judged = refl
+
+-- a number below four is that of its state
+pub state-of-phase : (n : ℕ) → n < 4 → verifierState (verifierPhase n) ≡ n
+unfolding verifierPhase verifierState
+state-of-phase n few = ofFour-number Waiting Holding Asked Judged verifierState refl refl refl refl n few
+
+-- a session handed out and in again is the same
+pub out-and-in : (v : Verifier) → verifierOf (verifierSession v) ≡ v
+unfolding verifierOf verifierSession
+out-and-in v = rw (phase-of-state (v .phase))
+
+-- a session with a state's number handed in and out again is the same
+pub in-and-out : (s : VerifierSession) → s .phase < 4 → verifierSession (verifierOf s) ≡ s
+unfolding verifierOf verifierSession
+in-and-out s few = rw (state-of-phase (s .phase) few)
+
+-- ---- the calls
+
+-- the number in an answer is that of the call
+answered-refusal : (call : VerifierCall) (s : VerifierSession) → answeredRefusal call s ≡ refusalOf (callVerifier call (verifierOf s))
+unfolding answeredRefusal refusalOf callVerifier verifierAnswer verifierJudgement judgement
+answered-refusal (Commitment sheet t) s = refl
+answered-refusal (Challenge sheet c) s = refl
+answered-refusal (Response sheet r) s = refl
+
+-- the session in an answer is that after the call, or the one that was handed in
+answered-session : (call : VerifierCall) (s : VerifierSession) → answeredSession call s
+    ≡ unlessRefused (refusalOf (callVerifier call (verifierOf s))) (verifierSession (sessionOf (callVerifier call (verifierOf s)))) s
+unfolding answeredSession refusalOf sessionOf callVerifier verifierAnswer verifierJudgement
+answered-session (Commitment sheet t) s = refl
+answered-session (Challenge sheet c) s = refl
+answered-session (Response sheet r) s = refl
+
+module _ (call : VerifierCall) (s : VerifierSession) where
+  -- a refused call hands the session back as it was handed in
+  pub refused-kept : 0 < answeredRefusal call s → answeredSession call s ≡ s
+  refused-kept refused = rw (answered-session call s) (unlessRefused-positive _ s _ (rw answered-refusal at refused))
+
+  -- the session handed back is the one after the call
+  pub handed-on : verifierOf (answeredSession call s) ≡ sessionOf (callVerifier call (verifierOf s))
+  handed-on =
+      rw (answered-session call s)
+      (handed-back verifierOf verifierSession out-and-in _ s _ (verifier-kept call (verifierOf s)))
+
+  -- a number that is no state's allows no call: it is refused, and the session comes back as it was handed in
+  pub unknown-refused : 4 ≤ s .phase → (0 < answeredRefusal call s) × (answeredSession call s ≡ s)
+  unfolding verifierOf verifierPhase
+  unknown-refused unknown =
+      let last : verifierOf s .phase ≡ Judged = ofFour-beyond Waiting Holding Asked Judged (omega arith) in
+      let refused : 0 < answeredRefusal call s = rw answered-refusal (judged-refuses call (verifierOf s) last) in
+      (refused, refused-kept refused)
+
+-- after any calls, each given the session that the last one handed back, the session is the one after the calls
+pub handed-on-all : (calls : List VerifierCall) (s : VerifierSession)
+    → verifierOf (sessionAfter answeredSession (λ form. form) calls s) ≡ verifierAfter calls (verifierOf s)
+unfolding verifierAfter
+handed-on-all = handed-on-after answeredSession (λ form. form) callVerifier sessionOf verifierOf handed-on

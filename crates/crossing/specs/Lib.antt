@@ -1,0 +1,6 @@
+-- Verdicts and sessions in the forms in which they cross to other languages.
+pub mod OfFour
+pub mod Verdicts
+pub mod Provers
+pub mod Verifiers
+pub mod Calls

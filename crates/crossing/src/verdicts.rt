@@ -1,0 +1,28 @@
+// What judging answers, as three numbers.
+use crate::Judgement;
+use types::Verdict;
+ghost use mathlib.Core.Path.{_≡_};
+ghost use Rattle.crossing.specs.Verdicts.{judgement};
+
+// The three numbers of a verdict.
+pub fn judgement_of(verdict: Verdict) -> Judgement
+    ensures { λ r. ⌜ r ≡ judgement verdict ⌝ }
+{
+    match verdict {
+        Verdict::Accepted => Judgement {
+            refusal: 0,
+            accepted: 1,
+            row: 0,
+        },
+        Verdict::Rejected(row) => Judgement {
+            refusal: 0,
+            accepted: 0,
+            row,
+        },
+        Verdict::Refused(number) => Judgement {
+            refusal: number,
+            accepted: 0,
+            row: 0,
+        },
+    }
+}
