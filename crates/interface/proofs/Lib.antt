@@ -1,4 +1,3 @@
 -- Laws of the interface's definitions.
-pub mod Filling
 pub mod Flat
 pub mod RoundPlace

@@ -4,7 +4,6 @@ use mathlib.Core.Path.{_≡_, sym, ap}
 use mathlib.Core.List.{List}
 use Prim.Native.Nat.{ℕ, _*_, _%_, _<_}
 use lib.IntN.{pos, negℤ}
-use lib.ListN.{getD}
 use Rattle.lists.specs.Places.{tabulate, places, pad8, zeros8}
 use Rattle.lists.proofs.Places.{getD-places, tabulate-agree}
 use Rattle.numbers.specs.Integer.{power}
@@ -18,16 +17,9 @@ use Rattle.sigma.proofs.Answer.{computed-zero, computed-positive}
 use Rattle.sigma.proofs.Unread.{rowImage-agree}
 
 -- row i of [r] · z^(−c)
-pub simulatedRow : Instance → ℕ → List ℕ → ℕ → ℕ
+unfoldable pub simulatedRow : Instance → ℕ → List ℕ → ℕ → ℕ
 simulatedRow inst c r i =
     rowImage inst r i * power (inst .header .modulus) (statementAt inst i) (negℤ (pos c)) % inst .header .modulus
-
--- a row from its two factors
-pub simulated-row : (inst : Instance) (c : ℕ) (r : List ℕ) (i : ℕ) {row factor value : ℕ} → row ≡ rowImage inst r i
-    → factor ≡ power (inst .header .modulus) (getD (inst .statement) i 0) (negℤ (pos c)) → value ≡ row * factor % inst .header .modulus
-    → value ≡ simulatedRow inst c r i
-unfolding simulatedRow statementAt
-simulated-row inst c r i is-row is-factor is-value = rw (is-value, is-row, is-factor)
 
 -- the simulated commitment is its rows; it reads n places of the response
 pub simulated-rows : (inst : Instance) → Valid inst → (c : ℕ) (r : List ℕ)
