@@ -1,6 +1,6 @@
 -- The integers −a and b of the extractor's formula: b inverts delta modulo ℓ, and delta · b is ℓ · a + 1.
 -- Assumes nothing.
-use mathlib.Core.Path.{_≡_, sym, _∙_}
+use mathlib.Core.Path.{_≡_, sym}
 use Prim.Native.Nat.{ℕ, _+_, _*_, _/_, _%_, _≤_, _<_}
 use native.Mathlib.Nat.{le-of-lt, mod-add-div, mul-comm, mul-le-mul-left, div-le-of-le-mul}
 use native.Mathlib.Omega.{arith}

@@ -1,23 +1,24 @@
 -- Extracting, return by return: the rules before any round is judged, 20 where a round is not accepted, else the formula's value.
 -- Assumes nothing.
-use mathlib.Core.Path.{_≡_, refl, sym, ap, _∙_}
-use mathlib.Core.Bool.{Bool, true, false, cond, not, _||_, or-true}
-use mathlib.Core.Logic.{_≢_, _⊎_, ⊎-elim}
+use mathlib.Core.Path.{_≡_, sym, ap, _∙_}
+use mathlib.Core.Bool.{not, _||_, or-true}
+use mathlib.Core.Logic.{_≢_}
 use mathlib.Core.List.{List, [], _∷_, _++_}
 use Prim.Native.Nat.{ℕ, _+_, _-_, _<_}
 use native.Mathlib.Omega.{arith}
 use lib.Dec.{T}
 use lib.IntN.{pos, negℤ}
 use denote.Enum.Declared.{tagOf}
+use types.Run.{OneOf, miss}
 use Rattle.types.specs.declared.Round.{Round}
 use Rattle.types.specs.declared.Verdict.{Verdict}
-use Rattle.types.specs.declared.Verdict.the-variants.{Accepted, Rejected, Refused}
+use Rattle.types.specs.declared.Verdict.the-variants.{Accepted}
 use Rattle.types.proofs.Verdict.{the-type}
 use Rattle.lists.specs.Places.{places, pad8, zeros8}
 use Rattle.numbers.specs.Inverse.{inverse}
 use Rattle.numbers.proofs.Coprime.{coprime-below}
-use Rattle.rules.specs.Rule.{_when_, lowest, positive}
-use Rattle.rules.proofs.Lowest.{lowest-earlier, lowest-later-zero}
+use Rattle.rules.specs.Rule.{Rule, _when_, lowest, positive}
+use Rattle.rules.proofs.Lowest.{stop, lowest-clear, lowest-earlier, lowest-later-zero}
 use Rattle.rules.proofs.Says.{says-false}
 use Rattle.sigma.specs.Answer.{isAccepted, computed}
 use Rattle.sigma.specs.Extractor.{formula, extractRules, extractAfter, extract}
@@ -30,7 +31,7 @@ use Rattle.sigma.proofs.Answer.{computed-positive}
 use Rattle.sigma.proofs.Calls.{valid-judge-accepted, extract-refusal, valid-extract-runs}
 use Rattle.sigma.proofs.Extractor.{extraction}
 use Rattle.sigma.proofs.Tests.{says-accepted}
-use Rattle.sigma.proofs.Valid.{valid-modulus, valid-order, valid-kind, valid-challenge}
+use Rattle.sigma.proofs.Valid.{valid-modulus, valid-kind, valid-challenge}
 use Rattle.extractor.specs.Coefficients.{leftCoefficient, WitnessFits}
 use Rattle.extractor.specs.Rules.{pairRules}
 use Rattle.extractor.proofs.Coefficients.{coefficients-fit}
@@ -43,22 +44,16 @@ judgedRound inst round =
 -- ---- refused
 
 -- a verdict with the tag of one of the other two cases is not accepted
-pub not-accepted : (v : Verdict) → (tagOf the-type v ≡ 1) ⊎ (tagOf the-type v ≡ 2) → v ≢ Accepted
-not-accepted Accepted told same = ⊎-elim (λ (w : 0 ≡ 1). omega arith) (λ (w : 0 ≡ 2). omega arith) told
-not-accepted (Rejected row) told same = let z : _≡_ {A = ℕ} 0 1 = cc in omega arith
-not-accepted (Refused number) told same = let z : _≡_ {A = ℕ} 0 1 = cc in omega arith
-
--- the number that one rule gives
-only-rule : (n : ℕ) (b : Bool) → lowest ((n when b) ∷ []) ≡ cond b n 0
-unfolding lowest
-only-rule n b = refl
+pub not-accepted : (v : Verdict) → OneOf (1 ∷ 2 ∷ []) (tagOf the-type v) → v ≢ Accepted
+not-accepted v told same = miss (1 ∷ 2 ∷ []) 0 tt (rw same at told)
 
 module _ (inst : Instance) (first second : Round) where
+  -- the rule of the two verdicts
+  abbrev verdictRules : List Rule
+  verdictRules = (20 when (not (isAccepted (judgedRound inst first)) || not (isAccepted (judgedRound inst second)))) ∷ []
+
   -- the number is that of the rules before judging, or 20
-  refusal-split : extract inst first second .refusal
-      ≡ lowest
-      (pairRules inst first second
-      ++ (20 when (not (isAccepted (judgedRound inst first)) || not (isAccepted (judgedRound inst second)))) ∷ [])
+  refusal-split : extract inst first second .refusal ≡ lowest (pairRules inst first second ++ verdictRules)
   unfolding pairRules extractRules
   refusal-split = extract-refusal inst first second
 
@@ -82,22 +77,20 @@ module _ (inst : Instance) (first second : Round) where
 
   module _ (none : 0 ≡ lowest (pairRules inst first second)) where
     -- behind them 20 is left
-    judging-left : {b : Bool} → (not (isAccepted (judgedRound inst first)) || not (isAccepted (judgedRound inst second))) ≡ b
-        → extract inst first second .refusal ≡ cond b 20 0
-    judging-left e =
-        refusal-split ∙ lowest-later-zero _ _ pair-positive (sym none) ∙ only-rule 20 _ ∙ ap (λ (b : Bool). cond b 20 0) e
+    verdicts-left : extract inst first second .refusal ≡ lowest verdictRules
+    verdicts-left = refusal-split ∙ lowest-later-zero _ _ pair-positive (sym none)
 
     -- a first round that is not accepted is 20
     pub first-rejected : {answer : Verdict} → answer ≡ judgedRound inst first → answer ≢ Accepted
         → record { refusal = 20; values = zeros8 } ≡ extract inst first second
     first-rejected {answer} is-answer other =
-        refused-with 20 (omega arith) (judging-left {b = true} (rw (sym is-answer, says-false (says-accepted answer) .1 other)))
+        refused-with 20 (omega arith) (verdicts-left ∙ stop 20 [] (rw (sym is-answer, says-false (says-accepted answer) .1 other)))
 
     -- so is a second one
     pub second-rejected : {answer : Verdict} → answer ≡ judgedRound inst second → answer ≢ Accepted
         → record { refusal = 20; values = zeros8 } ≡ extract inst first second
     second-rejected {answer} is-answer other =
-        refused-with 20 (omega arith) (judging-left {b = true} (rw (sym is-answer, says-false (says-accepted answer) .1 other, or-true)))
+        refused-with 20 (omega arith) (verdicts-left ∙ stop 20 [] (rw (sym is-answer, says-false (says-accepted answer) .1 other, or-true)))
 
     -- two accepted rounds are what the extractor asks for
     pub both-accepted : Valid inst → {answer answer′ : Verdict} → answer ≡ judgedRound inst first → answer ≡ Accepted
@@ -105,7 +98,7 @@ module _ (inst : Instance) (first second : Round) where
     unfolding isAccepted
     both-accepted v is-answer accepted is-answer′ accepted′ =
         valid-extract-runs inst first second v .0
-        (judging-left {b = false} (rw (sym is-answer ∙ accepted, sym is-answer′ ∙ accepted′)))
+        (verdicts-left ∙ lowest-clear verdictRules (rw (sym is-answer ∙ accepted, sym is-answer′ ∙ accepted′), tt))
 
 -- ---- accepted
 

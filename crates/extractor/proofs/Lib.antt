@@ -1,5 +1,4 @@
 -- Laws that the proofs of the functions cite, by topic.
-pub mod Refusing
 pub mod Slots
 pub mod Coefficients
 pub mod Extracting

@@ -45,20 +45,10 @@ module _ (h : Header) (z a b r s : ℕ) where
   slot-root kind is-inverse is-quotient is-left is-right is-value =
       rw (root-kind h kind, power-pos (h .modulus) _ b, is-value, is-left, is-right, is-quotient, is-inverse)
 
--- slot j of the formula with the exponents −a and b
-pub slotsFormula : Header → List ℕ → ℕ → ℕ → List ℕ → List ℕ → ℕ → ℕ
-slotsFormula h statement a b r s j = slotFormula h (getD statement j 0) a b (getD r j 0) (getD s j 0)
-
 module _ (h : Header) (statement : List ℕ) (a b : ℕ) (r s : List ℕ) where
-  -- a slot from its values
-  pub slot-at : (j : ℕ) {value : ℕ} → value ≡ slotFormula h (getD statement j 0) a b (getD r j 0) (getD s j 0)
-      → value ≡ slotsFormula h statement a b r s j
-  unfolding slotsFormula
-  slot-at j is-value = is-value
-
   -- the formula from its slots and its two exponents
   pub formula-filled : (entries : List (List ℕ)) {a′ b′ : ℕ} {values : List ℕ} → a ≡ a′ → b ≡ b′
-      → values ≡ pad8 0 (tabulate (h .columns) (slotsFormula h statement a b r s))
+      → values ≡ pad8 0 (tabulate (h .columns) (λ j. slotFormula h (getD statement j 0) a b (getD r j 0) (getD s j 0)))
       → values ≡ pad8 0 (formula (instanceWith h entries statement) (negℤ (pos a′)) (pos b′) r s)
-  unfolding formula baseCoordinate statementAt slotsFormula slotFormula
+  unfolding formula baseCoordinate statementAt slotFormula
   formula-filled entries is-left is-right is-values = rw (sym is-left, sym is-right) is-values

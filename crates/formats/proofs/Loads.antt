@@ -14,7 +14,7 @@ use Rattle.types.specs.declared.Header.{Header}
 use Rattle.encoding.specs.Text.{ascii}
 use Rattle.lists.specs.Places.{zeros8}
 use Rattle.rules.specs.Rule.{_when_, Clear}
-use Rattle.rules.proofs.Lowest.{clear-append, clear-lowest, lowest-clear}
+use Rattle.rules.proofs.Lowest.{clear-append, lowest-zero}
 use Rattle.rules.proofs.Says.{says-equal}
 use Rattle.sigma.specs.Admission.{headerRules, elementRules}
 use Rattle.sigma.specs.Comparison.{differ}
@@ -109,8 +109,7 @@ module _ (s : List ℕ) where
   -- a sheet's number is 0 exactly where it loads
   pub loads : (loadRefusal s ≡ 0) ↔ Loads s
   unfolding loadRefusal
-  loads =
-      Iff·trans (clear-lowest (loadRules s) (load-positive s), lowest-clear (loadRules s)) load-clear
+  loads = Iff·trans (lowest-zero (loadRules s) (load-positive s)) load-clear
 
   -- a sheet that loads has Valid values
   pub loads-valid : loadRefusal s ≡ 0 → Valid (instanceOf s)

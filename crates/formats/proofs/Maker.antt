@@ -6,7 +6,6 @@ use mathlib.Core.Path.{_≡_, refl, sym, ap, _∙_}
 use mathlib.Core.Logic.{_≢_}
 use mathlib.Core.Bool.{Bool, true, false, cond, not}
 use mathlib.Core.List.{List}
-use native.Mathlib.Decide.{ℕ-discrete}
 use native.Mathlib.Omega.{arith}
 use lib.Dec.{eqb}
 use lib.ListN.{length, getD}
@@ -15,13 +14,12 @@ use Rattle.numbers.specs.Search.{any, find}
 use Rattle.rules.specs.Rule.{lowest}
 use Rattle.rules.proofs.Says.{says-equal}
 use Rattle.sigma.specs.Admission.{badEntries, badKind, badModulus, badSize, elementRules, headerRules}
-use Rattle.sigma.specs.Element.{Element}
 use Rattle.sigma.specs.Instance.{Instance, entry}
 use Rattle.sigma.proofs.Calculus.{all-pass, says-any}
 use Rattle.sigma.proofs.Passed.{entries-pass, kind-passes, modulus-passes, size-passes}
 use Rattle.formats.specs.Encode.{encode, encodeRules, sheetOf}
 use Rattle.formats.specs.Pattern.{badPattern, badValues, entryOf, fromPattern, made, madeHeader, makeRules, patternOf, patterns}
-use Rattle.formats.specs.Write.{Writing, writtenAtStart}
+use Rattle.formats.specs.Write.{writtenAtStart}
 use Rattle.formats.proofs.Making.{made-kind, made-other, made-square, pattern-passes, values-pass}
 use Rattle.formats.proofs.Patterns.{
   by-number,
@@ -96,7 +94,8 @@ module _ (number modulus order challenges : ℕ) (values statement : List ℕ) (
   value-used j within =
       let other : number ≢ 6 = λ (e : number ≡ 6). omega (arith, right .2, ap (λ (n : ℕ). patternOf n .values) e) in
       let (r, a, (c, b, digit)) = pattern-uses number (right .0) (right .1) j (omega (arith, right .2)) in
-      let same = made-entry number modulus order challenges values statement other r c a b ∙ ap (entryOf values) digit ∙ entryOf-value values j in
+      let named = made-entry number modulus order challenges values statement other r c a b in
+      let same = named ∙ ap (entryOf values) digit ∙ entryOf-value values j in
       (made-exponent number modulus order challenges other, (r, a, (c, b, same)))
 
   -- 10 of the entries is 10 of the public values
@@ -112,7 +111,8 @@ module _ (number modulus order challenges : ℕ) (values statement : List ℕ) (
       rw same at (entries .0 e k r c a b)))
       (λ e. entries .1
       (λ k r c a b.
-      rw (made-entry number modulus order challenges values statement (made-other number modulus order challenges values statement k) r c a b)
+      let other = made-other number modulus order challenges values statement k in
+      rw (made-entry number modulus order challenges values statement other r c a b)
       (entryOf-element (inst .header) values _ large (elements .0 e)
       (omega (arith, right .2, pattern-digits number (right .0) (right .1) r c a b)))))
 

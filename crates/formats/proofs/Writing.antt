@@ -10,6 +10,7 @@ use native.Mathlib.Omega.{arith}
 use lib.ListN.{length, take, length-append}
 use lib.Seq.{sets, length-sets}
 use borrow.Author.Tests.{ltb-false, le-ltb}
+use Rattle.types.specs.declared.Written.{Written}
 use Rattle.encoding.proofs.Bytes.{length-bytesOf, length-bytesOfEach}
 use Rattle.encoding.proofs.Replaced.{take-sets-front, drop-sets-front}
 use Rattle.lists.proofs.Places.{length-places}
@@ -32,6 +33,10 @@ use Rattle.formats.proofs.Loads.{length-sheetMark}
 use Rattle.formats.proofs.Order.{encode-positive}
 
 -- ---- any writing call
+
+-- a call's answer and the bytes that it leaves in the buffer are those of an outcome
+abbrev pub Leaves : Written → List ℕ → Writing → Type 0
+Leaves answer bytes w = (answer ≡ w .answer) × (bytes ≡ w .buffer)
 
 -- not 22: the buffer is as long as the result
 pub short-passes : (buffer : List ℕ) (needed : ℕ) → (short buffer needed ≡ false) ↔ (needed ≤ length buffer)

@@ -1,5 +1,4 @@
 -- Laws that the proofs of the functions cite, by topic.
-pub mod Filling
 pub mod RowImage
 pub mod Slots
 pub mod FirstDifference

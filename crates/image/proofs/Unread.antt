@@ -1,12 +1,9 @@
 -- The image, the two sides, the verdict and the response read only the places that 01 reads, and zeros behind a side do not
 -- count in a comparison.
 -- Assumes nothing.
-use mathlib.Core.Path.{_≡_, sym, ap, ap₂, _∙_}
-use mathlib.Core.Bool.{not}
+use mathlib.Core.Path.{_≡_, ap, ap₂}
 use mathlib.Core.List.{List}
 use Prim.Native.Nat.{ℕ, _*_, _%_, _^_}
-use lib.Dec.{eqb}
-use lib.ListN.{getD}
 use Rattle.types.specs.declared.Verdict.{Verdict}
 use Rattle.lists.specs.Places.{places, pad8}
 use Rattle.lists.proofs.Places.{getD-pad8, getD-places, tabulate-agree}

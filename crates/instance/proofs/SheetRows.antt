@@ -6,11 +6,9 @@ use mathlib.Core.Logic.{_≢_}
 use mathlib.Core.List.{List}
 use native.Mathlib.Nat.{mul-le-mul-left}
 use native.Mathlib.Omega.{arith}
-use lib.ListN.{length, set}
+use lib.ListN.{length}
 use borrow.Author.Tests.{eq-eqb, ne-eqb}
 use Rattle.types.specs.declared.Header.{Header}
-use Rattle.lists.specs.Places.{zeros8}
-use Rattle.lists.proofs.Places.{pad8-store-item}
 use Rattle.sigma.specs.Instance.{isExponent}
 use Rattle.formats.specs.Sheet.{entryCount, sheetLength, zeros64, entriesOf}
 use Rattle.instance.specs.Shaped.{Shaped}
@@ -19,12 +17,6 @@ use Rattle.instance.specs.Rows.{rowAt, rowsAt}
 -- a row before the last ends where the next begins, at or before the end of all
 pub row-within : (width i n : ℕ) → i < n → width * i + width ≤ width * n
 row-within width i n before = omega (arith, mul-le-mul-left width before)
-
--- the next row stored behind the first i
-pub row-stored : (s : List ℕ) (columns i : ℕ) → i < 8
-    → set (rowsAt s columns i) i (rowAt s columns (20 + 4 * columns * i)) ≡ rowsAt s columns (i + 1)
-unfolding rowsAt
-row-stored s columns i below = pad8-store-item zeros8 (rowAt s columns) 20 (4 * columns) i below
 
 module _ (s : List ℕ) (h : Header) where
   -- in kind 1 the rows lie within the sheet

@@ -7,7 +7,7 @@ use native.Mathlib.Nat.{div-add-mod}
 use native.Mathlib.Omega.{arith}
 use lib.ListN.{length, getD}
 use lib.Seq.{ext-getD}
-use Rattle.lists.specs.Places.{tabulate, places}
+use Rattle.lists.specs.Places.{places}
 use Rattle.lists.proofs.Places.{length-tabulate, getD-tabulate, tabulate-agree, places-whole}
 use Rattle.interface.specs.Flat.{flat, flatAt, square, squareAt, squareRow}
 

@@ -1,5 +1,4 @@
 -- Laws of the interface's definitions.
 pub mod Entries
-pub mod Filling
 pub mod Flat
 pub mod RoundPlace

@@ -14,7 +14,6 @@ use Rattle.formats.specs.Sheet.{headerOf}
 use Rattle.formats.proofs.Files.{check-runs}
 use Rattle.formats.proofs.Part.{part-given, part-refused, record-inside}
 use Rattle.interface.specs.RoundPlace.{noPart, partPlace}
-use Rattle.interface.specs.declared.Part.{Part}
 
 module _ (s f : List ℕ) (k : ℕ) where
   -- the place of a round that the check passes

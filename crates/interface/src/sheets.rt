@@ -46,8 +46,10 @@ pub extern "C" fn dimkhoros_encode(
     statement: &[u32; 8],
     buffer: &mut [u8],
 ) -> Written
-    ensures answer { λ r. ⌜ r ≡ encode (flatInstance header (now (entries .entry)) (now (statement .entry))) (now (buffer .entry)) .answer ⌝ }
-    ensures bytes { λ _. ⌜ now (buffer .exit) ≡ encode (flatInstance header (now (entries .entry)) (now (statement .entry))) (now (buffer .entry)) .buffer ⌝ }
+    ensures answer { λ r. ⌜ r ≡
+        encode (flatInstance header (now (entries .entry)) (now (statement .entry))) (now (buffer .entry)) .answer ⌝ }
+    ensures bytes { λ _. ⌜ now (buffer .exit) ≡
+        encode (flatInstance header (now (entries .entry)) (now (statement .entry))) (now (buffer .entry)) .buffer ⌝ }
 {
     writer::encode(header, square(entries), *statement, buffer)
 }
@@ -65,8 +67,10 @@ pub extern "C" fn dimkhoros_from_pattern(
     statement: &[u32],
     buffer: &mut [u8],
 ) -> Written
-    ensures answer { λ r. ⌜ r ≡ fromPattern number modulus order challenges (now (values .entry)) (now (statement .entry)) (now (buffer .entry)) .answer ⌝ }
-    ensures bytes { λ _. ⌜ now (buffer .exit) ≡ fromPattern number modulus order challenges (now (values .entry)) (now (statement .entry)) (now (buffer .entry)) .buffer ⌝ }
+    ensures answer { λ r. ⌜ r ≡
+        fromPattern number modulus order challenges (now (values .entry)) (now (statement .entry)) (now (buffer .entry)) .answer ⌝ }
+    ensures bytes { λ _. ⌜ now (buffer .exit) ≡
+        fromPattern number modulus order challenges (now (values .entry)) (now (statement .entry)) (now (buffer .entry)) .buffer ⌝ }
 {
     writer::from_pattern(
         number,

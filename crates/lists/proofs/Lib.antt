@@ -1,5 +1,6 @@
 -- Laws of lists.
 pub mod Places
+pub mod Filling
 pub mod Rows
 pub mod Each
 pub mod Member

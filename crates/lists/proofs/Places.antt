@@ -7,9 +7,9 @@ use native.Mathlib.Nat.{zero-add, suc-add, mul-suc, mul-zero}
 use native.Mathlib.Numerals.{add-one}
 use native.Mathlib.Decide.{decLt}
 use native.Mathlib.Omega.{arith}
-use lib.ListN.{length, getD, take, set, replicate, length-append, length-replicate, getD-replicate}
+use lib.ListN.{length, getD, take, replicate, length-append, length-replicate, getD-replicate}
 use lib.ListN.{List·getD-append, List·getD-eq-default}
-use lib.Seq.{ext-getD, getD-take, getD-append-add, take-suc-set, set-at, append-snoc}
+use lib.Seq.{ext-getD, getD-take, getD-append-add}
 use Rattle.lists.specs.Places.{itemsAt, tabulate, places, pad8, zeros8}
 
 -- ---- items at a stride
@@ -87,11 +87,6 @@ module _ {ℓ} {A : Type ℓ} where
       let e : 0 + 1 * n ≡ n = omega arith in
       itemsAt-suc f 0 1 n ∙ ap (λ (k : ℕ). itemsAt f 0 1 n ++ f k ∷ []) e
 
-  -- a list whose first i elements are a function's first i values, after a store of the next value at place i
-  pub tabulate-store : (l : List A) (i : ℕ) (f : ℕ → A) → i < length l → take i l ≡ tabulate i f
-      → take (suc i) (set l i (f i)) ≡ tabulate (suc i) f
-  tabulate-store l i f h e = rw (take-suc-set l i (f i) h, e, tabulate-suc i f)
-
   -- ---- eight places
 
   -- at most eight elements, padded, are eight
@@ -129,24 +124,6 @@ module _ {ℓ} {A : Type ℓ} where
   pub getD-pad8 : (d : A) (xs : List A) (j : ℕ) → getD (pad8 d xs) j d ≡ getD xs j d
   unfolding pad8
   getD-pad8 d xs j = getD-behind xs (8 - length xs) d j
-
-  -- a loop that fills eight places in order: a store of the next item at place i
-  pub pad8-store-item : (d : A) (f : ℕ → A) (at step i : ℕ) → i < 8
-      → set (pad8 d (itemsAt f at step i)) i (f (at + step * i)) ≡ pad8 d (itemsAt f at step (i + 1))
-  unfolding pad8
-  pad8-store-item d f at step i h =
-      let xs = itemsAt f at step i in
-      let e : 8 - i ≡ suc (8 - suc i) = omega arith in
-      rw (add-one i, length-itemsAt f at step (suc i), itemsAt-suc f at step i, length-itemsAt f at step i, e)
-      (set-at xs d (replicate (8 - suc i) d) (f (at + step * i)) i (length-itemsAt f at step i)
-      ∙ sym (append-snoc xs (f (at + step * i)) (replicate (8 - suc i) d)))
-
-  -- the same of a function's values
-  pub pad8-store : (d : A) (f : ℕ → A) (i : ℕ) → i < 8 → set (pad8 d (tabulate i f)) i (f i) ≡ pad8 d (tabulate (i + 1) f)
-  unfolding tabulate
-  pad8-store d f i h =
-      let e : i ≡ 0 + 1 * i = omega arith in
-      ap (λ (k : ℕ). set (pad8 d (itemsAt f 0 1 i)) i (f k)) e ∙ pad8-store-item d f 0 1 i h
 
 module _ {ℓ ℓ′} {A : Type ℓ} {B : Type ℓ′} where
   -- a map of items is items of the mapped function

@@ -1,5 +1,4 @@
 -- Laws that the proofs of the functions cite, by topic.
 pub mod States
 pub mod Steps
-pub mod Refusing
-pub mod SheetFirst
+pub mod Held

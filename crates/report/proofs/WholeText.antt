@@ -17,19 +17,17 @@ use Rattle.lists.specs.Places.{tabulate}
 use Rattle.lists.proofs.Places.{tabulate-agree}
 use Rattle.encoding.specs.Text.{ascii}
 use Rattle.sigma.specs.Answer.{isAccepted}
-use Rattle.sigma.specs.Valid.{Valid}
 use Rattle.formats.specs.Load.{load}
 use Rattle.formats.specs.Meaning.{IsRoundFile}
 use Rattle.formats.specs.RoundCalls.{countAfter, countRounds}
 use Rattle.formats.specs.RoundFile.{countField}
 use Rattle.formats.specs.Sheet.{entriesOf, instanceOf}
+use Rattle.formats.proofs.After.{countAfter-clear}
 use Rattle.formats.proofs.Files.{count-given, count-runs}
-use Rattle.formats.proofs.Loads.{loads-valid}
 use Rattle.runs.specs.Marker.{markerText, roundLine, roundLines, verdictOn, wordLine}
 use Rattle.runs.proofs.Marker.{file-line, file-refusal, round-lines, sheet-line, verdict-on-record}
 use Rattle.runs.proofs.MarkerLength.{text-short}
-use Rattle.instance.proofs.Answers.{answer-header, answer-instance, answer-number}
-use Rattle.round_file.proofs.SheetFirst.{count-loaded}
+use Rattle.instance.proofs.Answers.{answer-number, answer-header, answer-instance, answer-header-call}
 use Rattle.image.specs.Values.{instanceWith}
 use Rattle.text.specs.Placed.{Placed}
 use Rattle.report.specs.Lines.{failsIn, linesIn, resultLine, roundsIn, verdictIn, verdictLine}
@@ -78,7 +76,8 @@ module _ (s f : List ℕ) {loaded : Loaded} (is-load : loaded ≡ load s) where
   module _ (passed : loaded .refusal ≡ 0) {counted : Counted} (is-count : counted ≡ countAfter [] (loaded .header) f) where
     -- counting answers the sheet's and the file's number
     counts : counted ≡ countRounds s f
-    counts = count-loaded s is-load passed f is-count
+    unfolding countRounds
+    counts = answer-header-call s loaded is-load passed (λ before h none. countAfter-clear before h none f) is-count
 
     -- a refused file
     pub file-text : counted .refusal ≢ 0 → markerText s f ≡ wordLine (ascii "file") (counted .refusal)
@@ -103,10 +102,6 @@ module _ (s f : List ℕ) {loaded : Loaded} (is-load : loaded ≡ load s) where
       )
 
       module _ {entries : List (List ℕ)} (is-entries : entries ≡ entriesOf s (loaded .header)) where
-        -- the loaded values are valid
-        pub values-valid : Valid (instanceWith (loaded .header) entries (loaded .statement))
-        values-valid = rw (answer-instance s loaded is-load passed is-entries) (loads-valid s (answer-header s loaded is-load passed .0))
-
         -- the whole text
         pub rounds-text : markerText s f
             ≡ wordLine (ascii "rounds") (counted .count)

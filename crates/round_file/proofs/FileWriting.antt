@@ -11,7 +11,6 @@ use lib.Seq.{sets}
 use borrow.Author.Tests.{le-ltb, lt-ltb}
 use Rattle.types.specs.declared.Header.{Header}
 use Rattle.types.specs.declared.Round.{Round}
-use Rattle.types.specs.declared.Written.{Written}
 use Rattle.lists.specs.Places.{places}
 use Rattle.lists.proofs.Places.{length-places}
 use Rattle.encoding.specs.Bytes.{bytesOf, bytesOfEach}
@@ -24,14 +23,10 @@ use Rattle.sigma.proofs.Answer.{unlessRefused-positive, unlessRefused-zero}
 use Rattle.formats.specs.Append.{appendAfter, appendRules, appended, emptyFile}
 use Rattle.formats.specs.Meaning.{InUse}
 use Rattle.formats.specs.RoundFile.{challengeWidth, countField, noRounds, recordBytes, recordLength, roundMark}
-use Rattle.formats.specs.Write.{Writing, short, written, writtenAtStart}
+use Rattle.formats.specs.Write.{short, written, writtenAtStart}
 use Rattle.formats.proofs.Appending.{in-use-long, length-recordBytes}
 use Rattle.formats.proofs.Files.{in-use-passes, length-roundMark}
-use Rattle.formats.proofs.Writing.{length-noRounds, short-passes}
-
--- a call's answer and the bytes that it leaves in the buffer are those of an outcome
-abbrev pub Leaves : Written → List ℕ → Writing → Type 0
-Leaves answer bytes w = (answer ≡ w .answer) × (bytes ≡ w .buffer)
+use Rattle.formats.proofs.Writing.{Leaves, length-noRounds, short-passes}
 
 -- three runs stored one behind the other from the start on are one run stored there
 three-runs : (l xs ys zs : List ℕ) (i j : ℕ) → length xs ≡ i → i + length ys ≡ j

@@ -2,4 +2,3 @@
 pub mod FileTest
 pub mod FileReading
 pub mod FileWriting
-pub mod SheetFirst

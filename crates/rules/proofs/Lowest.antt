@@ -41,6 +41,10 @@ clear-lowest [] p e = tt
 clear-lowest ((n when true) ∷ rules) p e = let h : 0 < n = positive-parts n rules p .0 in absurd (omega arith)
 clear-lowest ((n when false) ∷ rules) p e = (refl, clear-lowest rules (positive-parts n rules p .1) e)
 
+-- so rules with positive numbers give 0 exactly where none applies
+pub lowest-zero : (rules : List Rule) → T (positive rules) → (lowest rules ≡ 0) ↔ Clear rules
+lowest-zero rules p = (clear-lowest rules p, lowest-clear rules)
+
 -- the number of the first rule that applies is given
 pub lowest-first : (n : ℕ) (rules : List Rule) → First n rules → lowest rules ≡ n
 lowest-first n [] f = absurd f

@@ -14,7 +14,7 @@ use Rattle.lists.specs.Places.{pad8, places, zeros8}
 use Rattle.lists.proofs.Places.{length-places}
 use Rattle.rules.specs.Rule.{Rule, lowest, Clear, positive}
 use Rattle.rules.proofs.Says.{says-or}
-use Rattle.rules.proofs.Lowest.{clear-lowest, lowest-clear, lowest-append-zero}
+use Rattle.rules.proofs.Lowest.{lowest-zero, lowest-append-zero}
 use Rattle.sigma.specs.Image.{image}
 use Rattle.sigma.specs.Instance.{Instance}
 use Rattle.sigma.specs.Meaning.{Coordinates}
@@ -175,7 +175,7 @@ module _ (p : Prover) where
   -- dropping is not refused exactly in New and in Committed
   pub drop-runs : (dropSession p .refusal ≡ 0) ↔ Drops p
   unfolding dropSession proverStep
-  drop-runs = Iff·trans (clear-lowest (dropRules p) (drop-positive p), lowest-clear (dropRules p)) (drop-clear p)
+  drop-runs = Iff·trans (lowest-zero (dropRules p) (drop-positive p)) (drop-clear p)
 
   -- it sets the nonce to zeros and keeps the commitment
   pub drop-given : dropSession p .refusal ≡ 0

@@ -5,15 +5,14 @@ use mathlib.Core.Path.{_≡_, sym}
 use mathlib.Core.Logic.{_↔_, _≢_, Iff·rfl, Iff·trans, Iff·and}
 use mathlib.Core.Bool.{false, not}
 use mathlib.Core.List.{List}
-use lib.Dec.{T}
 use Rattle.types.specs.declared.Round.{Round}
 use Rattle.types.specs.declared.Verdict.{Verdict}
 use Rattle.types.specs.declared.Verdict.the-variants.{Accepted, Rejected, Refused}
 use Rattle.lists.specs.Places.{places, pad8}
 use Rattle.lists.proofs.Places.{getD-places}
-use Rattle.rules.specs.Rule.{Rule, lowest, Clear, positive}
+use Rattle.rules.specs.Rule.{lowest, Clear}
 use Rattle.rules.proofs.Says.{says-false, says-equal}
-use Rattle.rules.proofs.Lowest.{lowest-clear, clear-lowest}
+use Rattle.rules.proofs.Lowest.{lowest-zero}
 use Rattle.sigma.specs.Instance.{Instance}
 use Rattle.sigma.specs.Valid.{Valid}
 use Rattle.sigma.specs.Reads.{roundOf, readRound, SameRound}
@@ -35,10 +34,6 @@ use Rattle.sigma.proofs.Unread.{fits-same, holds-same, fails-same, extr
 use Rattle.sigma.proofs.Verdict.{verdict-accepted, verdict-rejected, verdict-not-refused}
 
 -- ---- when no rule of a call applies
-
--- rules with positive numbers give 0 exactly when none applies
-lowest-zero : (rules : List Rule) → T (positive rules) → (lowest rules ≡ 0) ↔ Clear rules
-lowest-zero rules p = (clear-lowest rules p, lowest-clear rules)
 
 module _ (i : Instance) where
   -- judging: the round fits

@@ -1,4 +1,3 @@
 -- Laws that the proofs of the functions cite, by topic.
-pub mod Refusing
+pub mod States
 pub mod Outcomes
-pub mod SheetFirst

@@ -23,16 +23,12 @@ use Rattle.formats.specs.Encode.{encode, encodeRules, sheetOf}
 use Rattle.formats.specs.Pattern.{fromPattern, made, madeHeader, makeRules, patternEntries, patternOf}
 use Rattle.formats.specs.Refusals.{Refusal1}
 use Rattle.formats.specs.Sheet.{sheetLength, zeros64}
-use Rattle.formats.specs.Write.{Writing, short, written, writtenAtStart}
+use Rattle.formats.specs.Write.{short, written, writtenAtStart}
 use Rattle.formats.proofs.Maker.{maker-encodes}
 use Rattle.formats.proofs.Making.{pattern-passes}
 use Rattle.formats.proofs.Tests.{says-badPattern}
-use Rattle.formats.proofs.Writing.{length-sheetOf, short-passes}
+use Rattle.formats.proofs.Writing.{Leaves, length-sheetOf, short-passes}
 use Rattle.writer.specs.Tested.{testedRules, valuesOf, writeTested}
-
--- a call answers this and leaves these bytes in the buffer
-abbrev pub Leaves : Written → List ℕ → Writing → Type 0
-Leaves answer after w = (answer ≡ w .answer) × (after ≡ w .buffer)
 
 -- the answer of a refused call: the number, and length 0
 abbrev pub refusedWith : ℕ → Written

@@ -78,7 +78,8 @@ pub fn from_pattern(
     statement: &[u32],
     buffer: &mut [u8],
 ) -> Written
-    ensures answer { λ r. ⌜ r ≡ fromPattern number modulus order challenges (now (values .entry)) (now (statement .entry)) (now (buffer .entry)) .answer ⌝ }
+    ensures answer { λ r. ⌜ r ≡
+        fromPattern number modulus order challenges (now (values .entry)) (now (statement .entry)) (now (buffer .entry)) .answer ⌝ }
     ensures left { λ _. ⌜ now (buffer .exit) ≡
         fromPattern number modulus order challenges (now (values .entry)) (now (statement .entry)) (now (buffer .entry)) .buffer ⌝ }
 {

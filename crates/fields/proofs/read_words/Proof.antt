@@ -1,24 +1,21 @@
 -- `fields::read_words` meets its contract. The invariant: the first i places hold the first i words, and those beyond hold 0.
 -- The measure: how many words are left.
 -- Assumes nothing.
-use Prim.Native.Nat.{_≤_, _-_}
-use mathlib.Core.Path.{_≡_, refl}
+use Prim.Native.Nat.{_+_, _-_, _*_}
 use native.Mathlib.Omega.{arith}
-use Rattle.lists.specs.Places.{itemsAt, pad8}
-use Rattle.lists.proofs.Places.{pad8-store-item}
+use Rattle.lists.proofs.Filling.{Filled, filled-start, filled-turn, filled-items}
 use Rattle.encoding.specs.Bytes.{numberAt}
 use Rattle.fields.proofs.read_words.Statement.{statement}
 use Rattle.fields.proofs.read_words.Tie as tie
 
 abbrev Inv-loop : tie.InvT-loop
-Inv-loop s at n words₀ i₀ words i = (words ≡ pad8 0 (itemsAt (numberAt 4 s) at 4 i)) × (i ≤ n)
+Inv-loop s at n words₀ i₀ words i = Filled words₀ n (λ j. numberAt 4 s (at + 4 * j)) words i
 
 abbrev μ-loop : tie.MeasureT-loop
 μ-loop s at n words₀ i₀ words i = n - i
 
 loop-holds : tie.Need-loop-holds Inv-loop μ-loop
-unfolding pad8 itemsAt
-loop-holds c = (refl, omega arith)
+loop-holds c = filled-start (omega arith)
 
 mul-read-u32 : tie.Need-mul-read-u32 Inv-loop μ-loop
 mul-read-u32 c = omega arith
@@ -42,15 +39,10 @@ loop-less : tie.Need-loop-less Inv-loop μ-loop
 loop-less c = omega arith
 
 loop-again : tie.Need-loop-again Inv-loop μ-loop
-loop-again c =
-    let at-loop = c .before .before in
-    (rw (at-loop .loop .inv .0, c .read-u32 .ensures) (pad8-store-item 0 _ _ 4 _ (omega arith)), omega arith)
+loop-again c = filled-turn (c .before .before .loop .inv) (omega arith) (c .read-u32 .ensures)
 
 returns : tie.Need-returns Inv-loop μ-loop
-returns c =
-    let at-loop = c .before in
-    let whole : at-loop .loop .i ≡ at-loop .before .before .args .n = omega arith in
-    rw whole at (at-loop .loop .inv .0)
+returns c = filled-items _ _ 4 (c .before .loop .inv) (omega arith)
 
 pub read-words-spec : {M : Type 1} → statement M
 read-words-spec =

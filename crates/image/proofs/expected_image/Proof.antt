@@ -1,20 +1,18 @@
 -- `image::expected_image` meets its contract. The invariant: the first i places hold the first i rows, and those beyond hold 0.
 -- The measure: how many rows are left. Assumes nothing.
-use mathlib.Core.Path.{_≡_}
-use Prim.Native.Nat.{_-_, _*_, _%_, _^_, _≤_}
+use Prim.Native.Nat.{_-_, _*_, _%_, _^_}
 use native.Mathlib.Omega.{arith}
 use lib.ListN.{getD}
-use Rattle.lists.specs.Places.{tabulate, pad8}
+use Rattle.lists.proofs.Filling.{Filled, filled-start, filled-turn, filled-eight}
 use Rattle.sigma.specs.Instance.{statementAt}
 use Rattle.sigma.specs.Round.{expectedImage}
-use Rattle.image.proofs.Filling.{filled-start, filled-turn, filled-end}
 use Rattle.image.proofs.Slots.{product-reduced}
 use Rattle.image.proofs.expected_image.Statement.{statement}
 use Rattle.image.proofs.expected_image.Tie as tie
 
 abbrev Inv-loop : tie.InvT-loop
 Inv-loop h c statement t rows values₀ i₀ values i =
-    (i ≤ rows) × (values ≡ pad8 0 (tabulate i (λ row. getD t row 0 * getD statement row 0 ^ c % h .modulus)))
+    Filled values₀ rows (λ row. getD t row 0 * getD statement row 0 ^ c % h .modulus) values i
 
 abbrev μ-loop : tie.MeasureT-loop
 μ-loop h c statement t rows values₀ i₀ values i = rows - i
@@ -23,7 +21,7 @@ cast-rows : tie.Need-cast-rows Inv-loop μ-loop
 cast-rows c = omega arith
 
 loop-holds : tie.Need-loop-holds Inv-loop μ-loop
-loop-holds c = (omega arith, filled-start _)
+loop-holds c = filled-start (omega arith)
 
 mul-mul-mod : tie.Need-mul-mul-mod Inv-loop μ-loop
 mul-mul-mod c = omega arith
@@ -57,13 +55,12 @@ loop-less c = omega arith
 
 loop-again : tie.Need-loop-again Inv-loop μ-loop
 loop-again c =
-    let at-loop = c .before .before .before in
-    let row = product-reduced _ _ _ (c .before .pow-mod .ensures .0) (c .mul-mod .ensures .0) in
-    (omega arith, filled-turn _ _ (omega arith) (at-loop .loop .inv .1) row)
+    filled-turn (c .before .before .before .loop .inv) (omega arith)
+    (product-reduced _ _ _ (c .before .pow-mod .ensures .0) (c .mul-mod .ensures .0))
 
 returns : tie.Need-returns Inv-loop μ-loop
 unfolding expectedImage statementAt
-returns c = λ entries. filled-end _ _ _ (c .before .loop .inv .0) (c .loop-test .left) (c .before .loop .inv .1)
+returns c = λ entries. filled-eight (c .before .loop .inv) (omega arith)
 
 pub expected-image-spec : {M : Type 1} → statement M
 expected-image-spec =

@@ -1,22 +1,22 @@
 -- `image::first_places` meets its contract. The invariant: the first i places hold the first i values, and those beyond hold 0.
 -- The measure: how many places are left. Assumes nothing.
-use mathlib.Core.Path.{_≡_, refl}
-use Prim.Native.Nat.{_-_, _≤_}
+use Prim.Native.Nat.{_-_}
+use mathlib.Core.Path.{refl}
 use native.Mathlib.Omega.{arith}
 use lib.ListN.{getD}
-use Rattle.lists.specs.Places.{tabulate, places, pad8}
-use Rattle.image.proofs.Filling.{filled-start, filled-turn, filled-end}
+use Rattle.lists.specs.Places.{places}
+use Rattle.lists.proofs.Filling.{Filled, filled-start, filled-turn, filled-eight}
 use Rattle.image.proofs.first_places.Statement.{statement}
 use Rattle.image.proofs.first_places.Tie as tie
 
 abbrev Inv-loop : tie.InvT-loop
-Inv-loop n values kept₀ i₀ kept i = (i ≤ n) × (kept ≡ pad8 0 (tabulate i (λ j. getD values j 0)))
+Inv-loop n values kept₀ i₀ kept i = Filled kept₀ n (λ j. getD values j 0) kept i
 
 abbrev μ-loop : tie.MeasureT-loop
 μ-loop n values kept₀ i₀ kept i = n - i
 
 loop-holds : tie.Need-loop-holds Inv-loop μ-loop
-loop-holds c = (omega arith, filled-start _)
+loop-holds c = filled-start (omega arith)
 
 mul-kept : tie.Need-mul-kept Inv-loop μ-loop
 mul-kept c = omega arith
@@ -37,11 +37,11 @@ loop-less : tie.Need-loop-less Inv-loop μ-loop
 loop-less c = omega arith
 
 loop-again : tie.Need-loop-again Inv-loop μ-loop
-loop-again c = (omega arith, filled-turn _ _ (omega arith) (c .before .loop .inv .1) refl)
+loop-again c = filled-turn (c .before .loop .inv) (omega arith) refl
 
 returns : tie.Need-returns Inv-loop μ-loop
 unfolding places
-returns c = filled-end _ _ _ (c .before .loop .inv .0) (c .loop-test .left) (c .before .loop .inv .1)
+returns c = filled-eight (c .before .loop .inv) (omega arith)
 
 pub first-places-spec : {M : Type 1} → statement M
 first-places-spec =

@@ -1,19 +1,18 @@
 -- `image::image` meets its contract. The invariant: the first i places hold the first i rows, and those beyond hold 0.
--- The measure: how many rows are left. Assumes nothing.
-use mathlib.Core.Path.{_≡_}
-use mathlib.Core.List.{List}
-use Prim.Native.Nat.{ℕ, _-_, _≤_}
+-- The measure: how many rows are left. No row reads the statement. Assumes nothing.
+use mathlib.Core.List.{[]}
+use Prim.Native.Nat.{_-_}
 use native.Mathlib.Omega.{arith}
-use Rattle.lists.specs.Places.{tabulate, pad8}
+use Rattle.lists.proofs.Filling.{Filled, filled-start, filled-turn, filled-eight}
 use Rattle.sigma.specs.Image.{rowImage, image}
+use Rattle.sigma.specs.Instance.{entry}
 use Rattle.image.specs.Values.{instanceWith}
-use Rattle.image.proofs.Filling.{filled-start, filled-turn, filled-end}
 use Rattle.image.proofs.image.Statement.{statement}
 use Rattle.image.proofs.image.Tie as tie
 
 abbrev Inv-loop : tie.InvT-loop
 Inv-loop h entries x rows values₀ i₀ values i =
-    (i ≤ rows) × ((statement : List ℕ) → values ≡ pad8 0 (tabulate i (rowImage (instanceWith h entries statement) x)))
+    Filled values₀ rows (rowImage (instanceWith h entries []) x) values i
 
 abbrev μ-loop : tie.MeasureT-loop
 μ-loop h entries x rows values₀ i₀ values i = rows - i
@@ -22,7 +21,7 @@ cast-rows : tie.Need-cast-rows Inv-loop μ-loop
 cast-rows c = omega arith
 
 loop-holds : tie.Need-loop-holds Inv-loop μ-loop
-loop-holds c = (omega arith, λ statement. filled-start _)
+loop-holds c = filled-start (omega arith)
 
 row-image-requires : tie.Need-row-image-requires Inv-loop μ-loop
 row-image-requires c κs = omega arith
@@ -40,13 +39,11 @@ loop-less : tie.Need-loop-less Inv-loop μ-loop
 loop-less c = omega arith
 
 loop-again : tie.Need-loop-again Inv-loop μ-loop
-loop-again c =
-    let at-loop = c .before .before in
-    (omega arith, λ statement. filled-turn _ _ (omega arith) (at-loop .loop .inv .1 statement) (c .row-image .ensures statement))
+loop-again c = filled-turn (c .before .before .loop .inv) (omega arith) (c .row-image .ensures [])
 
 returns : tie.Need-returns Inv-loop μ-loop
-unfolding image
-returns c = λ statement. filled-end _ _ _ (c .before .loop .inv .0) (c .loop-test .left) (c .before .loop .inv .1 statement)
+unfolding image rowImage entry
+returns c = λ statement. filled-eight (c .before .loop .inv) (omega arith)
 
 pub image-spec : {M : Type 1} → statement M
 image-spec =

@@ -1,18 +1,16 @@
 -- `image::response` meets its contract. The invariant: the first j places hold the first j slots, and those beyond hold 0.
 -- The measure: how many columns are left. Assumes nothing.
-use mathlib.Core.Path.{_≡_}
-use Prim.Native.Nat.{_-_, _≤_}
+use Prim.Native.Nat.{_-_}
 use native.Mathlib.Omega.{arith}
 use lib.ListN.{getD}
-use Rattle.lists.specs.Places.{tabulate, pad8}
+use Rattle.lists.proofs.Filling.{Filled, filled-start, filled-turn, filled-eight}
 use Rattle.sigma.specs.Round.{responseCoordinate, response}
-use Rattle.image.proofs.Filling.{filled-start, filled-turn, filled-end}
 use Rattle.image.proofs.response.Statement.{statement}
 use Rattle.image.proofs.response.Tie as tie
 
 abbrev Inv-loop : tie.InvT-loop
 Inv-loop h c k x columns values₀ j₀ values j =
-    (j ≤ columns) × (values ≡ pad8 0 (tabulate j (λ slot. responseCoordinate h (getD k slot 0) c (getD x slot 0))))
+    Filled values₀ columns (λ slot. responseCoordinate h (getD k slot 0) c (getD x slot 0)) values j
 
 abbrev μ-loop : tie.MeasureT-loop
 μ-loop h c k x columns values₀ j₀ values j = columns - j
@@ -21,7 +19,7 @@ cast-columns : tie.Need-cast-columns Inv-loop μ-loop
 cast-columns c = omega arith
 
 loop-holds : tie.Need-loop-holds Inv-loop μ-loop
-loop-holds c = (omega arith, filled-start _)
+loop-holds c = filled-start (omega arith)
 
 mul-response-coordinate : tie.Need-mul-response-coordinate Inv-loop μ-loop
 mul-response-coordinate c = omega arith
@@ -51,13 +49,11 @@ loop-less : tie.Need-loop-less Inv-loop μ-loop
 loop-less c = omega arith
 
 loop-again : tie.Need-loop-again Inv-loop μ-loop
-loop-again c =
-    let at-loop = c .before .before in
-    (omega arith, filled-turn _ _ (omega arith) (at-loop .loop .inv .1) (c .response-coordinate .ensures))
+loop-again c = filled-turn (c .before .before .loop .inv) (omega arith) (c .response-coordinate .ensures)
 
 returns : tie.Need-returns Inv-loop μ-loop
 unfolding response
-returns c = λ entries statement. filled-end _ _ _ (c .before .loop .inv .0) (c .loop-test .left) (c .before .loop .inv .1)
+returns c = λ entries statement. filled-eight (c .before .loop .inv) (omega arith)
 
 pub response-spec : {M : Type 1} → statement M
 response-spec =

@@ -3,10 +3,9 @@
 use native.Mathlib.Omega.{arith}
 use borrow.Author.Needs.{needs}
 use Rattle.encoding.specs.Text.{ascii}
-use Rattle.instance.proofs.Answers.{answer-header}
-use Rattle.round_file.proofs.SheetFirst.{few-loaded}
+use Rattle.instance.proofs.Answers.{answer-header, answer-few, answer-valid}
 use Rattle.text.proofs.Laws.{placed-behind}
-use Rattle.report.proofs.WholeText.{file-reads, file-text, rounds-fit, rounds-text, sheet-text, text-placed, values-valid}
+use Rattle.report.proofs.WholeText.{file-reads, file-text, rounds-fit, rounds-text, sheet-text, text-placed}
 use Rattle.report.proofs.mark.Statement.{statement}
 use Rattle.report.proofs.mark.Tie as tie
 
@@ -26,7 +25,7 @@ returns c =
     text-placed _ _ (omega arith) (sheet-text _ _ (refused .before .load .ensures) (refused .if1 .taken)) (c .write-line .ensures)
 
 count-in-requires : tie.Need-count-in-requires
-count-in-requires c κs = few-loaded _ (c .before .before .load .ensures) (c .before .if1 .left)
+count-in-requires c κs = answer-few _ _ (c .before .before .load .ensures) (c .before .if1 .left)
 
 slice-aggregate-write-line-2 : tie.Need-slice-aggregate-write-line-2
 slice-aggregate-write-line-2 c = search needs
@@ -68,7 +67,7 @@ write-rounds-requires c κs =
     let reads = entered .before .if2 .left in
     let (file, count) = file-reads _ _ is-load passed is-count reads in
     let room = rounds-fit _ _ is-load passed is-count reads is-entries in
-    (values-valid _ _ is-load passed is-count reads is-entries, (file, (count, omega arith)))
+    (answer-valid _ _ is-load passed is-entries, (file, (count, omega arith)))
 
 returns-3 : tie.Need-returns-3
 unfolding ascii

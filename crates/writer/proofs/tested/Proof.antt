@@ -42,7 +42,8 @@ returns-3 c =
     let size = stored .before .before .before in
     let tests = size .before .before in
     let passed = not-refused (tests .element-refusal .ensures) (size .before .if1 .left) in
-    tested-written _ _ passed (size .sheet-length .ensures .0) (omega (arith, stored .before .before .if2 .left)) (stored .write-sheet .ensures)
+    tested-written _ _ passed (size .sheet-length .ensures .0) (omega (arith, stored .before .before .if2 .left))
+    (stored .write-sheet .ensures)
 
 pub tested-spec : {M : Type 1} → statement M
 tested-spec =

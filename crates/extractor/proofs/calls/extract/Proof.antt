@@ -1,8 +1,7 @@
 -- `extractor::calls::extract` meets its contract: a refused sheet's number is the answer, else its values are loaded.
 -- Assumes nothing.
-use mathlib.Core.Path.{_∙_}
+use mathlib.Core.Path.{sym}
 use native.Mathlib.Omega.{arith}
-use Rattle.lists.specs.Places.{zeros8}
 use Rattle.runs.specs.Calls.{extractWitness}
 use Rattle.sigma.proofs.After.{extractAfter-clear, extractAfter-refused}
 use Rattle.instance.proofs.Answers.{answer-refused, answer-header, answer-valid, answer-call}
@@ -18,10 +17,8 @@ refused-requires c κs = omega arith
 returns : tie.Need-returns
 unfolding extractWitness
 returns c =
-    let args = c .before .before .before .before .args in
-    c .refused .ensures
-    ∙ answer-refused _ _ (c .before .before .load .ensures) (c .before .if1 .taken) (λ n. record { refusal = n; values = zeros8 })
-    (λ before inst some. extractAfter-refused before inst some (args .first) (args .second))
+    let (number, some) = answer-refused _ _ (c .before .before .load .ensures) (c .before .if1 .taken) in
+    rw (c .refused .ensures, number) (sym (extractAfter-refused _ _ some _ _))
 
 loaded-entries-requires : tie.Need-loaded-entries-requires
 loaded-entries-requires c κs =

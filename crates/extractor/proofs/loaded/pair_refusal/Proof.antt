@@ -1,22 +1,32 @@
 -- `extractor::loaded::pair_refusal` meets its contract: each return is a law of the rules, and each test that fails leaves the
 -- rules behind it.
 -- Assumes nothing.
+use mathlib.Core.Path.{_≡_, sym, _∙_}
+use mathlib.Core.Bool.{or-eq-true-iff}
 use mathlib.Core.List.{List}
+use mathlib.Core.Logic.{Or·inl, Or·inr}
 use Prim.Native.Nat.{ℕ}
+use lib.ListN.{drop}
 use borrow.Author.Needs.{needs}
+use borrow.Author.Tests.{eq-eqb, ne-eqb, lt-ltb, le-ltb}
+use Rattle.rules.specs.Rule.{lowest}
+use Rattle.rules.proofs.Lowest.{pass, stop, lowest-clear}
+use Rattle.sigma.specs.Round.{badCommitment, badChallenge, badCoordinates}
+use Rattle.sigma.proofs.Calculus.{both-fail}
+use Rattle.sigma.proofs.Passed.{challenge-passes}
+use Rattle.sigma.proofs.Tests.{says-badChallenge}
 use Rattle.image.specs.Values.{instanceWith}
-use Rattle.extractor.proofs.Refusing.{Left, first-commitment, second-commitment, commitments-pass}
-use Rattle.extractor.proofs.Refusing.{first-challenge, second-challenge, challenges-pass}
-use Rattle.extractor.proofs.Refusing.{first-response, second-response, responses-pass}
-use Rattle.extractor.proofs.Refusing.{commitments-differ, commitments-agree, challenges-equal, challenges-differ}
+use Rattle.image.proofs.Tested.{commitment-bad, commitment-good, coordinates-bad, coordinates-good, difference-tested}
+use Rattle.extractor.specs.Rules.{pairRules}
 use Rattle.extractor.proofs.loaded.pair_refusal.Statement.{statement}
 use Rattle.extractor.proofs.loaded.pair_refusal.Tie as tie
 
--- whatever the entries and the statement are, the rules behind the first k are left
+-- whatever the entries and the statement are, the rules behind the first k are left: none of those applies
 abbrev Rest : ℕ → tie.Start → Type 0
 Rest k start =
     (entries : List (List ℕ)) (statement : List ℕ)
-    → Left k (instanceWith (start .args .h) entries statement) (start .args .first) (start .args .second)
+    → let rules = pairRules (instanceWith (start .args .h) entries statement) (start .args .first) (start .args .second) in
+    lowest rules ≡ lowest (drop k rules)
 
 -- the start, seen from behind the commitments, the challenges, the responses and the comparison of the commitments
 abbrev start-2 : tie.Else2 → tie.Start
@@ -33,28 +43,39 @@ start-7 c = start-6 (c .before .before)
 
 -- behind both searches of the commitments
 elements : (c : tie.Else2) → Rest 1 (start-2 c)
+unfolding pairRules
 elements c = λ entries statement.
     let searched = c .before .before .before in
-    commitments-pass _ _ _ (searched .first-non-element .ensures .0) (c .before .before .if1 .left)
-    (c .before .first-non-element2 .ensures .0) (c .if2 .left)
+    pass 14 _ (both-fail _ _ .1 (
+      commitment-good _ _ (searched .first-non-element .ensures .0) (c .before .before .if1 .left),
+      commitment-good _ _ (c .before .first-non-element2 .ensures .0) (c .if2 .left),
+    ))
 
 -- behind both challenges
 challenges : (c : tie.Else4) → Rest 2 (start-4 c)
+unfolding pairRules
 challenges c = λ entries statement.
     let first = c .before .before .before in
-    challenges-pass (elements (first .before .before .before) entries statement) (first .if3 .left) (c .if4 .left)
+    elements (first .before .before .before) entries statement
+    ∙ pass 15 _ (both-fail _ _ .1 (challenge-passes _ _ .1 (first .if3 .left), challenge-passes _ _ .1 (c .if4 .left)))
 
 -- behind both searches of the responses
 slots : (c : tie.Else6) → Rest 3 (start-6 c)
+unfolding pairRules
 slots c = λ entries statement.
     let first = c .before .before in
-    responses-pass (challenges (first .before .before) entries statement) (first .before .first-non-coordinate .ensures .0)
-    (first .if5 .left) (c .before .first-non-coordinate2 .ensures .0) (c .if6 .left)
+    challenges (first .before .before) entries statement
+    ∙ pass 16 _ (both-fail _ _ .1 (
+      coordinates-good _ _ (first .before .first-non-coordinate .ensures .0) (first .if5 .left),
+      coordinates-good _ _ (c .before .first-non-coordinate2 .ensures .0) (c .if6 .left),
+    ))
 
 -- behind the comparison of the commitments
 same : (c : tie.Else7) → Rest 4 (start-7 c)
+unfolding pairRules
 same c = λ entries statement.
-    commitments-agree (slots (c .before .before) entries statement) (c .before .first-difference .ensures .0) (c .if7 .left)
+    slots (c .before .before) entries statement
+    ∙ pass 18 _ (difference-tested _ _ _ (c .before .first-difference .ensures .0) ∙ le-ltb _ _ (c .if7 .left))
 
 cast-rows : tie.Need-cast-rows
 cast-rows c = search needs
@@ -66,48 +87,69 @@ first-non-element-requires : tie.Need-first-non-element-requires
 first-non-element-requires c κs = search needs
 
 returns : tie.Need-returns
-returns c = λ entries statement. first-commitment _ _ _ (c .before .first-non-element .ensures .0) (c .if1 .taken)
+unfolding pairRules
+returns c = λ entries statement.
+    let bad = commitment-bad _ _ (c .before .first-non-element .ensures .0) (c .if1 .taken) in
+    sym (stop 14 _ (or-eq-true-iff _ _ .1 (Or·inl bad)))
 
 first-non-element-requires-2 : tie.Need-first-non-element-requires-2
 first-non-element-requires-2 c κs = search needs
 
 returns-2 : tie.Need-returns-2
-returns-2 c = λ entries statement. second-commitment _ _ _ (c .before .first-non-element2 .ensures .0) (c .if2 .taken)
+unfolding pairRules
+returns-2 c = λ entries statement.
+    let bad = commitment-bad _ _ (c .before .first-non-element2 .ensures .0) (c .if2 .taken) in
+    sym (stop 14 _ (or-eq-true-iff (badCommitment _ _) _ .1 (Or·inr bad)))
 
 returns-3 : tie.Need-returns-3
-returns-3 c = λ entries statement. first-challenge (elements (c .before .before .before) entries statement) (c .if3 .taken)
+unfolding pairRules
+returns-3 c = λ entries statement.
+    sym (elements (c .before .before .before) entries statement
+    ∙ stop 15 _ (or-eq-true-iff _ _ .1 (Or·inl (says-badChallenge _ _ .complete (c .if3 .taken)))))
 
 returns-4 : tie.Need-returns-4
+unfolding pairRules
 returns-4 c = λ entries statement.
-    second-challenge (elements (c .before .before .before .before .before .before) entries statement) (c .if4 .taken)
+    sym (elements (c .before .before .before .before .before .before) entries statement
+    ∙ stop 15 _ (or-eq-true-iff (badChallenge _ _) _ .1 (Or·inr (says-badChallenge _ _ .complete (c .if4 .taken)))))
 
 first-non-coordinate-requires : tie.Need-first-non-coordinate-requires
 first-non-coordinate-requires c κs = search needs
 
 returns-5 : tie.Need-returns-5
+unfolding pairRules
 returns-5 c = λ entries statement.
-    first-response (challenges (c .before .before) entries statement) (c .before .first-non-coordinate .ensures .0) (c .if5 .taken)
+    let bad = coordinates-bad _ _ (c .before .first-non-coordinate .ensures .0) (c .if5 .taken) in
+    sym (challenges (c .before .before) entries statement ∙ stop 16 _ (or-eq-true-iff _ _ .1 (Or·inl bad)))
 
 first-non-coordinate-requires-2 : tie.Need-first-non-coordinate-requires-2
 first-non-coordinate-requires-2 c κs = search needs
 
 returns-6 : tie.Need-returns-6
+unfolding pairRules
 returns-6 c = λ entries statement.
-    second-response (challenges (c .before .before .before .before) entries statement)
-    (c .before .first-non-coordinate2 .ensures .0) (c .if6 .taken)
+    let bad = coordinates-bad _ _ (c .before .first-non-coordinate2 .ensures .0) (c .if6 .taken) in
+    sym (challenges (c .before .before .before .before) entries statement
+    ∙ stop 16 _ (or-eq-true-iff (badCoordinates _ _) _ .1 (Or·inr bad)))
 
 first-difference-requires : tie.Need-first-difference-requires
 first-difference-requires c κs = search needs
 
 returns-7 : tie.Need-returns-7
+unfolding pairRules
 returns-7 c = λ entries statement.
-    commitments-differ (slots (c .before .before) entries statement) (c .before .first-difference .ensures .0) (c .if7 .taken)
+    sym (slots (c .before .before) entries statement
+    ∙ stop 18 _ (difference-tested _ _ _ (c .before .first-difference .ensures .0) ∙ lt-ltb _ _ (c .if7 .taken)))
 
 returns-8 : tie.Need-returns-8
-returns-8 c = λ entries statement. challenges-equal (same (c .before .before .before) entries statement) (c .if8 .taken)
+unfolding pairRules
+returns-8 c = λ entries statement.
+    sym (same (c .before .before .before) entries statement ∙ stop 19 _ (eq-eqb _ _ (c .if8 .taken)))
 
 returns-9 : tie.Need-returns-9
-returns-9 c = λ entries statement. challenges-differ (same (c .before .before .before) entries statement) (c .if8 .left)
+unfolding pairRules
+returns-9 c = λ entries statement.
+    sym (same (c .before .before .before) entries statement ∙ lowest-clear _ (ne-eqb _ _ (c .if8 .left), tt))
 
 pub pair-refusal-spec : {M : Type 1} → statement M
 pair-refusal-spec =

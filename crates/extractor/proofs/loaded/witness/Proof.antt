@@ -1,19 +1,19 @@
 -- `extractor::loaded::witness` meets its contract. The invariant: the first j places hold the first j slots, and those beyond hold 0.
 -- The measure: how many columns are left. Assumes nothing.
-use mathlib.Core.Path.{_≡_}
-use Prim.Native.Nat.{_-_, _^_, _≤_, _<_}
+use Prim.Native.Nat.{_-_, _^_, _<_}
 use native.Mathlib.Nat.{le-of-lt, le-trans, le-pred-of-lt, mul-le-mul}
 use native.Mathlib.Omega.{arith}
-use Rattle.lists.specs.Places.{tabulate, pad8}
-use Rattle.image.proofs.Filling.{filled-start, filled-turn, filled-end}
+use lib.ListN.{getD}
+use Rattle.lists.proofs.Filling.{Filled, filled-start, filled-turn, filled-eight}
+use Rattle.extractor.specs.Coefficients.{slotFormula}
 use Rattle.extractor.proofs.Coefficients.{quotient-within, left-is}
-use Rattle.extractor.proofs.Slots.{slotsFormula, slot-at, formula-filled}
+use Rattle.extractor.proofs.Slots.{formula-filled}
 use Rattle.extractor.proofs.loaded.witness.Statement.{statement}
 use Rattle.extractor.proofs.loaded.witness.Tie as tie
 
 abbrev Inv-loop : tie.InvT-loop
 Inv-loop h delta statement r s b a columns values₀ j₀ values j =
-    (j ≤ columns) × (values ≡ pad8 0 (tabulate j (slotsFormula h statement a b r s)))
+    Filled values₀ columns (λ slot. slotFormula h (getD statement slot 0) a b (getD r slot 0) (getD s slot 0)) values j
 
 abbrev μ-loop : tie.MeasureT-loop
 μ-loop h delta statement r s b a columns values₀ j₀ values j = columns - j
@@ -45,7 +45,7 @@ cast-columns : tie.Need-cast-columns Inv-loop μ-loop
 cast-columns c = omega arith
 
 loop-holds : tie.Need-loop-holds Inv-loop μ-loop
-loop-holds c = (omega arith, filled-start _)
+loop-holds c = filled-start (omega arith)
 
 mul-witness-slot : tie.Need-mul-witness-slot Inv-loop μ-loop
 mul-witness-slot c = omega arith
@@ -91,16 +91,14 @@ loop-less : tie.Need-loop-less Inv-loop μ-loop
 loop-less c = omega arith
 
 loop-again : tie.Need-loop-again Inv-loop μ-loop
-loop-again c =
-    let at-loop = c .before .before in
-    (omega arith, filled-turn _ _ (omega arith) (at-loop .loop .inv .1) (slot-at _ _ _ _ _ _ _ (c .witness-slot .ensures)))
+loop-again c = filled-turn (c .before .before .loop .inv) (omega arith) (c .witness-slot .ensures)
 
 returns : tie.Need-returns Inv-loop μ-loop
 returns c = λ entries.
     let at-loop = c .before in
     let is-inverse = at-loop .before .before .before .inverse .ensures .0 in
     formula-filled _ _ _ _ _ _ entries (left-is _ _ is-inverse) is-inverse
-    (filled-end _ _ _ (at-loop .loop .inv .0) (c .loop-test .left) (at-loop .loop .inv .1))
+    (filled-eight (at-loop .loop .inv) (omega arith))
 
 pub witness-spec : {M : Type 1} → statement M
 witness-spec =

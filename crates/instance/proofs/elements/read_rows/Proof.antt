@@ -1,23 +1,22 @@
 -- `instance::elements::read_rows` meets its contract. The invariant: the first i places hold the first i rows, and those beyond
 -- hold zeros. The measure: how many rows are left. Assumes nothing.
 use Prim.Native.Nat.{_+_, _-_, _*_, _≤_}
-use mathlib.Core.Path.{_≡_, refl}
 use native.Mathlib.Omega.{arith}
-use Rattle.lists.specs.Places.{itemsAt, pad8, zeros8}
+use Rattle.lists.specs.Places.{zeros8}
+use Rattle.lists.proofs.Filling.{Filled, filled-start, filled-turn, filled-items}
 use Rattle.instance.specs.Rows.{rowAt, rowsAt}
-use Rattle.instance.proofs.SheetRows.{row-within, row-stored}
+use Rattle.instance.proofs.SheetRows.{row-within}
 use Rattle.instance.proofs.elements.read_rows.Statement.{statement}
 use Rattle.instance.proofs.elements.read_rows.Tie as tie
 
 abbrev Inv-loop : tie.InvT-loop
-Inv-loop sheet columns n rows₀ i₀ rows i = (rows ≡ rowsAt sheet columns i) × (i ≤ n)
+Inv-loop sheet columns n rows₀ i₀ rows i = Filled rows₀ n (λ j. rowAt sheet columns (20 + 4 * columns * j)) rows i
 
 abbrev μ-loop : tie.MeasureT-loop
 μ-loop sheet columns n rows₀ i₀ rows i = n - i
 
 loop-holds : tie.Need-loop-holds Inv-loop μ-loop
-unfolding rowsAt pad8 itemsAt zeros8
-loop-holds c = (refl, omega arith)
+loop-holds c = filled-start (omega arith)
 
 -- the row that is read ends at or before the end of all
 within : (c : tie.In-loop Inv-loop μ-loop)
@@ -51,15 +50,11 @@ loop-less c = omega arith
 
 loop-again : tie.Need-loop-again Inv-loop μ-loop
 unfolding rowAt
-loop-again c =
-    let at-loop = c .before .before in
-    (rw (at-loop .loop .inv .0, c .read-words .ensures) (row-stored _ _ _ (omega arith)), omega arith)
+loop-again c = filled-turn (c .before .before .loop .inv) (omega arith) (c .read-words .ensures)
 
 returns : tie.Need-returns Inv-loop μ-loop
-returns c =
-    let at-loop = c .before in
-    let whole : at-loop .loop .i ≡ at-loop .before .before .args .n = omega arith in
-    rw whole at (at-loop .loop .inv .0)
+unfolding rowsAt zeros8
+returns c = filled-items _ 20 _ (c .before .loop .inv) (omega arith)
 
 pub read-rows-spec : {M : Type 1} → statement M
 read-rows-spec =

@@ -4,19 +4,19 @@
 use Prim.Native.Nat.{_-_}
 use mathlib.Core.Path.{refl}
 use native.Mathlib.Omega.{arith}
+use Rattle.lists.proofs.Filling.{Filled, filled-start, filled-turn, filled-whole}
 use Rattle.interface.specs.Flat.{squareAt, squareRow}
-use Rattle.interface.proofs.Filling.{Filled, filled-nothing, filled-store, filled-whole}
 use Rattle.interface.proofs.table.row.Statement.{statement}
 use Rattle.interface.proofs.table.row.Tie as tie
 
 abbrev Inv-loop : tie.InvT-loop
-Inv-loop entries i numbers₀ j₀ numbers j = Filled 8 (squareAt entries i) numbers j
+Inv-loop entries i numbers₀ j₀ numbers j = Filled numbers₀ 8 (squareAt entries i) numbers j
 
 abbrev μ-loop : tie.MeasureT-loop
 μ-loop entries i numbers₀ j₀ numbers j = 8 - j
 
 loop-holds : tie.Need-loop-holds Inv-loop μ-loop
-loop-holds c = filled-nothing refl
+loop-holds c = filled-start (omega arith)
 
 mul-numbers : tie.Need-mul-numbers Inv-loop μ-loop
 mul-numbers c = omega arith
@@ -44,11 +44,11 @@ loop-less c = omega arith
 
 loop-again : tie.Need-loop-again Inv-loop μ-loop
 unfolding squareAt
-loop-again c = filled-store (c .before .before .loop .inv) (omega arith)
+loop-again c = filled-turn (c .before .before .loop .inv) (omega arith) refl
 
 returns : tie.Need-returns Inv-loop μ-loop
 unfolding squareRow
-returns c = filled-whole (c .before .loop .inv) (omega arith)
+returns c = filled-whole (c .before .loop .inv) (omega arith) refl
 
 pub row-spec : {M : Type 1} → statement M
 row-spec =

@@ -4,19 +4,19 @@
 use Prim.Native.Nat.{_-_}
 use mathlib.Core.Path.{refl}
 use native.Mathlib.Omega.{arith}
+use Rattle.lists.proofs.Filling.{Filled, filled-start, filled-turn, filled-whole}
 use Rattle.interface.specs.Flat.{square, squareRow}
-use Rattle.interface.proofs.Filling.{Filled, filled-nothing, filled-store, filled-whole}
 use Rattle.interface.proofs.table.square.Statement.{statement}
 use Rattle.interface.proofs.table.square.Tie as tie
 
 abbrev Inv-loop : tie.InvT-loop
-Inv-loop entries rows₀ i₀ rows i = Filled 8 (squareRow entries) rows i
+Inv-loop entries rows₀ i₀ rows i = Filled rows₀ 8 (squareRow entries) rows i
 
 abbrev μ-loop : tie.MeasureT-loop
 μ-loop entries rows₀ i₀ rows i = 8 - i
 
 loop-holds : tie.Need-loop-holds Inv-loop μ-loop
-loop-holds c = filled-nothing refl
+loop-holds c = filled-start (omega arith)
 
 row-requires : tie.Need-row-requires Inv-loop μ-loop
 row-requires c κs = omega arith
@@ -34,11 +34,11 @@ loop-less : tie.Need-loop-less Inv-loop μ-loop
 loop-less c = omega arith
 
 loop-again : tie.Need-loop-again Inv-loop μ-loop
-loop-again c = rw (c .row .ensures) (filled-store (c .before .before .loop .inv) (omega arith))
+loop-again c = filled-turn (c .before .before .loop .inv) (omega arith) (c .row .ensures)
 
 returns : tie.Need-returns Inv-loop μ-loop
 unfolding square
-returns c = filled-whole (c .before .loop .inv) (omega arith)
+returns c = filled-whole (c .before .loop .inv) (omega arith) refl
 
 pub square-spec : {M : Type 1} → statement M
 square-spec =

@@ -1,7 +1,7 @@
 -- `protocol::calls::judge` meets its contract: a refused sheet's number is the answer, else its values are loaded.
 -- Assumes nothing.
+use mathlib.Core.Path.{sym}
 use native.Mathlib.Omega.{arith}
-use Rattle.types.specs.declared.Verdict.the-variants.{Refused}
 use Rattle.runs.specs.Calls.{judgeRound}
 use Rattle.sigma.proofs.After.{judgeAfter-clear, judgeAfter-refused}
 use Rattle.instance.proofs.Answers.{answer-refused, answer-header, answer-valid, answer-call}
@@ -14,9 +14,8 @@ load-requires c κs = omega arith
 returns : tie.Need-returns
 unfolding judgeRound
 returns c =
-    let round = c .before .before .before .args .round in
-    answer-refused _ _ (c .before .load .ensures) (c .if1 .taken) Refused
-    (λ before inst some. judgeAfter-refused before inst some round)
+    let (number, some) = answer-refused _ _ (c .before .load .ensures) (c .if1 .taken) in
+    rw number (sym (judgeAfter-refused _ _ some _))
 
 loaded-entries-requires : tie.Need-loaded-entries-requires
 loaded-entries-requires c κs =

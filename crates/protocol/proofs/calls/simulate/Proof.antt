@@ -1,5 +1,6 @@
 -- `protocol::calls::simulate` meets its contract: a refused sheet's number is the answer, else its values are loaded.
 -- Assumes nothing.
+use mathlib.Core.Path.{sym}
 use native.Mathlib.Omega.{arith}
 use Rattle.lists.specs.Places.{zeros8}
 use Rattle.runs.specs.Calls.{simulateCommitment}
@@ -14,9 +15,8 @@ load-requires c κs = omega arith
 returns : tie.Need-returns
 unfolding simulateCommitment zeros8
 returns c =
-    let args = c .before .before .before .args in
-    answer-refused _ _ (c .before .load .ensures) (c .if1 .taken) (λ n. record { refusal = n; values = zeros8 })
-    (λ before inst some. simulateAfter-refused before inst some (args .c) (args .r))
+    let (number, some) = answer-refused _ _ (c .before .load .ensures) (c .if1 .taken) in
+    rw number (sym (simulateAfter-refused _ _ some _ _))
 
 loaded-entries-requires : tie.Need-loaded-entries-requires
 loaded-entries-requires c κs =

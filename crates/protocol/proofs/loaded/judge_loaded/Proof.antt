@@ -1,8 +1,15 @@
 -- `protocol::loaded::judge_loaded` meets its contract: each return is a law of judging.
 -- Assumes nothing.
+use mathlib.Core.Path.{sym, _∙_}
 use native.Mathlib.Omega.{arith}
 use borrow.Author.Needs.{needs}
-use Rattle.protocol.proofs.Judging.{judge-commitment, judge-challenge, judge-response, judge-passed}
+use Rattle.rules.proofs.Lowest.{pass, stop}
+use Rattle.sigma.specs.Judge.{judgeRules}
+use Rattle.sigma.proofs.Calls.{judge-refused}
+use Rattle.sigma.proofs.Passed.{challenge-passes}
+use Rattle.sigma.proofs.Tests.{says-badChallenge}
+use Rattle.image.proofs.Tested.{commitment-bad, commitment-good, coordinates-bad, coordinates-good}
+use Rattle.protocol.proofs.Judging.{judge-passed}
 use Rattle.protocol.proofs.loaded.judge_loaded.Statement.{statement}
 use Rattle.protocol.proofs.loaded.judge_loaded.Tie as tie
 
@@ -16,33 +23,52 @@ first-non-element-requires : tie.Need-first-non-element-requires
 first-non-element-requires c κs = search needs
 
 returns : tie.Need-returns
-returns c = judge-commitment _ _ (c .before .first-non-element .ensures .0) (c .if1 .taken)
+unfolding judgeRules
+returns c =
+    sym (judge-refused _ _ 14 .1
+    (omega arith, stop 14 _ (commitment-bad _ _ (c .before .first-non-element .ensures .0) (c .if1 .taken))))
 
 returns-2 : tie.Need-returns-2
+unfolding judgeRules
 returns-2 c =
     let good = c .before .before .before in
-    judge-challenge _ _ (good .before .first-non-element .ensures .0) (good .if1 .left) (omega (arith, c .if2 .taken))
+    sym (judge-refused _ _ 15 .1 (
+      omega arith,
+      pass 14 _ (commitment-good _ _ (good .before .first-non-element .ensures .0) (good .if1 .left))
+          ∙ stop 15 _ (says-badChallenge _ _ .complete (omega (arith, c .if2 .taken))),
+    ))
 
 first-non-coordinate-requires : tie.Need-first-non-coordinate-requires
 first-non-coordinate-requires c κs = search needs
 
 returns-3 : tie.Need-returns-3
+unfolding judgeRules
 returns-3 c =
     let below = c .before .before in
     let good = below .before .before .before in
-    judge-response _ _ (good .before .first-non-element .ensures .0) (good .if1 .left) (omega (arith, below .if2 .left))
-    (c .before .first-non-coordinate .ensures .0) (c .if3 .taken)
+    sym (judge-refused _ _ 16 .1 (
+      omega arith,
+      pass 14 _ (commitment-good _ _ (good .before .first-non-element .ensures .0) (good .if1 .left))
+          ∙ pass 15 _ (challenge-passes _ _ .1 (omega (arith, below .if2 .left)))
+          ∙ stop 16 _ (coordinates-bad _ _ (c .before .first-non-coordinate .ensures .0) (c .if3 .taken)),
+    ))
 
 verdict-requires : tie.Need-verdict-requires
 verdict-requires c κs = search needs
 
 returns-4 : tie.Need-returns-4
+unfolding judgeRules
 returns-4 c =
     let fits = c .before in
     let below = fits .before .before in
     let good = below .before .before .before in
-    judge-passed _ _ (good .before .first-non-element .ensures .0) (good .if1 .left) (omega (arith, below .if2 .left))
-    (fits .before .first-non-coordinate .ensures .0) (fits .if3 .left) (c .verdict .ensures)
+    judge-passed _ _ (
+      commitment-good _ _ (good .before .first-non-element .ensures .0) (good .if1 .left),
+      (
+        challenge-passes _ _ .1 (omega (arith, below .if2 .left)),
+        (coordinates-good _ _ (fits .before .first-non-coordinate .ensures .0) (fits .if3 .left), tt),
+      ),
+    ) (c .verdict .ensures)
 
 pub judge-loaded-spec : {M : Type 1} → statement M
 judge-loaded-spec =

@@ -1,20 +1,18 @@
 -- `protocol::loaded::simulated` meets its contract. The invariant: the first i places hold the first i rows, and those beyond hold 0.
 -- The measure: how many rows are left. Assumes nothing.
-use mathlib.Core.Path.{_≡_}
-use Prim.Native.Nat.{_-_, _≤_}
+use Prim.Native.Nat.{_-_}
 use native.Mathlib.Omega.{arith}
-use Rattle.lists.specs.Places.{tabulate, pad8}
+use Rattle.lists.proofs.Filling.{Filled, filled-start, filled-turn, filled-eight}
 use Rattle.sigma.specs.Instance.{statementAt}
 use Rattle.sigma.proofs.Valid.{valid-modulus, valid-order, valid-challenge}
 use Rattle.image.specs.Values.{instanceWith}
-use Rattle.image.proofs.Filling.{filled-start, filled-turn, filled-end}
-use Rattle.protocol.proofs.Simulating.{simulatedRow, simulated-row, simulated-rows}
+use Rattle.protocol.proofs.Simulating.{simulatedRow, simulated-rows}
 use Rattle.protocol.proofs.loaded.simulated.Statement.{statement}
 use Rattle.protocol.proofs.loaded.simulated.Tie as tie
 
 abbrev Inv-loop : tie.InvT-loop
 Inv-loop h entries c r statement rows values₀ i₀ values i =
-    (i ≤ rows) × (values ≡ pad8 0 (tabulate i (simulatedRow (instanceWith h entries statement) c r)))
+    Filled values₀ rows (simulatedRow (instanceWith h entries statement) c r) values i
 
 abbrev μ-loop : tie.MeasureT-loop
 μ-loop h entries c r statement rows values₀ i₀ values i = rows - i
@@ -23,7 +21,7 @@ cast-rows : tie.Need-cast-rows Inv-loop μ-loop
 cast-rows c = omega arith
 
 loop-holds : tie.Need-loop-holds Inv-loop μ-loop
-loop-holds c = (omega arith, filled-start _)
+loop-holds c = filled-start (omega arith)
 
 row-image-requires : tie.Need-row-image-requires Inv-loop μ-loop
 row-image-requires c κs = omega arith
@@ -57,18 +55,16 @@ loop-less : tie.Need-loop-less Inv-loop μ-loop
 loop-less c = omega arith
 
 loop-again : tie.Need-loop-again Inv-loop μ-loop
+unfolding simulatedRow statementAt
 loop-again c =
     let at-loop = c .before .before .before .before in
-    let args = at-loop .before .before .args in
-    let row = simulated-row (instanceWith (args .h) (args .entries) (args .t3)) (args .c) (args .r) (at-loop .loop .i)
-    (c .before .before .row-image .ensures (args .t3)) (c .before .negative-power .ensures) (c .mul-mod .ensures .0) in
-    (omega arith, filled-turn _ _ (omega arith) (at-loop .loop .inv .1) row)
+    let row = c .before .before .row-image .ensures (at-loop .before .before .args .t3) in
+    filled-turn (at-loop .loop .inv) (omega arith) (rw (c .mul-mod .ensures .0, row, c .before .negative-power .ensures))
 
 returns : tie.Need-returns Inv-loop μ-loop
 returns c =
     let at-loop = c .before in
-    rw (simulated-rows _ (at-loop .before .before .pre .0) _ _)
-    (filled-end _ _ _ (at-loop .loop .inv .0) (c .loop-test .left) (at-loop .loop .inv .1))
+    rw (simulated-rows _ (at-loop .before .before .pre .0) _ _) (filled-eight (at-loop .loop .inv) (omega arith))
 
 pub simulated-spec : {M : Type 1} → statement M
 simulated-spec =

@@ -1,8 +1,10 @@
 -- `prover::calls::commit` meets its contract: a refused sheet's number is the answer, else the call is that on the sheet's values.
 -- Assumes nothing.
+use mathlib.Core.Path.{sym}
 use borrow.Author.Needs.{needs}
-use Rattle.instance.proofs.Answers.{answer-header}
-use Rattle.prover.proofs.SheetFirst.{commit-unloaded, loaded-valid, commit-loaded}
+use Rattle.runs.specs.Prover.{commit}
+use Rattle.runs.proofs.After.{commitAfter-clear, commitAfter-refused}
+use Rattle.instance.proofs.Answers.{answer-refused, answer-header, answer-valid, answer-call}
 use Rattle.prover.proofs.calls.commit.Statement.{statement}
 use Rattle.prover.proofs.calls.commit.Tie as tie
 
@@ -13,7 +15,10 @@ refused-requires : tie.Need-refused-requires
 refused-requires c κs = search needs
 
 returns : tie.Need-returns
-returns c = commit-unloaded _ (c .before .before .load .ensures) (c .before .if1 .taken) (c .refused .ensures) _
+unfolding commit
+returns c =
+    let (number, some) = answer-refused _ _ (c .before .before .load .ensures) (c .before .if1 .taken) in
+    rw (c .refused .ensures, number) (sym (commitAfter-refused _ _ some _ _))
 
 loaded-entries-requires : tie.Need-loaded-entries-requires
 loaded-entries-requires c κs =
@@ -23,13 +28,16 @@ loaded-entries-requires c κs =
 commit-loaded-requires : tie.Need-commit-loaded-requires
 commit-loaded-requires c κs =
     let passed = c .before .before .before in
-    loaded-valid _ (passed .before .load .ensures) (passed .if1 .left) (c .loaded-entries .ensures)
+    answer-valid _ _ (passed .before .load .ensures) (passed .if1 .left) (c .loaded-entries .ensures)
 
 returns-2 : tie.Need-returns-2
+unfolding commit
 returns-2 c =
-    let entered = c .before in
-    let passed = entered .before .before .before in
-    commit-loaded _ (passed .before .load .ensures) (passed .if1 .left) (entered .loaded-entries .ensures) _ _ (c .commit-loaded .ensures)
+    let passed = c .before .before .before .before in
+    let args = passed .before .before .before .args in
+    answer-call _ _ (passed .before .load .ensures) (passed .if1 .left)
+    (λ before inst none. commitAfter-clear before inst none (args .session) (args .nonce))
+    (c .before .loaded-entries .ensures) (c .commit-loaded .ensures)
 
 pub commit-spec : {M : Type 1} → statement M
 commit-spec =

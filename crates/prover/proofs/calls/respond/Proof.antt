@@ -1,8 +1,10 @@
 -- `prover::calls::respond` meets its contract: a refused sheet's number is the answer, else the call is that on the sheet's values.
 -- Assumes nothing.
+use mathlib.Core.Path.{sym}
 use borrow.Author.Needs.{needs}
-use Rattle.instance.proofs.Answers.{answer-header}
-use Rattle.prover.proofs.SheetFirst.{respond-unloaded, loaded-valid, respond-loaded}
+use Rattle.runs.specs.Prover.{respond}
+use Rattle.runs.proofs.After.{respondAfter-clear, respondAfter-refused}
+use Rattle.instance.proofs.Answers.{answer-refused, answer-header, answer-valid, answer-call}
 use Rattle.prover.proofs.calls.respond.Statement.{statement}
 use Rattle.prover.proofs.calls.respond.Tie as tie
 
@@ -13,7 +15,10 @@ refused-requires : tie.Need-refused-requires
 refused-requires c κs = search needs
 
 returns : tie.Need-returns
-returns c = respond-unloaded _ (c .before .before .load .ensures) (c .before .if1 .taken) (c .refused .ensures) _ _
+unfolding respond
+returns c =
+    let (number, some) = answer-refused _ _ (c .before .before .load .ensures) (c .before .if1 .taken) in
+    rw (c .refused .ensures, number) (sym (respondAfter-refused _ _ some _ _ _))
 
 loaded-entries-requires : tie.Need-loaded-entries-requires
 loaded-entries-requires c κs =
@@ -23,14 +28,16 @@ loaded-entries-requires c κs =
 respond-loaded-requires : tie.Need-respond-loaded-requires
 respond-loaded-requires c κs =
     let passed = c .before .before .before in
-    loaded-valid _ (passed .before .load .ensures) (passed .if1 .left) (c .loaded-entries .ensures)
+    answer-valid _ _ (passed .before .load .ensures) (passed .if1 .left) (c .loaded-entries .ensures)
 
 returns-2 : tie.Need-returns-2
+unfolding respond
 returns-2 c =
-    let entered = c .before in
-    let passed = entered .before .before .before in
-    respond-loaded _ (passed .before .load .ensures) (passed .if1 .left) (entered .loaded-entries .ensures) _ _ _
-    (c .respond-loaded .ensures)
+    let passed = c .before .before .before .before in
+    let args = passed .before .before .before .args in
+    answer-call _ _ (passed .before .load .ensures) (passed .if1 .left)
+    (λ before inst none. respondAfter-clear before inst none (args .session) (args .challenge) (args .witness))
+    (c .before .loaded-entries .ensures) (c .respond-loaded .ensures)
 
 pub respond-spec : {M : Type 1} → statement M
 respond-spec =

@@ -1,7 +1,14 @@
 -- `prover::loaded::commit_loaded` meets its contract: the rules' number decides, and the image reads n places of the nonce.
 -- Assumes nothing.
+use mathlib.Core.Path.{sym, ap, _∙_}
+use mathlib.Core.List.{List}
+use Prim.Native.Nat.{ℕ}
 use borrow.Author.Needs.{needs}
-use Rattle.prover.proofs.Steps.{commit-refused, commit-given}
+use Rattle.types.specs.declared.ProverPhase.the-variants.{Committed}
+use Rattle.lists.specs.Places.{pad8}
+use Rattle.runs.specs.Prover.{commitAfter}
+use Rattle.image.proofs.Unread.{image-places}
+use Rattle.prover.proofs.Steps.{step-refused, step-given}
 use Rattle.prover.proofs.loaded.commit_loaded.Statement.{statement}
 use Rattle.prover.proofs.loaded.commit_loaded.Tie as tie
 
@@ -12,10 +19,11 @@ refused-requires : tie.Need-refused-requires
 refused-requires c κs = search needs
 
 returns : tie.Need-returns
+unfolding commitAfter
 returns c =
     let start = c .before .before .before in
     let number = c .before .before .commit-refusal .ensures (start .args .entries) (start .args .statement) in
-    commit-refused _ _ _ number (c .before .if1 .taken) (c .refused .ensures)
+    step-refused _ _ _ number (c .before .if1 .taken) (c .refused .ensures)
 
 cast-first-places : tie.Need-cast-first-places
 cast-first-places c = search needs
@@ -27,11 +35,14 @@ image-requires : tie.Need-image-requires
 image-requires c κs = search needs
 
 returns-2 : tie.Need-returns-2
+unfolding commitAfter
 returns-2 c =
     let numbered = c .before .before .before in
     let start = numbered .before .before in
     let number = numbered .before .commit-refusal .ensures (start .args .entries) (start .args .statement) in
-    commit-given _ _ _ number (numbered .if1 .left) (start .pre) (c .before .first-places .ensures) (c .image .ensures (start .args .statement))
+    let read = c .image .ensures (start .args .statement) ∙ ap (λ (xs : List ℕ). pad8 0 xs) (sym (image-places _ (start .pre) _)) in
+    step-given _ _ _ number (numbered .if1 .left)
+    (λ j. record { phase = Committed; nonce = c .before .first-places .ensures j; commitment = read j }) read
 
 pub commit-loaded-spec : {M : Type 1} → statement M
 commit-loaded-spec =

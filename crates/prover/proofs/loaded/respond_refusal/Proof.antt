@@ -1,38 +1,53 @@
 -- `prover::loaded::respond_refusal` meets its contract: each return is a law of the rules of responding, and each test that fails
 -- leaves the rules behind it.
 -- Assumes nothing.
+use mathlib.Core.Path.{_≡_, sym, ap, _∙_}
+use mathlib.Core.Bool.{not, or-eq-true-iff}
+use mathlib.Core.Logic.{Or·inl, Or·inr}
 use Prim.Native.Nat.{ℕ}
+use lib.ListN.{drop}
 use borrow.Author.Needs.{needs}
-use Rattle.sigma.specs.Instance.{Instance}
+use borrow.Author.Tests.{lt-ltb, le-ltb}
+use Rattle.lists.specs.Places.{places}
+use Rattle.rules.specs.Rule.{lowest}
+use Rattle.rules.proofs.Lowest.{pass, stop, lowest-clear}
+use Rattle.sigma.proofs.Calculus.{both-fail}
+use Rattle.sigma.proofs.Passed.{challenge-passes}
+use Rattle.sigma.proofs.Tests.{says-badChallenge}
+use Rattle.runs.specs.Prover.{isCommitted, respondRules}
 use Rattle.image.specs.Values.{instanceWith}
-use Rattle.prover.proofs.Refusing.{Left, respond-challenge, challenge-passes, respond-slot, slots-pass}
-use Rattle.prover.proofs.Refusing.{respond-image, image-passes, respond-state, respond-held, respond-passes}
+use Rattle.image.proofs.Tested.{coordinates-bad, coordinates-good, witness-tested}
 use Rattle.prover.proofs.loaded.respond_refusal.Statement.{statement}
 use Rattle.prover.proofs.loaded.respond_refusal.Tie as tie
 
--- the instance of the values handed in
-abbrev inst : tie.Start → Instance
-inst start = instanceWith (start .args .h) (start .args .entries) (start .args .statement)
-
--- the rules behind the first k are left
+-- the rules behind the first k are left: none of those applies
 abbrev Rest : ℕ → tie.Start → Type 0
-Rest k start = Left k (inst start) (start .args .session) (start .args .challenge) (start .args .witness)
+Rest k start =
+    let args = start .args in
+    let rules = respondRules (instanceWith (args .h) (args .entries) (args .statement)) (args .session) (args .challenge)
+    (places (args .h .columns) (args .witness)) in
+    lowest rules ≡ lowest (drop k rules)
 
 -- behind the challenge
 challenge : (c : tie.Else1) → Rest 1 (c .before .before .before .before)
-challenge c = challenge-passes _ _ _ _ (c .if1 .left)
+unfolding respondRules
+challenge c = pass 15 _ (challenge-passes _ _ .1 (c .if1 .left))
 
 -- behind the search of the witness's slots
 slots : (c : tie.Else2) → Rest 2 (c .before .before .before .before .before .before)
-slots c = slots-pass (challenge (c .before .before)) (c .before .first-non-coordinate .ensures .0) (c .if2 .left)
+unfolding respondRules
+slots c =
+    challenge (c .before .before) ∙ pass 16 _ (coordinates-good _ _ (c .before .first-non-coordinate .ensures .0) (c .if2 .left))
 
 -- behind the comparison of its image
 witness : (c : tie.Else3) → Rest 3 (c .before .before .before .before .before .before .before .before .before)
+unfolding respondRules
 witness c =
     let imaged = c .before .before in
     let start = imaged .before .before .before .before .before .before .before in
-    image-passes (slots (imaged .before)) (start .pre) (imaged .image .ensures (start .args .statement))
-    (c .before .first-difference .ensures .0) (c .if3 .left)
+    slots (imaged .before)
+    ∙ pass 17 _ (witness-tested _ (start .pre) _ (imaged .image .ensures (start .args .statement)) (c .before .first-difference .ensures .0)
+    ∙ le-ltb _ _ (c .if3 .left))
 
 cast-rows : tie.Need-cast-rows
 cast-rows c = search needs
@@ -41,13 +56,16 @@ cast-columns : tie.Need-cast-columns
 cast-columns c = search needs
 
 returns : tie.Need-returns
-returns c = respond-challenge _ _ _ _ (c .if1 .taken)
+unfolding respondRules
+returns c = sym (stop 15 _ (says-badChallenge _ _ .complete (c .if1 .taken)))
 
 first-non-coordinate-requires : tie.Need-first-non-coordinate-requires
 first-non-coordinate-requires c κs = search needs
 
 returns-2 : tie.Need-returns-2
-returns-2 c = respond-slot (challenge (c .before .before)) (c .before .first-non-coordinate .ensures .0) (c .if2 .taken)
+unfolding respondRules
+returns-2 c =
+    sym (challenge (c .before .before) ∙ stop 16 _ (coordinates-bad _ _ (c .before .first-non-coordinate .ensures .0) (c .if2 .taken)))
 
 image-requires : tie.Need-image-requires
 image-requires c κs = search needs
@@ -56,34 +74,43 @@ first-difference-requires : tie.Need-first-difference-requires
 first-difference-requires c κs = search needs
 
 returns-3 : tie.Need-returns-3
+unfolding respondRules
 returns-3 c =
     let imaged = c .before .before in
     let start = imaged .before .before .before .before .before .before .before in
-    respond-image (slots (imaged .before)) (start .pre) (imaged .image .ensures (start .args .statement))
-    (c .before .first-difference .ensures .0) (c .if3 .taken)
+    sym (slots (imaged .before)
+    ∙ stop 17 _ (witness-tested _ (start .pre) _ (imaged .image .ensures (start .args .statement)) (c .before .first-difference .ensures .0)
+    ∙ lt-ltb _ _ (c .if3 .taken)))
 
 may-respond-requires : tie.Need-may-respond-requires
 may-respond-requires c κs = search needs
 
 returns-4 : tie.Need-returns-4
-returns-4 c = respond-state (witness (c .before .before)) (c .before .may-respond .ensures) (c .if4 .taken)
+unfolding respondRules
+returns-4 c =
+    sym (witness (c .before .before)
+    ∙ stop 21 _ (or-eq-true-iff _ _ .1 (Or·inl (ap not (sym (c .before .may-respond .ensures)) ∙ c .if4 .taken))))
 
 unfit-requires : tie.Need-unfit-requires
 unfit-requires c κs = search needs
 
 returns-5 : tie.Need-returns-5
+unfolding respondRules
 returns-5 c =
     let asked = c .before .before in
     let start = asked .before .before .before .before .before .before .before .before .before .before .before in
-    respond-held (witness (asked .before .before)) (asked .before .may-respond .ensures) (asked .if4 .left)
-    (c .before .unfit .ensures (start .args .statement) (start .pre)) (c .if5 .taken)
+    let held = c .before .unfit .ensures (start .args .statement) (start .pre) in
+    sym (witness (asked .before .before)
+    ∙ stop 21 _ (or-eq-true-iff (not (isCommitted _)) _ .1 (Or·inr (sym held ∙ c .if5 .taken))))
 
 returns-6 : tie.Need-returns-6
+unfolding respondRules
 returns-6 c =
     let asked = c .before .before in
     let start = asked .before .before .before .before .before .before .before .before .before .before .before in
-    respond-passes (witness (asked .before .before)) (asked .before .may-respond .ensures) (asked .if4 .left)
-    (c .before .unfit .ensures (start .args .statement) (start .pre)) (c .if5 .left)
+    let held = c .before .unfit .ensures (start .args .statement) (start .pre) in
+    let state = ap not (sym (asked .before .may-respond .ensures)) ∙ asked .if4 .left in
+    sym (witness (asked .before .before) ∙ lowest-clear _ (both-fail _ _ .1 (state, sym held ∙ c .if5 .left), tt))
 
 pub respond-refusal-spec : {M : Type 1} → statement M
 respond-refusal-spec =

@@ -1,7 +1,12 @@
 -- `prover::loaded::unfit` meets its contract: the held slots are searched first, then the held commitment is compared.
 -- Assumes nothing.
+use mathlib.Core.Path.{sym}
+use mathlib.Core.Bool.{or-eq-true-iff}
+use mathlib.Core.Logic.{Or·inl}
 use borrow.Author.Needs.{needs}
-use Rattle.prover.proofs.Refusing.{unfit-slot, unfit-commitment}
+use Rattle.runs.specs.Prover.{unfitProver}
+use Rattle.image.proofs.Tested.{coordinates-bad}
+use Rattle.prover.proofs.Held.{unfit-commitment}
 use Rattle.prover.proofs.loaded.unfit.Statement.{statement}
 use Rattle.prover.proofs.loaded.unfit.Tie as tie
 
@@ -12,7 +17,9 @@ first-non-coordinate-requires : tie.Need-first-non-coordinate-requires
 first-non-coordinate-requires c κs = search needs
 
 returns : tie.Need-returns
-returns c = λ statement v. unfit-slot _ _ (c .before .first-non-coordinate .ensures .0) (c .if1 .taken)
+unfolding unfitProver
+returns c = λ statement v.
+    sym (or-eq-true-iff _ _ .1 (Or·inl (coordinates-bad _ _ (c .before .first-non-coordinate .ensures .0) (c .if1 .taken))))
 
 image-requires : tie.Need-image-requires
 image-requires c κs = search needs
@@ -23,7 +30,7 @@ first-difference-requires c κs = search needs
 returns-2 : tie.Need-returns-2
 returns-2 c = λ statement v.
     let slots = c .before .before in
-    unfit-commitment _ _ (slots .before .first-non-coordinate .ensures .0) (slots .if1 .left) v (c .before .image .ensures statement)
+    unfit-commitment _ v _ (slots .before .first-non-coordinate .ensures .0) (slots .if1 .left) (c .before .image .ensures statement)
     (c .first-difference .ensures .0)
 
 pub unfit-spec : {M : Type 1} → statement M

@@ -1,7 +1,10 @@
 -- `round_file::calls::check` meets its contract: a refused sheet's number is the answer, else the fixed fields are loaded.
 -- Assumes nothing.
+use mathlib.Core.Path.{sym}
 use native.Mathlib.Omega.{arith}
-use Rattle.round_file.proofs.SheetFirst.{check-unloaded, check-loaded, few-loaded}
+use Rattle.formats.specs.RoundCalls.{checkRound}
+use Rattle.formats.proofs.After.{checkAfter-clear, checkAfter-refused}
+use Rattle.instance.proofs.Answers.{answer-refused, answer-few, answer-header-call}
 use Rattle.round_file.proofs.calls.check.Statement.{statement}
 use Rattle.round_file.proofs.calls.check.Tie as tie
 
@@ -9,13 +12,21 @@ load-requires : tie.Need-load-requires
 load-requires c κs = omega arith
 
 returns : tie.Need-returns
-returns c = check-unloaded _ (c .before .load .ensures) (c .if1 .taken) _ _
+unfolding checkRound
+returns c =
+    let (number, some) = answer-refused _ _ (c .before .load .ensures) (c .if1 .taken) in
+    rw number (sym (checkAfter-refused _ _ some _ _))
 
 check-in-requires : tie.Need-check-in-requires
-check-in-requires c κs = few-loaded _ (c .before .before .load .ensures) (c .before .if1 .left)
+check-in-requires c κs = answer-few _ _ (c .before .before .load .ensures) (c .before .if1 .left)
 
 returns-2 : tie.Need-returns-2
-returns-2 c = check-loaded _ (c .before .before .before .load .ensures) (c .before .before .if1 .left) _ _ (c .check-in .ensures)
+unfolding checkRound
+returns-2 c =
+    let passed = c .before .before in
+    let args = passed .before .before .before .before .args in
+    answer-header-call _ _ (passed .before .load .ensures) (passed .if1 .left)
+    (λ before h none. checkAfter-clear before h none (args .file .now) (args .k)) (c .check-in .ensures)
 
 pub check-spec : {M : Type 1} → statement M
 check-spec = tie.close (tie.spec load-requires returns check-in-requires returns-2)

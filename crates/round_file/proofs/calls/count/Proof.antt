@@ -1,7 +1,10 @@
 -- `round_file::calls::count` meets its contract: a refused sheet's number is the answer, else the fixed fields are loaded.
 -- Assumes nothing.
+use mathlib.Core.Path.{sym}
 use native.Mathlib.Omega.{arith}
-use Rattle.round_file.proofs.SheetFirst.{count-unloaded, count-loaded, few-loaded}
+use Rattle.formats.specs.RoundCalls.{countRounds}
+use Rattle.formats.proofs.After.{countAfter-clear, countAfter-refused}
+use Rattle.instance.proofs.Answers.{answer-refused, answer-few, answer-header-call}
 use Rattle.round_file.proofs.calls.count.Statement.{statement}
 use Rattle.round_file.proofs.calls.count.Tie as tie
 
@@ -9,13 +12,21 @@ load-requires : tie.Need-load-requires
 load-requires c κs = omega arith
 
 returns : tie.Need-returns
-returns c = count-unloaded _ (c .before .load .ensures) (c .if1 .taken) _
+unfolding countRounds
+returns c =
+    let (number, some) = answer-refused _ _ (c .before .load .ensures) (c .if1 .taken) in
+    rw number (sym (countAfter-refused _ _ some _))
 
 count-in-requires : tie.Need-count-in-requires
-count-in-requires c κs = few-loaded _ (c .before .before .load .ensures) (c .before .if1 .left)
+count-in-requires c κs = answer-few _ _ (c .before .before .load .ensures) (c .before .if1 .left)
 
 returns-2 : tie.Need-returns-2
-returns-2 c = count-loaded _ (c .before .before .before .load .ensures) (c .before .before .if1 .left) _ (c .count-in .ensures)
+unfolding countRounds
+returns-2 c =
+    let passed = c .before .before in
+    let args = passed .before .before .before .before .args in
+    answer-header-call _ _ (passed .before .load .ensures) (passed .if1 .left)
+    (λ before h none. countAfter-clear before h none (args .file .now)) (c .count-in .ensures)
 
 pub count-spec : {M : Type 1} → statement M
 count-spec = tie.close (tie.spec load-requires returns count-in-requires returns-2)

@@ -1,7 +1,10 @@
 -- `round_file::calls::part` meets its contract: a refused sheet's number is the answer, else the fixed fields are loaded.
 -- Assumes nothing.
+use mathlib.Core.Path.{sym}
 use native.Mathlib.Omega.{arith}
-use Rattle.round_file.proofs.SheetFirst.{part-unloaded, part-loaded, few-loaded}
+use Rattle.formats.specs.RoundCalls.{partOfRound}
+use Rattle.formats.proofs.After.{partAfter-clear, partAfter-refused}
+use Rattle.instance.proofs.Answers.{answer-refused, answer-few, answer-header-call}
 use Rattle.round_file.proofs.calls.part.Statement.{statement}
 use Rattle.round_file.proofs.calls.part.Tie as tie
 
@@ -18,13 +21,21 @@ part-result-end : tie.Need-part-result-end
 part-result-end c = omega arith
 
 returns : tie.Need-returns
-returns c = part-unloaded _ (c .before .before .load .ensures) (c .before .if1 .taken) _ _
+unfolding partOfRound
+returns c =
+    let (number, some) = answer-refused _ _ (c .before .before .load .ensures) (c .before .if1 .taken) in
+    sym (partAfter-refused _ _ some _ _)
 
 part-in-requires : tie.Need-part-in-requires
-part-in-requires c κs = few-loaded _ (c .before .before .load .ensures) (c .before .if1 .left)
+part-in-requires c κs = answer-few _ _ (c .before .before .load .ensures) (c .before .if1 .left)
 
 returns-2 : tie.Need-returns-2
-returns-2 c = part-loaded _ (c .before .before .before .load .ensures) (c .before .before .if1 .left) _ _ (c .part-in .ensures)
+unfolding partOfRound
+returns-2 c =
+    let passed = c .before .before in
+    let args = passed .before .before .before .before .args in
+    answer-header-call _ _ (passed .before .load .ensures) (passed .if1 .left)
+    (λ before h none. partAfter-clear before h none (args .file .now) (args .k)) (c .part-in .ensures)
 
 pub part-spec : {M : Type 1} → statement M
 part-spec = tie.close (tie.spec load-requires sub-result part-result-start part-result-end returns part-in-requires returns-2)

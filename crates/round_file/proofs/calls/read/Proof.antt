@@ -1,7 +1,10 @@
 -- `round_file::calls::read` meets its contract: a refused sheet's number is the answer, else the fixed fields are loaded.
 -- Assumes nothing.
+use mathlib.Core.Path.{sym}
 use native.Mathlib.Omega.{arith}
-use Rattle.round_file.proofs.SheetFirst.{fetch-unloaded, fetch-loaded, few-loaded}
+use Rattle.formats.specs.RoundCalls.{fetchRound}
+use Rattle.formats.proofs.After.{fetchAfter-clear, fetchAfter-refused}
+use Rattle.instance.proofs.Answers.{answer-refused, answer-few, answer-header-call}
 use Rattle.round_file.proofs.calls.read.Statement.{statement}
 use Rattle.round_file.proofs.calls.read.Tie as tie
 
@@ -12,13 +15,21 @@ no-round-requires : tie.Need-no-round-requires
 no-round-requires c κs = omega arith
 
 returns : tie.Need-returns
-returns c = fetch-unloaded _ (c .before .before .load .ensures) (c .before .if1 .taken) _ _ (c .no-round .ensures)
+unfolding fetchRound
+returns c =
+    let (number, some) = answer-refused _ _ (c .before .before .load .ensures) (c .before .if1 .taken) in
+    rw (number, c .no-round .ensures) (sym (fetchAfter-refused _ _ some _ _))
 
 read-in-requires : tie.Need-read-in-requires
-read-in-requires c κs = few-loaded _ (c .before .before .load .ensures) (c .before .if1 .left)
+read-in-requires c κs = answer-few _ _ (c .before .before .load .ensures) (c .before .if1 .left)
 
 returns-2 : tie.Need-returns-2
-returns-2 c = fetch-loaded _ (c .before .before .before .load .ensures) (c .before .before .if1 .left) _ _ (c .read-in .ensures)
+unfolding fetchRound
+returns-2 c =
+    let passed = c .before .before in
+    let args = passed .before .before .before .before .args in
+    answer-header-call _ _ (passed .before .load .ensures) (passed .if1 .left)
+    (λ before h none. fetchAfter-clear before h none (args .file .now) (args .k)) (c .read-in .ensures)
 
 pub read-spec : {M : Type 1} → statement M
 read-spec = tie.close (tie.spec load-requires no-round-requires returns read-in-requires returns-2)

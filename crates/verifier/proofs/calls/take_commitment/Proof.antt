@@ -1,9 +1,11 @@
 -- `verifier::calls::take_commitment` meets its contract: a refused sheet's number is the answer, else its values are loaded.
 -- Assumes nothing.
-use mathlib.Core.Path.{refl}
+use mathlib.Core.Path.{refl, sym}
 use native.Mathlib.Omega.{arith}
 use borrow.Author.Needs.{needs}
-use Rattle.verifier.proofs.SheetFirst.{commitment-unloaded, valid-loaded, commitment-loaded}
+use Rattle.runs.specs.Verifier.{takeCommitment}
+use Rattle.runs.proofs.After.{takeCommitmentAfter-clear, takeCommitmentAfter-refused}
+use Rattle.instance.proofs.Answers.{answer-refused, answer-valid, answer-call}
 use Rattle.verifier.proofs.calls.take_commitment.Statement.{statement}
 use Rattle.verifier.proofs.calls.take_commitment.Tie as tie
 
@@ -11,15 +13,22 @@ load-requires : tie.Need-load-requires
 load-requires c κs = search needs
 
 returns : tie.Need-returns
-returns c = commitment-unloaded _ (c .before .load .ensures) (c .if1 .taken) _ _
+unfolding takeCommitment
+returns c =
+    let (number, some) = answer-refused _ _ (c .before .load .ensures) (c .if1 .taken) in
+    rw number (sym (takeCommitmentAfter-refused _ _ some _ _))
 
 take-commitment-loaded-requires : tie.Need-take-commitment-loaded-requires
-take-commitment-loaded-requires c κs = omega (arith, valid-loaded _ (c .before .before .load .ensures) (c .before .if1 .left) refl)
+take-commitment-loaded-requires c κs = omega (arith, answer-valid _ _ (c .before .before .load .ensures) (c .before .if1 .left) refl)
 
 returns-2 : tie.Need-returns-2
+unfolding takeCommitment
 returns-2 c =
     let passed = c .before .before in
-    commitment-loaded _ (passed .before .load .ensures) (passed .if1 .left) refl _ _ (c .take-commitment-loaded .ensures _ _)
+    let args = passed .before .before .before .args in
+    answer-call _ _ (passed .before .load .ensures) (passed .if1 .left)
+    (λ before inst none. takeCommitmentAfter-clear before inst none (args .session) (args .commitment))
+    refl (c .take-commitment-loaded .ensures _ _)
 
 pub take-commitment-spec : {M : Type 1} → statement M
 take-commitment-spec =

@@ -1,8 +1,10 @@
 -- `verifier::calls::take_response` meets its contract: a refused sheet's number is the answer, else its values are loaded.
 -- Assumes nothing.
+use mathlib.Core.Path.{sym}
 use borrow.Author.Needs.{needs}
-use Rattle.instance.proofs.Answers.{answer-header}
-use Rattle.verifier.proofs.SheetFirst.{response-unloaded, valid-loaded, response-loaded}
+use Rattle.runs.specs.Verifier.{takeResponse}
+use Rattle.runs.proofs.After.{takeResponseAfter-clear, takeResponseAfter-refused}
+use Rattle.instance.proofs.Answers.{answer-refused, answer-header, answer-valid, answer-call}
 use Rattle.verifier.proofs.calls.take_response.Statement.{statement}
 use Rattle.verifier.proofs.calls.take_response.Tie as tie
 
@@ -10,7 +12,10 @@ load-requires : tie.Need-load-requires
 load-requires c κs = search needs
 
 returns : tie.Need-returns
-returns c = response-unloaded _ (c .before .load .ensures) (c .if1 .taken) _ _
+unfolding takeResponse
+returns c =
+    let (number, some) = answer-refused _ _ (c .before .load .ensures) (c .if1 .taken) in
+    rw number (sym (takeResponseAfter-refused _ _ some _ _))
 
 loaded-entries-requires : tie.Need-loaded-entries-requires
 loaded-entries-requires c κs = answer-header _ _ (c .before .before .load .ensures) (c .before .if1 .left)
@@ -18,13 +23,16 @@ loaded-entries-requires c κs = answer-header _ _ (c .before .before .load .ensu
 take-response-loaded-requires : tie.Need-take-response-loaded-requires
 take-response-loaded-requires c κs =
     let passed = c .before .before .before in
-    valid-loaded _ (passed .before .load .ensures) (passed .if1 .left) (c .before .loaded-entries .ensures)
+    answer-valid _ _ (passed .before .load .ensures) (passed .if1 .left) (c .before .loaded-entries .ensures)
 
 returns-2 : tie.Need-returns-2
+unfolding takeResponse
 returns-2 c =
     let passed = c .before .before .before .before in
-    response-loaded _ (passed .before .load .ensures) (passed .if1 .left) (c .before .before .loaded-entries .ensures) _ _
-    (c .take-response-loaded .ensures)
+    let args = passed .before .before .before .args in
+    answer-call _ _ (passed .before .load .ensures) (passed .if1 .left)
+    (λ before inst none. takeResponseAfter-clear before inst none (args .session) (args .response))
+    (c .before .before .loaded-entries .ensures) (c .take-response-loaded .ensures)
 
 pub take-response-spec : {M : Type 1} → statement M
 take-response-spec =

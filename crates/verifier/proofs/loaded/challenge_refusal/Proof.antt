@@ -1,36 +1,58 @@
 -- `verifier::loaded::challenge_refusal` meets its contract: each return is a law of the two rules.
 -- Assumes nothing.
 use mathlib.Core.Path.{sym, _∙_}
+use mathlib.Core.Bool.{not, or-eq-true-iff}
+use mathlib.Core.Logic.{Or·inl, Or·inr}
 use native.Mathlib.Omega.{arith}
 use borrow.Author.Needs.{needs}
-use Rattle.verifier.proofs.Refusing.{not-holding, challenge-past, challenge-out-of-turn, challenge-unfit, challenge-fits}
+use Rattle.rules.proofs.Lowest.{pass, stop, lowest-clear}
+use Rattle.sigma.proofs.Calculus.{says-passes, both-fail}
+use Rattle.sigma.proofs.Passed.{challenge-passes}
+use Rattle.sigma.proofs.Tests.{says-badChallenge}
+use Rattle.runs.specs.Verifier.{isHolding, unfitCommitment, takeChallengeRules}
+use Rattle.runs.proofs.Tests.{says-holding}
+use Rattle.verifier.proofs.States.{not-holding}
 use Rattle.verifier.proofs.loaded.challenge_refusal.Statement.{statement}
 use Rattle.verifier.proofs.loaded.challenge_refusal.Tie as tie
 
 returns : tie.Need-returns
-returns c = λ entries statement. challenge-past _ _ _ (omega (arith, c .if1 .taken))
+unfolding takeChallengeRules
+returns c = λ entries statement.
+    sym (stop 15 _ (says-badChallenge _ _ .complete (omega (arith, c .if1 .taken))))
 
 enum-told : tie.Need-enum-told
 enum-told c = search needs
 
 returns-2 : tie.Need-returns-2
+unfolding takeChallengeRules
 returns-2 c = λ entries statement.
-    challenge-out-of-turn _ _ _ (omega (arith, c .before .if1 .left)) (not-holding _ (c .match .keys2))
+    sym (pass 15 _ (challenge-passes _ _ .1 (omega (arith, c .before .if1 .left)))
+    ∙ stop 21 _ (or-eq-true-iff _ _ .1 (Or·inl (not-holding _ (c .match .keys2)))))
 
 bad-commitment-requires : tie.Need-bad-commitment-requires
 bad-commitment-requires c κs = search needs
 
 returns-3 : tie.Need-returns-3
+unfolding takeChallengeRules unfitCommitment
 returns-3 c = λ entries statement.
-    let holding = c .before .before .before in
-    challenge-unfit _ _ _ (omega (arith, holding .before .before .if1 .left)) (holding .enum-told .given .1)
-    (sym (c .before .bad-commitment .ensures entries statement) ∙ c .if2 .taken)
+    sym (pass 15 _ (challenge-passes _ _ .1 (omega (arith, c .before .before .before .before .before .if1 .left)))
+    ∙ stop 21 _ (or-eq-true-iff (not (isHolding _)) _ .1
+    (Or·inr (sym (c .before .bad-commitment .ensures entries statement) ∙ c .if2 .taken))))
 
 returns-4 : tie.Need-returns-4
+unfolding takeChallengeRules unfitCommitment
 returns-4 c = λ entries statement.
     let holding = c .before .before .before in
-    challenge-fits _ _ _ (omega (arith, holding .before .before .if1 .left)) (holding .enum-told .given .1)
-    (sym (c .before .bad-commitment .ensures entries statement) ∙ c .if2 .left)
+    sym (lowest-clear _ (
+      challenge-passes _ _ .1 (omega (arith, holding .before .before .if1 .left)),
+      (
+        both-fail _ _ .1 (
+          says-passes (says-holding _) .1 (holding .enum-told .given .1),
+          sym (c .before .bad-commitment .ensures entries statement) ∙ c .if2 .left,
+        ),
+        tt,
+      ),
+    ))
 
 pub challenge-refusal-spec : {M : Type 1} → statement M
 challenge-refusal-spec =

@@ -1,25 +1,34 @@
 -- `verifier::loaded::response_refusal` meets its contract: each return is a law of the two rules.
 -- Assumes nothing.
 use mathlib.Core.Path.{_≡_, sym, _∙_}
-use mathlib.Core.Bool.{false}
+use mathlib.Core.Bool.{not, _||_, or-eq-true-iff}
 use mathlib.Core.List.{List}
+use mathlib.Core.Logic.{Or·inl, Or·inr}
 use Prim.Native.Nat.{ℕ}
+use lib.ListN.{drop}
 use native.Mathlib.Omega.{arith}
 use borrow.Author.Needs.{needs}
-use borrow.Author.Tests.{lt-ltb, le-ltb}
 use Rattle.lists.specs.Places.{places}
-use Rattle.sigma.specs.Round.{badCoordinates}
+use Rattle.rules.specs.Rule.{lowest}
+use Rattle.rules.proofs.Lowest.{pass, stop, lowest-clear}
+use Rattle.sigma.proofs.Calculus.{says-passes, both-fail}
+use Rattle.sigma.proofs.Passed.{challenge-passes}
+use Rattle.sigma.proofs.Tests.{says-badChallenge}
+use Rattle.runs.specs.Verifier.{isAsked, unfitCommitment, takeResponseRules}
+use Rattle.runs.proofs.Tests.{says-asked}
 use Rattle.image.specs.Values.{instanceWith}
-use Rattle.image.proofs.Tested.{coordinates-tested}
-use Rattle.verifier.proofs.Refusing.{not-asked, response-bad, response-out-of-turn, response-unfit, response-past, response-fits}
+use Rattle.image.proofs.Tested.{coordinates-bad, coordinates-good}
+use Rattle.verifier.proofs.States.{not-asked}
 use Rattle.verifier.proofs.loaded.response_refusal.Statement.{statement}
 use Rattle.verifier.proofs.loaded.response_refusal.Tie as tie
 
--- behind the search no slot of the response is bad
+-- behind the search no slot of the response is bad: the session's rule is left
 slots : (c : tie.Else1) (entries : List (List ℕ)) (statement : List ℕ)
     → let args = c .before .before .before .args in
-    badCoordinates (instanceWith (args .h) entries statement) (places (args .h .columns) (args .response)) ≡ false
-slots c entries statement = coordinates-tested _ _ (c .before .first-non-coordinate .ensures .0) ∙ le-ltb _ _ (c .if1 .left)
+    let rules = takeResponseRules (instanceWith (args .h) entries statement) (args .session) (places (args .h .columns) (args .response)) in
+    lowest rules ≡ lowest (drop 1 rules)
+unfolding takeResponseRules
+slots c entries statement = pass 16 _ (coordinates-good _ _ (c .before .first-non-coordinate .ensures .0) (c .if1 .left))
 
 cast-columns : tie.Need-cast-columns
 cast-columns c = search needs
@@ -28,38 +37,52 @@ first-non-coordinate-requires : tie.Need-first-non-coordinate-requires
 first-non-coordinate-requires c κs = search needs
 
 returns : tie.Need-returns
+unfolding takeResponseRules
 returns c = λ entries statement.
-    response-bad _ _ _ (coordinates-tested _ _ (c .before .first-non-coordinate .ensures .0) ∙ lt-ltb _ _ (c .if1 .taken))
+    sym (stop 16 _ (coordinates-bad _ _ (c .before .first-non-coordinate .ensures .0) (c .if1 .taken)))
 
 enum-told : tie.Need-enum-told
 enum-told c = search needs
 
 returns-2 : tie.Need-returns-2
+unfolding takeResponseRules
 returns-2 c = λ entries statement.
-    response-out-of-turn _ _ _ (slots (c .before) entries statement) (not-asked _ (c .match .keys2))
+    sym (slots (c .before) entries statement
+    ∙ stop 21 _ (or-eq-true-iff _ _ .1 (Or·inl (or-eq-true-iff _ _ .1 (Or·inl (not-asked _ (c .match .keys2)))))))
 
 bad-commitment-requires : tie.Need-bad-commitment-requires
 bad-commitment-requires c κs = search needs
 
 returns-3 : tie.Need-returns-3
+unfolding takeResponseRules unfitCommitment
 returns-3 c = λ entries statement.
-    let asked = c .before .before .before in
-    response-unfit _ _ _ (slots (asked .before .before) entries statement) (asked .enum-told .given .1)
-    (sym (c .before .bad-commitment .ensures entries statement) ∙ c .if2 .taken)
+    let unfit = sym (c .before .bad-commitment .ensures entries statement) ∙ c .if2 .taken in
+    sym (slots (c .before .before .before .before .before) entries statement
+    ∙ stop 21 _ (or-eq-true-iff _ _ .1 (Or·inl (or-eq-true-iff (not (isAsked _)) _ .1 (Or·inr unfit)))))
 
 returns-4 : tie.Need-returns-4
+unfolding takeResponseRules
 returns-4 c = λ entries statement.
-    let fits = c .before .before .before in
-    let asked = fits .before .before .before in
-    response-past _ _ _ (slots (asked .before .before) entries statement) (asked .enum-told .given .1)
-    (sym (fits .before .bad-commitment .ensures entries statement) ∙ fits .if2 .left) (omega (arith, c .if3 .taken))
+    sym (slots (c .before .before .before .before .before .before .before .before) entries statement
+    ∙ stop 21 _ (or-eq-true-iff (not (isAsked _) || unfitCommitment _ _) _ .1
+    (Or·inr (says-badChallenge _ _ .complete (omega (arith, c .if3 .taken))))))
 
 returns-5 : tie.Need-returns-5
+unfolding takeResponseRules unfitCommitment
 returns-5 c = λ entries statement.
     let fits = c .before .before .before in
     let asked = fits .before .before .before in
-    response-fits _ _ _ (slots (asked .before .before) entries statement) (asked .enum-told .given .1)
-    (sym (fits .before .bad-commitment .ensures entries statement) ∙ fits .if2 .left) (omega (arith, c .if3 .left))
+    sym (slots (asked .before .before) entries statement
+    ∙ lowest-clear _ (
+      both-fail _ _ .1 (
+        both-fail _ _ .1 (
+          says-passes (says-asked _) .1 (asked .enum-told .given .1),
+          sym (fits .before .bad-commitment .ensures entries statement) ∙ fits .if2 .left,
+        ),
+        challenge-passes _ _ .1 (omega (arith, c .if3 .left)),
+      ),
+      tt,
+    ))
 
 pub response-refusal-spec : {M : Type 1} → statement M
 response-refusal-spec =

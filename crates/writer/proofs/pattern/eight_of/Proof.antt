@@ -1,24 +1,24 @@
 -- `writer::pattern::eight_of` meets its contract. The invariant: the first i places hold the first i numbers, and those beyond hold 0.
 -- The measure: how many numbers are left.
 -- Assumes nothing.
-use Prim.Native.Nat.{_≤_, _-_}
-use mathlib.Core.Path.{_≡_, refl, ap, _∙_}
+use Prim.Native.Nat.{_-_}
+use mathlib.Core.Path.{refl, ap, _∙_}
 use native.Mathlib.Omega.{arith}
-use lib.ListN.{length}
-use Rattle.lists.specs.Places.{itemsAt, tabulate, places, pad8}
-use Rattle.lists.proofs.Places.{pad8-store, places-whole}
+use lib.ListN.{length, getD}
+use Rattle.lists.specs.Places.{places, pad8}
+use Rattle.lists.proofs.Filling.{Filled, filled-start, filled-turn, filled-eight}
+use Rattle.lists.proofs.Places.{places-whole}
 use Rattle.writer.proofs.pattern.eight_of.Statement.{statement}
 use Rattle.writer.proofs.pattern.eight_of.Tie as tie
 
 abbrev Inv-loop : tie.InvT-loop
-Inv-loop numbers eight₀ i₀ i-end eight i = (eight ≡ pad8 0 (places i numbers)) × (i ≤ length numbers)
+Inv-loop numbers eight₀ i₀ i-end eight i = Filled eight₀ (length numbers) (λ j. getD numbers j 0) eight i
 
 abbrev μ-loop : tie.MeasureT-loop
 μ-loop numbers eight₀ i₀ i-end eight i = length numbers - i
 
 loop-holds : tie.Need-loop-holds Inv-loop μ-loop
-unfolding pad8 places tabulate itemsAt
-loop-holds c = (refl, omega arith)
+loop-holds c = filled-start (omega arith)
 
 mul-eight : tie.Need-mul-eight Inv-loop μ-loop
 mul-eight c = omega arith
@@ -39,14 +39,11 @@ loop-less : tie.Need-loop-less Inv-loop μ-loop
 loop-less c = omega arith
 
 loop-again : tie.Need-loop-again Inv-loop μ-loop
-unfolding places
-loop-again c = (rw (c .before .before .loop .inv .0) (pad8-store 0 _ _ (omega arith)), omega arith)
+loop-again c = filled-turn (c .before .before .loop .inv) (omega arith) refl
 
 returns : tie.Need-returns Inv-loop μ-loop
-returns c =
-    let at-loop = c .before in
-    let whole : length (at-loop .before .args .numbers .now) ≡ at-loop .loop .i = omega arith in
-    at-loop .loop .inv .0 ∙ ap (λ l. pad8 0 l) (places-whole _ _ whole)
+unfolding places
+returns c = filled-eight (c .before .loop .inv) (omega arith) ∙ ap (λ l. pad8 0 l) (places-whole _ _ refl)
 
 pub eight-of-spec : {M : Type 1} → statement M
 eight-of-spec =

@@ -1,12 +1,12 @@
 -- `writer::pattern::entries_of` meets its contract. The invariant: the first i rows are the pattern's, and those beyond hold zeros.
 -- The measure: how many rows are left.
 -- Assumes nothing.
-use Prim.Native.Nat.{_≤_, _-_}
-use mathlib.Core.Path.{_≡_, refl, sym, ap, _∙_}
+use Prim.Native.Nat.{_-_}
+use mathlib.Core.Path.{_∙_}
 use native.Mathlib.Omega.{arith}
 use borrow.Author.Tests.{eq-eqb, ne-eqb}
-use Rattle.lists.specs.Places.{itemsAt, tabulate, pad8, zeros8}
-use Rattle.lists.proofs.Places.{pad8-store}
+use Rattle.lists.specs.Places.{zeros8}
+use Rattle.lists.proofs.Filling.{Filled, filled-start, filled-turn, filled-eight}
 use Rattle.formats.specs.Sheet.{zeros64}
 use Rattle.writer.specs.Rows.{patternRow}
 use Rattle.writer.proofs.Table.{entries-rows}
@@ -14,7 +14,7 @@ use Rattle.writer.proofs.pattern.entries_of.Statement.{statement}
 use Rattle.writer.proofs.pattern.entries_of.Tie as tie
 
 abbrev Inv-loop : tie.InvT-loop
-Inv-loop number p values entries₀ rows i₀ entries i = (entries ≡ pad8 zeros8 (tabulate i (patternRow p values))) × (i ≤ rows)
+Inv-loop number p values entries₀ rows i₀ entries i = Filled entries₀ rows (patternRow p values) entries i
 
 abbrev μ-loop : tie.MeasureT-loop
 μ-loop number p values entries₀ rows i₀ entries i = rows - i
@@ -27,8 +27,7 @@ cast-rows : tie.Need-cast-rows Inv-loop μ-loop
 cast-rows c = omega arith
 
 loop-holds : tie.Need-loop-holds Inv-loop μ-loop
-unfolding pad8 zeros8 tabulate itemsAt
-loop-holds c = (refl, omega arith)
+loop-holds c = filled-start (omega arith)
 
 row-of-requires : tie.Need-row-of-requires Inv-loop μ-loop
 row-of-requires c κs = (c .before .before .before .before .before .pre, c .loop-test .taken)
@@ -46,14 +45,13 @@ loop-less : tie.Need-loop-less Inv-loop μ-loop
 loop-less c = omega arith
 
 loop-again : tie.Need-loop-again Inv-loop μ-loop
-loop-again c =
-    (rw (c .before .before .loop .inv .0, c .row-of .ensures) (pad8-store zeros8 _ _ (omega arith)), omega arith)
+loop-again c = filled-turn (c .before .before .loop .inv) (omega arith) (c .row-of .ensures)
 
 returns-2 : tie.Need-returns-2 Inv-loop μ-loop
+unfolding zeros8
 returns-2 c =
     let at-loop = c .before in
-    let whole : at-loop .loop .i ≡ at-loop .before .before .before .before .args .p .rows = omega arith in
-    rw (ne-eqb _ _ (at-loop .before .before .if1 .left)) ((rw whole at (at-loop .loop .inv .0)) ∙ entries-rows _ _)
+    rw (ne-eqb _ _ (at-loop .before .before .if1 .left)) (filled-eight (at-loop .loop .inv) (omega arith) ∙ entries-rows _ _)
 
 pub entries-of-spec : {M : Type 1} → statement M
 entries-of-spec =

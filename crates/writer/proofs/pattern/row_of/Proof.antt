@@ -1,17 +1,15 @@
 -- `writer::pattern::row_of` meets its contract. The invariant: the first j places hold the row's first j entries, and those beyond hold 0.
 -- The measure: how many columns are left.
 -- Assumes nothing.
-use Prim.Native.Nat.{_≤_, _-_}
-use mathlib.Core.Path.{_≡_, refl}
+use Prim.Native.Nat.{_-_}
 use native.Mathlib.Omega.{arith}
-use Rattle.lists.specs.Places.{itemsAt, tabulate, pad8}
-use Rattle.lists.proofs.Places.{pad8-store}
+use Rattle.lists.proofs.Filling.{Filled, filled-start, filled-turn, filled-eight}
 use Rattle.writer.specs.Rows.{patternEntry, patternRow}
 use Rattle.writer.proofs.pattern.row_of.Statement.{statement}
 use Rattle.writer.proofs.pattern.row_of.Tie as tie
 
 abbrev Inv-loop : tie.InvT-loop
-Inv-loop values i p columns row₀ j₀ row j = (row ≡ pad8 0 (tabulate j (patternEntry p values i))) × (j ≤ columns)
+Inv-loop values i p columns row₀ j₀ row j = Filled row₀ columns (patternEntry p values i) row j
 
 abbrev μ-loop : tie.MeasureT-loop
 μ-loop values i p columns row₀ j₀ row j = columns - j
@@ -20,8 +18,7 @@ cast-columns : tie.Need-cast-columns Inv-loop μ-loop
 cast-columns c = omega arith
 
 loop-holds : tie.Need-loop-holds Inv-loop μ-loop
-unfolding pad8 tabulate itemsAt
-loop-holds c = (refl, omega arith)
+loop-holds c = filled-start (omega arith)
 
 mul-entry-of : tie.Need-mul-entry-of Inv-loop μ-loop
 mul-entry-of c = omega arith
@@ -54,15 +51,11 @@ loop-less c = omega arith
 
 loop-again : tie.Need-loop-again Inv-loop μ-loop
 unfolding patternEntry
-loop-again c =
-    (rw (c .before .before .before .loop .inv .0, c .entry-of .ensures) (pad8-store 0 _ _ (omega arith)), omega arith)
+loop-again c = filled-turn (c .before .before .before .loop .inv) (omega arith) (c .entry-of .ensures)
 
 returns : tie.Need-returns Inv-loop μ-loop
 unfolding patternRow
-returns c =
-    let at-loop = c .before in
-    let whole : at-loop .loop .j ≡ at-loop .before .before .args .t1 .columns = omega arith in
-    rw whole at (at-loop .loop .inv .0)
+returns c = filled-eight (c .before .loop .inv) (omega arith)
 
 pub row-of-spec : {M : Type 1} → statement M
 row-of-spec =

@@ -27,7 +27,8 @@ abbrev μ-loop : tie.MeasureT-loop
 
 -- a row that is left fits the buffer
 room : (c : tie.In-loop Inv-loop μ-loop)
-    → c .before .loop .at + 4 * c .before .before .before .before .before .before .before .args .h .columns ≤ length (c .before .loop .buffer)
+    → let args = c .before .before .before .before .before .before .before .args in
+    c .before .loop .at + 4 * args .h .columns ≤ length (c .before .loop .buffer)
 room c =
     let chosen = c .before .before .before .before in
     let start = chosen .before .before .before in
@@ -42,8 +43,8 @@ room c =
 
 returns : tie.Need-returns Inv-loop μ-loop
 returns c =
-    let start = c .before .before .before in
-    (omega (arith, entryCount-root (start .args .h) (c .if1 .taken)), rw (entriesBytes-root (start .args .h) (start .args .t3) (c .if1 .taken)))
+    let args = c .before .before .before .args in
+    (omega (arith, entryCount-root (args .h) (c .if1 .taken)), rw (entriesBytes-root (args .h) (args .t3) (c .if1 .taken)))
 
 cast-rows : tie.Need-cast-rows Inv-loop μ-loop
 cast-rows c = omega arith
