@@ -75,6 +75,11 @@ pub fn totient(m: u32) -> u32 {
         .fold(m, |count, prime| count / prime * (prime - 1))
 }
 
+/// The inverse of v mod m, for an m of at least 2 and a v with gcd(v, m) = 1.
+pub fn inverse(v: u32, m: u32) -> u32 {
+    power(v, totient(m) - 1, m)
+}
+
 #[cfg(test)]
 mod tests {
     use super::*;
@@ -101,6 +106,15 @@ mod tests {
             assert_eq!(least_divisor(n), least);
         }
         assert_eq!(prime_factors(u32::MAX), [3, 5, 17, 257, 65_537]);
+    }
+
+    #[test]
+    fn inverses_of_small_numbers() {
+        for m in 2..200 {
+            for v in (1..m).filter(|v| gcd(*v, m) == 1) {
+                assert_eq!(multiply(v, inverse(v, m), m), 1);
+            }
+        }
     }
 
     #[test]

@@ -13,53 +13,108 @@ pub enum Call {
     Read,
     Empty,
     Append,
+    Judge,
+    Simulate,
+    Extract,
+    ProverNew,
+    ProverCommit,
+    ProverRespond,
+    ProverDrop,
+    VerifierNew,
+    VerifierCommitment,
+    VerifierChallenge,
+    VerifierResponse,
+    Mark,
 }
 
-/// The numbers that any loading of a sheet can give, and 0.
-const LOADED: [u32; 11] = [0, 2, 3, 4, 5, 6, 7, 8, 9, 10, 11];
+/// A call's name in the interface, without the library's own name, whether it
+/// loads a sheet, and the other numbers that it can give.
+struct Entry {
+    call: Call,
+    name: &'static str,
+    loads: bool,
+    others: &'static [u32],
+}
+
+const fn entry(call: Call, name: &'static str, loads: bool, others: &'static [u32]) -> Entry {
+    Entry {
+        call,
+        name,
+        loads,
+        others,
+    }
+}
+
+/// The calls in the order of their enum. A marker's text gives the number of
+/// the first refused round where it has one.
+#[rustfmt::skip]
+const CALLS: [Entry; 22] = [
+    entry(Call::Load, "load", true, &[]),
+    entry(Call::Entries, "entries", true, &[]),
+    entry(Call::Encode, "encode", false, &[4, 5, 6, 7, 8, 10, 11, 22]),
+    entry(Call::FromPattern, "from_pattern", false, &[1, 5, 6, 8, 10, 11, 22]),
+    entry(Call::Count, "count", true, &[12]),
+    entry(Call::Check, "check", true, &[12, 13]),
+    entry(Call::Part, "part", true, &[12, 13]),
+    entry(Call::Read, "read", true, &[12, 13]),
+    entry(Call::Empty, "empty", false, &[22]),
+    entry(Call::Append, "append", true, &[12, 22]),
+    entry(Call::Judge, "judge", true, &[14, 15, 16]),
+    entry(Call::Simulate, "simulate", true, &[15, 16]),
+    entry(Call::Extract, "extract", true, &[14, 15, 16, 18, 19, 20]),
+    entry(Call::ProverNew, "prover_new", false, &[]),
+    entry(Call::ProverCommit, "prover_commit", true, &[16, 21]),
+    entry(Call::ProverRespond, "prover_respond", true, &[15, 16, 17, 21]),
+    entry(Call::ProverDrop, "prover_drop", false, &[21]),
+    entry(Call::VerifierNew, "verifier_new", false, &[]),
+    entry(Call::VerifierCommitment, "verifier_commitment", true, &[14, 21]),
+    entry(Call::VerifierChallenge, "verifier_challenge", true, &[15, 21]),
+    entry(Call::VerifierResponse, "verifier_response", true, &[16, 21]),
+    entry(Call::Mark, "mark", true, &[12, 14, 15, 16]),
+];
+
+/// How many calls there are.
+pub const CALL_COUNT: usize = CALLS.len();
+
+/// The numbers that the loading of a sheet can give.
+pub const SHEET_NUMBERS: [u32; 10] = [2, 3, 4, 5, 6, 7, 8, 9, 10, 11];
 
 impl Call {
-    pub const ALL: [Call; 10] = [
-        Call::Load,
-        Call::Entries,
-        Call::Encode,
-        Call::FromPattern,
-        Call::Count,
-        Call::Check,
-        Call::Part,
-        Call::Read,
-        Call::Empty,
-        Call::Append,
-    ];
+    /// All calls.
+    pub fn all() -> impl Iterator<Item = Call> {
+        CALLS.iter().map(|entry| entry.call)
+    }
 
     /// The call's name in the interface, without the library's own name.
     pub fn name(self) -> &'static str {
-        match self {
-            Call::Load => "load",
-            Call::Entries => "entries",
-            Call::Encode => "encode",
-            Call::FromPattern => "from_pattern",
-            Call::Count => "count",
-            Call::Check => "check",
-            Call::Part => "part",
-            Call::Read => "read",
-            Call::Empty => "empty",
-            Call::Append => "append",
-        }
+        CALLS[self as usize].name
+    }
+
+    /// The numbers that the call can give beside those of its sheet.
+    pub fn others(self) -> &'static [u32] {
+        CALLS[self as usize].others
     }
 
     /// Whether the call can give this number, 0 standing for no refusal.
     pub fn can_give(self, number: u32) -> bool {
-        match self {
-            Call::Load | Call::Entries => LOADED.contains(&number),
-            Call::Encode => [0, 4, 5, 6, 7, 8, 10, 11, 22].contains(&number),
-            Call::FromPattern => [0, 1, 5, 6, 8, 10, 11, 22].contains(&number),
-            Call::Count => LOADED.contains(&number) || number == 12,
-            Call::Check | Call::Part | Call::Read => {
-                LOADED.contains(&number) || [12, 13].contains(&number)
-            }
-            Call::Empty => [0, 22].contains(&number),
-            Call::Append => LOADED.contains(&number) || [12, 22].contains(&number),
+        let loads = CALLS[self as usize].loads;
+        number == 0 || self.others().contains(&number) || loads && SHEET_NUMBERS.contains(&number)
+    }
+
+    /// Whether the call answers a verdict.
+    pub fn judges(self) -> bool {
+        matches!(self, Call::Judge | Call::VerifierResponse)
+    }
+}
+
+#[cfg(test)]
+mod tests {
+    use super::*;
+
+    #[test]
+    fn calls_stand_in_the_order_of_their_enum() {
+        for (place, call) in Call::all().enumerate() {
+            assert_eq!(call as usize, place);
         }
     }
 }

@@ -1,12 +1,10 @@
 //! Sheets that are refused.
 
+use crate::calls::SHEET_NUMBERS;
 use crate::groups::Group;
 use crate::library::Header;
 use crate::random::Random;
 use crate::sheets::Sheet;
-
-/// The numbers that a loader can give.
-pub const SHEET_NUMBERS: std::ops::RangeInclusive<u32> = 2..=11;
 
 /// A fault with this number and, in half of the cases, some of the numbers
 /// behind it in the list. The one with the lowest number comes last.
@@ -32,19 +30,11 @@ pub fn spoil(random: &mut Random, group: &Group, sheet: &mut Sheet, number: u32,
         7 => spoil_sides(random, header, widest),
         8 => header.challenges = group.wrong_challenges(random),
         10 => {
-            let (i, j) = (place(random, header.rows), place(random, header.columns));
+            let i = random.place(header.rows as usize);
+            let j = random.place(header.columns as usize);
             sheet.entries[8 * i + j] = group.other(random);
         }
-        _ => sheet.statement[place(random, header.rows)] = group.other(random),
-    }
-}
-
-/// One of so many places, often the last.
-fn place(random: &mut Random, count: u32) -> usize {
-    if random.once_in(3) {
-        count as usize - 1
-    } else {
-        random.below(count as usize)
+        _ => sheet.statement[random.place(header.rows as usize)] = group.other(random),
     }
 }
 
@@ -83,28 +73,42 @@ fn spoil_sides(random: &mut Random, header: &mut Header, widest: u32) {
     }
 }
 
-/// Bytes that loading refuses with this number. Their length is that of the
-/// header before or after its faults.
-pub fn refused(random: &mut Random, number: u32) -> Vec<u8> {
-    let numbers: Vec<u32> = SHEET_NUMBERS.collect();
+/// A group that can have a sheet with this number.
+pub fn group_for(random: &mut Random, number: u32) -> Group {
     let kind = if number == 10 {
         1
     } else {
         random.between(1, 2)
     };
-    let group = if number == 8 && random.once_in(4) {
+    if number == 8 && random.once_in(4) {
         Group::wide(random, kind)
     } else {
         Group::of_kind(random, kind)
-    };
-    let mut sheet = Sheet::of_group(random, &group);
-    let faults = faults(random, &numbers, number);
-    for fault in faults.iter().filter(|fault| **fault >= 10) {
-        spoil(random, &group, &mut sheet, *fault, 255);
+    }
+}
+
+/// Bytes that loading refuses with this number.
+pub fn refused(random: &mut Random, number: u32) -> Vec<u8> {
+    let group = group_for(random, number);
+    let sheet = Sheet::of_group(random, &group);
+    let faults = faults(random, &SHEET_NUMBERS, number);
+    with_faults(random, &group, sheet, &faults)
+}
+
+/// The bytes of the sheet with those of the faults that are a sheet's. Their
+/// length is that of the header before or after its faults.
+pub fn with_faults(
+    random: &mut Random,
+    group: &Group,
+    mut sheet: Sheet,
+    faults: &[u32],
+) -> Vec<u8> {
+    for fault in faults.iter().filter(|fault| [10, 11].contains(*fault)) {
+        spoil(random, group, &mut sheet, *fault, 255);
     }
     let values = sheet.bytes().split_off(20);
     for fault in faults.iter().filter(|fault| (4..=8).contains(*fault)) {
-        spoil(random, &group, &mut sheet, *fault, 255);
+        spoil(random, group, &mut sheet, *fault, 255);
     }
     let mut bytes = if random.once_in(2) && sheet.header.rows * sheet.header.columns < 2000 {
         sheet.bytes()

@@ -1,6 +1,7 @@
 //! Round files, whole and damaged, and the numbers of their rounds.
 
 use crate::damage::{spoil_length, spoil_version};
+use crate::library::{Header, Round};
 use crate::random::Random;
 
 /// The largest round count.
@@ -15,6 +16,20 @@ pub fn file(random: &mut Random, record: usize, count: usize) -> Vec<u8> {
     } else {
         for _ in 0..record * count / 4 {
             bytes.extend(random.word().to_be_bytes());
+        }
+    }
+    bytes
+}
+
+/// The file of these rounds, for a sheet with this header.
+pub fn of_rounds(header: &Header, rounds: &[Round]) -> Vec<u8> {
+    let mut bytes = b"RND\x00\x01".to_vec();
+    bytes.extend((rounds.len() as u16).to_be_bytes());
+    for round in rounds {
+        let commitment = round.commitment.iter().take(header.rows as usize);
+        let response = round.response.iter().take(header.columns as usize);
+        for value in commitment.chain([&round.challenge]).chain(response) {
+            bytes.extend(value.to_be_bytes());
         }
     }
     bytes

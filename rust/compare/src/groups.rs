@@ -2,7 +2,7 @@
 
 mod choosing;
 
-use crate::arithmetic::{gcd, least_divisor, multiply, power, totient};
+use crate::arithmetic::{gcd, least_divisor, power, totient};
 use crate::random::Random;
 
 /// The largest challenge count that 01 allows.
@@ -17,7 +17,8 @@ pub struct Group {
 }
 
 impl Group {
-    fn new(kind: u32, modulus: u32, order: u32) -> Group {
+    /// The group of these numbers.
+    pub fn new(kind: u32, modulus: u32, order: u32) -> Group {
         Group {
             kind,
             modulus,
@@ -59,16 +60,21 @@ impl Group {
             }
     }
 
-    /// A group element.
-    pub fn element(&self, random: &mut Random) -> u32 {
+    /// A number below m that has no divisor with m in common.
+    fn unit(&self, random: &mut Random) -> u32 {
         loop {
             let v = random.between(1, self.modulus - 1);
             if gcd(v, self.modulus) == 1 {
-                return match self.kind {
-                    1 => self.power_in_order(v),
-                    _ => v,
-                };
+                return v;
             }
+        }
+    }
+
+    /// A group element.
+    pub fn element(&self, random: &mut Random) -> u32 {
+        match self.kind {
+            1 => self.root_of_unity(random),
+            _ => self.unit(random),
         }
     }
 
@@ -78,12 +84,37 @@ impl Group {
         power(v, exponent, self.modulus)
     }
 
-    /// A domain slot.
+    /// A domain slot, now and then the first or the last of kind 1.
     pub fn slot(&self, random: &mut Random) -> u32 {
-        match self.kind {
-            1 => random.between(0, self.order - 1),
+        match (self.kind, random.below(10)) {
+            (1, 0) => 0,
+            (1, 1) => self.order - 1,
+            (1, _) => random.between(0, self.order - 1),
             _ => self.element(random),
         }
+    }
+
+    /// A number that is no domain slot, often one that is congruent to a slot.
+    pub fn no_slot(&self, random: &mut Random) -> u32 {
+        if self.kind == 2 {
+            return self.other(random);
+        }
+        match random.below(6) {
+            0 | 1 => self.order,
+            2 | 3 => self.order.saturating_add(self.slot(random)),
+            4 => u32::MAX,
+            _ => random.between(self.order, u32::MAX),
+        }
+    }
+
+    /// The power v^(−exponent), for a group element v.
+    pub fn negative_power(&self, v: u32, exponent: u32) -> u32 {
+        power(v, self.totient - exponent % self.totient, self.modulus)
+    }
+
+    /// An element whose power to ℓ is 1.
+    pub fn root_of_unity(&self, random: &mut Random) -> u32 {
+        self.power_in_order(self.unit(random))
     }
 
     /// A number that is no group element.
@@ -110,14 +141,6 @@ impl Group {
     fn with_divisor(&self, random: &mut Random) -> u32 {
         let divisor = least_divisor(self.modulus);
         divisor * random.between(1, self.modulus / divisor)
-    }
-
-    /// The product over the row of entry^slot.
-    pub fn product(&self, row: &[u32], slots: &[u32]) -> u32 {
-        let factors = row.iter().zip(slots);
-        factors.fold(1, |product, (entry, slot)| {
-            multiply(product, power(*entry, *slot, self.modulus), self.modulus)
-        })
     }
 
     /// The largest challenge count, which is at most ℓ's least divisor.
@@ -155,6 +178,7 @@ impl Group {
 #[cfg(test)]
 mod tests {
     use super::*;
+    use crate::arithmetic::multiply;
 
     #[test]
     fn elements_are_elements_and_others_are_not() {
@@ -166,6 +190,38 @@ mod tests {
             let other = group.other(&mut random);
             assert!(group.is_element(element));
             assert!(!group.is_element(other));
+        }
+    }
+
+    #[test]
+    fn slots_are_slots_and_others_are_not() {
+        for seed in 0..3000 {
+            let mut random = Random::new(seed);
+            let group = Group::any(&mut random);
+            let is_slot = |v: u32| match group.kind {
+                1 => v < group.order,
+                _ => group.is_element(v),
+            };
+            let slot = group.slot(&mut random);
+            let other = group.no_slot(&mut random);
+            assert!(is_slot(slot));
+            assert!(!is_slot(other));
+        }
+    }
+
+    #[test]
+    fn negative_powers_and_roots_of_unity() {
+        for seed in 0..3000 {
+            let mut random = Random::new(seed);
+            let group = Group::any(&mut random);
+            let (v, exponent) = (group.element(&mut random), random.word());
+            let (up, down) = (
+                power(v, exponent, group.modulus),
+                group.negative_power(v, exponent),
+            );
+            assert_eq!(multiply(up, down, group.modulus), 1);
+            let root = group.root_of_unity(&mut random);
+            assert_eq!(power(root, group.order, group.modulus), 1);
         }
     }
 

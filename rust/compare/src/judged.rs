@@ -1,38 +1,24 @@
 //! The judge, behind the calls of the library.
 
-use crate::library::{Counted, Fetched, Header, Library, Loaded, Part, Plan, Round, Written};
+mod sessions;
+mod values;
+
+use crate::library::{
+    Computed, Counted, Fetched, Header, Judgement, Library, Loaded, Part, Places, Plan,
+    ProverAnswer, ProverSession, Round, VerifierAnswer, VerifierJudgement, VerifierSession,
+    Written, TEXT,
+};
+use sessions::{
+    prover, prover_answer, prover_session, verifier, verifier_answer, verifier_session,
+};
+use values::{computed, judgement, loaded, round, written};
 
 /// The judge.
 pub struct Judge;
 
-/// A written length or the refusal, with zeros beside it.
-fn written(result: Result<usize, u32>) -> Written {
-    match result {
-        Ok(length) => Written { refusal: 0, length },
-        Err(refusal) => Written { refusal, length: 0 },
-    }
-}
-
 impl Library for Judge {
     fn load(&self, sheet: &[u8]) -> Loaded {
-        match judge::load(sheet) {
-            Ok(sheet) => Loaded {
-                refusal: 0,
-                header: Header {
-                    kind: sheet.kind,
-                    modulus: sheet.modulus,
-                    order: sheet.order,
-                    challenges: sheet.challenges,
-                    rows: sheet.rows,
-                    columns: sheet.columns,
-                },
-                statement: sheet.statement,
-            },
-            Err(refusal) => Loaded {
-                refusal,
-                ..Loaded::default()
-            },
-        }
+        loaded(judge::load(sheet))
     }
 
     fn entries(&self, sheet: &[u8], entries: &mut [u32; 64]) {
@@ -44,20 +30,10 @@ impl Library for Judge {
         &self,
         header: Header,
         entries: &[u32; 64],
-        statement: &[u32; 8],
+        statement: &Places,
         buffer: &mut [u8],
     ) -> Written {
-        let mut sheet = judge::Sheet {
-            kind: header.kind,
-            modulus: header.modulus,
-            order: header.order,
-            challenges: header.challenges,
-            rows: header.rows,
-            columns: header.columns,
-            entries: [[0; 8]; 8],
-            statement: *statement,
-        };
-        sheet.entries.as_flattened_mut().copy_from_slice(entries);
+        let sheet = values::sheet(header, entries, statement);
         written(judge::encode(&sheet, buffer))
     }
 
@@ -122,13 +98,90 @@ impl Library for Judge {
         written(judge::empty(buffer))
     }
 
-    fn append(&self, sheet: &[u8], buffer: &mut [u8], used: usize, round: Round) -> Written {
-        let round = judge::Round {
-            commitment: round.commitment,
-            challenge: round.challenge,
-            response: round.response,
-        };
-        let appended = judge::append(sheet, buffer, used as u64, &round);
+    fn append(&self, sheet: &[u8], buffer: &mut [u8], used: usize, added: Round) -> Written {
+        let appended = judge::append(sheet, buffer, used as u64, &round(added));
         written(appended.map(|length| length as usize))
+    }
+
+    fn judge(&self, sheet: &[u8], judged: Round) -> Judgement {
+        judgement(judge::judge(sheet, &round(judged)))
+    }
+
+    fn simulate(&self, sheet: &[u8], challenge: u32, response: &Places) -> Computed {
+        computed(judge::simulate(sheet, challenge, response))
+    }
+
+    fn extract(&self, sheet: &[u8], first: Round, second: Round) -> Computed {
+        computed(judge::extract(sheet, &round(first), &round(second)))
+    }
+
+    fn prover_new(&self) -> ProverSession {
+        prover_session(judge::Prover::new())
+    }
+
+    fn prover_commit(&self, sheet: &[u8], session: ProverSession, nonce: &Places) -> ProverAnswer {
+        prover_answer(session, judge::commit(sheet, prover(&session), nonce))
+    }
+
+    fn prover_respond(
+        &self,
+        sheet: &[u8],
+        session: ProverSession,
+        challenge: u32,
+        witness: &Places,
+    ) -> ProverAnswer {
+        let answer = judge::respond(sheet, prover(&session), challenge, witness);
+        prover_answer(session, answer)
+    }
+
+    fn prover_drop(&self, session: ProverSession) -> ProverAnswer {
+        let (result, next) = judge::drop_session(prover(&session));
+        prover_answer(session, (result.map(|()| [0; 8]), next))
+    }
+
+    fn verifier_new(&self) -> VerifierSession {
+        verifier_session(judge::Verifier::new())
+    }
+
+    fn verifier_commitment(
+        &self,
+        sheet: &[u8],
+        session: VerifierSession,
+        commitment: &Places,
+    ) -> VerifierAnswer {
+        let answer = judge::take_commitment(sheet, verifier(&session), commitment);
+        verifier_answer(session, answer)
+    }
+
+    fn verifier_challenge(
+        &self,
+        sheet: &[u8],
+        session: VerifierSession,
+        challenge: u32,
+    ) -> VerifierAnswer {
+        let answer = judge::take_challenge(sheet, verifier(&session), challenge);
+        verifier_answer(session, answer)
+    }
+
+    fn verifier_response(
+        &self,
+        sheet: &[u8],
+        session: VerifierSession,
+        response: &Places,
+    ) -> VerifierJudgement {
+        let (verdict, next) = judge::take_response(sheet, verifier(&session), response);
+        let verdict = judgement(verdict);
+        let session = if verdict.refusal == 0 {
+            verifier_session(next)
+        } else {
+            session
+        };
+        VerifierJudgement { verdict, session }
+    }
+
+    fn mark(&self, sheet: &[u8], file: &[u8], text: &mut [u8; TEXT]) -> usize {
+        let marked = judge::marker(sheet, file);
+        text[..marked.len()].copy_from_slice(marked.as_bytes());
+        marked.len()
     }
 }

@@ -1,78 +1,15 @@
-//! The calls of the library, and what they take and answer.
-//!
-//! The structs have the layout of C. A refusal is the number of 01, and 0
-//! where nothing is refused.
+//! The calls of the library.
 
-/// The fixed fields of a sheet.
-#[repr(C)]
-#[derive(Clone, Copy, Debug, Default, PartialEq, Eq)]
-pub struct Header {
-    pub kind: u32,
-    pub modulus: u32,
-    pub order: u32,
-    pub challenges: u32,
-    pub rows: u32,
-    pub columns: u32,
-}
+pub mod phases;
+mod structs;
 
-/// What loading answers, zeros beside a refusal.
-#[repr(C)]
-#[derive(Clone, Copy, Debug, Default, PartialEq, Eq)]
-pub struct Loaded {
-    pub refusal: u32,
-    pub header: Header,
-    pub statement: [u32; 8],
-}
+pub use structs::{
+    Computed, Counted, Fetched, Header, Judgement, Loaded, Part, Places, Plan, ProverAnswer,
+    ProverSession, Round, VerifierAnswer, VerifierJudgement, VerifierSession, Written,
+};
 
-/// What a call that writes into a lent buffer answers.
-#[repr(C)]
-#[derive(Clone, Copy, Debug, Default, PartialEq, Eq)]
-pub struct Written {
-    pub refusal: u32,
-    pub length: usize,
-}
-
-/// A round (t, c, r).
-#[repr(C)]
-#[derive(Clone, Copy, Debug, Default, PartialEq, Eq)]
-pub struct Round {
-    pub commitment: [u32; 8],
-    pub challenge: u32,
-    pub response: [u32; 8],
-}
-
-/// How many rounds a file has.
-#[repr(C)]
-#[derive(Clone, Copy, Debug, Default, PartialEq, Eq)]
-pub struct Counted {
-    pub refusal: u32,
-    pub count: u32,
-}
-
-/// A round as it stands in a file.
-#[repr(C)]
-#[derive(Clone, Copy, Debug, Default, PartialEq, Eq)]
-pub struct Fetched {
-    pub refusal: u32,
-    pub round: Round,
-}
-
-/// A part of the caller's file, empty where refused.
-#[repr(C)]
-#[derive(Clone, Copy, Debug, Default, PartialEq, Eq)]
-pub struct Part {
-    pub offset: usize,
-    pub length: usize,
-}
-
-/// The numbers that the sheet maker takes.
-#[derive(Clone, Copy, Debug, Default, PartialEq, Eq)]
-pub struct Plan {
-    pub number: u32,
-    pub modulus: u32,
-    pub order: u32,
-    pub challenges: u32,
-}
+/// How many bytes are lent to the marker. They hold its longest text.
+pub const TEXT: usize = 7696;
 
 /// One method for each call.
 ///
@@ -86,7 +23,7 @@ pub trait Library {
         &self,
         header: Header,
         entries: &[u32; 64],
-        statement: &[u32; 8],
+        statement: &Places,
         buffer: &mut [u8],
     ) -> Written;
 
@@ -109,4 +46,50 @@ pub trait Library {
     fn empty(&self, buffer: &mut [u8]) -> Written;
 
     fn append(&self, sheet: &[u8], buffer: &mut [u8], used: usize, round: Round) -> Written;
+
+    fn judge(&self, sheet: &[u8], round: Round) -> Judgement;
+
+    fn simulate(&self, sheet: &[u8], challenge: u32, response: &Places) -> Computed;
+
+    fn extract(&self, sheet: &[u8], first: Round, second: Round) -> Computed;
+
+    fn prover_new(&self) -> ProverSession;
+
+    fn prover_commit(&self, sheet: &[u8], session: ProverSession, nonce: &Places) -> ProverAnswer;
+
+    fn prover_respond(
+        &self,
+        sheet: &[u8],
+        session: ProverSession,
+        challenge: u32,
+        witness: &Places,
+    ) -> ProverAnswer;
+
+    fn prover_drop(&self, session: ProverSession) -> ProverAnswer;
+
+    fn verifier_new(&self) -> VerifierSession;
+
+    fn verifier_commitment(
+        &self,
+        sheet: &[u8],
+        session: VerifierSession,
+        commitment: &Places,
+    ) -> VerifierAnswer;
+
+    fn verifier_challenge(
+        &self,
+        sheet: &[u8],
+        session: VerifierSession,
+        challenge: u32,
+    ) -> VerifierAnswer;
+
+    fn verifier_response(
+        &self,
+        sheet: &[u8],
+        session: VerifierSession,
+        response: &Places,
+    ) -> VerifierJudgement;
+
+    /// Puts the marker's text at the start of `text` and answers its length.
+    fn mark(&self, sheet: &[u8], file: &[u8], text: &mut [u8; TEXT]) -> usize;
 }

@@ -1,10 +1,11 @@
 //! Compares the proved library with the judge.
 //!
-//! Each case is one call with inputs made from the seed. Both libraries get
-//! it, and every field of the answer and every byte of a lent buffer must be
-//! the same. The first difference is printed and ends the run. Exit status: 0
-//! no difference, 1 a difference or a number met too seldom, 2 wrong words or
-//! no library.
+//! Each case is one call, or a run of both sessions, with inputs made from the
+//! seed. Both libraries get it, and every field of the answers and every byte
+//! of a lent buffer must be the same. The first difference is printed and ends
+//! the run. Then demand 3 is tried on small sheets. Exit status: 0 no
+//! difference, 1 a difference or a number met too seldom, 2 wrong words or no
+//! library.
 
 #![deny(unsafe_code)]
 
@@ -12,9 +13,11 @@ mod arithmetic;
 mod calls;
 mod cases;
 mod damage;
+mod demand_three;
 mod faults;
 mod files;
 mod groups;
+mod instance;
 mod judged;
 mod lent;
 mod library;
@@ -36,6 +39,9 @@ use faults::Faulty;
 use judged::Judge;
 use library::Library;
 use options::{Options, Other, COUNT};
+
+/// The fewest times that a full run must meet each number and verdict.
+const FEWEST: u64 = 50;
 
 /// The library to compare the judge with, where there is one.
 fn library(other: Other) -> Option<Box<dyn Library>> {
@@ -64,9 +70,10 @@ fn main() -> ExitCode {
     compare(&options, library.as_ref())
 }
 
+/// Compares the library with the judge and prints what comes out.
 fn compare(options: &Options, library: &dyn Library) -> ExitCode {
     let Options { seed, count, .. } = options;
-    println!("seed {seed}, {count} calls");
+    println!("seed {seed}, {count} cases");
     let tally = match run::run(*seed, *count, library) {
         Ok(tally) => tally,
         Err(difference) => {
@@ -75,11 +82,17 @@ fn compare(options: &Options, library: &dyn Library) -> ExitCode {
         }
     };
     println!("{tally}");
-    let faults = tally.faults();
-    if *count >= COUNT && !faults.is_empty() {
-        println!("{}", faults.join("\n"));
+    let lacks = tally.lacks(FEWEST);
+    if *count >= COUNT && !lacks.is_empty() {
+        println!("{}", lacks.join("\n"));
         return ExitCode::FAILURE;
     }
-    println!("no difference");
+    match demand_three::check(library) {
+        Ok(line) => println!("{line}\nno difference"),
+        Err(text) => {
+            println!("{text}");
+            return ExitCode::FAILURE;
+        }
+    }
     ExitCode::SUCCESS
 }

@@ -3,7 +3,7 @@
 use crate::faults::{Fault, FAULTS};
 
 /// The seed of a run that names none.
-const SEED: u64 = 1;
+pub const SEED: u64 = 1;
 
 /// How many cases a run has that names no count.
 pub const COUNT: u64 = 250_000;
@@ -57,7 +57,7 @@ fn fault(word: Option<String>) -> Result<Fault, String> {
     found.map(|planted| planted.fault).ok_or_else(|| {
         let lines = FAULTS.iter().map(|planted| {
             let (name, what) = (planted.name, planted.what);
-            format!("  {name:<22}{what}")
+            format!("  {name:<28}{what}")
         });
         format!("{USAGE}\nfaults:\n{}", lines.collect::<Vec<_>>().join("\n"))
     })

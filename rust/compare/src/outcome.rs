@@ -1,6 +1,10 @@
-//! What a call comes to: its answer and the memory it was lent.
+//! What a case comes to: the answers of its calls and the memory it was lent.
 
-use crate::library::{Counted, Fetched, Loaded, Part, Written};
+use crate::calls::Call;
+use crate::library::{
+    Computed, Counted, Fetched, Judgement, Loaded, Part, ProverAnswer, ProverSession,
+    VerifierAnswer, VerifierJudgement, VerifierSession, Written,
+};
 
 /// What a call answers.
 #[derive(Clone, Debug, PartialEq, Eq)]
@@ -12,12 +16,25 @@ pub enum Answer {
     Checked(u32),
     Part(Part),
     Fetched(Fetched),
+    Judged(Judgement),
+    Computed(Computed),
+    ProverNew(ProverSession),
+    Prover(ProverAnswer),
+    VerifierNew(VerifierSession),
+    Verifier(VerifierAnswer),
+    VerifierJudged(VerifierJudgement),
+    /// The answered length, and the text of that length in the lent bytes.
+    Marked {
+        length: usize,
+        text: String,
+    },
 }
 
-/// An answer, and the memory around and in the lent buffer after the call.
+/// The answer of each call of a case, and the memory around and in the lent
+/// buffer after it.
 #[derive(Clone, Debug)]
 pub struct Outcome {
-    pub answer: Answer,
+    pub answers: Vec<(Call, Answer)>,
     pub memory: Vec<u8>,
 }
 
@@ -30,23 +47,69 @@ impl Answer {
         }
     }
 
-    /// The refusal's number, for an answer that has one.
-    pub fn refusal(&self) -> Option<u32> {
+    /// The refusal's number, 0 for none and for an answer that has none.
+    pub fn refusal(&self) -> u32 {
         match self {
-            Answer::Loaded(loaded) => Some(loaded.refusal),
-            Answer::Written(written) => Some(written.refusal),
-            Answer::Counted(counted) => Some(counted.refusal),
-            Answer::Checked(number) => Some(*number),
-            Answer::Fetched(fetched) => Some(fetched.refusal),
-            Answer::Entries(_) | Answer::Part(_) => None,
+            Answer::Loaded(loaded) => loaded.refusal,
+            Answer::Written(written) => written.refusal,
+            Answer::Counted(counted) => counted.refusal,
+            Answer::Checked(number) => *number,
+            Answer::Fetched(fetched) => fetched.refusal,
+            Answer::Judged(judgement) => judgement.refusal,
+            Answer::Computed(computed) => computed.refusal,
+            Answer::Prover(answer) => answer.refusal,
+            Answer::Verifier(answer) => answer.refusal,
+            Answer::VerifierJudged(answer) => answer.verdict.refusal,
+            Answer::Marked { text, .. } => marked(text),
+            Answer::Entries(_)
+            | Answer::Part(_)
+            | Answer::ProverNew(_)
+            | Answer::VerifierNew(_) => 0,
         }
+    }
+
+    /// The verdict of an answer that has one and is not refused.
+    pub fn verdict(&self) -> Option<Judgement> {
+        let verdict = match self {
+            Answer::Judged(verdict) => *verdict,
+            Answer::VerifierJudged(answer) => answer.verdict,
+            _ => return None,
+        };
+        (verdict.refusal == 0).then_some(verdict)
     }
 }
 
+/// The number of a refused sheet or file, or of the first refused round, in a
+/// marker's text.
+fn marked(text: &str) -> u32 {
+    let mut numbers = text.lines().filter_map(|line| {
+        let (words, number) = line.rsplit_once(' ')?;
+        let refused = words == "sheet" || words == "file" || words.ends_with(" refused");
+        number.parse().ok().filter(|_| refused)
+    });
+    numbers.next().unwrap_or(0)
+}
+
 impl Outcome {
-    /// Whether two outcomes agree in the answer and in every byte.
+    /// The outcome of one call that is lent nothing.
+    pub fn of(call: Call, answer: Answer) -> Outcome {
+        Outcome::with_memory(call, answer, Vec::new())
+    }
+
+    /// The outcome of one call, with the memory after it.
+    pub fn with_memory(call: Call, answer: Answer, memory: Vec<u8>) -> Outcome {
+        Outcome {
+            answers: vec![(call, answer)],
+            memory,
+        }
+    }
+
+    /// Whether two outcomes agree in every answer and in every byte.
     pub fn agrees(&self, other: &Outcome) -> bool {
-        self.answer.agrees(&other.answer) && self.memory == other.memory
+        let mut pairs = self.answers.iter().zip(&other.answers);
+        self.answers.len() == other.answers.len()
+            && pairs.all(|((_, one), (_, two))| one.agrees(two))
+            && self.memory == other.memory
     }
 }
 
@@ -71,11 +134,19 @@ mod tests {
 
     #[test]
     fn one_byte_of_memory_makes_a_difference() {
-        let outcome = |last: u8| Outcome {
-            answer: Answer::Checked(0),
-            memory: vec![1, last],
-        };
+        let outcome =
+            |last: u8| Outcome::with_memory(Call::Check, Answer::Checked(0), vec![1, last]);
         assert!(outcome(2).agrees(&outcome(2)));
         assert!(!outcome(2).agrees(&outcome(3)));
+    }
+
+    #[test]
+    fn a_marked_text_has_the_number_of_its_first_refusal() {
+        assert_eq!(marked("sheet 8\n"), 8);
+        assert_eq!(marked("file 12\n"), 12);
+        assert_eq!(marked("rounds 0\npass\n"), 0);
+        assert_eq!(marked("rounds 1\n0 rejected 7\nfail\n"), 0);
+        let text = "rounds 3\n0 accepted\n1 refused 14\n2 refused 15\nfail\n";
+        assert_eq!(marked(text), 14);
     }
 }

@@ -1,83 +1,22 @@
 //! The proved library, behind its C interface. All unsafe code stands here.
 
-use crate::library::{Counted, Fetched, Header, Library, Loaded, Part, Plan, Round, Written};
+mod exports;
 
-extern "C" {
-    fn dimkhoros_load(sheet: *const u8, sheet_length: usize) -> Loaded;
-
-    fn dimkhoros_entries(sheet: *const u8, sheet_length: usize, entries: *mut u32);
-
-    fn dimkhoros_encode(
-        header: Header,
-        entries: *const u32,
-        statement: *const u32,
-        buffer: *mut u8,
-        buffer_length: usize,
-    ) -> Written;
-
-    fn dimkhoros_from_pattern(
-        number: u32,
-        modulus: u32,
-        order: u32,
-        challenges: u32,
-        values: *const u32,
-        value_count: usize,
-        statement: *const u32,
-        statement_count: usize,
-        buffer: *mut u8,
-        buffer_length: usize,
-    ) -> Written;
-
-    fn dimkhoros_count(
-        sheet: *const u8,
-        sheet_length: usize,
-        file: *const u8,
-        file_length: usize,
-    ) -> Counted;
-
-    fn dimkhoros_check(
-        sheet: *const u8,
-        sheet_length: usize,
-        file: *const u8,
-        file_length: usize,
-        number: usize,
-    ) -> u32;
-
-    fn dimkhoros_part(
-        sheet: *const u8,
-        sheet_length: usize,
-        file: *const u8,
-        file_length: usize,
-        number: usize,
-    ) -> Part;
-
-    fn dimkhoros_read(
-        sheet: *const u8,
-        sheet_length: usize,
-        file: *const u8,
-        file_length: usize,
-        number: usize,
-    ) -> Fetched;
-
-    fn dimkhoros_empty(buffer: *mut u8, buffer_length: usize) -> Written;
-
-    fn dimkhoros_append(
-        sheet: *const u8,
-        sheet_length: usize,
-        buffer: *mut u8,
-        buffer_length: usize,
-        used: usize,
-        round: Round,
-    ) -> Written;
-}
+use crate::library::{
+    Computed, Counted, Fetched, Header, Judgement, Library, Loaded, Part, Places, Plan,
+    ProverAnswer, ProverSession, Round, VerifierAnswer, VerifierJudgement, VerifierSession,
+    Written, TEXT,
+};
+use exports::*;
 
 /// The proved library.
 pub struct Proved;
 
 // SAFETY, for every call below: each pointer comes from a reference or a slice
 // that lives through the call, with the length that is handed in beside it, or
-// with the 8 or 64 numbers that the interface reads or writes there. The
-// structs have the layout of C and any bits are valid values of their fields.
+// with the 8 or 64 numbers or the 7,696 bytes that the interface reads or writes
+// there. The structs have the layout of C and any bits are valid values of their
+// fields.
 impl Library for Proved {
     fn load(&self, sheet: &[u8]) -> Loaded {
         unsafe { dimkhoros_load(sheet.as_ptr(), sheet.len()) }
@@ -91,7 +30,7 @@ impl Library for Proved {
         &self,
         header: Header,
         entries: &[u32; 64],
-        statement: &[u32; 8],
+        statement: &Places,
         buffer: &mut [u8],
     ) -> Written {
         unsafe {
@@ -181,6 +120,94 @@ impl Library for Proved {
                 buffer.len(),
                 used,
                 round,
+            )
+        }
+    }
+    fn judge(&self, sheet: &[u8], round: Round) -> Judgement {
+        unsafe { dimkhoros_judge(sheet.as_ptr(), sheet.len(), round) }
+    }
+
+    fn simulate(&self, sheet: &[u8], challenge: u32, response: &Places) -> Computed {
+        unsafe { dimkhoros_simulate(sheet.as_ptr(), sheet.len(), challenge, response.as_ptr()) }
+    }
+
+    fn extract(&self, sheet: &[u8], first: Round, second: Round) -> Computed {
+        unsafe { dimkhoros_extract(sheet.as_ptr(), sheet.len(), first, second) }
+    }
+
+    fn prover_new(&self) -> ProverSession {
+        unsafe { dimkhoros_prover_new() }
+    }
+
+    fn prover_commit(&self, sheet: &[u8], session: ProverSession, nonce: &Places) -> ProverAnswer {
+        unsafe { dimkhoros_prover_commit(sheet.as_ptr(), sheet.len(), session, nonce.as_ptr()) }
+    }
+
+    fn prover_respond(
+        &self,
+        sheet: &[u8],
+        session: ProverSession,
+        challenge: u32,
+        witness: &Places,
+    ) -> ProverAnswer {
+        unsafe {
+            dimkhoros_prover_respond(
+                sheet.as_ptr(),
+                sheet.len(),
+                session,
+                challenge,
+                witness.as_ptr(),
+            )
+        }
+    }
+
+    fn prover_drop(&self, session: ProverSession) -> ProverAnswer {
+        unsafe { dimkhoros_prover_drop(session) }
+    }
+
+    fn verifier_new(&self) -> VerifierSession {
+        unsafe { dimkhoros_verifier_new() }
+    }
+
+    fn verifier_commitment(
+        &self,
+        sheet: &[u8],
+        session: VerifierSession,
+        commitment: &Places,
+    ) -> VerifierAnswer {
+        unsafe {
+            dimkhoros_verifier_commitment(sheet.as_ptr(), sheet.len(), session, commitment.as_ptr())
+        }
+    }
+
+    fn verifier_challenge(
+        &self,
+        sheet: &[u8],
+        session: VerifierSession,
+        challenge: u32,
+    ) -> VerifierAnswer {
+        unsafe { dimkhoros_verifier_challenge(sheet.as_ptr(), sheet.len(), session, challenge) }
+    }
+
+    fn verifier_response(
+        &self,
+        sheet: &[u8],
+        session: VerifierSession,
+        response: &Places,
+    ) -> VerifierJudgement {
+        unsafe {
+            dimkhoros_verifier_response(sheet.as_ptr(), sheet.len(), session, response.as_ptr())
+        }
+    }
+
+    fn mark(&self, sheet: &[u8], file: &[u8], text: &mut [u8; TEXT]) -> usize {
+        unsafe {
+            dimkhoros_mark(
+                sheet.as_ptr(),
+                sheet.len(),
+                file.as_ptr(),
+                file.len(),
+                text.as_mut_ptr(),
             )
         }
     }

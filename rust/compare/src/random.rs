@@ -57,6 +57,15 @@ impl Random {
         ((u128::from(self.bits()) * bound as u128) >> 64) as usize
     }
 
+    /// One of so many places, often the last.
+    pub fn place(&mut self, count: usize) -> usize {
+        if self.once_in(3) {
+            count - 1
+        } else {
+            self.below(count)
+        }
+    }
+
     /// True once in so many times.
     pub fn once_in(&mut self, times: usize) -> bool {
         self.below(times) == 0

@@ -13,7 +13,7 @@ use crate::tally::Tally;
 #[derive(Debug)]
 pub struct Difference {
     number: u64,
-    case: Case,
+    case: Box<dyn Case>,
     judged: Outcome,
     other: Outcome,
 }
@@ -33,7 +33,7 @@ pub fn run(seed: u64, count: u64, other: &dyn Library) -> Result<Tally, Box<Diff
                 other: answered,
             }));
         }
-        tally.add(case.call(), case.number(&judged.answer));
+        tally.add(case.as_ref(), &judged);
     }
     Ok(tally)
 }
@@ -41,7 +41,7 @@ pub fn run(seed: u64, count: u64, other: &dyn Library) -> Result<Tally, Box<Diff
 impl fmt::Display for Difference {
     fn fmt(&self, out: &mut fmt::Formatter) -> fmt::Result {
         writeln!(out, "difference in case {}: {}", self.number, self.case)?;
-        writeln!(out, "  judge:\n    {}", self.judged)?;
-        write!(out, "  other:\n    {}", self.other)
+        writeln!(out, "  judge:{}", self.judged)?;
+        write!(out, "  other:{}", self.other)
     }
 }

@@ -1,77 +1,111 @@
-//! How often each call gave each number.
+//! How often each call gave each number and each verdict.
 
 use std::fmt;
 
-use crate::calls::Call;
+use crate::calls::{Call, CALL_COUNT};
+use crate::cases::Case;
+use crate::library::Judgement;
+use crate::outcome::Outcome;
 
 /// The highest number of 01.
 const LAST: u32 = 22;
 
-/// The fewest times that a full run must meet each number of each call.
-const FEWEST: u64 = 50;
+/// The verdicts: accepted, and rejected in each of eight rows.
+const VERDICTS: [&str; 9] = [
+    "accepted", "row 0", "row 1", "row 2", "row 3", "row 4", "row 5", "row 6", "row 7",
+];
 
-/// A count for each call and number.
+/// A count for each call with each number and with each verdict.
 #[derive(Default)]
 pub struct Tally {
-    met: [[u64; LAST as usize + 1]; Call::ALL.len()],
+    numbers: [[u64; LAST as usize + 1]; CALL_COUNT],
+    verdicts: [[u64; VERDICTS.len()]; CALL_COUNT],
+}
+
+/// The place of a verdict among all.
+fn place(verdict: Judgement) -> usize {
+    if verdict.accepted == 1 {
+        0
+    } else {
+        1 + verdict.row as usize
+    }
 }
 
 impl Tally {
-    /// Counts a call that gave this number, which is at most 22.
-    pub fn add(&mut self, call: Call, number: u32) {
-        self.met[call as usize][number as usize] += 1;
+    /// Counts the calls of a case with this outcome in the judge.
+    pub fn add(&mut self, case: &dyn Case, judged: &Outcome) {
+        for (call, number) in case.numbers(judged) {
+            self.numbers[call as usize][number as usize] += 1;
+        }
+        for (call, answer) in &judged.answers {
+            if let Some(verdict) = answer.verdict() {
+                self.verdicts[*call as usize][place(verdict)] += 1;
+            }
+        }
     }
 
     fn met(&self, call: Call, number: u32) -> u64 {
-        self.met[call as usize][number as usize]
+        self.numbers[call as usize][number as usize]
     }
 
-    /// What a full run lacks: numbers that a call can give and that were met
-    /// too seldom, and numbers that it cannot give and that were met.
-    pub fn faults(&self) -> Vec<String> {
-        let mut faults = Vec::new();
-        for call in Call::ALL {
+    /// How many calls there were of this one.
+    fn all(&self, call: Call) -> u64 {
+        self.numbers[call as usize].iter().sum()
+    }
+
+    /// What a run lacks: numbers and verdicts that a call can give and that were
+    /// met fewer times, and numbers that it cannot give and that were met.
+    pub fn lacks(&self, fewest: u64) -> Vec<String> {
+        let mut lacks = Vec::new();
+        for call in Call::all() {
+            let name = call.name();
             for number in 0..=LAST {
-                let (name, met) = (call.name(), self.met(call, number));
-                if call.can_give(number) && met < FEWEST {
-                    faults.push(format!("{name} gave {number} only {met} times"));
+                let met = self.met(call, number);
+                if call.can_give(number) && met < fewest {
+                    lacks.push(format!("{name} gave {number} only {met} times"));
                 }
                 if !call.can_give(number) && met > 0 {
-                    faults.push(format!("{name} gave {number}, which it cannot give"));
+                    lacks.push(format!("{name} gave {number}, which it cannot give"));
+                }
+            }
+            for (verdict, met) in VERDICTS.iter().zip(self.verdicts[call as usize]) {
+                if call.judges() && met < fewest {
+                    lacks.push(format!("{name} gave {verdict} only {met} times"));
                 }
             }
         }
-        faults
+        lacks
     }
 }
 
-/// A table with a line for each number and a column for each call. A call
-/// that cannot give a number has a dot there.
+/// A table with a line for each call and a column for each number, which has a
+/// dot where the call cannot give the number. Then the verdicts.
 impl fmt::Display for Tally {
     fn fmt(&self, out: &mut fmt::Formatter) -> fmt::Result {
-        write!(out, "number")?;
-        for call in Call::ALL {
-            write!(out, "{:>13}", call.name())?;
-        }
+        write!(out, "{:<20}", "number")?;
         for number in 0..=LAST {
-            if !Call::ALL.iter().any(|call| call.can_give(number)) {
-                continue;
-            }
-            write!(out, "\n{number:>6}")?;
-            for call in Call::ALL {
+            write!(out, "{number:>6}")?;
+        }
+        write!(out, "{:>8}", "all")?;
+        for call in Call::all() {
+            write!(out, "\n{:<20}", call.name())?;
+            for number in 0..=LAST {
                 let met = self.met(call, number);
                 if call.can_give(number) || met > 0 {
-                    write!(out, "{met:>13}")?;
+                    write!(out, "{met:>6}")?;
                 } else {
-                    write!(out, "{:>13}", ".")?;
+                    write!(out, "{:>6}", ".")?;
                 }
             }
+            write!(out, "{:>8}", self.all(call))?;
         }
-        write!(out, "\n   all")?;
-        for call in Call::ALL {
-            let all: u64 = self.met[call as usize].iter().sum();
-            write!(out, "{all:>13}")?;
+        for call in Call::all().filter(|call| call.judges()) {
+            write!(out, "\n{:<20}", call.name())?;
+            for (verdict, met) in VERDICTS.iter().zip(self.verdicts[call as usize]) {
+                write!(out, "  {verdict} {met}")?;
+            }
         }
-        Ok(())
+        let all: u64 = Call::all().map(|call| self.all(call)).sum();
+        write!(out, "\n{all} calls")
     }
 }

@@ -5,12 +5,12 @@ use crate::judged::Judge;
 use crate::library::{Library, Loaded};
 
 /// Where the modulus, the order and the challenge count stand.
-const MODULUS: usize = 6;
-const ORDER: usize = 10;
-const CHALLENGES: usize = 14;
+pub const MODULUS: usize = 6;
+pub const ORDER: usize = 10;
+pub const CHALLENGES: usize = 14;
 
 /// The 32-bit number at this place, or 0 where there is none.
-fn word(sheet: &[u8], at: usize) -> u32 {
+pub fn word(sheet: &[u8], at: usize) -> u32 {
     let bytes = sheet
         .get(at..at + 4)
         .and_then(|bytes| bytes.try_into().ok());
@@ -18,7 +18,7 @@ fn word(sheet: &[u8], at: usize) -> u32 {
 }
 
 /// The sheet with another number at this place.
-fn with_word(sheet: &[u8], at: usize, value: u32) -> Vec<u8> {
+pub fn with_word(sheet: &[u8], at: usize, value: u32) -> Vec<u8> {
     let mut changed = sheet.to_vec();
     changed[at..at + 4].copy_from_slice(&value.to_be_bytes());
     changed
@@ -46,12 +46,21 @@ fn with_challenges(sheet: &[u8], count: u32) -> Loaded {
     loaded
 }
 
+/// A sheet of the right length with other statement values.
+pub fn restated(sheet: &[u8], change: impl Fn(u32) -> u32) -> Vec<u8> {
+    places(sheet, true).fold(sheet.to_vec(), |changed, at| {
+        with_word(&changed, at, change(word(sheet, at)))
+    })
+}
+
+/// The number 1 for a statement value in range, and 0 for any other.
+pub fn one_in_range(modulus: u32) -> impl Fn(u32) -> u32 {
+    move |value| u32::from((1..modulus).contains(&value))
+}
+
 /// What loading answers with other statement values, which are then put back.
 fn with_statement(sheet: &[u8], change: impl Fn(u32) -> u32) -> Loaded {
-    let changed = places(sheet, true).fold(sheet.to_vec(), |changed, at| {
-        with_word(&changed, at, change(word(sheet, at)))
-    });
-    let mut loaded = Judge.load(&changed);
+    let mut loaded = Judge.load(&restated(sheet, change));
     if loaded.refusal == 0 {
         for (value, at) in loaded.statement.iter_mut().zip(places(sheet, true)) {
             *value = word(sheet, at);
@@ -60,17 +69,28 @@ fn with_statement(sheet: &[u8], change: impl Fn(u32) -> u32) -> Loaded {
     loaded
 }
 
+/// Whether the challenge count is right where the order is held to be prime.
+pub fn right_for_prime(sheet: &[u8]) -> bool {
+    let most = word(sheet, ORDER).min(65_536);
+    (2..=most).contains(&word(sheet, CHALLENGES))
+}
+
 pub fn load(fault: Fault, sheet: &[u8]) -> Loaded {
-    let mut right = Judge.load(sheet);
-    let (modulus, order) = (word(sheet, MODULUS), word(sheet, ORDER));
+    let right = Judge.load(sheet);
+    match right.refusal {
+        2..=9 => load_form(fault, sheet, right),
+        _ => load_values(fault, sheet, right),
+    }
+}
+
+/// Loading where the sheet is refused for its form.
+fn load_form(fault: Fault, sheet: &[u8], right: Loaded) -> Loaded {
     let challenges = word(sheet, CHALLENGES);
     match (fault, right.refusal) {
         (Fault::MarkInPart, 2) if sheet.len() >= 20 && sheet.starts_with(b"HO") => {
             Judge.load(&[b"HOM", &sheet[3..]].concat())
         }
-        (Fault::OrderPrime, 8) if (2..=order.min(65_536)).contains(&challenges) => {
-            with_challenges(sheet, 2)
-        }
+        (Fault::OrderPrime, 8) if right_for_prime(sheet) => with_challenges(sheet, 2),
         (Fault::MostChallenges, 8) if challenges == 65_537 => with_challenges(sheet, 65_536),
         (Fault::SidesDiffer, 7) if sheet[5] == 2 => {
             let mut square = sheet.to_vec();
@@ -83,31 +103,37 @@ pub fn load(fault: Fault, sheet: &[u8]) -> Loaded {
         }
         (Fault::LongSheet, 9) => Judge.load(&sheet[..sheet.len() - 1]),
         (Fault::LengthCut, 9) if sheet.len() > 0xffff => Judge.load(&sheet[..sheet.len() & 0xffff]),
-        (Fault::RangeOnly, 11) => {
-            with_statement(sheet, |z| if (1..modulus).contains(&z) { 1 } else { 0 })
-        }
-        (Fault::Congruent, 11) => with_statement(sheet, |z| z % modulus),
+        _ => right,
+    }
+}
+
+/// Loading where the sheet is refused for a value, or not at all.
+fn load_values(fault: Fault, sheet: &[u8], mut right: Loaded) -> Loaded {
+    let modulus = word(sheet, MODULUS);
+    match (fault, right.refusal) {
+        (Fault::RangeOnly, 11) => return with_statement(sheet, one_in_range(modulus)),
+        (Fault::Congruent, 11) => return with_statement(sheet, |z| z % modulus),
         (Fault::StatementFirst, 10) => {
             let sheet =
                 places(sheet, false).fold(sheet.to_vec(), |sheet, at| with_word(&sheet, at, 1));
             if Judge.load(&sheet).refusal == 11 {
                 right.refusal = 11;
             }
-            right
         }
         (Fault::LastEntry, 10) if sheet[18..20] == [8, 8] => {
-            Judge.load(&with_word(sheet, 20 + 4 * 63, 1))
+            return Judge.load(&with_word(sheet, 20 + 4 * 63, 1));
         }
-        (Fault::LastStatement, 0) => {
-            right.statement[7] = 0;
-            right
+        (Fault::LastStatement, 0) => right.statement[7] = 0,
+        (Fault::HeaderKept, 11) => right.header = with_statement(sheet, |_| 1).header,
+        (Fault::RefusesAll, 0) => {
+            return Loaded {
+                refusal: 11,
+                ..Loaded::default()
+            }
         }
-        (Fault::HeaderKept, 11) => {
-            right.header = with_statement(sheet, |_| 1).header;
-            right
-        }
-        _ => right,
+        _ => {}
     }
+    right
 }
 
 pub fn entries(fault: Fault, sheet: &[u8], entries: &mut [u32; 64]) {

@@ -1,6 +1,6 @@
 //! Cases of the sheet maker.
 
-use crate::cases::Case;
+use crate::cases::{Case, WriterCase, Writing};
 use crate::damage::faults;
 use crate::groups::Group;
 use crate::lent::Lent;
@@ -19,7 +19,7 @@ fn shape(pattern: u32) -> (usize, usize) {
 }
 
 /// A case of the sheet maker.
-pub fn from_pattern(random: &mut Random) -> Case {
+pub fn from_pattern(random: &mut Random) -> Box<dyn Case> {
     let pattern = random.between(1, 6);
     let kind = if pattern == 6 { 2 } else { 1 };
     let group = Group::of_kind(random, kind);
@@ -33,12 +33,14 @@ pub fn from_pattern(random: &mut Random) -> Case {
     }
     let (entries, rows) = ([1, 2, 2, 2, 6, 0][pattern as usize - 1], shape(pattern).1);
     let needed = 20 + 4 * (entries + rows);
-    Case::FromPattern {
-        plan: made.plan,
-        values: made.values,
-        statement: made.statement,
+    Box::new(WriterCase {
+        writing: Writing::FromPattern {
+            plan: made.plan,
+            values: made.values,
+            statement: made.statement,
+        },
         lent: Lent::for_result(random, needed),
-    }
+    })
 }
 
 /// What the sheet maker takes, but for the buffer.

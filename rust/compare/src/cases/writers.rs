@@ -1,0 +1,100 @@
+//! The calls that write into a lent buffer.
+
+use std::fmt;
+
+use crate::calls::Call;
+use crate::cases::Case;
+use crate::lent::Lent;
+use crate::library::{Library, Plan, Round, Written};
+use crate::outcome::{Answer, Outcome};
+use crate::printing::{hex, numbers};
+use crate::sheets::Sheet;
+
+/// What is written.
+#[derive(Debug)]
+pub enum Writing {
+    Encode {
+        sheet: Box<Sheet>,
+    },
+    FromPattern {
+        plan: Plan,
+        values: Vec<u32>,
+        statement: Vec<u32>,
+    },
+    Empty,
+    Append {
+        sheet: Vec<u8>,
+        used: usize,
+        round: Round,
+    },
+}
+
+/// A call that writes into a lent buffer.
+#[derive(Debug)]
+pub struct WriterCase {
+    pub writing: Writing,
+    pub lent: Lent,
+}
+
+impl Writing {
+    fn call(&self) -> Call {
+        match self {
+            Writing::Encode { .. } => Call::Encode,
+            Writing::FromPattern { .. } => Call::FromPattern,
+            Writing::Empty => Call::Empty,
+            Writing::Append { .. } => Call::Append,
+        }
+    }
+
+    fn write(&self, library: &dyn Library, buffer: &mut [u8]) -> Written {
+        match self {
+            Writing::Encode { sheet } => {
+                library.encode(sheet.header, &sheet.entries, &sheet.statement, buffer)
+            }
+            Writing::FromPattern {
+                plan,
+                values,
+                statement,
+            } => library.sheet_from_pattern(*plan, values, statement, buffer),
+            Writing::Empty => library.empty(buffer),
+            Writing::Append { sheet, used, round } => library.append(sheet, buffer, *used, *round),
+        }
+    }
+}
+
+impl Case for WriterCase {
+    fn run(&self, library: &dyn Library) -> Outcome {
+        let mut lent = self.lent.clone();
+        let written = self.writing.write(library, lent.buffer());
+        Outcome::with_memory(self.writing.call(), Answer::Written(written), lent.memory)
+    }
+}
+
+impl fmt::Display for WriterCase {
+    fn fmt(&self, out: &mut fmt::Formatter) -> fmt::Result {
+        writeln!(out, "{}", self.writing.call().name())?;
+        match &self.writing {
+            Writing::Encode { sheet } => {
+                writeln!(out, "    {:x?}", sheet.header)?;
+                writeln!(out, "    entries {}", numbers(&sheet.entries))?;
+                writeln!(out, "    statement {}", numbers(&sheet.statement))?;
+            }
+            Writing::FromPattern {
+                plan,
+                values,
+                statement,
+            } => {
+                writeln!(out, "    {plan:x?}")?;
+                writeln!(out, "    values {}", numbers(values))?;
+                writeln!(out, "    statement {}", numbers(statement))?;
+            }
+            Writing::Empty => {}
+            Writing::Append { sheet, used, round } => {
+                writeln!(out, "    sheet {}", hex(sheet))?;
+                writeln!(out, "    used {used:#x}")?;
+                writeln!(out, "    {round:x?}")?;
+            }
+        }
+        write!(out, "{}", self.lent)
+    }
+}

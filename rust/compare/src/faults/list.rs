@@ -1,0 +1,177 @@
+//! The planted faults and their names.
+
+/// A fault with its name and what it does.
+pub struct Planted {
+    pub fault: Fault,
+    pub name: &'static str,
+    pub what: &'static str,
+}
+
+/// Makes the enum and the list of all faults out of one table.
+macro_rules! faults {
+    ($($fault:ident, $name:literal, $what:literal;)*) => {
+        /// A planted fault.
+        #[derive(Clone, Copy, Debug, PartialEq, Eq)]
+        pub enum Fault {
+            $($fault,)*
+        }
+
+        /// All planted faults, by the call that has them.
+        pub const FAULTS: &[Planted] = &[
+            $(Planted {
+                fault: Fault::$fault,
+                name: $name,
+                what: $what,
+            },)*
+        ];
+    };
+}
+
+faults! {
+    MarkInPart, "mark-in-part", "load compares two bytes of the mark";
+    OrderPrime, "order-prime", "load holds the order to be prime in 8";
+    MostChallenges, "most-challenges", "load lets K = 65,537 through";
+    SidesDiffer, "sides-differ", "load lets rows and columns differ in kind 2";
+    LongSheet, "long-sheet", "load lets one byte too many through";
+    LengthCut, "length-cut", "load cuts the length to 16 bits";
+    RangeOnly, "range-only", "load tests a statement's range and not its order";
+    Congruent, "congruent", "load reduces a statement value before its test";
+    StatementFirst, "statement-first", "load gives 11 before 10";
+    LastEntry, "last-entry", "load does not test the last of 64 entries";
+    LastStatement, "last-statement", "load answers 0 for the eighth statement value";
+    HeaderKept, "header-kept", "load answers the header beside 11";
+    RefusesAll, "refuses-all", "load refuses every sheet";
+    EntriesLeft, "entries-left", "entries leaves the array alone where refused";
+    EntriesPacked, "entries-packed", "entries has the rows without a gap";
+    KindCut, "kind-cut", "encode cuts the kind to a byte";
+    RowsCut, "rows-cut", "encode cuts rows and columns to a byte";
+    UnreadEntry, "unread-entry", "encode tests an entry beyond the columns";
+    UnreadStatement, "unread-statement", "encode tests a statement value beyond the rows";
+    RootEntry, "root-entry", "encode tests an entry in kind 2";
+    ByteAfter, "byte-after", "encode clears the byte behind the sheet";
+    ShortFirst, "short-first", "encode gives 22 before 10 and 11";
+    ShortWritten, "short-written", "encode fills a buffer that is too short";
+    OneMoreNeeded, "one-more-needed", "encode refuses a buffer that just fits";
+    PatternCut, "pattern-cut", "from_pattern cuts the number to a byte";
+    ProductDigits, "product-digits", "from_pattern has 3 2 0 in pattern 5";
+    ExtraValue, "extra-value", "from_pattern ignores public values too many";
+    ManyRounds, "many-rounds", "count lets 513 rounds through";
+    VersionLow, "version-low", "count reads the low byte of the version";
+    FileFirst, "file-first", "count gives 12 before the sheet's number";
+    RoundAtCount, "round-at-count", "check lets the number equal the count";
+    RoundCut16, "round-cut-16", "check cuts the number to 16 bits";
+    RoundCut32, "round-cut-32", "check cuts the number to 32 bits";
+    RoundFirst, "round-first", "check gives 13 before 12 for huge numbers";
+    PartWraps, "part-wraps", "part lets the record's place wrap around";
+    PartCut, "part-cut", "part cuts the offset to 15 bits";
+    LastSlot, "last-slot", "read answers 0 for the eighth response slot";
+    ReadOn, "read-on", "read answers a value beyond the rows";
+    EmptyNeedsEight, "empty-needs-eight", "empty refuses a buffer of 7 bytes";
+    EmptyClears, "empty-clears", "empty clears the byte behind the file";
+    CountCarry, "count-carry", "append raises the count's low byte only";
+    FullFileShort, "full-file-short", "append gives 22 before 12 for a full file";
+    UsedBeyond, "used-beyond", "append gives 22 for more in use than lent";
+    UsedCut, "used-cut", "append cuts the bytes in use to 32 bits";
+    ValuesTested, "values-tested", "append refuses a challenge of K or more";
+    CountRaised, "count-raised", "append raises the count though it gives 22";
+    RecordExact, "record-exact", "append refuses a buffer that just fits";
+    JudgeRowZero, "judge-row-zero", "judge compares row 0 only";
+    JudgeLastRow, "judge-last-row", "judge leaves out the eighth row";
+    JudgeRejectsAll, "judge-rejects-all", "judge rejects every round";
+    JudgeLastDifference, "judge-last-difference", "judge names the last row that differs";
+    JudgeRangeOnly, "judge-range-only", "judge tests a commitment's range and not its order";
+    JudgeCongruent, "judge-congruent", "judge reduces a commitment value before its test";
+    JudgeSlotReduced, "judge-slot-reduced", "judge reduces a response slot before its test";
+    JudgeChallengeAtCount, "judge-challenge-at-count", "judge lets the challenge K through";
+    JudgeChallengeCut, "judge-challenge-cut", "judge cuts the challenge to 16 bits";
+    JudgeUnreadCommitment, "judge-unread-commitment", "judge tests a commitment beyond the rows";
+    JudgeUnreadResponse, "judge-unread-response", "judge tests a response slot beyond the columns";
+    JudgeResponseFirst, "judge-response-first", "judge gives 16 before 14 and 15";
+    JudgeSheetLast, "judge-sheet-last", "judge gives 15 before 10 and 11";
+    JudgeOrderPrime, "judge-order-prime", "judge holds the order to be prime in 8";
+    JudgeStatementRange, "judge-statement-range", "judge tests a statement's range, not its order";
+    SimulateOne, "simulate-one", "simulate gives one commitment for all responses";
+    SimulatePositive, "simulate-positive", "simulate multiplies by z^c";
+    SimulateBeyond, "simulate-beyond", "simulate answers 1 beyond the rows";
+    SimulateSlotFirst, "simulate-slot-first", "simulate gives 16 before 15";
+    SimulateUnread, "simulate-unread", "simulate tests a slot beyond the columns";
+    ExtractTwenty, "extract-twenty", "extract gives 20 before judging";
+    ExtractInverseModM, "extract-inverse-mod-m", "extract inverts c - c' mod m in kind 1";
+    ExtractModM, "extract-mod-m", "extract reduces the witness mod m in kind 1";
+    ExtractUnsigned, "extract-unsigned", "extract takes c - c' as unsigned in kind 1";
+    ExtractWithoutStatement, "extract-without-z", "extract leaves out z^a in kind 2";
+    ExtractBeyond, "extract-beyond", "extract answers slots beyond the columns";
+    ExtractEightPlaces, "extract-eight-places", "extract compares commitments beyond the rows";
+    ExtractFirstRound, "extract-first-round", "extract tests one round before the other";
+    ExtractEqualFirst, "extract-equal-first", "extract gives 19 before 18";
+    ExtractRejectedFirst, "extract-rejected-first", "extract gives 20 before 18 and 19";
+    ExtractFirstJudged, "extract-first-judged", "extract judges the first round only";
+    ExtractSecondJudged, "extract-second-judged", "extract judges the second round only";
+    ProverStill, "prover-still", "Peggy's session never moves";
+    ProverPhaseCut, "prover-phase-cut", "Peggy's phase is cut to a byte";
+    ProverPhaseMended, "prover-phase-mended", "Peggy's unknown phase comes back as Dropped";
+    CommitOneNonce, "commit-one-nonce", "commit takes one nonce for all";
+    CommitStoresJunk, "commit-stores-junk", "commit stores the nonce in all eight places";
+    CommitOnesBeyond, "commit-ones-beyond", "commit stores and answers 1 beyond the rows";
+    CommitNotStored, "commit-not-stored", "commit leaves the held commitment";
+    CommitStateFirst, "commit-state-first", "commit gives 21 before 16";
+    CommitSheetLast, "commit-sheet-last", "commit gives 21 before the sheet's number";
+    CommitTestsHeld, "commit-tests-held", "commit refuses a new session that holds a nonce";
+    CommitUnread, "commit-unread", "commit tests a nonce slot beyond the columns";
+    RespondModM, "respond-mod-m", "respond reduces mod m in kind 1";
+    RespondKeepsNonce, "respond-keeps-nonce", "respond keeps the nonce";
+    RespondClearsPart, "respond-clears-part", "respond keeps the nonce beyond the columns";
+    RespondClearsCommitment, "respond-clears-commitment", "respond clears the held commitment";
+    RespondStateFirst, "respond-state-first", "respond gives 21 before 15 to 17";
+    RespondReadsRows, "respond-reads-rows", "respond reads the held commitment in the rows only";
+    RespondReadsEight, "respond-reads-eight", "respond reads the held nonce in all eight places";
+    RespondHeldOrder, "respond-held-order", "respond reduces a held slot mod q in kind 1";
+    RespondHeldModulus, "respond-held-modulus", "respond reduces a held slot mod m in kind 2";
+    RespondHeldUntested, "respond-held-untested", "respond does not test the held commitment";
+    RespondRefusedMoves, "respond-refused-moves", "a refused respond leads to Answered";
+    RespondTwice, "respond-twice", "respond lets Answered through";
+    RespondAnyWitness, "respond-any-witness", "respond does not test the witness's image";
+    RespondWitnessRow, "respond-witness-row", "respond tests row 0 of the witness's image";
+    RespondRefusedValues, "respond-refused-values", "respond answers the held nonce beside 21";
+    DropKeepsNonce, "drop-keeps-nonce", "drop keeps the nonce";
+    DropNewKeeps, "drop-new-keeps", "drop keeps the nonce of a new session";
+    DropClearsPart, "drop-clears-part", "drop keeps the eighth place of the nonce";
+    DropClearsCommitment, "drop-clears-commitment", "drop clears the held commitment";
+    DropNewRefused, "drop-new-refused", "drop refuses a new session";
+    DropAnswered, "drop-answered", "drop lets Answered through";
+    VerifierStill, "verifier-still", "Vic's session never moves";
+    VerifierPhaseCut, "verifier-phase-cut", "Vic's phase is cut to a byte";
+    VerifierPhaseMended, "verifier-phase-mended", "Vic's unknown phase comes back as Judged";
+    HoldStoresEight, "hold-stores-eight", "Vic stores the commitment in all eight places";
+    HoldClearsChallenge, "hold-clears-challenge", "Vic's commitment call sets the challenge to 0";
+    HoldStateFirst, "hold-state-first", "Vic's commitment call gives 21 before 14";
+    HoldTestsHeld, "hold-tests-held", "Vic's commitment call tests a held challenge";
+    HoldCongruent, "hold-congruent", "Vic reduces a commitment value before its test";
+    AskClearsBeyond, "ask-clears-beyond", "Vic's challenge call clears places beyond the rows";
+    AskReadsEight, "ask-reads-eight", "Vic's challenge call tests places beyond the rows";
+    AskHeldUntested, "ask-held-untested", "Vic's challenge call does not test what is held";
+    AskHeldCongruent, "ask-held-congruent", "Vic's challenge call reduces what is held";
+    AskTestsChallenge, "ask-tests-challenge", "Vic's challenge call tests the held challenge";
+    AskStateFirst, "ask-state-first", "Vic's challenge call gives 21 before 15";
+    AskKeepsChallenge, "ask-keeps-challenge", "Vic's challenge call keeps the held challenge";
+    AnswerRowZero, "answer-row-zero", "Vic's response call compares row 0 only";
+    AnswerRejectsAll, "answer-rejects-all", "Vic's response call rejects every round";
+    AnswerRejectedStays, "answer-rejected-stays", "Vic stays in Asked after a rejected round";
+    AnswerHeldChallenge, "answer-held-challenge", "Vic's response call takes any held challenge";
+    AnswerStateFirst, "answer-state-first", "Vic's response call gives 21 before 16";
+    AnswerClears, "answer-clears", "Vic's response call sets what is held to zeros";
+    AnswerClearsBeyond, "answer-clears-beyond", "Vic's response call clears places beyond the rows";
+    AnswerReadsEight, "answer-reads-eight", "Vic's response call tests places beyond the rows";
+    AnswerHeldUntested, "answer-held-untested", "Vic's response call takes any held commitment";
+    AnswerFromHolding, "answer-from-holding", "Vic's response call lets Holding through";
+    MarkCountInvented, "mark-count-invented", "mark always says 4 rounds";
+    MarkFileFirst, "mark-file-first", "mark gives the file's line before the sheet's";
+    MarkEmptyFails, "mark-empty-fails", "mark says fail for a file of no rounds";
+    MarkRefusedPasses, "mark-refused-passes", "mark says pass where rounds are only refused";
+    MarkRowZero, "mark-row-zero", "mark compares row 0 only";
+    MarkStops, "mark-stops", "mark stops behind the first round not accepted";
+    MarkNoEnd, "mark-no-end", "mark leaves out the last line's end";
+    MarkByteAfter, "mark-byte-after", "mark clears the byte behind the text";
+    MarkRoundCut, "mark-round-cut", "mark cuts a round's number to a byte";
+    MarkLastRound, "mark-last-round", "mark leaves out round 511";
+}

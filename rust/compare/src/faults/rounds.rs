@@ -1,0 +1,178 @@
+//! Faults of judging and of simulating.
+
+use crate::arithmetic::{multiply, power};
+use crate::faults::sheets::{
+    one_in_range, restated, right_for_prime, with_word, word, CHALLENGES, MODULUS,
+};
+use crate::faults::Fault;
+use crate::judged::Judge;
+use crate::library::{Computed, Header, Judgement, Library, Places, Round};
+
+/// An accepted round.
+pub const ACCEPTED: Judgement = Judgement {
+    refusal: 0,
+    accepted: 1,
+    row: 0,
+};
+
+/// A round that is rejected in this row.
+pub fn rejected(row: u32) -> Judgement {
+    Judgement {
+        row,
+        ..Judgement::default()
+    }
+}
+
+/// A round that is refused with this number.
+pub fn refused(refusal: u32) -> Judgement {
+    Judgement {
+        refusal,
+        ..Judgement::default()
+    }
+}
+
+/// Whether the place behind those in use holds no number below the bound.
+pub fn bad_beyond(values: &Places, used: u32, bound: u32) -> bool {
+    let place = values.get(used as usize);
+    place.is_some_and(|value| *value >= bound)
+}
+
+/// The bound of a domain slot: q in kind 1, m in kind 2.
+pub fn slot_bound(header: &Header) -> u32 {
+    match header.kind {
+        1 => header.order,
+        _ => header.modulus,
+    }
+}
+
+pub fn judge(fault: Fault, sheet: &[u8], round: Round) -> Judgement {
+    let right = Judge.judge(sheet, round);
+    match right.refusal {
+        0 => verdict(fault, sheet, round, right),
+        2..=11 => judge_bad_sheet(fault, sheet, round, right),
+        _ => judge_bad_round(fault, sheet, round, right),
+    }
+}
+
+/// The verdict on a round that is not refused.
+fn verdict(fault: Fault, sheet: &[u8], round: Round, right: Judgement) -> Judgement {
+    let header = Judge.load(sheet).header;
+    match fault {
+        Fault::JudgeRowZero if right.row > 0 => ACCEPTED,
+        Fault::JudgeLastRow if right.row == 7 => ACCEPTED,
+        Fault::JudgeRejectsAll => rejected(right.row),
+        Fault::JudgeLastDifference if right != ACCEPTED => {
+            let rows = differing(sheet, round);
+            rejected(rows.last().copied().unwrap_or(0))
+        }
+        Fault::JudgeUnreadCommitment
+            if bad_beyond(&round.commitment, header.rows, header.modulus) =>
+        {
+            refused(14)
+        }
+        Fault::JudgeUnreadResponse
+            if bad_beyond(&round.response, header.columns, slot_bound(&header)) =>
+        {
+            refused(16)
+        }
+        _ => right,
+    }
+}
+
+/// The rows of a round that differ, where its challenge and response pass.
+fn differing(sheet: &[u8], round: Round) -> Vec<u32> {
+    let rows = Judge.load(sheet).header.rows;
+    let simulated = Judge.simulate(sheet, round.challenge, &round.response);
+    let differs = |row: &u32| simulated.values[*row as usize] != round.commitment[*row as usize];
+    (0..rows).filter(differs).collect()
+}
+
+/// The verdict on a round with a commitment value that is in range but is no
+/// group element, so that its row differs.
+fn range_only(sheet: &[u8], round: Round) -> Judgement {
+    let simulated = Judge.simulate(sheet, round.challenge, &round.response);
+    match simulated.refusal {
+        0 => rejected(differing(sheet, round)[0]),
+        number => refused(number),
+    }
+}
+
+/// Judging where the sheet is refused.
+fn judge_bad_sheet(fault: Fault, sheet: &[u8], round: Round, right: Judgement) -> Judgement {
+    match (fault, right.refusal) {
+        (Fault::JudgeSheetLast, 10 | 11) if round.challenge >= word(sheet, CHALLENGES) => {
+            refused(15)
+        }
+        (Fault::JudgeOrderPrime, 8) if right_for_prime(sheet) => {
+            Judge.judge(&with_word(sheet, CHALLENGES, 2), round)
+        }
+        (Fault::JudgeStatementRange, 11) => {
+            let in_range = one_in_range(word(sheet, MODULUS));
+            Judge.judge(&restated(sheet, in_range), round)
+        }
+        _ => right,
+    }
+}
+
+/// Judging where the round is refused.
+fn judge_bad_round(fault: Fault, sheet: &[u8], mut round: Round, right: Judgement) -> Judgement {
+    let header = Judge.load(sheet).header;
+    let mut used = round.commitment.iter().take(header.rows as usize);
+    match (fault, right.refusal) {
+        (Fault::JudgeRangeOnly, 14) if used.all(|t| (1..header.modulus).contains(t)) => {
+            range_only(sheet, round)
+        }
+        (Fault::JudgeCongruent, 14) => {
+            round.commitment = round.commitment.map(|t| t % header.modulus);
+            Judge.judge(sheet, round)
+        }
+        (Fault::JudgeSlotReduced, 16) => {
+            round.response = round.response.map(|r| r % slot_bound(&header));
+            Judge.judge(sheet, round)
+        }
+        (Fault::JudgeChallengeAtCount, 15) if round.challenge == header.challenges => {
+            round.challenge -= 1;
+            Judge.judge(sheet, round)
+        }
+        (Fault::JudgeChallengeCut, 15) => {
+            round.challenge &= 0xffff;
+            Judge.judge(sheet, round)
+        }
+        (Fault::JudgeResponseFirst, 14 | 15) => {
+            match Judge.simulate(sheet, 0, &round.response).refusal {
+                0 => right,
+                number => refused(number),
+            }
+        }
+        _ => right,
+    }
+}
+
+pub fn simulate(fault: Fault, sheet: &[u8], challenge: u32, response: &Places) -> Computed {
+    let mut right = Judge.simulate(sheet, challenge, response);
+    let loaded = Judge.load(sheet);
+    let header = loaded.header;
+    match (fault, right.refusal) {
+        (Fault::SimulateOne, 0) => Judge.simulate(sheet, 0, &[1; 8]),
+        (Fault::SimulatePositive, 0) => {
+            right.values = Judge.simulate(sheet, 0, response).values;
+            for (value, z) in right.values.iter_mut().zip(&loaded.statement) {
+                let factor = power(*z, challenge, header.modulus);
+                *value = multiply(*value, factor, header.modulus);
+            }
+            right
+        }
+        (Fault::SimulateBeyond, 0) => {
+            right.values[header.rows as usize..].fill(1);
+            right
+        }
+        (Fault::SimulateSlotFirst, 15) => Judge.simulate(sheet, 0, response),
+        (Fault::SimulateUnread, 0) if bad_beyond(response, header.columns, slot_bound(&header)) => {
+            Computed {
+                refusal: 16,
+                values: [0; 8],
+            }
+        }
+        _ => right,
+    }
+}

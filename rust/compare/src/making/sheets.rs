@@ -1,0 +1,62 @@
+//! Cases of the calls on sheets alone.
+
+use crate::calls::SHEET_NUMBERS;
+use crate::cases::{Case, SheetCase, WriterCase, Writing};
+use crate::damage::{self, faults, spoil};
+use crate::groups::Group;
+use crate::lent::Lent;
+use crate::random::Random;
+use crate::sheets::{record_length, Sheet};
+
+/// The bytes of a sheet and the record length of its rounds. One in so many is
+/// made to be refused or is damaged.
+pub fn bytes(random: &mut Random, spoilt: usize) -> (Vec<u8>, usize) {
+    let sheet = Sheet::any(random);
+    let record = record_length(&sheet.header);
+    if !random.once_in(spoilt) {
+        return (sheet.bytes(), record);
+    }
+    if random.once_in(3) {
+        return (damage::damaged(random, sheet.bytes()), record);
+    }
+    let number = random.pick(&SHEET_NUMBERS);
+    (damage::refused(random, number), record)
+}
+
+/// A case of loading.
+pub fn load(random: &mut Random) -> Box<dyn Case> {
+    let (sheet, _) = bytes(random, 2);
+    Box::new(SheetCase::Load { sheet })
+}
+
+/// A case of the entries.
+pub fn entries(random: &mut Random) -> Box<dyn Case> {
+    let (sheet, _) = bytes(random, 2);
+    let before = Box::new(random.words());
+    Box::new(SheetCase::Entries { sheet, before })
+}
+
+/// A case of the second writer. Places that it may not read hold anything.
+pub fn encode(random: &mut Random) -> Box<dyn Case> {
+    let numbers = [4, 5, 6, 7, 8, 10, 11];
+    let wrong = random.once_in(2).then(|| random.pick(&numbers));
+    let kind = match wrong {
+        Some(10) => 1,
+        _ => random.between(1, 2),
+    };
+    let group = Group::of_kind(random, kind);
+    let mut sheet = Sheet::of_group(random, &group);
+    sheet.fill_unread(random);
+    let needed = sheet.bytes().len();
+    if let Some(lowest) = wrong {
+        for fault in faults(random, &numbers, lowest) {
+            spoil(random, &group, &mut sheet, fault, u32::MAX);
+        }
+    }
+    Box::new(WriterCase {
+        writing: Writing::Encode {
+            sheet: Box::new(sheet),
+        },
+        lent: Lent::for_result(random, needed),
+    })
+}

@@ -1,0 +1,141 @@
+//! The exports of the archive.
+
+use crate::library::{
+    Computed, Counted, Fetched, Header, Judgement, Loaded, Part, ProverAnswer, ProverSession,
+    Round, VerifierAnswer, VerifierJudgement, VerifierSession, Written,
+};
+
+extern "C" {
+    pub fn dimkhoros_load(sheet: *const u8, sheet_length: usize) -> Loaded;
+
+    pub fn dimkhoros_entries(sheet: *const u8, sheet_length: usize, entries: *mut u32);
+
+    pub fn dimkhoros_encode(
+        header: Header,
+        entries: *const u32,
+        statement: *const u32,
+        buffer: *mut u8,
+        buffer_length: usize,
+    ) -> Written;
+
+    pub fn dimkhoros_from_pattern(
+        number: u32,
+        modulus: u32,
+        order: u32,
+        challenges: u32,
+        values: *const u32,
+        value_count: usize,
+        statement: *const u32,
+        statement_count: usize,
+        buffer: *mut u8,
+        buffer_length: usize,
+    ) -> Written;
+
+    pub fn dimkhoros_count(
+        sheet: *const u8,
+        sheet_length: usize,
+        file: *const u8,
+        file_length: usize,
+    ) -> Counted;
+
+    pub fn dimkhoros_check(
+        sheet: *const u8,
+        sheet_length: usize,
+        file: *const u8,
+        file_length: usize,
+        number: usize,
+    ) -> u32;
+
+    pub fn dimkhoros_part(
+        sheet: *const u8,
+        sheet_length: usize,
+        file: *const u8,
+        file_length: usize,
+        number: usize,
+    ) -> Part;
+
+    pub fn dimkhoros_read(
+        sheet: *const u8,
+        sheet_length: usize,
+        file: *const u8,
+        file_length: usize,
+        number: usize,
+    ) -> Fetched;
+
+    pub fn dimkhoros_empty(buffer: *mut u8, buffer_length: usize) -> Written;
+
+    pub fn dimkhoros_append(
+        sheet: *const u8,
+        sheet_length: usize,
+        buffer: *mut u8,
+        buffer_length: usize,
+        used: usize,
+        round: Round,
+    ) -> Written;
+
+    pub fn dimkhoros_judge(sheet: *const u8, sheet_length: usize, round: Round) -> Judgement;
+
+    pub fn dimkhoros_simulate(
+        sheet: *const u8,
+        sheet_length: usize,
+        challenge: u32,
+        response: *const u32,
+    ) -> Computed;
+
+    pub fn dimkhoros_extract(
+        sheet: *const u8,
+        sheet_length: usize,
+        first: Round,
+        second: Round,
+    ) -> Computed;
+
+    pub fn dimkhoros_prover_new() -> ProverSession;
+
+    pub fn dimkhoros_prover_commit(
+        sheet: *const u8,
+        sheet_length: usize,
+        session: ProverSession,
+        nonce: *const u32,
+    ) -> ProverAnswer;
+
+    pub fn dimkhoros_prover_respond(
+        sheet: *const u8,
+        sheet_length: usize,
+        session: ProverSession,
+        challenge: u32,
+        witness: *const u32,
+    ) -> ProverAnswer;
+
+    pub fn dimkhoros_prover_drop(session: ProverSession) -> ProverAnswer;
+
+    pub fn dimkhoros_verifier_new() -> VerifierSession;
+
+    pub fn dimkhoros_verifier_commitment(
+        sheet: *const u8,
+        sheet_length: usize,
+        session: VerifierSession,
+        commitment: *const u32,
+    ) -> VerifierAnswer;
+
+    pub fn dimkhoros_verifier_challenge(
+        sheet: *const u8,
+        sheet_length: usize,
+        session: VerifierSession,
+        challenge: u32,
+    ) -> VerifierAnswer;
+
+    pub fn dimkhoros_verifier_response(
+        sheet: *const u8,
+        sheet_length: usize,
+        session: VerifierSession,
+        response: *const u32,
+    ) -> VerifierJudgement;
+
+    pub fn dimkhoros_mark(
+        sheet: *const u8,
+        sheet_length: usize,
+        file: *const u8,
+        file_length: usize,
+        text: *mut u8,
+    ) -> usize;
+}
