@@ -1,52 +1,63 @@
 //! The time of two functions, measured in turn.
 
+use std::hint::black_box;
 use std::time::{Duration, Instant};
 
 use crate::inputs::Inputs;
+
+/// A call on one side.
+type Call = fn(&mut Inputs);
 
 /// How long a batch of calls takes at least.
 const BATCH: Duration = Duration::from_micros(100);
 
 /// How long a case is measured, and the fewest and most pairs of batches in it.
 const CASE: Duration = Duration::from_secs(1);
-const FEWEST: usize = 25;
+const FEWEST: usize = 24;
 const MOST: usize = 4_000;
 
-/// Nanoseconds a call of each, from its quickest batch, and the median over the
-/// pairs of batches of the first's time divided by the second's.
+/// Nanoseconds of a call of each, and the median over the pairs of batches of
+/// the first's time divided by the second's.
 pub struct Times {
     pub first: f64,
     pub second: f64,
     pub median: f64,
 }
 
-/// Measures both in batches of the same length, in the order 1 2 2 1 1 2 2 1,
-/// so that what else the machine does hits both alike.
-pub fn times(inputs: &mut Inputs, first: fn(&mut Inputs), second: fn(&mut Inputs)) -> Times {
+/// Measures both in batches of as many calls, in the order 1 2 2 1 and so on, so
+/// that what else the machine does hits both alike. Where the stack begins is
+/// changed from pair to pair, since the time of a copy depends on it: the time
+/// of a call is the mean over these places of the quickest batch at each.
+pub fn times(inputs: &mut Inputs, first: Call, second: Call) -> Times {
     let calls = calls_in_batch(inputs, first);
     let begin = Instant::now();
-    let (mut firsts, mut seconds) = (Vec::new(), Vec::new());
-    while firsts.len() < FEWEST || (firsts.len() < MOST && begin.elapsed() < CASE) {
-        if firsts.len() % 2 == 0 {
-            firsts.push(batch(inputs, first, calls));
-            seconds.push(batch(inputs, second, calls));
+    let mut quickest = [[f64::INFINITY; 2]; PLACES.len()];
+    let mut ratios = Vec::new();
+    while ratios.len() < FEWEST || (ratios.len() < MOST && begin.elapsed() < CASE) {
+        let place = ratios.len() % PLACES.len();
+        let mut measure = |call| PLACES[place](inputs, call, calls);
+        let (a, b) = if ratios.len() / PLACES.len() % 2 == 0 {
+            let a = measure(first);
+            (a, measure(second))
         } else {
-            seconds.push(batch(inputs, second, calls));
-            firsts.push(batch(inputs, first, calls));
-        }
+            let b = measure(second);
+            (measure(first), b)
+        };
+        quickest[place] = [quickest[place][0].min(a), quickest[place][1].min(b)];
+        ratios.push(a / b);
     }
-    let mut ratios: Vec<f64> = firsts.iter().zip(&seconds).map(|(a, b)| a / b).collect();
     ratios.sort_by(f64::total_cmp);
-    let quickest = |times: Vec<f64>| times.into_iter().fold(f64::INFINITY, f64::min);
+    let mean =
+        |side: usize| quickest.iter().map(|pair| pair[side]).sum::<f64>() / PLACES.len() as f64;
     Times {
-        first: quickest(firsts),
-        second: quickest(seconds),
+        first: mean(0),
+        second: mean(1),
         median: ratios[ratios.len() / 2],
     }
 }
 
 /// How many calls fill a batch.
-fn calls_in_batch(inputs: &mut Inputs, call: fn(&mut Inputs)) -> u32 {
+fn calls_in_batch(inputs: &mut Inputs, call: Call) -> u32 {
     let mut calls = 1;
     while batch(inputs, call, calls) * f64::from(calls) < BATCH.as_nanos() as f64 {
         calls *= 2;
@@ -54,8 +65,22 @@ fn calls_in_batch(inputs: &mut Inputs, call: fn(&mut Inputs)) -> u32 {
     calls
 }
 
-/// Nanoseconds a call in a batch.
-fn batch(inputs: &mut Inputs, call: fn(&mut Inputs), calls: u32) -> f64 {
+/// Nanoseconds of a call in a batch, at four places of the stack within a line
+/// of the cache.
+const PLACES: [fn(&mut Inputs, Call, u32) -> f64; 4] =
+    [below::<16>, below::<32>, below::<48>, below::<64>];
+
+/// A batch below so many more bytes of the stack.
+#[inline(never)]
+fn below<const BYTES: usize>(inputs: &mut Inputs, call: Call, calls: u32) -> f64 {
+    let mut above = [0u8; BYTES];
+    black_box(&mut above);
+    batch(inputs, call, calls)
+}
+
+/// Nanoseconds of a call in a batch.
+#[inline(never)]
+fn batch(inputs: &mut Inputs, call: Call, calls: u32) -> f64 {
     let begin = Instant::now();
     for _ in 0..calls {
         call(inputs);
