@@ -139,7 +139,7 @@ module _ (n : ℕ) (enough : 309 ≤ n) (s : List ℕ) where
   ]
 
   -- it is the same sheet where it loads
-  loads-cut : loadRefusal s ≡ 0 → take n s ≡ s
+  pub loads-cut : loadRefusal s ≡ 0 → take n s ≡ s
   loads-cut e =
       let l = loads s .0 e in
       let (rows, columns) = loads-few s l in

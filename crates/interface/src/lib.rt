@@ -1,5 +1,6 @@
 // The calls of 01, for programs in other languages: each export forwards to the call's function.
 mod judging; // judging.rt: the calls on a round's values
+mod marking; // marking.rt: the marker's text
 mod place; // place.rt: where a round stands in the caller's own file
 mod proving; // proving.rt: the calls on Peggy's session
 mod rounds; // rounds.rt: the calls on round files

@@ -1,7 +1,7 @@
 -- Laws of bounded search: where it ends, what holds there, and what holds before.
 -- Assumes nothing.
 use mathlib.Core.Path.{_≡_, refl, sym, _∙_, ap}
-use mathlib.Core.Bool.{Bool, true, false, true≢false}
+use mathlib.Core.Bool.{Bool, true, false, true≢false, _||_}
 use mathlib.Core.Logic.{inl, inr, _↔_}
 use Prim.Native.Nat.{ℕ, zero, suc, _+_, _-_, _≤_, _<_}
 use native.Mathlib.Nat.{eq-or-lt-of-le}
@@ -141,3 +141,16 @@ any-false n p = (
 pub any-agree : (n : ℕ) (p q : ℕ → Bool) → ((j : ℕ) → j < n → p j ≡ q j) → any n p ≡ any n q
 unfolding any
 any-agree n p q same = rw (find-agree p q 0 n (λ i h k. same i (omega arith)))
+
+-- one place more: some test passed before it, or the one at it does
+pub any-suc : (n : ℕ) (p : ℕ → Bool) → any (suc n) p ≡ any n p || p n
+any-suc n p = go (any n p) (p n) refl refl
+  where
+    go : (a b : Bool) → any n p ≡ a → p n ≡ b → any (suc n) p ≡ a || b
+    go true b e last = let (j, h, holds) = any-true n p e in any-of (suc n) p j (omega arith) holds
+    go false true e last = any-of (suc n) p n (omega arith) last
+    go false false e last =
+        any-false (suc n) p .1 (λ j h. elim (decLt j n) [
+          | yes before ↦ any-false n p .0 e j before
+          | no after ↦ ap p {y = n} (omega arith) ∙ last
+        ])

@@ -22,3 +22,5 @@ pub mod Verdicts
 pub mod JointRun
 pub mod Marker
 pub mod MarkerVerdict
+pub mod MarkerLength
+pub mod MarkerCut

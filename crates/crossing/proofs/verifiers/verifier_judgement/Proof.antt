@@ -19,8 +19,8 @@ returns : tie.Need-returns
 unfolding verifierJudgement judgement
 returns c =
     let judged = c .before .before .judgement-of .ensures in
-    let refused : 0 < outcome (c .before .before .before .args .told .verdict) .number =
-    omega (arith, ap (λ (j : Judgement). j .refusal) judged) in
+    let number = ap (λ (j : Judgement). j .refusal) judged in
+    let refused : 0 < outcome (c .before .before .before .args .told .verdict) .number = omega arith in
     rw (judged, unlessRefused-positive _ _ _ refused)
 
 verifier-session-requires : tie.Need-verifier-session-requires
@@ -31,8 +31,8 @@ unfolding verifierJudgement judgement
 returns-2 c =
     let at-test = c .before .before in
     let judged = at-test .before .before .judgement-of .ensures in
-    let passed : outcome (at-test .before .before .before .args .told .verdict) .number ≡ 0 =
-    omega (arith, ap (λ (j : Judgement). j .refusal) judged) in
+    let number = ap (λ (j : Judgement). j .refusal) judged in
+    let passed : outcome (at-test .before .before .before .args .told .verdict) .number ≡ 0 = omega arith in
     rw (judged, c .verifier-session .ensures, passed, unlessRefused-zero)
 
 pub verifier-judgement-spec : {M : Type 1} → statement M

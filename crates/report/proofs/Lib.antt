@@ -1,0 +1,3 @@
+-- Laws that the proofs of the functions cite: the rounds' lines one by one, and the whole text.
+pub mod LineByLine
+pub mod WholeText

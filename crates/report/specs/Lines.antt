@@ -1,0 +1,38 @@
+-- The marker's lines (01, "The marker's lines") on loaded values and a round file.
+-- Assumes nothing.
+use Prim.Native.Nat.{ℕ}
+use mathlib.Core.Bool.{Bool, cond, not}
+use mathlib.Core.List.{List, _++_, flatten}
+use Rattle.types.specs.declared.Verdict.{Verdict}
+use Rattle.numbers.specs.Search.{any}
+use Rattle.lists.specs.Places.{tabulate}
+use Rattle.encoding.specs.Text.{ascii, decimal}
+use Rattle.sigma.specs.Answer.{isAccepted}
+use Rattle.sigma.specs.Instance.{Instance}
+use Rattle.sigma.specs.Judge.{judge}
+use Rattle.formats.specs.RoundFile.{challengeWidth, recordStart, roundAt}
+use Rattle.runs.specs.Marker.{newline, verdictText}
+
+-- the line of round k and its verdict
+unfoldable pub verdictLine : ℕ → Verdict → List ℕ
+verdictLine k verdict = decimal k ++ ascii " " ++ verdictText verdict ++ newline
+
+-- the last line
+unfoldable pub resultLine : Bool → List ℕ
+resultLine failed = cond failed (ascii "fail") (ascii "pass") ++ newline
+
+-- the verdict on the values in record k
+unfoldable pub verdictIn : Instance → List ℕ → ℕ → Verdict
+verdictIn inst f k = judge inst (roundAt challengeWidth (inst .header) f (recordStart challengeWidth (inst .header) k))
+
+-- the lines of the first n records
+unfoldable pub linesIn : Instance → List ℕ → ℕ → List ℕ
+linesIn inst f n = flatten (tabulate n (λ k. verdictLine k (verdictIn inst f k)))
+
+-- whether one of them is not accepted
+unfoldable pub failsIn : Instance → List ℕ → ℕ → Bool
+failsIn inst f n = any n (λ k. not (isAccepted (verdictIn inst f k)))
+
+-- the lines of the first n records, and the last line
+unfoldable pub roundsIn : Instance → List ℕ → ℕ → List ℕ
+roundsIn inst f n = linesIn inst f n ++ resultLine (failsIn inst f n)

@@ -1,0 +1,40 @@
+// The marker's text on a sheet and a round file (01, "The marker's lines").
+mod lines; // lines.rt: the text of one line
+mod rounds; // rounds.rt: a line for each round, and the last line
+
+use instance::load;
+use instance::loaded_entries;
+use lines::write_line;
+use round_file::count_in;
+use rounds::write_rounds;
+ghost use mathlib.Core.Path.{_≡_};
+ghost use lib.ListN.{length};
+ghost use lib.Seq.{sets};
+ghost use Rattle.runs.specs.Marker.{markerText};
+
+// How many bytes the longest text has: `rounds 512`, 512 lines such as `511 refused 16`, and `fail`.
+pub const LONGEST: usize = 7696;
+
+// Stores the marker's text at the start of text and answers its length; no byte behind it is changed. A refused sheet gives
+// the one line `sheet N` and a refused file `file N`; else the text has the count, a line for each round, and `pass` or `fail`.
+pub fn mark(sheet: &[u8], file: &[u8], text: &mut [u8; LONGEST]) -> usize
+    ensures answer { λ r. ⌜ r ≡ length (markerText (now (sheet .entry)) (now (file .entry))) ⌝ }
+    ensures bytes { λ _. ⌜ now (text .exit) ≡ sets (now (text .entry)) 0 (markerText (now (sheet .entry)) (now (file .entry))) ⌝ }
+{
+    let loaded = load(sheet);
+    let refusal = loaded.refusal;
+    if refusal != 0 {
+        return write_line(text, b"sheet", refusal);
+    }
+    let h = loaded.header;
+    let counted = count_in(h, file);
+    let refusal = counted.refusal;
+    if refusal != 0 {
+        return write_line(text, b"file", refusal);
+    }
+    let count = counted.count;
+    let entries = loaded_entries(sheet, h);
+    let statement = loaded.statement;
+    let next = write_line(text, b"rounds", count);
+    write_rounds(text, next, h, entries, statement, file, count)
+}

@@ -1,0 +1,126 @@
+-- How long the marker's text is: `rounds 512`, 512 lines of at most 15 bytes such as `511 refused 16`, and `fail` are 7,696 bytes.
+-- Assumes nothing.
+use Prim.Native.Nat.{ℕ, zero, suc, _+_, _*_, _<_, _≤_}
+use mathlib.Core.Path.{_≡_, refl, ap, _∙_}
+use mathlib.Core.Logic.{_⊎_, inl, inr}
+use mathlib.Core.Bool.{Bool, true, false, cond, not, _&&_}
+use mathlib.Core.List.{List, [], _∷_, _++_, flatten}
+use native.Mathlib.Decide.{decLt}
+use native.Mathlib.Omega.{arith}
+use lib.Dec.{T, ltb}
+use lib.ListN.{length, length-append}
+use borrow.Author.Tests.{ltb-true}
+use Rattle.types.specs.declared.Verdict.{Verdict}
+use Rattle.types.specs.declared.Verdict.the-variants.{Accepted, Rejected, Refused}
+use Rattle.lists.specs.Member.{Member}
+use Rattle.lists.specs.Places.{itemsAt, tabulate}
+use Rattle.lists.proofs.Places.{tabulate-suc}
+use Rattle.lists.proofs.Rows.{flatten-append}
+use Rattle.encoding.specs.Text.{ascii, decimal}
+use Rattle.encoding.proofs.Text.{decimal-length}
+use Rattle.numbers.specs.Search.{any}
+use Rattle.rules.specs.Rule.{lowest, numbersOf}
+use Rattle.rules.proofs.Lowest.{lowest-member}
+use Rattle.formats.specs.Load.{loadRules, loadRefusal}
+use Rattle.formats.specs.RoundCalls.{countRounds, fetchRound}
+use Rattle.formats.specs.RoundFile.{countField}
+use Rattle.formats.proofs.Files.{count-runs}
+use Rattle.formats.proofs.Loads.{loads-valid}
+use Rattle.formats.proofs.Order.{load-numbers}
+use Rattle.sigma.specs.Answer.{isAccepted}
+use Rattle.runs.specs.Marker.{newline, wordLine, verdictText, verdictOn, roundLine, roundLines, markerText}
+use Rattle.runs.proofs.Demand2.{sheet-rejected}
+use Rattle.runs.proofs.Marker.{sheet-line, file-line, round-lines, round-refusal}
+
+-- every number of a list is below 100
+abbrev allSmall : List ℕ → Bool
+allSmall [] = true
+allSmall (n ∷ ns) = ltb n 100 && allSmall ns
+
+-- a member of such a list is below 100
+member-small : (n : ℕ) (ns : List ℕ) → T (allSmall ns) → Member n ns → n < 100
+member-small n [] all m = absurd m
+member-small n (k ∷ ns) all m = first (ltb k 100) (ltb-true k 100) (λ rest later. member-small n ns rest later) all m
+  where
+    first : (b : Bool) → (b ≡ true → k < 100) → (T (allSmall ns) → Member n ns → n < 100) → T (b && allSmall ns)
+        → (n ≡ k) ⊎ Member n ns → n < 100
+    first true small later all (inl e) = omega (arith, small refl)
+    first true small later all (inr m) = later all m
+    first false small later all m = absurd all
+
+-- ---- one line
+
+-- a line of a word and a number
+length-wordLine : (word : List ℕ) (n : ℕ) → length (wordLine word n) ≡ length word + length (decimal n) + 2
+unfolding wordLine ascii newline
+length-wordLine word n = simp length-append (omega arith)
+
+-- the last line's word
+length-result : (failed : Bool) → length (cond failed (ascii "fail") (ascii "pass")) ≡ 4
+unfolding ascii
+length-result true = refl
+length-result false = refl
+
+module _ (sheet f : List ℕ) where
+  module _ (loaded : loadRefusal sheet ≡ 0) where
+    -- a verdict's text
+    short : (k : ℕ) (v : Verdict) → verdictOn sheet f k ≡ v → length (verdictText v) ≤ 10
+    unfolding verdictText verdictOn ascii
+    short k Accepted e = omega arith
+    short k (Rejected row) e =
+        let below = sheet-rejected sheet loaded (fetchRound sheet f k .round) row .0 e .1 .inside in
+        let few = loads-valid sheet loaded .few-rows in
+        simp length-append (omega (arith, decimal-length 0 row (omega arith)))
+    short k (Refused number) e =
+        let small : number < 100 = member-small number (14 ∷ 15 ∷ 16 ∷ []) tt (round-refusal sheet f loaded k number e) in
+        simp length-append (omega (arith, decimal-length 1 number small))
+
+    -- a round's line
+    line-short : (k : ℕ) → k < 512 → length (roundLine sheet f k) ≤ 15
+    unfolding roundLine ascii newline
+    line-short k few =
+        simp length-append (omega (arith, short k (verdictOn sheet f k) refl, decimal-length 2 k (omega arith)))
+
+    -- the lines of the first rounds
+    lines-short : (n : ℕ) → n ≤ 512 → length (flatten (tabulate n (roundLine sheet f))) ≤ 15 * n
+    unfolding tabulate itemsAt flatten
+    lines-short zero few = omega arith
+    lines-short (suc n) few =
+        let lines = tabulate n (roundLine sheet f) in
+        let more : flatten (tabulate (suc n) (roundLine sheet f)) ≡ flatten lines ++ (roundLine sheet f n ++ []) =
+        ap flatten (tabulate-suc n (roundLine sheet f)) ∙ flatten-append lines (roundLine sheet f n ∷ []) in
+        rw more (simp length-append (omega (arith, lines-short n (omega arith), line-short n (omega arith))))
+
+    -- all lines
+    rounds-short : (n : ℕ) → n ≤ 512 → length (roundLines sheet f n) ≤ 7696
+    unfolding roundLines ascii newline
+    rounds-short n few =
+        let head = length-wordLine (ascii "rounds") n in
+        let count = decimal-length 2 n (omega arith) in
+        let last = length-result (any n (λ k. not (isAccepted (verdictOn sheet f k)))) in
+        simp length-append (omega (arith, lines-short n few))
+
+  -- the number of a refused sheet
+  sheet-small : loadRefusal sheet < 100
+  unfolding loadRefusal
+  sheet-small = elim (lowest-member (loadRules sheet)) [
+    | inl none ↦ omega arith
+    | inr m ↦ member-small (lowest (loadRules sheet)) (numbersOf (loadRules sheet)) (rw load-numbers tt) m
+  ]
+
+  -- the whole text
+  pub text-short : length (markerText sheet f) ≤ 7696
+  unfolding ascii
+  text-short = elim (decLt 0 (loadRefusal sheet)) [
+    | yes refused ↦
+        let number = decimal-length 1 (loadRefusal sheet) sheet-small in
+        rw (sheet-line sheet f refused) (omega (arith, length-wordLine (ascii "sheet") (loadRefusal sheet)))
+    | no loaded ↦ elim (decLt 0 (countRounds sheet f .refusal)) [
+      | yes refused ↦
+          let number = decimal-length 1 12 (omega arith) in
+          rw (file-line sheet f (omega arith) refused) (omega (arith, length-wordLine (ascii "file") 12))
+      | no passed ↦
+          let e : countRounds sheet f .refusal ≡ 0 = omega arith in
+          rw (round-lines sheet f e) (rounds-short (omega arith) (countField f) (count-runs sheet f .0 e .1 .few))
+    ]
+  ]

@@ -1,0 +1,49 @@
+-- Text placed in a slice: a word byte by byte, one text straight behind another, and a number digit by digit.
+-- Assumes nothing.
+use Prim.Native.Nat.{ℕ, _+_, _/_, _%_, _≤_, _<_}
+use mathlib.Core.Path.{_≡_, refl, ap, _∙_}
+use mathlib.Core.List.{List, [], _∷_, _++_}
+use native.Mathlib.Numerals.{add-one}
+use native.Mathlib.Omega.{arith}
+use lib.ListN.{length, getD, take, set, length-append}
+use lib.Seq.{sets, take-all, take-suc, length-take-le}
+use Rattle.encoding.specs.Text.{decimal}
+use Rattle.encoding.proofs.Replaced.{sets-sets}
+use Rattle.encoding.proofs.Text.{decimal-small, decimal-large}
+use Rattle.text.specs.Placed.{Placed}
+
+-- the first i bytes of a word stored, and then the next straight behind, are the first i + 1 stored
+pub byte-stored : (l word : List ℕ) (at i : ℕ) → i < length word
+    → set (sets l at (take i word)) (at + i) (getD word i 0) ≡ sets l at (take (i + 1) word)
+byte-stored l word at i h =
+    let size : length (take i word) ≡ i = length-take-le i word (omega arith) in
+    let next = getD word i 0 in
+    rw (add-one i, take-suc word i 0 h)
+    (ap (λ (k : ℕ). sets (sets l at (take i word)) (at + k) (next ∷ [])) {y = length (take i word)} (omega arith)
+    ∙ sets-sets l at (take i word) (next ∷ []))
+
+-- all bytes of a word stored are the word placed
+pub word-placed : {l word m : List ℕ} {at i : ℕ} → m ≡ sets l at (take i word) → length word ≤ i
+    → Placed l at word m (at + length word)
+word-placed {word = word} {i = i} stored whole = record { stored = rw (take-all i word whole) at stored; behind = refl }
+
+-- bytes placed straight behind others are placed as one text with them
+pub placed-behind : {l : List ℕ} {at : ℕ} {xs m : List ℕ} {i : ℕ} {ys n : List ℕ} {j : ℕ}
+    → Placed l at xs m i → Placed m i ys n j → Placed l at (xs ++ ys) n j
+placed-behind {l} {at} {xs} {m} {i} {ys} first second = record {
+  stored = rw (second .stored, first .stored, first .behind) (sets-sets l at xs ys);
+  behind = omega (arith, first .behind, second .behind, length-append xs ys);
+}
+
+-- the digit of a number below 10 is the number placed
+pub digit-placed : {l m : List ℕ} {at j n : ℕ} → n < 10 → Placed l at ((48 + n) ∷ []) m j → Placed l at (decimal n) m j
+digit-placed {n = n} small placed = rw (decimal-small n small) placed
+
+-- a number from 10 on has one digit more than its tenth
+pub tenth-shorter : (n : ℕ) → 10 ≤ n → length (decimal n) ≡ length (decimal (n / 10)) + 1
+tenth-shorter n large = ap length (decimal-large n large) ∙ length-append (decimal (n / 10)) ((48 + n % 10) ∷ [])
+
+-- the last digit placed behind the tenth of a number is the number placed
+pub tenth-placed : {l m k : List ℕ} {at i j n : ℕ} → 10 ≤ n → Placed l at (decimal (n / 10)) m i
+    → Placed m i ((48 + n % 10) ∷ []) k j → Placed l at (decimal n) k j
+tenth-placed {n = n} large first second = rw (decimal-large n large) (placed-behind first second)

@@ -1,0 +1,2 @@
+-- Laws for the writers of text.
+pub mod Laws

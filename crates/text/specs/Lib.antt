@@ -1,0 +1,2 @@
+-- What the writers of text ensure.
+pub mod Placed
