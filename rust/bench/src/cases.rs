@@ -132,7 +132,6 @@ pub const CASES: &[Case] = &[
                 && answered.session == handed(&session)
         },
     },
-    #[cfg(marks)]
     Case {
         name: "mark 512 rounds",
         library: |inputs| {

@@ -116,7 +116,7 @@ fn random(plan: Plan, challenges: (u32, u32)) -> Inputs {
     };
     let mut slot = || loop {
         let v = next() % plan.order;
-        if v % 65_521 != 0 && v % 65_519 != 0 {
+        if !v.is_multiple_of(65_521) && !v.is_multiple_of(65_519) {
             return v;
         }
     };

@@ -5,7 +5,6 @@
 //! 2 wrong words, no archive or no valgrind.
 
 #![deny(unsafe_code)]
-#![cfg_attr(not(marks), allow(dead_code))]
 
 #[cfg(proved)]
 mod cases;

@@ -1,6 +1,5 @@
 //! The proved library, behind its C interface. All unsafe code stands here.
 
-#[cfg(marks)]
 use crate::reference::TEXT;
 use crate::reference::{Places, Round};
 
@@ -83,7 +82,6 @@ extern "C" {
         witness: *const u32,
     ) -> ProverAnswer;
 
-    #[cfg(marks)]
     fn dimkhoros_mark(
         sheet: *const u8,
         sheet_length: usize,
@@ -147,7 +145,6 @@ pub fn prover_respond(
     }
 }
 
-#[cfg(marks)]
 #[inline(always)]
 pub fn mark(sheet: &[u8], file: &[u8], text: &mut [u8; TEXT]) -> usize {
     unsafe {

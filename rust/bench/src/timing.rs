@@ -36,7 +36,7 @@ pub fn times(inputs: &mut Inputs, first: Call, second: Call) -> Times {
     while ratios.len() < FEWEST || (ratios.len() < MOST && begin.elapsed() < CASE) {
         let place = ratios.len() % PLACES.len();
         let mut measure = |call| PLACES[place](inputs, call, calls);
-        let (a, b) = if ratios.len() / PLACES.len() % 2 == 0 {
+        let (a, b) = if (ratios.len() / PLACES.len()).is_multiple_of(2) {
             let a = measure(first);
             (a, measure(second))
         } else {

@@ -42,5 +42,5 @@ pub fn inverse(v: u32, m: u32) -> u32 {
 
 /// Whether some d with 2 ≤ d < challenges divides order.
 pub fn has_divisor(order: u32, challenges: u32) -> bool {
-    (2..challenges).any(|d| order % d == 0)
+    (2..challenges).any(|d| order.is_multiple_of(d))
 }
