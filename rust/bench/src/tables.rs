@@ -21,7 +21,7 @@ pub fn times() -> ExitCode {
         }
     }
     println!("Both gave the same answers before the first call was timed.");
-    println!("The buffer that is lent to the marker is not cleared between its calls.");
+    println!("The marker's buffer is not cleared between calls; no other call is lent one.");
     println!();
     println!("| sheet | call | library, ns | Rust, ns | library / Rust | median of pairs |");
     println!("|---|---|--:|--:|--:|--:|");

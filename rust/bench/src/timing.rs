@@ -12,7 +12,7 @@ type Call = fn(&mut Inputs);
 const BATCH: Duration = Duration::from_micros(100);
 
 /// How long a case is measured, and the fewest and most pairs of batches in it.
-const CASE: Duration = Duration::from_secs(1);
+const CASE: Duration = Duration::from_secs(2);
 const FEWEST: usize = 24;
 const MOST: usize = 4_000;
 
