@@ -1,0 +1,194 @@
+//! The sheets that are measured, and for each a session, two rounds and a round
+//! file of 512 rounds.
+
+use crate::reference::{load, Kind, Places, Round, TEXT};
+
+/// How many rounds the round file has.
+const ROUNDS: u32 = 512;
+
+/// What the calls take. The text is lent to the marker.
+pub struct Inputs {
+    pub name: &'static str,
+    pub sheet: Vec<u8>,
+    pub witness: Places,
+    pub nonce: Places,
+    pub first: Round,
+    pub second: Round,
+    pub file: Vec<u8>,
+    pub text: Box<[u8; TEXT]>,
+}
+
+/// The fixed fields of a sheet.
+struct Plan {
+    name: &'static str,
+    kind: Kind,
+    modulus: u32,
+    order: u32,
+    challenges: u32,
+    size: usize,
+}
+
+/// What makes the inputs of each sheet, the smallest sheet first.
+pub const SHEETS: [fn() -> Inputs; 6] = [
+    page_a,
+    page_g,
+    || random(exponent("8 × 8, exponent, K 256", 256), (200, 77)),
+    || random(root("8 × 8, root, K 256", 256), (200, 77)),
+    || random(exponent("8 × 8, exponent, K 65,536", 65_536), (51_234, 777)),
+    || random(root("8 × 8, root, K 65,536", 65_536), (51_234, 777)),
+];
+
+/// A large exponent sheet. The modulus is the largest prime of 32 bits that is
+/// 2 q + 1 for a prime q.
+fn exponent(name: &'static str, challenges: u32) -> Plan {
+    Plan {
+        name,
+        kind: Kind::Exponent,
+        modulus: 4_294_967_087,
+        order: 2_147_483_543,
+        challenges,
+        size: 8,
+    }
+}
+
+/// A large root sheet. The modulus is the product of the primes 65,521 and
+/// 65,519, and the exponent is the largest prime of 32 bits.
+fn root(name: &'static str, challenges: u32) -> Plan {
+    Plan {
+        name,
+        kind: Kind::Root,
+        modulus: 4_292_870_399,
+        order: 4_294_967_291,
+        challenges,
+        size: 8,
+    }
+}
+
+/// Pages A and B of 01.
+fn page_a() -> Inputs {
+    let plan = Plan {
+        name: "1 × 1, exponent, m 23, K 11",
+        kind: Kind::Exponent,
+        modulus: 23,
+        order: 11,
+        challenges: 11,
+        size: 1,
+    };
+    make(plan, &[2], place(7), place(5), (3, 1))
+}
+
+/// Pages G and H of 01.
+fn page_g() -> Inputs {
+    let plan = Plan {
+        name: "1 × 1, root, m 35, K 5",
+        kind: Kind::Root,
+        modulus: 35,
+        order: 5,
+        challenges: 5,
+        size: 1,
+    };
+    make(plan, &[], place(2), place(3), (1, 3))
+}
+
+/// A value in the first place.
+fn place(value: u32) -> Places {
+    [value, 0, 0, 0, 0, 0, 0, 0]
+}
+
+/// The inputs of a large sheet with made-up values. Squares are group elements
+/// of the exponent sheet, and a number that shares no divisor with the modulus
+/// is one of the root sheet.
+fn random(plan: Plan, challenges: (u32, u32)) -> Inputs {
+    let mut state = 1u64;
+    let mut next = || {
+        state = state
+            .wrapping_mul(6_364_136_223_846_793_005)
+            .wrapping_add(1);
+        (state >> 33) as u32
+    };
+    let m = u64::from(plan.modulus);
+    let entries: Vec<u32> = match plan.kind {
+        Kind::Exponent => (0..plan.size * plan.size)
+            .map(|_| u64::from(next()))
+            .map(|v| (v * v % m) as u32)
+            .collect(),
+        Kind::Root => Vec::new(),
+    };
+    let mut slot = || loop {
+        let v = next() % plan.order;
+        if !v.is_multiple_of(65_521) && !v.is_multiple_of(65_519) {
+            return v;
+        }
+    };
+    let witness = [(); 8].map(|()| slot());
+    let nonce = [(); 8].map(|()| slot());
+    make(plan, &entries, witness, nonce, challenges)
+}
+
+/// The bytes of a sheet.
+fn sheet_bytes(plan: &Plan, entries: &[u32], statement: &[u32]) -> Vec<u8> {
+    let mut bytes = b"HOM\x00\x01".to_vec();
+    bytes.push(match plan.kind {
+        Kind::Exponent => 1,
+        Kind::Root => 2,
+    });
+    for field in [plan.modulus, plan.order, plan.challenges] {
+        bytes.extend(field.to_be_bytes());
+    }
+    bytes.extend([plan.size as u8; 2]);
+    for value in entries.iter().chain(statement) {
+        bytes.extend(value.to_be_bytes());
+    }
+    bytes
+}
+
+/// The inputs of a sheet with this witness. The statement is computed on the
+/// sheet whose statement is ones, which loads too.
+fn make(
+    plan: Plan,
+    entries: &[u32],
+    witness: Places,
+    nonce: Places,
+    challenges: (u32, u32),
+) -> Inputs {
+    let ones = sheet_bytes(&plan, entries, &[1; 8][..plan.size]);
+    let values = load(&ones).unwrap_or_else(|number| panic!("refused with {number}"));
+    let statement = values.image(&witness);
+    let round = |challenge| Round {
+        commitment: values.image(&nonce),
+        challenge,
+        response: values.response(&nonce, challenge, &witness),
+    };
+    let mut file = b"RND\x00\x01\x02\x00".to_vec();
+    for k in 0..ROUNDS {
+        file.extend(record(plan.size, k, round(k * 127 % plan.challenges)));
+    }
+    Inputs {
+        name: plan.name,
+        sheet: sheet_bytes(&plan, entries, &statement[..plan.size]),
+        witness,
+        nonce,
+        first: round(challenges.0),
+        second: round(challenges.1),
+        file,
+        text: Box::new([0; TEXT]),
+    }
+}
+
+/// The record of round k. Each eighth round has 1 as its last response, which
+/// is a slot of every sheet, and so most of them are rejected.
+fn record(size: usize, k: u32, mut round: Round) -> Vec<u8> {
+    if k % 8 == 7 {
+        round.response[size - 1] = 1;
+    }
+    let numbers = [
+        &round.commitment[..size],
+        &[round.challenge],
+        &round.response[..size],
+    ];
+    numbers
+        .concat()
+        .into_iter()
+        .flat_map(u32::to_be_bytes)
+        .collect()
+}

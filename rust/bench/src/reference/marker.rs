@@ -1,0 +1,100 @@
+//! The marker's text on a sheet and a round file.
+
+use super::rounds::{Round, Verdict};
+use super::sheet::{load, word, words, Sheet};
+
+/// How many bytes the longest text has.
+pub const TEXT: usize = 7696;
+
+/// Puts the marker's text at the start of text and answers its length.
+#[inline(never)]
+pub fn mark(sheet: &[u8], file: &[u8], text: &mut [u8; TEXT]) -> usize {
+    let mut lines = Lines { text, length: 0 };
+    match load(sheet) {
+        Err(number) => lines.numbered(b"sheet ", number),
+        Ok(sheet) => match records(&sheet, file) {
+            Err(number) => lines.numbered(b"file ", number),
+            Ok(records) => lines.rounds(&sheet, records),
+        },
+    }
+    lines.length
+}
+
+/// The records of a round file, or the number 12.
+fn records<'a>(sheet: &Sheet, file: &'a [u8]) -> Result<&'a [u8], u32> {
+    let (head, records) = file.split_first_chunk::<7>().ok_or(12u32)?;
+    if head[..5] != *b"RND\x00\x01" {
+        return Err(12);
+    }
+    let count = usize::from(u16::from_be_bytes([head[5], head[6]]));
+    if count > 512 || records.len() != count * record_length(sheet) {
+        return Err(12);
+    }
+    Ok(records)
+}
+
+/// How many bytes a record has.
+fn record_length(sheet: &Sheet) -> usize {
+    4 * (sheet.rows + 1 + sheet.columns)
+}
+
+/// The round of a record.
+fn round(sheet: &Sheet, record: &[u8]) -> Round {
+    let (commitment, rest) = record.split_at(4 * sheet.rows);
+    Round {
+        commitment: words(commitment),
+        challenge: word(rest, 0),
+        response: words(&rest[4..]),
+    }
+}
+
+/// The lines that are written so far.
+struct Lines<'a> {
+    text: &'a mut [u8; TEXT],
+    length: usize,
+}
+
+impl Lines<'_> {
+    /// The lines of a file that is read.
+    fn rounds(&mut self, sheet: &Sheet, records: &[u8]) {
+        let records = records.chunks_exact(record_length(sheet));
+        self.numbered(b"rounds ", records.len() as u32);
+        let mut passed = true;
+        for (number, record) in records.enumerate() {
+            self.decimal(number as u32);
+            match sheet.judge(&round(sheet, record)) {
+                Ok(Verdict::Accepted) => self.word(b" accepted\n"),
+                Ok(Verdict::Rejected(row)) => {
+                    passed = false;
+                    self.numbered(b" rejected ", row);
+                }
+                Err(number) => {
+                    passed = false;
+                    self.numbered(b" refused ", number);
+                }
+            }
+        }
+        self.word(if passed { b"pass\n" } else { b"fail\n" });
+    }
+
+    /// A word.
+    fn word(&mut self, word: &[u8]) {
+        self.text[self.length..][..word.len()].copy_from_slice(word);
+        self.length += word.len();
+    }
+
+    /// A word, a number and the end of the line.
+    fn numbered(&mut self, word: &[u8], number: u32) {
+        self.word(word);
+        self.decimal(number);
+        self.word(b"\n");
+    }
+
+    /// A number in decimal.
+    fn decimal(&mut self, number: u32) {
+        if number >= 10 {
+            self.decimal(number / 10);
+        }
+        self.word(&[b'0' + (number % 10) as u8]);
+    }
+}

@@ -1,0 +1,101 @@
+//! Peggy's session: new, commit, respond.
+
+use super::arithmetic::{mul_mod, pow_mod};
+use super::sheet::{load, Kind, Places, Sheet};
+
+/// The states that these calls lead to.
+#[derive(Clone, Copy, PartialEq, Eq)]
+pub enum Phase {
+    New,
+    Committed,
+    Answered,
+}
+
+/// Peggy's session. A refused call leaves it as it is.
+#[derive(Clone, Copy, PartialEq, Eq)]
+pub struct Prover {
+    pub phase: Phase,
+    pub nonce: Places,
+    pub commitment: Places,
+}
+
+impl Prover {
+    /// A new session: New, with zeros.
+    #[inline(never)]
+    pub fn new() -> Prover {
+        Prover {
+            phase: Phase::New,
+            nonce: [0; 8],
+            commitment: [0; 8],
+        }
+    }
+
+    /// Commits to a nonce and answers the commitment.
+    #[inline(never)]
+    pub fn commit(&mut self, sheet: &[u8], nonce: &Places) -> Result<Places, u32> {
+        let sheet = load(sheet)?;
+        if !sheet.is_domain(nonce) {
+            return Err(16);
+        }
+        if self.phase != Phase::New {
+            return Err(21);
+        }
+        let commitment = sheet.image(nonce);
+        self.phase = Phase::Committed;
+        self.nonce = [0; 8];
+        self.nonce[..sheet.columns].copy_from_slice(&nonce[..sheet.columns]);
+        self.commitment = commitment;
+        Ok(commitment)
+    }
+
+    /// Responds to a challenge with a witness and answers the response.
+    #[inline(never)]
+    pub fn respond(
+        &mut self,
+        sheet: &[u8],
+        challenge: u32,
+        witness: &Places,
+    ) -> Result<Places, u32> {
+        let sheet = load(sheet)?;
+        if challenge >= sheet.challenges {
+            return Err(15);
+        }
+        if !sheet.is_domain(witness) {
+            return Err(16);
+        }
+        if sheet.image(witness)[..sheet.rows] != sheet.statement[..sheet.rows] {
+            return Err(17);
+        }
+        if self.phase != Phase::Committed || !self.fits(&sheet) {
+            return Err(21);
+        }
+        let response = sheet.response(&self.nonce, challenge, witness);
+        self.phase = Phase::Answered;
+        self.nonce = [0; 8];
+        Ok(response)
+    }
+
+    /// Whether the held nonce and commitment are those of this sheet.
+    fn fits(&self, sheet: &Sheet) -> bool {
+        sheet.is_domain(&self.nonce) && sheet.image(&self.nonce) == self.commitment
+    }
+}
+
+impl Sheet {
+    /// The response: k + c x mod q, or k x^c mod m, in each slot.
+    pub fn response(&self, nonce: &Places, challenge: u32, witness: &Places) -> Places {
+        let (c, m) = (challenge, self.modulus);
+        let mut values = [0; 8];
+        for j in 0..self.columns {
+            let (k, x) = (nonce[j], witness[j]);
+            values[j] = match self.kind {
+                Kind::Exponent => {
+                    let sum = u64::from(k) + u64::from(c) * u64::from(x);
+                    (sum % u64::from(self.order)) as u32
+                }
+                Kind::Root => mul_mod(k, pow_mod(x, c, m), m),
+            };
+        }
+        values
+    }
+}

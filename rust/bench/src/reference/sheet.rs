@@ -1,0 +1,174 @@
+//! Loading a sheet: refusals 2 to 11.
+
+use super::arithmetic::{gcd, has_divisor, mul_mod, pow_mod};
+
+/// Eight places of a commitment, a statement, a nonce, a witness or a response.
+pub type Places = [u32; 8];
+
+/// What a sheet's table computes.
+#[derive(Clone, Copy, PartialEq, Eq)]
+pub enum Kind {
+    Exponent,
+    Root,
+}
+
+/// A sheet that loads.
+pub struct Sheet {
+    pub kind: Kind,
+    pub modulus: u32,
+    pub order: u32,
+    pub challenges: u32,
+    pub rows: usize,
+    pub columns: usize,
+    pub entries: [Places; 8],
+    pub statement: Places,
+}
+
+/// The number in the four bytes from index at on.
+pub fn word(bytes: &[u8], at: usize) -> u32 {
+    u32::from_be_bytes([bytes[at], bytes[at + 1], bytes[at + 2], bytes[at + 3]])
+}
+
+/// The numbers of at most 32 bytes, and zeros in the places beyond them.
+pub fn words(bytes: &[u8]) -> Places {
+    let mut words = [0; 8];
+    for (place, part) in words.iter_mut().zip(bytes.chunks_exact(4)) {
+        *place = word(part, 0);
+    }
+    words
+}
+
+/// Loads a sheet.
+#[inline(never)]
+pub fn load(bytes: &[u8]) -> Result<Sheet, u32> {
+    let sheet = shape(bytes)?;
+    let entries = &sheet.entries[..sheet.rows];
+    if sheet.kind == Kind::Exponent
+        && !entries
+            .iter()
+            .all(|row| sheet.all_elements(row, sheet.columns))
+    {
+        return Err(10);
+    }
+    if !sheet.all_elements(&sheet.statement, sheet.rows) {
+        return Err(11);
+    }
+    Ok(sheet)
+}
+
+/// The values of a sheet of the right shape: refusals 2 to 9.
+fn shape(bytes: &[u8]) -> Result<Sheet, u32> {
+    let (head, body) = bytes.split_first_chunk::<20>().ok_or(2u32)?;
+    if head[..3] != *b"HOM" {
+        return Err(2);
+    }
+    if head[3..5] != [0, 1] {
+        return Err(3);
+    }
+    let kind = match head[5] {
+        1 => Kind::Exponent,
+        2 => Kind::Root,
+        _ => return Err(4),
+    };
+    let modulus = word(head, 6);
+    if modulus < 3 {
+        return Err(5);
+    }
+    let order = word(head, 10);
+    if order < 2 {
+        return Err(6);
+    }
+    let (rows, columns) = (usize::from(head[18]), usize::from(head[19]));
+    if !(1..=8).contains(&rows) || !(1..=8).contains(&columns) {
+        return Err(7);
+    }
+    if kind == Kind::Root && rows != columns {
+        return Err(7);
+    }
+    let challenges = word(head, 14);
+    if !(2..=65_536).contains(&challenges) || has_divisor(order, challenges) {
+        return Err(8);
+    }
+    let count = if kind == Kind::Exponent {
+        rows * columns
+    } else {
+        0
+    };
+    if body.len() != 4 * (count + rows) {
+        return Err(9);
+    }
+    let (table, statement) = body.split_at(4 * count);
+    let mut entries = [[0; 8]; 8];
+    for (row, part) in entries.iter_mut().zip(table.chunks_exact(4 * columns)) {
+        *row = words(part);
+    }
+    Ok(Sheet {
+        kind,
+        modulus,
+        order,
+        challenges,
+        rows,
+        columns,
+        entries,
+        statement: words(statement),
+    })
+}
+
+impl Sheet {
+    /// Whether v is a group element.
+    fn is_element(&self, v: u32) -> bool {
+        if v < 1 || v >= self.modulus {
+            return false;
+        }
+        match self.kind {
+            Kind::Exponent => pow_mod(v, self.order, self.modulus) == 1,
+            Kind::Root => gcd(v, self.modulus) == 1,
+        }
+    }
+
+    /// Whether x is a domain slot.
+    fn is_coordinate(&self, x: u32) -> bool {
+        match self.kind {
+            Kind::Exponent => x < self.order,
+            Kind::Root => self.is_element(x),
+        }
+    }
+
+    /// Whether the first count values are group elements.
+    fn all_elements(&self, values: &Places, count: usize) -> bool {
+        values[..count].iter().all(|&v| self.is_element(v))
+    }
+
+    /// Whether the values of a commitment are group elements.
+    pub fn is_commitment(&self, values: &Places) -> bool {
+        self.all_elements(values, self.rows)
+    }
+
+    /// Whether the slots of a nonce, witness or response are domain slots.
+    pub fn is_domain(&self, x: &Places) -> bool {
+        x[..self.columns].iter().all(|&x| self.is_coordinate(x))
+    }
+
+    /// Row i of the image of x.
+    pub fn row_image(&self, x: &Places, i: usize) -> u32 {
+        let m = self.modulus;
+        match self.kind {
+            Kind::Exponent => self.entries[i][..self.columns]
+                .iter()
+                .zip(x)
+                .fold(1, |value, (&entry, &x)| {
+                    mul_mod(value, pow_mod(entry, x, m), m)
+                }),
+            Kind::Root => pow_mod(x[i], self.order, m),
+        }
+    }
+
+    /// The image of x, a value for each row.
+    pub fn image(&self, x: &Places) -> Places {
+        let mut values = [0; 8];
+        for (i, value) in values[..self.rows].iter_mut().enumerate() {
+            *value = self.row_image(x, i);
+        }
+        values
+    }
+}
