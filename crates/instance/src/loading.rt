@@ -65,9 +65,10 @@ pub fn loaded_entries(sheet: &[u8], h: Header) -> [[u32; 8]; 8]
 pub fn entries(sheet: &[u8]) -> [[u32; 8]; 8]
     ensures { λ r. ⌜ r ≡ loadEntries (now (sheet .entry)) ⌝ }
 {
-    if load_refusal(sheet) > 0 {
+    let loaded = load(sheet);
+    if loaded.refusal > 0 {
         return [[0u32; 8]; 8];
     }
-    let h = header(sheet);
+    let h = loaded.header;
     loaded_entries(sheet, h)
 }
