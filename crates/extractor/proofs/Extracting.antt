@@ -116,7 +116,8 @@ swapped-rounds x = record {
 module _ {inst : Instance} (v : Valid inst) (first second : Round) (x : Extracts inst first second)
     (larger : second .challenge < first .challenge) where
   -- what the formula asks for, where the first challenge is the larger
-  pub witness-fits : WitnessFits (inst .header) (inst .statement) (first .challenge - second .challenge) (second .response)
+  pub witness-fits
+      : WitnessFits (inst .header) (inst .statement) (first .challenge - second .challenge) (first .response) (second .response)
   unfolding statementAt
   witness-fits =
       let below = x .first-fits .challenge in
@@ -127,6 +128,7 @@ module _ {inst : Instance} (v : Valid inst) (first second : Round) (x : Extracts
         below = omega (arith, valid-challenge v _ below);
         coprime = coprime-below (inst .header .challenges) _ (v .no-divisor) _ (omega arith) (omega arith);
         base = λ other j inside. v .statement j (omega (arith, v .square (valid-kind v other)));
+        dividends = x .first-fits .response;
         divisors = x .second-fits .response;
       }
 

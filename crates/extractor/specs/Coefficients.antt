@@ -24,19 +24,21 @@ unfoldable pub slotFormula : Header → ℕ → ℕ → ℕ → ℕ → ℕ → 
 slotFormula h z a b r s = combine h (raise h (cond (isExponent h) 0 z) (negℤ (pos a))) (raise h (divide h r s) (pos b))
 
 -- what a slot's powers and quotient ask for
-pub record SlotFits (h : Header) (z a s : ℕ) : Type 0 where
+pub record SlotFits (h : Header) (z a r s : ℕ) : Type 0 where
   pub modulus : 1 < h .modulus
   pub order : 0 < h .order
   pub exponent : a ≤ h .order
   pub base : h .kind ≢ 1 → Element h z
+  pub dividend : Coordinate h r
   pub divisor : Coordinate h s
 
 -- what the formula asks for: delta has an inverse modulo ℓ, and each slot's powers and quotient can be made
-pub record WitnessFits (h : Header) (statement : List ℕ) (delta : ℕ) (s : List ℕ) : Type 0 where
+pub record WitnessFits (h : Header) (statement : List ℕ) (delta : ℕ) (r s : List ℕ) : Type 0 where
   pub modulus : 1 < h .modulus
   pub order : 1 < h .order
   pub columns : h .columns ≤ 8
   pub below : delta < h .order
   pub coprime : gcd delta (h .order) ≡ 1
   pub base : h .kind ≢ 1 → (j : ℕ) → j < h .columns → Element h (getD statement j 0)
+  pub dividends : (j : ℕ) → j < h .columns → Coordinate h (getD r j 0)
   pub divisors : (j : ℕ) → j < h .columns → Coordinate h (getD s j 0)

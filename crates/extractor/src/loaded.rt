@@ -77,7 +77,7 @@ pub fn refused(number: u32) -> Computed
 
 // A slot of the formula with the exponents -a and b: in kind 1 b (r - s) mod q, in kind 2 z^(-a) (r/s)^b mod m.
 fn witness_slot(h: Header, z: u32, a: u32, b: u32, r: u32, s: u32) -> u32
-    requires { ⌜ SlotFits h z a s ⌝ }
+    requires { ⌜ SlotFits h z a r s ⌝ }
     ensures { λ x. ⌜ x ≡ slotFormula h z a b r s ⌝ }
 {
     if h.kind == 1 {
@@ -94,7 +94,7 @@ fn witness_slot(h: Header, z: u32, a: u32, b: u32, r: u32, s: u32) -> u32
 // The witness from the responses r and s to two challenges, the first larger by delta: the formula with the exponents -a
 // and b, where b inverts delta modulo ℓ, and delta b is ℓ a + 1.
 pub fn witness(h: Header, statement: [u32; 8], delta: u32, r: [u32; 8], s: [u32; 8]) -> [u32; 8]
-    requires { ⌜ WitnessFits h statement delta s ⌝ }
+    requires { ⌜ WitnessFits h statement delta r s ⌝ }
     ensures { λ x. ⌜ ((entries : List (List ℕ)) → x ≡ pad8 0 (formula (instanceWith h entries statement)
         (negℤ (pos (leftCoefficient (h .order) delta))) (pos (inverse (h .order) delta)) r s)) ⌝ }
 {

@@ -26,13 +26,16 @@ pub fn add_mod(a: u32, b: u32, m: u32) -> u32
     ((a as u64 + b as u64) % m as u64) as u32
 }
 
-// The difference of a and b modulo m, for a b of at most m.
+// The difference of a and b modulo m, for an a below m and a b of at most m.
 pub fn sub_mod(a: u32, b: u32, m: u32) -> u32
-    requires { ⌜ (0 < m) × (b ≤ m) ⌝ }
+    requires { ⌜ (a < m) × (b ≤ m) ⌝ }
     ensures value { λ r. ⌜ r ≡ (a + (m - b)) % m ⌝ }
     ensures below { λ r. ⌜ r < m ⌝ }
 {
-    ((a as u64 + (m - b) as u64) % m as u64) as u32
+    if a >= b {
+        return a - b;
+    }
+    a + (m - b)
 }
 
 // The power of base by exponent modulo m, by squaring and multiplying, the exponent's low bit first.

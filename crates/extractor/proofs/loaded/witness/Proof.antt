@@ -75,6 +75,7 @@ witness-slot-requires c κs =
       order = omega arith;
       exponent = le-trans (quotient-within _ _ _ (made .inverse .ensures .1)) (le-of-lt (fits .below));
       base = λ other. fits .base other _ (c .loop-test .taken);
+      dividend = fits .dividends _ (c .loop-test .taken);
       divisor = fits .divisors _ (c .loop-test .taken);
     }
 

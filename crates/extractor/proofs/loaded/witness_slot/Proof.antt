@@ -10,7 +10,7 @@ use Rattle.extractor.proofs.loaded.witness_slot.Tie as tie
 sub-mod-requires : tie.Need-sub-mod-requires
 sub-mod-requires c κs =
     let fits = c .before .before .pre in
-    (fits .order, le-of-lt (fits .divisor .reduced (c .if1 .taken)))
+    (fits .dividend .reduced (c .if1 .taken), le-of-lt (fits .divisor .reduced (c .if1 .taken)))
 
 mul-mod-requires : tie.Need-mul-mod-requires
 mul-mod-requires c κs = search needs
