@@ -3,9 +3,9 @@
 //! Each case is one call, or a run of both sessions, with inputs made from the
 //! seed. Both libraries get it, and every field of the answers and every byte
 //! of a lent buffer must be the same. The first difference is printed and ends
-//! the run. Then demand 3 is tried on small sheets. Exit status: 0 no
-//! difference, 1 a difference or a number met too seldom, 2 wrong words, no
-//! library, or a folder in which nothing can be stored.
+//! the run. Then page K is run in both, and demand 3 is tried on small sheets.
+//! Exit status: 0 no difference, 1 a difference or a number met too seldom, 2
+//! wrong words, no library, or a folder in which nothing can be stored.
 
 #![deny(unsafe_code)]
 
@@ -24,6 +24,7 @@ mod library;
 mod making;
 mod options;
 mod outcome;
+mod page_k;
 mod printing;
 #[cfg(all(proved, not(test)))]
 #[allow(unsafe_code)]
@@ -101,12 +102,15 @@ fn compare(options: &Options, library: &dyn Library) -> ExitCode {
         println!("{}", lacks.join("\n"));
         return ExitCode::FAILURE;
     }
-    match demand_three::check(library) {
-        Ok(line) => println!("{line}\nno difference"),
-        Err(text) => {
-            println!("{text}");
-            return ExitCode::FAILURE;
+    for check in [page_k::check, demand_three::check] {
+        match check(library) {
+            Ok(line) => println!("{line}"),
+            Err(text) => {
+                println!("{text}");
+                return ExitCode::FAILURE;
+            }
         }
     }
+    println!("no difference");
     ExitCode::SUCCESS
 }
