@@ -2,9 +2,14 @@
 
 use std::hint::black_box;
 
+use dimkhoros_sys::phases::prover::{ANSWERED, COMMITTED, NEW};
+use dimkhoros_sys::{
+    self as proved, Computed, Header, Judgement, Loaded, Places, ProverSession, EXPONENT,
+    LONGEST_TEXT, ROOT,
+};
+
 use crate::inputs::Inputs;
-use crate::proved::{self, Computed, Judgement, Loaded, ProverSession};
-use crate::reference::{self, Kind, Phase, Places, Prover, Sheet, Verdict};
+use crate::reference::{self, Kind, Phase, Prover, Sheet, Verdict};
 
 /// A call.
 pub struct Case {
@@ -147,7 +152,7 @@ pub const CASES: &[Case] = &[
             black_box(reference::mark(sheet, file, text));
         },
         alike: |inputs| {
-            let mut text = [0; reference::TEXT];
+            let mut text = [0; LONGEST_TEXT];
             inputs.text.fill(0);
             let length = proved::mark(&inputs.sheet, &inputs.file, &mut inputs.text);
             length == reference::mark(&inputs.sheet, &inputs.file, &mut text)
@@ -161,17 +166,17 @@ fn loaded(answer: &Result<Sheet, u32>) -> Loaded {
     match answer {
         Ok(sheet) => Loaded {
             refusal: 0,
-            header: [
-                match sheet.kind {
-                    Kind::Exponent => 1,
-                    Kind::Root => 2,
+            header: Header {
+                kind: match sheet.kind {
+                    Kind::Exponent => EXPONENT,
+                    Kind::Root => ROOT,
                 },
-                sheet.modulus,
-                sheet.order,
-                sheet.challenges,
-                sheet.rows as u32,
-                sheet.columns as u32,
-            ],
+                modulus: sheet.modulus,
+                order: sheet.order,
+                challenges: sheet.challenges,
+                rows: sheet.rows as u32,
+                columns: sheet.columns as u32,
+            },
             statement: sheet.statement,
         },
         &Err(refusal) => Loaded {
@@ -199,9 +204,9 @@ fn judgement(answer: &Result<Verdict, u32>) -> Judgement {
 fn handed(session: &Prover) -> ProverSession {
     ProverSession {
         phase: match session.phase {
-            Phase::New => 0,
-            Phase::Committed => 1,
-            Phase::Answered => 2,
+            Phase::New => NEW,
+            Phase::Committed => COMMITTED,
+            Phase::Answered => ANSWERED,
         },
         nonce: session.nonce,
         commitment: session.commitment,

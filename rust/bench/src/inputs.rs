@@ -1,7 +1,9 @@
 //! The sheets that are measured, and for each a session, two rounds and a round
 //! file of 512 rounds.
 
-use crate::reference::{load, Kind, Places, Round, TEXT};
+use dimkhoros_sys::{Places, Round, LONGEST_TEXT};
+
+use crate::reference::{load, Kind};
 
 /// How many rounds the round file has.
 const ROUNDS: u32 = 512;
@@ -15,7 +17,7 @@ pub struct Inputs {
     pub first: Round,
     pub second: Round,
     pub file: Vec<u8>,
-    pub text: Box<[u8; TEXT]>,
+    pub text: Box<[u8; LONGEST_TEXT]>,
 }
 
 /// The fixed fields of a sheet.
@@ -171,7 +173,7 @@ fn make(
         first: round(challenges.0),
         second: round(challenges.1),
         file,
-        text: Box::new([0; TEXT]),
+        text: Box::new([0; LONGEST_TEXT]),
     }
 }
 

@@ -1,5 +1,6 @@
 //! The calls in idiomatic Rust, with the library's algorithms and its tests in
-//! the same order. A refusal is the number of 01.
+//! the same order. A refusal is the number of 01. Rounds and places are the
+//! library's, since both are given the same inputs.
 //!
 //! No call is inlined into its caller, since no call of the library can be.
 
@@ -9,7 +10,7 @@ mod rounds;
 mod session;
 mod sheet;
 
-pub use marker::{mark, TEXT};
-pub use rounds::{extract, judge, simulate, Round, Verdict};
+pub use marker::mark;
+pub use rounds::{extract, judge, simulate, Verdict};
 pub use session::{Phase, Prover};
-pub use sheet::{load, Kind, Places, Sheet};
+pub use sheet::{load, Kind, Sheet};

@@ -8,7 +8,7 @@
 mod sheets;
 
 use std::cell::Cell;
-use std::collections::{BTreeMap, BTreeSet};
+use std::collections::{BTreeMap, HashSet};
 
 use crate::groups::Group;
 use crate::library::{Library, Places, Round};
@@ -108,7 +108,7 @@ impl<'a> Small<'a> {
 
     /// All accepted rounds with this challenge, by judging every choice of
     /// numbers in range and of some that are not.
-    fn accepted(&self, challenge: u32) -> BTreeSet<Round> {
+    fn accepted(&self, challenge: u32) -> Vec<Round> {
         let header = self.sheet.header;
         let values: Vec<u32> = (0..=header.modulus + 1).collect();
         let most = match header.kind {
@@ -117,7 +117,7 @@ impl<'a> Small<'a> {
         };
         let slots: Vec<u32> = (0..=most).collect();
         let responses = choices(&slots, header.columns as usize);
-        let mut accepted = BTreeSet::new();
+        let mut accepted = Vec::new();
         for commitment in choices(&values, header.rows as usize) {
             for response in &responses {
                 let round = Round {
@@ -127,7 +127,7 @@ impl<'a> Small<'a> {
                 };
                 self.count(1);
                 if self.library.judge(&self.bytes, round).accepted == 1 {
-                    accepted.insert(round);
+                    accepted.push(round);
                 }
             }
         }
@@ -189,19 +189,20 @@ impl<'a> Small<'a> {
 /// Whether the made rounds are the accepted ones, each met once.
 fn meets_each_once(
     made: impl Iterator<Item = Result<Round, u32>>,
-    accepted: &BTreeSet<Round>,
+    accepted: &[Round],
 ) -> Result<(), String> {
-    let mut met = BTreeSet::new();
+    let all: HashSet<&Round> = accepted.iter().collect();
+    let mut met = HashSet::new();
     for round in made {
         let round = round.map_err(|number| format!("refused with {number}"))?;
-        if !accepted.contains(&round) {
+        if !all.contains(&round) {
             return Err(format!("{round:?} is not accepted"));
         }
         if !met.insert(round) {
             return Err(format!("{round:?} is met twice"));
         }
     }
-    match accepted.difference(&met).next() {
+    match accepted.iter().find(|round| !met.contains(*round)) {
         Some(round) => Err(format!("{round:?} is not met")),
         None => Ok(()),
     }
@@ -243,7 +244,7 @@ mod tests {
 
     #[test]
     fn small_sheets_have_one_witness_or_several_or_none() {
-        let mut counts = BTreeSet::new();
+        let mut counts = HashSet::new();
         for sheet in sheets::small() {
             let kind = sheet.header.kind;
             let small = Small::new(&Judge, sheet);

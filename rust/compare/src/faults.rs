@@ -14,7 +14,7 @@ use crate::judged::Judge;
 use crate::library::{
     Computed, Counted, Fetched, Header, Judgement, Library, Loaded, Part, Places, Plan,
     ProverAnswer, ProverSession, Round, VerifierAnswer, VerifierJudgement, VerifierSession,
-    Written, TEXT,
+    Written, LONGEST_TEXT,
 };
 
 pub use list::{Fault, FAULTS};
@@ -140,7 +140,7 @@ impl Library for Faulty {
         verifier::response(self.0, sheet, session, response)
     }
 
-    fn mark(&self, sheet: &[u8], file: &[u8], text: &mut [u8; TEXT]) -> usize {
+    fn mark(&self, sheet: &[u8], file: &[u8], text: &mut [u8; LONGEST_TEXT]) -> usize {
         marking::mark(self.0, sheet, file, text)
     }
 }

@@ -1,11 +1,8 @@
 //! Round files, whole and damaged, and the numbers of their rounds.
 
 use crate::damage::{spoil_length, spoil_version};
-use crate::library::{Header, Round};
+use crate::library::{Header, Round, MOST_ROUNDS};
 use crate::random::Random;
-
-/// The largest round count.
-pub const MOST_ROUNDS: usize = 512;
 
 /// A file of so many records of this length, with any values.
 pub fn file(random: &mut Random, record: usize, count: usize) -> Vec<u8> {

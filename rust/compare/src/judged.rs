@@ -6,7 +6,7 @@ mod values;
 use crate::library::{
     Computed, Counted, Fetched, Header, Judgement, Library, Loaded, Part, Places, Plan,
     ProverAnswer, ProverSession, Round, VerifierAnswer, VerifierJudgement, VerifierSession,
-    Written, TEXT,
+    Written, LONGEST_TEXT,
 };
 use sessions::{
     prover, prover_answer, prover_session, verifier, verifier_answer, verifier_session,
@@ -184,7 +184,7 @@ impl Library for Judge {
         VerifierJudgement { verdict, session }
     }
 
-    fn mark(&self, sheet: &[u8], file: &[u8], text: &mut [u8; TEXT]) -> usize {
+    fn mark(&self, sheet: &[u8], file: &[u8], text: &mut [u8; LONGEST_TEXT]) -> usize {
         let marked = judge::marker(sheet, file);
         text[..marked.len()].copy_from_slice(marked.as_bytes());
         marked.len()

@@ -1,15 +1,19 @@
 //! The calls of the library.
 
-pub mod phases;
-mod structs;
-
-pub use structs::{
-    Computed, Counted, Fetched, Header, Judgement, Loaded, Part, Places, Plan, ProverAnswer,
+pub use dimkhoros_sys::{
+    phases, Computed, Counted, Fetched, Header, Judgement, Loaded, Part, Places, ProverAnswer,
     ProverSession, Round, VerifierAnswer, VerifierJudgement, VerifierSession, Written,
+    LONGEST_TEXT, MOST_ROUNDS,
 };
 
-/// How many bytes are lent to the marker. They hold its longest text.
-pub const TEXT: usize = 7696;
+/// The numbers that the sheet maker takes.
+#[derive(Clone, Copy, Debug, Default, PartialEq, Eq)]
+pub struct Plan {
+    pub number: u32,
+    pub modulus: u32,
+    pub order: u32,
+    pub challenges: u32,
+}
 
 /// One method for each call.
 ///
@@ -91,5 +95,5 @@ pub trait Library {
     ) -> VerifierJudgement;
 
     /// Puts the marker's text at the start of `text` and answers its length.
-    fn mark(&self, sheet: &[u8], file: &[u8], text: &mut [u8; TEXT]) -> usize;
+    fn mark(&self, sheet: &[u8], file: &[u8], text: &mut [u8; LONGEST_TEXT]) -> usize;
 }

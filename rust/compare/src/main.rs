@@ -5,9 +5,9 @@
 //! of a lent buffer must be the same. The first difference is printed and ends
 //! the run. Then page K is run in both, and demand 3 is tried on small sheets.
 //! Exit status: 0 no difference, 1 a difference or a number met too seldom, 2
-//! wrong words, no library, or a folder in which nothing can be stored.
+//! wrong words or a folder in which nothing can be stored.
 
-#![deny(unsafe_code)]
+#![forbid(unsafe_code)]
 
 mod arithmetic;
 mod calls;
@@ -26,8 +26,6 @@ mod options;
 mod outcome;
 mod page_k;
 mod printing;
-#[cfg(all(proved, not(test)))]
-#[allow(unsafe_code)]
 mod proved;
 mod random;
 mod run;
@@ -42,19 +40,17 @@ use faults::Faulty;
 use judged::Judge;
 use library::Library;
 use options::{Options, Other, COUNT};
+use proved::Proved;
 
 /// The fewest times that a full run must meet each number and verdict.
 const FEWEST: u64 = 50;
 
-/// The library to compare the judge with, where there is one.
-fn library(other: Other) -> Option<Box<dyn Library>> {
+/// The library to compare the judge with.
+fn library(other: Other) -> Box<dyn Library> {
     match other {
-        #[cfg(all(proved, not(test)))]
-        Other::Proved => Some(Box::new(proved::Proved)),
-        #[cfg(any(not(proved), test))]
-        Other::Proved => None,
-        Other::Judge => Some(Box::new(Judge)),
-        Other::Faulty(fault) => Some(Box::new(Faulty(fault))),
+        Other::Proved => Box::new(Proved),
+        Other::Judge => Box::new(Judge),
+        Other::Faulty(fault) => Box::new(Faulty(fault)),
     }
 }
 
@@ -69,11 +65,7 @@ fn main() -> ExitCode {
     if let Some(folder) = &options.store {
         return store(folder);
     }
-    let Some(library) = library(options.other) else {
-        eprintln!("compare: built without libinterface.a; see DIMKHOROS_LIB in build.rs");
-        return ExitCode::from(2);
-    };
-    compare(&options, library.as_ref())
+    compare(&options, library(options.other).as_ref())
 }
 
 /// Stores cases of the marker in the folder of the program that runs them.

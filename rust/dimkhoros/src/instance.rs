@@ -1,53 +1,8 @@
 //! Sheets: loading and making them.
 
-use crate::{PLACES, Places, Plan, Refusal, ffi};
+use crate::{Header, LONGEST_SHEET, PLACES, Places, Plan, Refusal};
 use core::fmt;
-
-/// The kind of sheets whose image multiplies powers of the entries.
-///
-/// ```
-/// assert_eq!(dimkhoros::EXPONENT, 1);
-/// ```
-pub const EXPONENT: u32 = 1;
-
-/// The kind of sheets whose image is the e-th power of each value.
-///
-/// ```
-/// assert_eq!(dimkhoros::ROOT, 2);
-/// ```
-pub const ROOT: u32 = 2;
-
-/// How many bytes the longest sheet has.
-///
-/// ```
-/// assert_eq!(dimkhoros::LONGEST_SHEET, 20 + 4 * 8 * 8 + 4 * 8);
-/// ```
-pub const LONGEST_SHEET: usize = 308;
-
-/// The fixed fields of a sheet.
-///
-/// ```
-/// use dimkhoros::{Header, EXPONENT};
-///
-/// let header = Header { kind: EXPONENT, modulus: 23, order: 11, challenges: 11, rows: 1, columns: 1 };
-/// assert_eq!(header.order, 11);
-/// ```
-#[derive(Clone, Copy, Debug, Default, PartialEq, Eq, Hash)]
-#[repr(C)]
-pub struct Header {
-    /// The kind, [`EXPONENT`] or [`ROOT`].
-    pub kind: u32,
-    /// The modulus m.
-    pub modulus: u32,
-    /// The order q of an exponent sheet, the exponent e of a root sheet.
-    pub order: u32,
-    /// The challenge count K. The challenges are 0 to K - 1.
-    pub challenges: u32,
-    /// The rows s.
-    pub rows: u32,
-    /// The columns n.
-    pub columns: u32,
-}
+use dimkhoros_sys::{self as sys, ENTRIES};
 
 /// All values of a sheet. Any numbers can stand here; [`Instance::encode`] tests them.
 ///
@@ -94,10 +49,12 @@ impl Instance {
     /// assert_eq!(Instance::load(&[]), Err(Refusal::SheetMark));
     /// ```
     pub fn load(bytes: &[u8]) -> Result<Instance, Refusal> {
-        let loaded = ffi::load(bytes);
+        let loaded = sys::load(bytes);
         Refusal::check(loaded.refusal)?;
+        let mut table = [0; ENTRIES];
+        Refusal::check(sys::entries(bytes, &mut table))?;
         let mut entries = [[0; PLACES]; PLACES];
-        Refusal::check(ffi::entries(bytes, &mut entries))?;
+        entries.as_flattened_mut().copy_from_slice(&table);
         let mut sheet = [0; LONGEST_SHEET];
         sheet[..bytes.len()].copy_from_slice(bytes);
         let values = Values { header: loaded.header, entries, statement: loaded.statement };
@@ -119,7 +76,9 @@ impl Instance {
     /// ```
     pub fn from_pattern(plan: &Plan<'_>) -> Result<Instance, Refusal> {
         let mut sheet = [0; LONGEST_SHEET];
-        let written = ffi::from_pattern(plan, &mut sheet);
+        let Plan { pattern, modulus, order, challenges, values, statement } = *plan;
+        let written =
+            sys::from_pattern(pattern, modulus, order, challenges, values, statement, &mut sheet);
         Refusal::check(written.refusal)?;
         Instance::load(&sheet[..written.length])
     }
@@ -136,8 +95,10 @@ impl Instance {
     /// # Ok::<(), dimkhoros::Refusal>(())
     /// ```
     pub fn encode(values: &Values) -> Result<Instance, Refusal> {
+        let mut table = [0; ENTRIES];
+        table.copy_from_slice(values.entries.as_flattened());
         let mut sheet = [0; LONGEST_SHEET];
-        let written = ffi::encode(values, &mut sheet);
+        let written = sys::encode(values.header, &table, &values.statement, &mut sheet);
         Refusal::check(written.refusal)?;
         Instance::load(&sheet[..written.length])
     }

@@ -1,10 +1,8 @@
 #![doc = include_str!("../README.md")]
-#![cfg_attr(not(test), no_std)]
+#![no_std]
 #![deny(missing_docs)]
-#![deny(unsafe_code)]
+#![forbid(unsafe_code)]
 
-#[allow(unsafe_code)]
-mod ffi;
 mod instance;
 mod marker;
 mod pattern;
@@ -13,17 +11,21 @@ mod protocol;
 mod prover;
 mod refusal;
 mod refused;
-mod round;
 mod round_file;
+mod verdict;
 mod verifier;
 
-pub use instance::{EXPONENT, Header, Instance, LONGEST_SHEET, ROOT, Values};
-pub use marker::{LONGEST_TEXT, mark};
+pub use dimkhoros_sys::{
+    EMPTY_FILE, EXPONENT, Header, LONGEST_FILE, LONGEST_SHEET, LONGEST_TEXT, MOST_ROUNDS, PLACES,
+    Places, ROOT, Round,
+};
+pub use instance::{Instance, Values};
+pub use marker::mark;
 pub use pattern::{Pattern, Plan};
-pub use places::{PLACES, Places, places};
+pub use places::places;
 pub use prover::{Prover, ProverParts, ProverPhase};
 pub use refusal::Refusal;
 pub use refused::Refused;
-pub use round::{Round, Verdict};
-pub use round_file::{EMPTY_FILE, LONGEST_FILE, MOST_ROUNDS, RoundFile, RoundWriter};
+pub use round_file::{RoundFile, RoundWriter};
+pub use verdict::Verdict;
 pub use verifier::{Verifier, VerifierParts, VerifierPhase};

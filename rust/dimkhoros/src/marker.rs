@@ -1,13 +1,7 @@
 //! The marker's text.
 
-use crate::ffi;
-
-/// How many bytes hold the marker's longest text.
-///
-/// ```
-/// assert_eq!(dimkhoros::LONGEST_TEXT, 7696);
-/// ```
-pub const LONGEST_TEXT: usize = 7696;
+use crate::LONGEST_TEXT;
+use dimkhoros_sys as sys;
 
 /// The marker's text on a sheet and a round file, which is written to the start of `text`; no byte behind it is changed.
 ///
@@ -25,6 +19,6 @@ pub const LONGEST_TEXT: usize = 7696;
 /// assert_eq!(mark(b"", file, &mut text), "sheet 2\n");
 /// ```
 pub fn mark<'a>(sheet: &[u8], file: &[u8], text: &'a mut [u8; LONGEST_TEXT]) -> &'a str {
-    let length = ffi::mark(sheet, file, text);
+    let length = sys::mark(sheet, file, text);
     core::str::from_utf8(&text[..length]).expect("the marker's text is ASCII")
 }

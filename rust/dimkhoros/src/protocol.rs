@@ -1,7 +1,7 @@
 //! Judging, simulating and extracting.
 
-use crate::ffi::{self, Judgement};
 use crate::{Instance, Places, Refusal, Round, Verdict};
+use dimkhoros_sys::{self as sys, Judgement};
 
 impl Instance {
     /// The verifier's verdict on a round, or a refusal 14 to 16.
@@ -19,7 +19,7 @@ impl Instance {
     /// # Ok::<(), Refusal>(())
     /// ```
     pub fn judge(&self, round: &Round) -> Result<Verdict, Refusal> {
-        verdict(&ffi::judge(self.bytes(), round))
+        verdict(&sys::judge(self.bytes(), round))
     }
 
     /// The simulator: the one commitment with which the verifier accepts this challenge and response, or a refusal 15 or 16.
@@ -40,7 +40,7 @@ impl Instance {
     /// # Ok::<(), dimkhoros::Refusal>(())
     /// ```
     pub fn simulate(&self, challenge: u32, response: &Places) -> Result<Places, Refusal> {
-        let computed = ffi::simulate(self.bytes(), challenge, response);
+        let computed = sys::simulate(self.bytes(), challenge, response);
         Refusal::check(computed.refusal)?;
         Ok(computed.values)
     }
@@ -63,7 +63,7 @@ impl Instance {
     /// # Ok::<(), Refusal>(())
     /// ```
     pub fn extract(&self, first: &Round, second: &Round) -> Result<Places, Refusal> {
-        let computed = ffi::extract(self.bytes(), first, second);
+        let computed = sys::extract(self.bytes(), first, second);
         Refusal::check(computed.refusal)?;
         Ok(computed.values)
     }

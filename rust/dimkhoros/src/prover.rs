@@ -1,8 +1,9 @@
 //! Peggy's session.
 
-use crate::ffi::{self, ProverAnswer, ProverSession};
 use crate::{Instance, Places, Refused};
 use core::fmt;
+use dimkhoros_sys::phases::prover::{ANSWERED, COMMITTED, DROPPED, NEW};
+use dimkhoros_sys::{self as sys, ProverAnswer, ProverSession};
 
 /// The states of a prover's session.
 ///
@@ -15,13 +16,13 @@ use core::fmt;
 #[repr(u32)]
 pub enum ProverPhase {
     /// 0: nothing has happened.
-    New = 0,
+    New = NEW,
     /// 1: a nonce and its commitment are held.
-    Committed = 1,
+    Committed = COMMITTED,
     /// 2: a challenge was answered and the nonce is gone.
-    Answered = 2,
+    Answered = ANSWERED,
     /// 3: the session was given up and the nonce is gone.
-    Dropped = 3,
+    Dropped = DROPPED,
 }
 
 impl ProverPhase {
@@ -44,9 +45,9 @@ impl ProverPhase {
     /// ```
     pub const fn from_number(number: u32) -> ProverPhase {
         match number {
-            0 => ProverPhase::New,
-            1 => ProverPhase::Committed,
-            2 => ProverPhase::Answered,
+            NEW => ProverPhase::New,
+            COMMITTED => ProverPhase::Committed,
+            ANSWERED => ProverPhase::Answered,
             _ => ProverPhase::Dropped,
         }
     }
@@ -107,7 +108,7 @@ impl Prover {
     /// assert_eq!(Prover::new().phase(), ProverPhase::New);
     /// ```
     pub fn new() -> Prover {
-        Prover { session: ffi::prover_new() }
+        Prover { session: sys::prover_new() }
     }
 
     /// Commits a new session to a nonce, and answers the commitment. Refused with 16 or 21.
@@ -130,7 +131,7 @@ impl Prover {
         instance: &Instance,
         nonce: &Places,
     ) -> Result<(Prover, Places), Refused<Prover>> {
-        step(ffi::prover_commit(instance.bytes(), self.session, nonce))
+        step(sys::prover_commit(instance.bytes(), self.session, nonce))
     }
 
     /// Answers the response of a committed session to a challenge, by a witness, and sets the held nonce to zeros. Refused with
@@ -155,7 +156,7 @@ impl Prover {
         challenge: u32,
         witness: &Places,
     ) -> Result<(Prover, Places), Refused<Prover>> {
-        step(ffi::prover_respond(instance.bytes(), self.session, challenge, witness))
+        step(sys::prover_respond(instance.bytes(), self.session, challenge, witness))
     }
 
     /// Gives up a new or committed session, and sets the held nonce to zeros. Refused with 21.
@@ -168,7 +169,7 @@ impl Prover {
     /// # Ok::<(), dimkhoros::Refusal>(())
     /// ```
     pub fn drop_session(self) -> Result<Prover, Refused<Prover>> {
-        let (session, _) = step(ffi::prover_drop(self.session))?;
+        let (session, _) = step(sys::prover_drop(self.session))?;
         Ok(session)
     }
 

@@ -1,29 +1,7 @@
 //! Round files: reading them and adding rounds to them.
 
-use crate::{Instance, Refusal, Round, ffi};
-
-/// How many bytes a round file without rounds has.
-///
-/// ```
-/// assert_eq!(dimkhoros::EMPTY_FILE, 7);
-/// ```
-pub const EMPTY_FILE: usize = 7;
-
-/// How many rounds the fullest round file has.
-///
-/// ```
-/// assert_eq!(dimkhoros::MOST_ROUNDS, 512);
-/// ```
-pub const MOST_ROUNDS: usize = 512;
-
-/// How many bytes the longest round file has.
-///
-/// ```
-/// use dimkhoros::{EMPTY_FILE, LONGEST_FILE, MOST_ROUNDS, PLACES};
-///
-/// assert_eq!(LONGEST_FILE, EMPTY_FILE + MOST_ROUNDS * 4 * (PLACES + 1 + PLACES));
-/// ```
-pub const LONGEST_FILE: usize = 34_823;
+use crate::{Instance, Refusal, Round};
+use dimkhoros_sys as sys;
 
 /// A round file of an instance, over the caller's own bytes.
 ///
@@ -61,7 +39,7 @@ impl<'a> RoundFile<'a> {
     /// # Ok::<(), Refusal>(())
     /// ```
     pub fn open(instance: &'a Instance, bytes: &'a [u8]) -> Result<RoundFile<'a>, Refusal> {
-        let counted = ffi::count(instance.bytes(), bytes);
+        let counted = sys::count(instance.bytes(), bytes);
         Refusal::check(counted.refusal)?;
         Ok(RoundFile { instance, bytes, count: counted.count as usize })
     }
@@ -107,8 +85,8 @@ impl<'a> RoundFile<'a> {
     /// ```
     pub fn part(&self, number: usize) -> Result<&'a [u8], Refusal> {
         let sheet = self.instance.bytes();
-        Refusal::check(ffi::check(sheet, self.bytes, number))?;
-        let part = ffi::part(sheet, self.bytes, number);
+        Refusal::check(sys::check(sheet, self.bytes, number))?;
+        let part = sys::part(sheet, self.bytes, number);
         Ok(&self.bytes[part.offset..part.offset + part.length])
     }
 
@@ -126,7 +104,7 @@ impl<'a> RoundFile<'a> {
     /// # Ok::<(), Refusal>(())
     /// ```
     pub fn read(&self, number: usize) -> Result<Round, Refusal> {
-        let fetched = ffi::read(self.instance.bytes(), self.bytes, number);
+        let fetched = sys::read(self.instance.bytes(), self.bytes, number);
         Refusal::check(fetched.refusal)?;
         Ok(fetched.round)
     }
@@ -182,7 +160,7 @@ impl<'a> RoundWriter<'a> {
     /// # Ok::<(), Refusal>(())
     /// ```
     pub fn start(instance: &'a Instance, buffer: &'a mut [u8]) -> Result<RoundWriter<'a>, Refusal> {
-        let written = ffi::empty(buffer);
+        let written = sys::empty(buffer);
         Refusal::check(written.refusal)?;
         Ok(RoundWriter { instance, buffer, used: written.length, count: 0 })
     }
@@ -223,7 +201,7 @@ impl<'a> RoundWriter<'a> {
     /// # Ok::<(), Refusal>(())
     /// ```
     pub fn append(&mut self, round: &Round) -> Result<(), Refusal> {
-        let written = ffi::append(self.instance.bytes(), self.buffer, self.used, round);
+        let written = sys::append(self.instance.bytes(), self.buffer, self.used, round);
         Refusal::check(written.refusal)?;
         self.used = written.length;
         self.count += 1;

@@ -1,8 +1,9 @@
 //! Vic's session.
 
-use crate::ffi::{self, VerifierAnswer, VerifierSession};
 use crate::protocol::verdict;
 use crate::{Instance, Places, Refused, Verdict};
+use dimkhoros_sys::phases::verifier::{ASKED, HOLDING, JUDGED, WAITING};
+use dimkhoros_sys::{self as sys, VerifierAnswer, VerifierSession};
 
 /// The states of a verifier's session, in their order.
 ///
@@ -15,13 +16,13 @@ use crate::{Instance, Places, Refused, Verdict};
 #[repr(u32)]
 pub enum VerifierPhase {
     /// 0: nothing has been heard.
-    Waiting = 0,
+    Waiting = WAITING,
     /// 1: a commitment is held.
-    Holding = 1,
+    Holding = HOLDING,
     /// 2: a commitment and the challenge given on it are held.
-    Asked = 2,
+    Asked = ASKED,
     /// 3: a response was judged.
-    Judged = 3,
+    Judged = JUDGED,
 }
 
 impl VerifierPhase {
@@ -44,9 +45,9 @@ impl VerifierPhase {
     /// ```
     pub const fn from_number(number: u32) -> VerifierPhase {
         match number {
-            0 => VerifierPhase::Waiting,
-            1 => VerifierPhase::Holding,
-            2 => VerifierPhase::Asked,
+            WAITING => VerifierPhase::Waiting,
+            HOLDING => VerifierPhase::Holding,
+            ASKED => VerifierPhase::Asked,
             _ => VerifierPhase::Judged,
         }
     }
@@ -88,7 +89,7 @@ impl Verifier {
     /// assert_eq!(Verifier::new().phase(), VerifierPhase::Waiting);
     /// ```
     pub fn new() -> Verifier {
-        Verifier { session: ffi::verifier_new() }
+        Verifier { session: sys::verifier_new() }
     }
 
     /// Brings the commitment to a waiting session. Refused with 14 or 21.
@@ -110,7 +111,7 @@ impl Verifier {
         instance: &Instance,
         commitment: &Places,
     ) -> Result<Verifier, Refused<Verifier>> {
-        step(ffi::verifier_commitment(instance.bytes(), self.session, commitment))
+        step(sys::verifier_commitment(instance.bytes(), self.session, commitment))
     }
 
     /// Brings the challenge to a session that holds a commitment. Refused with 15 or 21. The challenge is the caller's, and
@@ -132,7 +133,7 @@ impl Verifier {
         instance: &Instance,
         challenge: u32,
     ) -> Result<Verifier, Refused<Verifier>> {
-        step(ffi::verifier_challenge(instance.bytes(), self.session, challenge))
+        step(sys::verifier_challenge(instance.bytes(), self.session, challenge))
     }
 
     /// Brings the response to a session that has asked, and answers the verdict. Refused with 16 or 21.
@@ -155,7 +156,7 @@ impl Verifier {
         instance: &Instance,
         response: &Places,
     ) -> Result<(Verifier, Verdict), Refused<Verifier>> {
-        let answer = ffi::verifier_response(instance.bytes(), self.session, response);
+        let answer = sys::verifier_response(instance.bytes(), self.session, response);
         let session = Verifier { session: answer.session };
         match verdict(&answer.verdict) {
             Ok(verdict) => Ok((session, verdict)),

@@ -1,14 +1,13 @@
 //! The marker's text on a sheet and a round file.
 
-use super::rounds::{Round, Verdict};
-use super::sheet::{load, word, words, Sheet};
+use dimkhoros_sys::{Round, LONGEST_TEXT};
 
-/// How many bytes the longest text has.
-pub const TEXT: usize = 7696;
+use super::rounds::Verdict;
+use super::sheet::{load, word, words, Sheet};
 
 /// Puts the marker's text at the start of text and answers its length.
 #[inline(never)]
-pub fn mark(sheet: &[u8], file: &[u8], text: &mut [u8; TEXT]) -> usize {
+pub fn mark(sheet: &[u8], file: &[u8], text: &mut [u8; LONGEST_TEXT]) -> usize {
     let mut lines = Lines { text, length: 0 };
     match load(sheet) {
         Err(number) => lines.numbered(b"sheet ", number),
@@ -50,7 +49,7 @@ fn round(sheet: &Sheet, record: &[u8]) -> Round {
 
 /// The lines that are written so far.
 struct Lines<'a> {
-    text: &'a mut [u8; TEXT],
+    text: &'a mut [u8; LONGEST_TEXT],
     length: usize,
 }
 

@@ -1,16 +1,9 @@
 //! Judging, simulating and extracting: refusals 14 to 20.
 
-use super::arithmetic::{inverse, mul_mod, pow_mod};
-use super::sheet::{load, Kind, Places, Sheet};
+use dimkhoros_sys::{Places, Round};
 
-/// A round (t, c, r).
-#[repr(C)]
-#[derive(Clone, Copy)]
-pub struct Round {
-    pub commitment: Places,
-    pub challenge: u32,
-    pub response: Places,
-}
+use super::arithmetic::{inverse, mul_mod, pow_mod};
+use super::sheet::{load, Kind, Sheet};
 
 /// What judging a round that is not refused answers.
 #[derive(PartialEq, Eq)]

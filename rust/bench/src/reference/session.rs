@@ -1,7 +1,9 @@
 //! Peggy's session: new, commit, respond.
 
+use dimkhoros_sys::Places;
+
 use super::arithmetic::{mul_mod, pow_mod};
-use super::sheet::{load, Kind, Places, Sheet};
+use super::sheet::{load, Kind, Sheet};
 
 /// The states that these calls lead to.
 #[derive(Clone, Copy, PartialEq, Eq)]

@@ -1,9 +1,8 @@
 //! Loading a sheet: refusals 2 to 11.
 
-use super::arithmetic::{gcd, has_divisor, mul_mod, pow_mod};
+use dimkhoros_sys::Places;
 
-/// Eight places of a commitment, a statement, a nonce, a witness or a response.
-pub type Places = [u32; 8];
+use super::arithmetic::{gcd, has_divisor, mul_mod, pow_mod};
 
 /// What a sheet's table computes.
 #[derive(Clone, Copy, PartialEq, Eq)]

@@ -5,7 +5,7 @@ use std::fmt;
 use crate::calls::Call;
 use crate::cases::Case;
 use crate::lent::Lent;
-use crate::library::{Library, TEXT};
+use crate::library::{Library, LONGEST_TEXT};
 use crate::outcome::{Answer, Outcome};
 use crate::printing::hex;
 
@@ -20,11 +20,11 @@ pub struct MarkCase {
 impl Case for MarkCase {
     fn run(&self, library: &dyn Library) -> Outcome {
         let mut lent = self.lent.clone();
-        let Some(text) = lent.buffer().first_chunk_mut::<TEXT>() else {
-            panic!("a marker case lends fewer than {TEXT} bytes");
+        let Some(text) = lent.buffer().first_chunk_mut::<LONGEST_TEXT>() else {
+            panic!("a marker case lends fewer than {LONGEST_TEXT} bytes");
         };
         let length = library.mark(&self.sheet, &self.file, text);
-        let shown = String::from_utf8_lossy(&text[..length.min(TEXT)]).into_owned();
+        let shown = String::from_utf8_lossy(&text[..length.min(LONGEST_TEXT)]).into_owned();
         let answer = Answer::Marked {
             length,
             text: shown,

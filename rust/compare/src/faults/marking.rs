@@ -2,10 +2,10 @@
 
 use crate::faults::Fault;
 use crate::judged::Judge;
-use crate::library::{Library, TEXT};
+use crate::library::{Library, LONGEST_TEXT};
 
-pub fn mark(fault: Fault, sheet: &[u8], file: &[u8], text: &mut [u8; TEXT]) -> usize {
-    let mut whole = [0; TEXT];
+pub fn mark(fault: Fault, sheet: &[u8], file: &[u8], text: &mut [u8; LONGEST_TEXT]) -> usize {
+    let mut whole = [0; LONGEST_TEXT];
     let length = Judge.mark(sheet, file, &mut whole);
     let right = String::from_utf8_lossy(&whole[..length]);
     let marked = if right.starts_with("rounds") {

@@ -7,7 +7,7 @@ use crate::files;
 use crate::groups::Group;
 use crate::instance::Instance;
 use crate::lent::Lent;
-use crate::library::{Round, TEXT};
+use crate::library::{Round, LONGEST_TEXT};
 use crate::making::brought::{round, spoil_round};
 use crate::random::Random;
 use crate::sheets::record_length;
@@ -40,7 +40,7 @@ pub fn mark_case(random: &mut Random) -> MarkCase {
     MarkCase {
         sheet,
         file,
-        lent: Lent::first(random, &[], TEXT),
+        lent: Lent::first(random, &[], LONGEST_TEXT),
     }
 }
 

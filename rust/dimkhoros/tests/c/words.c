@@ -1,4 +1,4 @@
-/* Prints every refusal with its name and sentence, and the other constants of the header. */
+/* Prints every refusal of the header with its name and sentence, and every pattern. */
 #include "dimkhoros.h"
 #include <stdio.h>
 
@@ -13,28 +13,11 @@ static void print_refusals(void) {
 
 int main(void) {
     print_refusals();
-    PRINT(PLACES);
-    PRINT(ENTRIES);
-    PRINT(LONGEST_SHEET);
-    PRINT(EMPTY_FILE);
-    PRINT(MOST_ROUNDS);
-    PRINT(LONGEST_FILE);
-    PRINT(LONGEST_TEXT);
-    PRINT(EXPONENT);
-    PRINT(ROOT);
     PRINT(PATTERN_SCHNORR);
     PRINT(PATTERN_OKAMOTO);
     PRINT(PATTERN_EQUALITY);
     PRINT(PATTERN_DIFFIE_HELLMAN);
     PRINT(PATTERN_PRODUCT);
     PRINT(PATTERN_ROOT);
-    PRINT(PROVER_NEW);
-    PRINT(PROVER_COMMITTED);
-    PRINT(PROVER_ANSWERED);
-    PRINT(PROVER_DROPPED);
-    PRINT(VERIFIER_WAITING);
-    PRINT(VERIFIER_HOLDING);
-    PRINT(VERIFIER_ASKED);
-    PRINT(VERIFIER_JUDGED);
     return 0;
 }

@@ -2,6 +2,7 @@
 
 use crate::cc;
 
+use dimkhoros_sys::ARCHIVE;
 use std::env;
 use std::fs;
 use std::path::{Path, PathBuf};
@@ -48,8 +49,8 @@ fn every_example_has_a_text() {
 
 #[test]
 fn examples_in_c_print_their_texts() {
-    let folder = PathBuf::from(env!("OUT_DIR")).join("examples");
-    let archives = Path::new(env!("DIMKHOROS_ARCHIVE")).parent().unwrap();
+    let folder = PathBuf::from(env!("CARGO_TARGET_TMPDIR")).join("examples");
+    let archives = Path::new(ARCHIVE).parent().unwrap();
     let script = cc::root().join("examples/c/build");
     cc::succeed(Command::new(script).arg(&folder).env("DIMKHOROS_LIB", archives));
     compare(&folder);

@@ -1,11 +1,12 @@
-//! The tests of this crate's public face, of the header and of the examples.
+//! The tests of this crate's public face, of the header's words and of the examples.
 
+#[path = "../../../sys/tests/suite/cc.rs"]
 mod cc;
 mod examples;
-mod header;
 mod marks;
 mod pages;
 mod refusals;
 mod rounds;
 mod sessions;
 mod sheets;
+mod words;

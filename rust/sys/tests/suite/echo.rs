@@ -1,8 +1,9 @@
 //! Every field crosses to and from the archive where C and this crate have it: each export is called with values that differ
 //! from field to field, and every field of what comes back is compared with one text, in Rust and in C.
 
-use super::*;
-use crate::Header;
+use crate::cc;
+
+use dimkhoros_sys::*;
 use std::fmt::Write;
 
 const WITNESS: Places = [1, 2, 3, 4, 5, 6, 7, 8];
@@ -11,17 +12,19 @@ const NONCE: Places = [0, 3, 6, 9, 1, 4, 7, 10];
 const COMMITMENT: Places = [1, 8, 18, 6, 2, 16, 13, 12];
 const RESPONSE: Places = [1, 5, 9, 2, 6, 10, 3, 7];
 
-/// A sheet of 8 rows and 8 columns with 2 on the diagonal and 1 elsewhere: row i's image is 2 to the i-th coordinate.
-fn wide() -> (Values, [u8; 308]) {
-    let mut entries = [[1; 8]; 8];
-    for (i, row) in entries.iter_mut().enumerate() {
-        row[i] = 2;
-    }
-    let header = Header { kind: 1, modulus: 23, order: 11, challenges: 5, rows: 8, columns: 8 };
-    let values = Values { header, entries, statement: STATEMENT };
-    let mut sheet = [0; 308];
-    assert_eq!(encode(&values, &mut sheet).length, 308);
-    (values, sheet)
+/// The header of a sheet of 8 rows and 8 columns.
+const WIDE: Header = Header { kind: 1, modulus: 23, order: 11, challenges: 5, rows: 8, columns: 8 };
+
+/// Entries with 2 on the diagonal and 1 elsewhere: row i's image is 2 to the i-th coordinate.
+fn diagonal() -> [u32; ENTRIES] {
+    core::array::from_fn(|place| if place % 9 == 0 { 2 } else { 1 })
+}
+
+/// The sheet of these.
+fn wide() -> [u8; LONGEST_SHEET] {
+    let mut sheet = [0; LONGEST_SHEET];
+    assert_eq!(encode(WIDE, &diagonal(), &STATEMENT, &mut sheet).length, LONGEST_SHEET);
+    sheet
 }
 
 /// Eight numbers that rise from one.
@@ -44,37 +47,31 @@ macro_rules! print {
     };
 }
 
-/// What asking for a sheet's entries answers, and what then stands in an array of ones in each byte.
-fn entries_over(sheet: &[u8]) -> (u32, [Places; PLACES]) {
-    let mut table = [[0x0101_0101; PLACES]; PLACES];
-    (entries(sheet, &mut table), table)
+/// What asking for a sheet's entries answers, and what then stands, row by row, in an array of ones in each byte.
+fn entries_over(sheet: &[u8]) -> (u32, Vec<Vec<u32>>) {
+    let mut table = [0x0101_0101; ENTRIES];
+    let refusal = entries(sheet, &mut table);
+    (refusal, table.chunks(PLACES).map(<[u32]>::to_vec).collect())
 }
 
 fn sheets(text: &mut String) {
-    let mut buffer = [0; 308];
-    let plan = Plan {
-        pattern: 5,
-        modulus: 23,
-        order: 11,
-        challenges: 5,
-        values: &[2, 3, 3],
-        statement: &[12, 9],
-    };
-    let made = from_pattern(&plan, &mut buffer);
+    let mut buffer = [0; LONGEST_SHEET];
+    let made = from_pattern(5, 23, 11, 5, &[2, 3, 3], &[12, 9], &mut buffer);
     let product = &buffer[..made.length];
     print!(text: made, load(product), entries_over(product));
 
-    let (mut values, wide) = wide();
-    print!(text: encode(&values, &mut buffer), load(&wide), entries_over(&wide));
+    let (wide, diagonal) = (wide(), diagonal());
+    let encoded = encode(WIDE, &diagonal, &STATEMENT, &mut buffer);
+    print!(text: encoded, load(&wide), entries_over(&wide));
     assert_eq!(buffer, wide);
-    values.header.rows = 9;
-    let root =
-        Plan { pattern: 6, modulus: 35, order: 5, challenges: 5, values: &[], statement: &[12] };
-    print!(text: encode(&values, &mut buffer), from_pattern(&root, &mut buffer));
+    print!(text:
+        encode(Header { rows: 9, ..WIDE }, &diagonal, &STATEMENT, &mut buffer),
+        from_pattern(6, 35, 5, 5, &[], &[12], &mut buffer),
+    );
 }
 
 fn files(text: &mut String) {
-    let (_, wide) = wide();
+    let wide = wide();
     let mut buffer = [0; 200];
     print!(text:
         empty(&mut buffer),
@@ -94,7 +91,7 @@ fn files(text: &mut String) {
 }
 
 fn rounds(text: &mut String) {
-    let (_, wide) = wide();
+    let wide = wide();
     let mut wrong = RESPONSE;
     wrong[5] = 0;
     print!(text:
@@ -113,7 +110,7 @@ fn rounds(text: &mut String) {
 }
 
 fn provers(text: &mut String) {
-    let (_, wide) = wide();
+    let wide = wide();
     let committed = || prover_commit(&wide, prover_new(), &NONCE);
     let odd = || ProverSession { phase: 77, nonce: rise(401), commitment: rise(501) };
     print!(text:
@@ -128,7 +125,7 @@ fn provers(text: &mut String) {
 }
 
 fn verifiers(text: &mut String) {
-    let (_, wide) = wide();
+    let wide = wide();
     let mut wrong = RESPONSE;
     wrong[5] = 0;
     let holding = || verifier_commitment(&wide, verifier_new(), &COMMITMENT);
@@ -148,7 +145,7 @@ fn verifiers(text: &mut String) {
 
 /// The marker's text on two files, and the bytes behind it, which stay.
 fn marks(text: &mut String) {
-    let (_, wide) = wide();
+    let wide = wide();
     let mut file = [0; 200];
     let mut marked = [238; LONGEST_TEXT];
     empty(&mut file);
@@ -165,16 +162,13 @@ fn marks(text: &mut String) {
 
 /// Every slice of every call is empty.
 fn empty_slices(text: &mut String) {
-    let (values, wide) = wide();
-    let none =
-        Plan { pattern: 6, modulus: 35, order: 5, challenges: 5, values: &[], statement: &[] };
-    let root = Plan { statement: &[2], ..none };
+    let wide = wide();
     print!(text:
         entries_over(&[]),
         load(&[]),
-        encode(&values, &mut []),
-        from_pattern(&none, &mut []),
-        from_pattern(&root, &mut []),
+        encode(WIDE, &diagonal(), &STATEMENT, &mut []),
+        from_pattern(6, 35, 5, 5, &[], &[], &mut []),
+        from_pattern(6, 35, 5, 5, &[], &[2], &mut []),
         count(&[], &[]),
         count(&wide, &[]),
         check(&wide, &[], 0),
@@ -194,7 +188,7 @@ fn empty_slices(text: &mut String) {
     );
 }
 
-const EXPECTED: &str = include_str!("../../tests/echo.txt");
+const EXPECTED: &str = include_str!("../echo.txt");
 
 #[test]
 fn fields_cross_from_rust() {

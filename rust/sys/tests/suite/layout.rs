@@ -1,8 +1,8 @@
 //! Sizes and places are the same in this crate as in C.
 
-use super::cc;
-use super::*;
-use crate::Header;
+use crate::cc;
+
+use dimkhoros_sys::*;
 use std::fmt::Write;
 use std::mem::offset_of;
 

@@ -1,26 +1,6 @@
-//! Rounds and verdicts.
+//! Verdicts.
 
-use crate::Places;
 use core::fmt;
-
-/// One run of the protocol.
-///
-/// ```
-/// use dimkhoros::{places, Round};
-///
-/// let round = Round { commitment: places([9]), challenge: 3, response: places([4]) };
-/// assert_eq!(round.commitment[0], 9);
-/// ```
-#[derive(Clone, Copy, Debug, Default, PartialEq, Eq, Hash)]
-#[repr(C)]
-pub struct Round {
-    /// The commitment t.
-    pub commitment: Places,
-    /// The challenge c.
-    pub challenge: u32,
-    /// The response r.
-    pub response: Places,
-}
 
 /// What the verifier says of a round.
 ///

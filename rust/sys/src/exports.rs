@@ -1,10 +1,9 @@
 //! The exports of the archive, as include/dimkhoros.h declares them.
 
-use super::structs::{
-    Computed, Counted, Fetched, Judgement, Loaded, Part, ProverAnswer, ProverSession,
-    VerifierAnswer, VerifierJudgement, VerifierSession, Written,
+use crate::{
+    Computed, Counted, Fetched, Header, Judgement, Loaded, Part, ProverAnswer, ProverSession,
+    Round, VerifierAnswer, VerifierJudgement, VerifierSession, Written,
 };
-use crate::{Header, Round};
 
 unsafe extern "C" {
     pub fn dimkhoros_load(sheet: *const u8, sheet_length: usize) -> Loaded;

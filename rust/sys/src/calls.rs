@@ -1,4 +1,4 @@
-//! The calls of the archive, a safe function for each export. All unsafe code of this crate stands here.
+//! A safe function for each export. All unsafe calls stand here.
 //!
 //! The exports take any bytes and any numbers, so what they ask of a caller is what the types below give. For each call:
 //!
@@ -8,120 +8,157 @@
 //! - What is written to is borrowed as `&mut`, so it shares no byte with the rest, and all borrows live through the call.
 //! - The structs have the layout of C, and any bits are values of their fields.
 
-mod exports;
-mod structs;
+use crate::exports::*;
+use crate::{
+    Computed, Counted, ENTRIES, Fetched, Header, Judgement, LONGEST_TEXT, Loaded, Part, Places,
+    ProverAnswer, ProverSession, Round, VerifierAnswer, VerifierJudgement, VerifierSession,
+    Written,
+};
 
-#[cfg(test)]
-#[path = "../tests/suite/cc.rs"]
-mod cc;
-#[cfg(test)]
-mod echo;
-#[cfg(test)]
-mod layout;
-
-use crate::{LONGEST_TEXT, PLACES, Places, Plan, Round, Values};
-use exports::*;
-pub use structs::*;
-
+/// Loads a sheet: answers its fixed fields and its statement.
+#[inline]
 pub fn load(sheet: &[u8]) -> Loaded {
     // SAFETY: the slice is given by its pointer and length.
     unsafe { dimkhoros_load(sheet.as_ptr(), sheet.len()) }
 }
 
-pub fn entries(sheet: &[u8], entries: &mut [Places; PLACES]) -> u32 {
+/// Sets the array to the entries of a sheet, and answers 0. Where the sheet is refused, the array keeps its numbers, and the
+/// refusal is answered.
+#[inline]
+pub fn entries(sheet: &[u8], entries: &mut [u32; ENTRIES]) -> u32 {
     // SAFETY: the slice is given by its pointer and length, and `entries` has the 64 numbers that are written.
-    unsafe { dimkhoros_entries(sheet.as_ptr(), sheet.len(), entries.as_mut_ptr().cast()) }
+    unsafe { dimkhoros_entries(sheet.as_ptr(), sheet.len(), entries.as_mut_ptr()) }
 }
 
-pub fn encode(values: &Values, buffer: &mut [u8]) -> Written {
-    let entries = values.entries.as_ptr().cast();
-    let statement = values.statement.as_ptr();
+/// Writes the sheet of these values to the start of a buffer.
+#[inline]
+pub fn encode(
+    header: Header,
+    entries: &[u32; ENTRIES],
+    statement: &Places,
+    buffer: &mut [u8],
+) -> Written {
+    let (pointer, length) = (buffer.as_mut_ptr(), buffer.len());
     // SAFETY: the slice is given by its pointer and length; `entries` has 64 numbers and `statement` 8.
-    unsafe {
-        dimkhoros_encode(values.header, entries, statement, buffer.as_mut_ptr(), buffer.len())
-    }
+    unsafe { dimkhoros_encode(header, entries.as_ptr(), statement.as_ptr(), pointer, length) }
 }
 
-pub fn from_pattern(plan: &Plan<'_>, buffer: &mut [u8]) -> Written {
+/// Writes the sheet of a pattern to the start of a buffer.
+#[inline]
+pub fn from_pattern(
+    pattern: u32,
+    modulus: u32,
+    order: u32,
+    challenges: u32,
+    values: &[u32],
+    statement: &[u32],
+    buffer: &mut [u8],
+) -> Written {
     // SAFETY: the slices are given by their pointers and lengths.
     unsafe {
         dimkhoros_from_pattern(
-            plan.pattern,
-            plan.modulus,
-            plan.order,
-            plan.challenges,
-            plan.values.as_ptr(),
-            plan.values.len(),
-            plan.statement.as_ptr(),
-            plan.statement.len(),
+            pattern,
+            modulus,
+            order,
+            challenges,
+            values.as_ptr(),
+            values.len(),
+            statement.as_ptr(),
+            statement.len(),
             buffer.as_mut_ptr(),
             buffer.len(),
         )
     }
 }
 
+/// Answers how many rounds a file has.
+#[inline]
 pub fn count(sheet: &[u8], file: &[u8]) -> Counted {
     // SAFETY: the slices are given by their pointers and lengths.
     unsafe { dimkhoros_count(sheet.as_ptr(), sheet.len(), file.as_ptr(), file.len()) }
 }
 
+/// Answers the refusal of the round of this number, from 0, in a file.
+#[inline]
 pub fn check(sheet: &[u8], file: &[u8], number: usize) -> u32 {
     // SAFETY: the slices are given by their pointers and lengths.
     unsafe { dimkhoros_check(sheet.as_ptr(), sheet.len(), file.as_ptr(), file.len(), number) }
 }
 
+/// Answers where the round of this number stands in a file.
+#[inline]
 pub fn part(sheet: &[u8], file: &[u8], number: usize) -> Part {
     // SAFETY: the slices are given by their pointers and lengths.
     unsafe { dimkhoros_part(sheet.as_ptr(), sheet.len(), file.as_ptr(), file.len(), number) }
 }
 
+/// Answers the values of the round of this number as they stand in a file.
+#[inline]
 pub fn read(sheet: &[u8], file: &[u8], number: usize) -> Fetched {
     // SAFETY: the slices are given by their pointers and lengths.
     unsafe { dimkhoros_read(sheet.as_ptr(), sheet.len(), file.as_ptr(), file.len(), number) }
 }
 
+/// Writes a file without rounds to the start of a buffer.
+#[inline]
 pub fn empty(buffer: &mut [u8]) -> Written {
     // SAFETY: the slice is given by its pointer and length.
     unsafe { dimkhoros_empty(buffer.as_mut_ptr(), buffer.len()) }
 }
 
+/// Adds a round to the file in the first `used` bytes of a buffer.
+#[inline]
 pub fn append(sheet: &[u8], buffer: &mut [u8], used: usize, round: &Round) -> Written {
     let (pointer, length) = (buffer.as_mut_ptr(), buffer.len());
     // SAFETY: the slices are given by their pointers and lengths. `used` may be any number.
     unsafe { dimkhoros_append(sheet.as_ptr(), sheet.len(), pointer, length, used, *round) }
 }
 
+/// Answers Vic's verdict on a round.
+#[inline]
 pub fn judge(sheet: &[u8], round: &Round) -> Judgement {
     // SAFETY: the slice is given by its pointer and length.
     unsafe { dimkhoros_judge(sheet.as_ptr(), sheet.len(), *round) }
 }
 
+/// Answers the commitment with which Vic accepts this challenge and response.
+#[inline]
 pub fn simulate(sheet: &[u8], challenge: u32, response: &Places) -> Computed {
     // SAFETY: the slice is given by its pointer and length, and `response` has 8 numbers.
     unsafe { dimkhoros_simulate(sheet.as_ptr(), sheet.len(), challenge, response.as_ptr()) }
 }
 
+/// Answers the witness that two accepted rounds give away.
+#[inline]
 pub fn extract(sheet: &[u8], first: &Round, second: &Round) -> Computed {
     // SAFETY: the slice is given by its pointer and length.
     unsafe { dimkhoros_extract(sheet.as_ptr(), sheet.len(), *first, *second) }
 }
 
+/// Writes the marker's text on a sheet and a round file to the start of `text`, and answers its length.
+#[inline]
 pub fn mark(sheet: &[u8], file: &[u8], text: &mut [u8; LONGEST_TEXT]) -> usize {
     let (pointer, length) = (sheet.as_ptr(), sheet.len());
     // SAFETY: the slices are given by their pointers and lengths, and `text` has the bytes that may be written.
     unsafe { dimkhoros_mark(pointer, length, file.as_ptr(), file.len(), text.as_mut_ptr()) }
 }
 
+/// A new session of Peggy's, with zeros.
+#[inline]
 pub fn prover_new() -> ProverSession {
     // SAFETY: the call takes nothing.
     unsafe { dimkhoros_prover_new() }
 }
 
+/// Commits Peggy's new session to a nonce, and answers the commitment.
+#[inline]
 pub fn prover_commit(sheet: &[u8], session: ProverSession, nonce: &Places) -> ProverAnswer {
     // SAFETY: the slice is given by its pointer and length, and `nonce` has 8 numbers.
     unsafe { dimkhoros_prover_commit(sheet.as_ptr(), sheet.len(), session, nonce.as_ptr()) }
 }
 
+/// Answers the response of Peggy's committed session to a challenge, by a witness.
+#[inline]
 pub fn prover_respond(
     sheet: &[u8],
     session: ProverSession,
@@ -133,16 +170,22 @@ pub fn prover_respond(
     unsafe { dimkhoros_prover_respond(pointer, length, session, challenge, witness.as_ptr()) }
 }
 
+/// Gives up a session of Peggy's.
+#[inline]
 pub fn prover_drop(session: ProverSession) -> ProverAnswer {
     // SAFETY: the call takes a struct of numbers alone.
     unsafe { dimkhoros_prover_drop(session) }
 }
 
+/// A new session of Vic's, with zeros.
+#[inline]
 pub fn verifier_new() -> VerifierSession {
     // SAFETY: the call takes nothing.
     unsafe { dimkhoros_verifier_new() }
 }
 
+/// Brings the commitment to Vic's waiting session.
+#[inline]
 pub fn verifier_commitment(
     sheet: &[u8],
     session: VerifierSession,
@@ -153,6 +196,8 @@ pub fn verifier_commitment(
     unsafe { dimkhoros_verifier_commitment(pointer, length, session, commitment.as_ptr()) }
 }
 
+/// Brings the challenge to a session of Vic's that holds a commitment.
+#[inline]
 pub fn verifier_challenge(
     sheet: &[u8],
     session: VerifierSession,
@@ -162,6 +207,8 @@ pub fn verifier_challenge(
     unsafe { dimkhoros_verifier_challenge(sheet.as_ptr(), sheet.len(), session, challenge) }
 }
 
+/// Brings the response to a session of Vic's that has asked, and answers the verdict.
+#[inline]
 pub fn verifier_response(
     sheet: &[u8],
     session: VerifierSession,

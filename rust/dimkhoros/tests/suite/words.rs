@@ -1,0 +1,35 @@
+//! The header and this crate have the same names, numbers and sentences.
+
+use crate::cc;
+
+use dimkhoros::{Pattern, Refusal};
+use std::fmt::{Debug, Write};
+
+/// A name as C writes it: `SheetMark` is SHEET_MARK.
+fn c_name(name: impl Debug) -> String {
+    let mut text = String::new();
+    for letter in format!("{name:?}").chars() {
+        if letter.is_uppercase() && !text.is_empty() {
+            text.push('_');
+        }
+        text.extend(letter.to_uppercase());
+    }
+    text
+}
+
+#[test]
+fn refusals_and_patterns_are_the_same_in_c() {
+    let mut text = String::new();
+    for number in 1..=22 {
+        let refusal = Refusal::from_number(number).unwrap();
+        writeln!(text, "{number} {} {}", c_name(refusal), refusal.sentence()).unwrap();
+    }
+    text += "nothing is refused\nno refusal has this number\n";
+    use Pattern::*;
+    for pattern in [Schnorr, Okamoto, Equality, DiffieHellman, Product, Root] {
+        writeln!(text, "PATTERN_{} {}", c_name(pattern), pattern.number()).unwrap();
+    }
+    assert_eq!(text, cc::run("words.c"));
+    assert_eq!(Refusal::from_number(0), None);
+    assert_eq!(Refusal::from_number(23), None);
+}

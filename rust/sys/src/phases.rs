@@ -1,0 +1,25 @@
+//! The numbers of the states of both sessions. Any other number is a state that allows no call.
+
+/// The states of Peggy's session.
+pub mod prover {
+    /// Nothing has happened.
+    pub const NEW: u32 = 0;
+    /// A nonce and its commitment are held.
+    pub const COMMITTED: u32 = 1;
+    /// A challenge was answered and the nonce is gone.
+    pub const ANSWERED: u32 = 2;
+    /// The session was given up and the nonce is gone.
+    pub const DROPPED: u32 = 3;
+}
+
+/// The states of Vic's session.
+pub mod verifier {
+    /// Nothing has been heard.
+    pub const WAITING: u32 = 0;
+    /// A commitment is held.
+    pub const HOLDING: u32 = 1;
+    /// A commitment and the challenge given on it are held.
+    pub const ASKED: u32 = 2;
+    /// A response was judged.
+    pub const JUDGED: u32 = 3;
+}

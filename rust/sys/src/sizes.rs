@@ -1,0 +1,70 @@
+//! The sizes that the calls share.
+
+/// How many places a commitment, statement, witness, nonce or response has.
+///
+/// ```
+/// # use dimkhoros_sys::PLACES;
+/// assert_eq!(PLACES, 8);
+/// ```
+pub const PLACES: usize = 8;
+
+/// A commitment, statement, witness, nonce or response.
+///
+/// A sheet of s rows and n columns uses the first s places for commitments and statements and the first n for the others.
+/// The places behind them are not read where a call takes them, and are 0 where a call answers them. A session keeps what
+/// it holds in all eight, and the commitment that a prover's holds is tested in all eight (by refusal 21).
+///
+/// ```
+/// # use dimkhoros_sys::{PLACES, Places};
+/// let witness: Places = [2, 1, 0, 0, 0, 0, 0, 0];
+/// assert_eq!(witness.len(), PLACES);
+/// ```
+pub type Places = [u32; PLACES];
+
+/// How many numbers a table has: row i, column j, both from 0, stands at 8 i + j.
+///
+/// ```
+/// # use dimkhoros_sys::{ENTRIES, PLACES};
+/// assert_eq!(ENTRIES, PLACES * PLACES);
+/// ```
+pub const ENTRIES: usize = 64;
+
+/// How many bytes the longest sheet has.
+///
+/// ```
+/// # use dimkhoros_sys::LONGEST_SHEET;
+/// assert_eq!(LONGEST_SHEET, 20 + 4 * 8 * 8 + 4 * 8);
+/// ```
+pub const LONGEST_SHEET: usize = 308;
+
+/// How many bytes a round file without rounds has.
+///
+/// ```
+/// # use dimkhoros_sys::EMPTY_FILE;
+/// assert_eq!(EMPTY_FILE, 7);
+/// ```
+pub const EMPTY_FILE: usize = 7;
+
+/// How many rounds the fullest round file has.
+///
+/// ```
+/// # use dimkhoros_sys::MOST_ROUNDS;
+/// assert_eq!(MOST_ROUNDS, 512);
+/// ```
+pub const MOST_ROUNDS: usize = 512;
+
+/// How many bytes the longest round file has.
+///
+/// ```
+/// # use dimkhoros_sys::{EMPTY_FILE, LONGEST_FILE, MOST_ROUNDS, PLACES};
+/// assert_eq!(LONGEST_FILE, EMPTY_FILE + MOST_ROUNDS * 4 * (PLACES + 1 + PLACES));
+/// ```
+pub const LONGEST_FILE: usize = 34_823;
+
+/// How many bytes hold the marker's longest text.
+///
+/// ```
+/// # use dimkhoros_sys::LONGEST_TEXT;
+/// assert_eq!(LONGEST_TEXT, 7696);
+/// ```
+pub const LONGEST_TEXT: usize = 7696;

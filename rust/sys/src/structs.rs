@@ -1,0 +1,179 @@
+//! The structs that cross, with the layout of C. A refusal is 0 where nothing is refused; beside any other number stand zeros,
+//! or the session as it was given.
+
+use crate::Places;
+
+/// The fixed fields of a sheet.
+///
+/// ```
+/// # use dimkhoros_sys::{EXPONENT, Header};
+/// let header = Header { kind: EXPONENT, modulus: 23, order: 11, challenges: 11, rows: 1, columns: 1 };
+/// assert_eq!(header.order, 11);
+/// ```
+#[derive(Clone, Copy, Debug, Default, PartialEq, Eq, Hash)]
+#[repr(C)]
+pub struct Header {
+    /// The kind, [`EXPONENT`](crate::EXPONENT) or [`ROOT`](crate::ROOT).
+    pub kind: u32,
+    /// The modulus m.
+    pub modulus: u32,
+    /// The order q of an exponent sheet, the exponent e of a root sheet.
+    pub order: u32,
+    /// The challenge count K. The challenges are 0 to K - 1.
+    pub challenges: u32,
+    /// The rows s.
+    pub rows: u32,
+    /// The columns n.
+    pub columns: u32,
+}
+
+/// A loaded sheet, but for its entries.
+#[derive(Clone, Copy, Debug, Default, PartialEq, Eq, Hash)]
+#[repr(C)]
+pub struct Loaded {
+    /// The refusal.
+    pub refusal: u32,
+    /// The fixed fields.
+    pub header: Header,
+    /// The statement z.
+    pub statement: Places,
+}
+
+/// What a call that writes to a buffer answers.
+#[derive(Clone, Copy, Debug, Default, PartialEq, Eq, Hash)]
+#[repr(C)]
+pub struct Written {
+    /// The refusal.
+    pub refusal: u32,
+    /// How many bytes of the buffer are in use.
+    pub length: usize,
+}
+
+/// One run of the protocol.
+///
+/// ```
+/// # use dimkhoros_sys::Round;
+/// let round = Round { commitment: [9, 0, 0, 0, 0, 0, 0, 0], challenge: 3, response: [4, 0, 0, 0, 0, 0, 0, 0] };
+/// assert_eq!(round.commitment[0], 9);
+/// ```
+#[derive(Clone, Copy, Debug, Default, PartialEq, Eq, Hash)]
+#[repr(C)]
+pub struct Round {
+    /// The commitment t.
+    pub commitment: Places,
+    /// The challenge c.
+    pub challenge: u32,
+    /// The response r.
+    pub response: Places,
+}
+
+/// How many rounds a round file has.
+#[derive(Clone, Copy, Debug, Default, PartialEq, Eq, Hash)]
+#[repr(C)]
+pub struct Counted {
+    /// The refusal.
+    pub refusal: u32,
+    /// The count.
+    pub count: u32,
+}
+
+/// A round that was read from a round file.
+#[derive(Clone, Copy, Debug, Default, PartialEq, Eq, Hash)]
+#[repr(C)]
+pub struct Fetched {
+    /// The refusal.
+    pub refusal: u32,
+    /// The round.
+    pub round: Round,
+}
+
+/// Where a round stands in the caller's file. Both numbers are 0 where it is refused.
+#[derive(Clone, Copy, Debug, Default, PartialEq, Eq, Hash)]
+#[repr(C)]
+pub struct Part {
+    /// The place of its first byte.
+    pub offset: usize,
+    /// How many bytes it has.
+    pub length: usize,
+}
+
+/// A simulated commitment or an extracted witness.
+#[derive(Clone, Copy, Debug, Default, PartialEq, Eq, Hash)]
+#[repr(C)]
+pub struct Computed {
+    /// The refusal.
+    pub refusal: u32,
+    /// The commitment or the witness.
+    pub values: Places,
+}
+
+/// A verdict. It is accepted only where `accepted` is 1: a refused round has 0 there too.
+#[derive(Clone, Copy, Debug, Default, PartialEq, Eq, Hash)]
+#[repr(C)]
+pub struct Judgement {
+    /// The refusal.
+    pub refusal: u32,
+    /// 1 if the two sides agree in every row, else 0.
+    pub accepted: u32,
+    /// Of a rejected round, the first row, from 0, in which they differ.
+    pub row: u32,
+}
+
+/// Peggy's session.
+///
+/// It is a struct of numbers, and a copy of it is as good as the first: whoever answers two challenges from two copies of one
+/// session gives the witness away.
+#[derive(Clone, Copy, Debug, Default, PartialEq, Eq, Hash)]
+#[repr(C)]
+pub struct ProverSession {
+    /// The state, a number of [`phases::prover`](crate::phases::prover) or any other.
+    pub phase: u32,
+    /// The nonce, zeros where none is held.
+    pub nonce: Places,
+    /// The commitment.
+    pub commitment: Places,
+}
+
+/// What a call on Peggy's session answers.
+#[derive(Clone, Copy, Debug, Default, PartialEq, Eq, Hash)]
+#[repr(C)]
+pub struct ProverAnswer {
+    /// The refusal.
+    pub refusal: u32,
+    /// The session to go on with.
+    pub session: ProverSession,
+    /// The commitment or the response.
+    pub values: Places,
+}
+
+/// Vic's session.
+#[derive(Clone, Copy, Debug, Default, PartialEq, Eq, Hash)]
+#[repr(C)]
+pub struct VerifierSession {
+    /// The state, a number of [`phases::verifier`](crate::phases::verifier) or any other.
+    pub phase: u32,
+    /// The commitment.
+    pub commitment: Places,
+    /// The challenge.
+    pub challenge: u32,
+}
+
+/// What bringing a commitment or a challenge to Vic's session answers.
+#[derive(Clone, Copy, Debug, Default, PartialEq, Eq, Hash)]
+#[repr(C)]
+pub struct VerifierAnswer {
+    /// The refusal.
+    pub refusal: u32,
+    /// The session to go on with.
+    pub session: VerifierSession,
+}
+
+/// What bringing a response to Vic's session answers.
+#[derive(Clone, Copy, Debug, Default, PartialEq, Eq, Hash)]
+#[repr(C)]
+pub struct VerifierJudgement {
+    /// The verdict.
+    pub verdict: Judgement,
+    /// The session to go on with.
+    pub session: VerifierSession,
+}

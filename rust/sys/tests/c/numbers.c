@@ -1,0 +1,26 @@
+/* Prints the sizes of the header, its kinds of sheets and its states of sessions. */
+#include "dimkhoros.h"
+#include <stdio.h>
+
+#define PRINT(name) printf("%s %d\n", #name, DIMKHOROS_##name)
+
+int main(void) {
+    PRINT(PLACES);
+    PRINT(ENTRIES);
+    PRINT(LONGEST_SHEET);
+    PRINT(EMPTY_FILE);
+    PRINT(MOST_ROUNDS);
+    PRINT(LONGEST_FILE);
+    PRINT(LONGEST_TEXT);
+    PRINT(EXPONENT);
+    PRINT(ROOT);
+    PRINT(PROVER_NEW);
+    PRINT(PROVER_COMMITTED);
+    PRINT(PROVER_ANSWERED);
+    PRINT(PROVER_DROPPED);
+    PRINT(VERIFIER_WAITING);
+    PRINT(VERIFIER_HOLDING);
+    PRINT(VERIFIER_ASKED);
+    PRINT(VERIFIER_JUDGED);
+    return 0;
+}

@@ -1,0 +1,72 @@
+//! The header, this crate and the archive have the same calls and numbers.
+
+use crate::cc;
+
+use dimkhoros_sys::*;
+use phases::{prover, verifier};
+use std::collections::BTreeSet;
+use std::fmt::Write;
+use std::fs;
+
+/// The constants of this crate, under their names in C and in the order of the C program.
+const CONSTANTS: [(&str, usize); 17] = [
+    ("PLACES", PLACES),
+    ("ENTRIES", ENTRIES),
+    ("LONGEST_SHEET", LONGEST_SHEET),
+    ("EMPTY_FILE", EMPTY_FILE),
+    ("MOST_ROUNDS", MOST_ROUNDS),
+    ("LONGEST_FILE", LONGEST_FILE),
+    ("LONGEST_TEXT", LONGEST_TEXT),
+    ("EXPONENT", EXPONENT as usize),
+    ("ROOT", ROOT as usize),
+    ("PROVER_NEW", prover::NEW as usize),
+    ("PROVER_COMMITTED", prover::COMMITTED as usize),
+    ("PROVER_ANSWERED", prover::ANSWERED as usize),
+    ("PROVER_DROPPED", prover::DROPPED as usize),
+    ("VERIFIER_WAITING", verifier::WAITING as usize),
+    ("VERIFIER_HOLDING", verifier::HOLDING as usize),
+    ("VERIFIER_ASKED", verifier::ASKED as usize),
+    ("VERIFIER_JUDGED", verifier::JUDGED as usize),
+];
+
+#[test]
+fn constants_are_the_same_in_c() {
+    let mut text = String::new();
+    for (name, number) in CONSTANTS {
+        writeln!(text, "{name} {number}").unwrap();
+    }
+    assert_eq!(text, cc::run("numbers.c"));
+}
+
+#[test]
+fn the_header_serves_cpp() {
+    assert_eq!(cc::run("from_cpp.cpp"), "0 1 the buffer is too short for the result\n");
+}
+
+/// The names in a file that begin with the library's name and end where the given byte stands, or anywhere.
+fn names(bytes: &[u8], end: Option<u8>) -> BTreeSet<String> {
+    const START: &[u8] = b"dimkhoros_";
+    let mut names = BTreeSet::new();
+    for place in 0..bytes.len() {
+        if !bytes[place..].starts_with(START) {
+            continue;
+        }
+        let is_part = |byte: &u8| byte.is_ascii_alphanumeric() || *byte == b'_';
+        let name: Vec<u8> = bytes[place..].iter().copied().take_while(is_part).collect();
+        if end.is_none() || bytes.get(place + name.len()).copied() == end {
+            names.insert(String::from_utf8(name).unwrap());
+        }
+    }
+    names
+}
+
+#[test]
+fn the_header_and_this_crate_declare_what_the_archive_exports() {
+    let exported = names(&fs::read(ARCHIVE).unwrap(), None);
+    let mut declared =
+        names(&fs::read(cc::root().join("include/dimkhoros.h")).unwrap(), Some(b'('));
+    assert!(declared.remove("dimkhoros_sentence"), "the header defines it itself");
+    assert_eq!(declared, exported);
+    assert_eq!(names(include_bytes!("../../src/exports.rs"), Some(b'(')), exported);
+    assert_eq!(names(include_bytes!("../../src/calls.rs"), Some(b'(')), exported);
+}

@@ -1,0 +1,6 @@
+//! The tests of what crosses: this crate, the header and the archive agree.
+
+mod cc;
+mod echo;
+mod header;
+mod layout;
