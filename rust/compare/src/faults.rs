@@ -10,7 +10,6 @@ mod sheets;
 mod verifier;
 mod writers;
 
-use crate::judged::Judge;
 use crate::library::{
     Computed, Counted, Fetched, Header, Judgement, Library, Loaded, Part, Places, Plan,
     ProverAnswer, ProverSession, Round, VerifierAnswer, VerifierJudgement, VerifierSession,
@@ -88,7 +87,7 @@ impl Library for Faulty {
     }
 
     fn prover_new(&self) -> ProverSession {
-        Judge.prover_new()
+        prover::new(self.0)
     }
 
     fn prover_commit(&self, sheet: &[u8], session: ProverSession, nonce: &Places) -> ProverAnswer {
@@ -110,7 +109,7 @@ impl Library for Faulty {
     }
 
     fn verifier_new(&self) -> VerifierSession {
-        Judge.verifier_new()
+        verifier::new(self.0)
     }
 
     fn verifier_commitment(
@@ -148,6 +147,7 @@ impl Library for Faulty {
 #[cfg(test)]
 mod tests {
     use super::*;
+    use crate::judged::Judge;
     use crate::making;
     use crate::options::{COUNT, SEED};
     use crate::run::run;

@@ -43,6 +43,7 @@ faults! {
     RefusesAll, "refuses-all", "load refuses every sheet";
     EntriesCleared, "entries-cleared", "entries sets the array to zeros where refused";
     EntriesPacked, "entries-packed", "entries has the rows without a gap";
+    EntriesRootKept, "entries-root-kept", "entries leaves the array as it is in kind 2";
     KindCut, "kind-cut", "encode cuts the kind to a byte";
     RowsCut, "rows-cut", "encode cuts rows and columns to a byte";
     UnreadEntry, "unread-entry", "encode tests an entry beyond the columns";
@@ -71,6 +72,7 @@ faults! {
     CountCarry, "count-carry", "append raises the count's low byte only";
     FullFileShort, "full-file-short", "append gives 22 before 12 for a full file";
     UsedBeyond, "used-beyond", "append gives 22 for more in use than lent";
+    FileUntested, "file-untested", "append takes bytes that are no file of the sheet";
     UsedCut, "used-cut", "append cuts the bytes in use to 32 bits";
     ValuesTested, "values-tested", "append refuses a challenge of K or more";
     CountRaised, "count-raised", "append raises the count though it gives 22";
@@ -107,6 +109,8 @@ faults! {
     ExtractRejectedFirst, "extract-rejected-first", "extract gives 20 before 18 and 19";
     ExtractFirstJudged, "extract-first-judged", "extract judges the first round only";
     ExtractSecondJudged, "extract-second-judged", "extract judges the second round only";
+    ProverNewCommitted, "prover-new-committed", "Peggy's new session is Committed";
+    ProverNewOnes, "prover-new-ones", "Peggy's new session holds ones";
     ProverStill, "prover-still", "Peggy's session never moves";
     ProverPhaseCut, "prover-phase-cut", "Peggy's phase is cut to a byte";
     ProverPhaseMended, "prover-phase-mended", "Peggy's unknown phase comes back as Dropped";
@@ -139,6 +143,8 @@ faults! {
     DropClearsCommitment, "drop-clears-commitment", "drop clears the held commitment";
     DropNewRefused, "drop-new-refused", "drop refuses a new session";
     DropAnswered, "drop-answered", "drop lets Answered through";
+    VerifierNewHolding, "verifier-new-holding", "Vic's new session is Holding";
+    VerifierNewOnes, "verifier-new-ones", "Vic's new session holds ones";
     VerifierStill, "verifier-still", "Vic's session never moves";
     VerifierPhaseCut, "verifier-phase-cut", "Vic's phase is cut to a byte";
     VerifierPhaseMended, "verifier-phase-mended", "Vic's unknown phase comes back as Judged";

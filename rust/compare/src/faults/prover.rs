@@ -16,6 +16,19 @@ fn refused(refusal: u32, session: ProverSession) -> ProverAnswer {
     }
 }
 
+pub fn new(fault: Fault) -> ProverSession {
+    let mut right = Judge.prover_new();
+    match fault {
+        Fault::ProverNewCommitted => right.phase = COMMITTED,
+        Fault::ProverNewOnes => {
+            right.nonce = [1; 8];
+            right.commitment = [1; 8];
+        }
+        _ => {}
+    }
+    right
+}
+
 /// The call with a fault in how the phase is taken or handed back.
 fn with_phase(
     fault: Fault,

@@ -137,10 +137,14 @@ fn load_values(fault: Fault, sheet: &[u8], mut right: Loaded) -> Loaded {
 }
 
 pub fn entries(fault: Fault, sheet: &[u8], entries: &mut [u32; 64]) -> u32 {
+    let before = *entries;
     let loaded = Judge.load(sheet);
     let right = Judge.entries(sheet, entries);
     if fault == Fault::EntriesCleared && right != 0 {
         *entries = [0; 64];
+    }
+    if fault == Fault::EntriesRootKept && loaded.header.kind == 2 {
+        *entries = before;
     }
     if fault == Fault::EntriesPacked && right == 0 {
         let mut packed = [0; 64];

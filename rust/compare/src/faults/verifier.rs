@@ -6,6 +6,19 @@ use crate::judged::Judge;
 use crate::library::phases::verifier::{ASKED, HOLDING, JUDGED, WAITING};
 use crate::library::{Library, Places, VerifierAnswer, VerifierJudgement, VerifierSession};
 
+pub fn new(fault: Fault) -> VerifierSession {
+    let mut right = Judge.verifier_new();
+    match fault {
+        Fault::VerifierNewHolding => right.phase = HOLDING,
+        Fault::VerifierNewOnes => {
+            right.commitment = [1; 8];
+            right.challenge = 1;
+        }
+        _ => {}
+    }
+    right
+}
+
 /// The session as a call with a fault takes it.
 fn taken(fault: Fault, session: VerifierSession) -> VerifierSession {
     let cut = VerifierSession {

@@ -121,20 +121,11 @@ pub fn append(fault: Fault, sheet: &[u8], buffer: &mut [u8], used: usize, round:
     let right = Judge.append(sheet, buffer, used, round);
     let header = Judge.load(sheet).header;
     match (fault, right.refusal) {
+        (_, 12) => append_unfit(fault, sheet, buffer, used, round),
         (Fault::CountCarry, 0) => {
             buffer[5] = before[5];
             right
         }
-        (Fault::FullFileShort, 12) if used <= buffer.len() => {
-            let full = Judge.count(sheet, &buffer[..used]).count == 512;
-            let short = buffer.len() < used + record_length(&header);
-            if full && short {
-                refused(22)
-            } else {
-                right
-            }
-        }
-        (Fault::UsedBeyond, 12) if used > buffer.len() => refused(22),
         (Fault::ValuesTested, 0) if round.challenge >= header.challenges => {
             buffer.copy_from_slice(&before);
             refused(15)
@@ -148,5 +139,35 @@ pub fn append(fault: Fault, sheet: &[u8], buffer: &mut [u8], used: usize, round:
             refused(22)
         }
         _ => right,
+    }
+}
+
+/// Appending where the bytes in use are refused.
+fn append_unfit(
+    fault: Fault,
+    sheet: &[u8],
+    buffer: &mut [u8],
+    used: usize,
+    round: Round,
+) -> Written {
+    let record = record_length(&Judge.load(sheet).header);
+    let Some(file) = buffer.get(..used) else {
+        return refused(if fault == Fault::UsedBeyond { 22 } else { 12 });
+    };
+    let counted = Judge.count(sheet, file);
+    let short = buffer.len() < used + record;
+    match (fault, counted.refusal) {
+        (Fault::FullFileShort, 0) | (Fault::FileUntested, 12) if short => refused(22),
+        (Fault::FileUntested, 12) => {
+            let count = u16::from_be_bytes([buffer[5], buffer[6]]).wrapping_add(1);
+            buffer[5..7].copy_from_slice(&count.to_be_bytes());
+            let mut fresh = vec![0; 7 + record];
+            Judge.empty(&mut fresh);
+            Judge.append(sheet, &mut fresh, 7, round);
+            let length = used + record;
+            buffer[used..length].copy_from_slice(&fresh[7..]);
+            Written { refusal: 0, length }
+        }
+        _ => refused(12),
     }
 }
