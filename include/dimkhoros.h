@@ -134,15 +134,15 @@ typedef struct {
 
 /* A loaded sheet, but for its entries, which dimkhoros_entries gives. */
 typedef struct {
-    uint32_t refusal;
     DimkhorosHeader header;
     uint32_t statement[DIMKHOROS_PLACES];
+    uint32_t refusal;
 } DimkhorosLoaded;
 
 /* What a call that writes to a buffer answers. */
 typedef struct {
-    uint32_t refusal;
     size_t length; /* how many bytes of the buffer are in use */
+    uint32_t refusal;
 } DimkhorosWritten;
 
 /* One run of the protocol. */
@@ -154,14 +154,14 @@ typedef struct {
 
 /* How many rounds a round file has. */
 typedef struct {
-    uint32_t refusal;
     uint32_t count;
+    uint32_t refusal;
 } DimkhorosCounted;
 
 /* A round that was read from a round file. */
 typedef struct {
-    uint32_t refusal;
     DimkhorosRound round;
+    uint32_t refusal;
 } DimkhorosFetched;
 
 /* Where a round stands in the caller's own file: file + offset is its first byte. The length is 0 where it is refused. */
@@ -172,15 +172,15 @@ typedef struct {
 
 /* A simulated commitment or an extracted witness. */
 typedef struct {
-    uint32_t refusal;
     uint32_t values[DIMKHOROS_PLACES];
+    uint32_t refusal;
 } DimkhorosComputed;
 
 /* A verdict. It is accepted only where `accepted` is 1: a refused round has 0 there too. */
 typedef struct {
-    uint32_t refusal;
     uint32_t accepted; /* 1 if the two sides agree in every row, else 0 */
     uint32_t row;      /* of a rejected round, the first row, from 0, in which they differ */
+    uint32_t refusal;
 } DimkhorosJudgement;
 
 /*
@@ -192,29 +192,29 @@ typedef struct {
  * Any phase beyond the four is a state that allows no call.
  */
 typedef struct {
-    uint32_t phase;
     uint32_t nonce[DIMKHOROS_PLACES];
     uint32_t commitment[DIMKHOROS_PLACES];
+    uint32_t phase;
 } DimkhorosProverSession;
 
 /* What a call on Peggy's session answers. */
 typedef struct {
-    uint32_t refusal;
     DimkhorosProverSession session;
     uint32_t values[DIMKHOROS_PLACES]; /* the commitment or the response */
+    uint32_t refusal;
 } DimkhorosProverAnswer;
 
 /* Vic's session. Each call takes one and hands one back. Any phase beyond the four is a state that allows no call. */
 typedef struct {
-    uint32_t phase;
     uint32_t commitment[DIMKHOROS_PLACES];
     uint32_t challenge;
+    uint32_t phase;
 } DimkhorosVerifierSession;
 
 /* What bringing a commitment or a challenge to Vic's session answers. */
 typedef struct {
-    uint32_t refusal;
     DimkhorosVerifierSession session;
+    uint32_t refusal;
 } DimkhorosVerifierAnswer;
 
 /* What bringing a response to Vic's session answers. */

@@ -1,8 +1,8 @@
--- The three numbers of a verdict tell it: no two verdicts that calls give have the same.
+-- The three numbers of each verdict, and that they tell it: no two verdicts that calls give have the same.
 -- Assumes nothing.
 use Prim.Native.Nat.{ℕ, _<_}
 use mathlib.Core.Path.{_≡_, refl, sym, ap}
-use mathlib.Core.Logic.{_≢_}
+use mathlib.Core.Logic.{_↔_, _≢_}
 use mathlib.Core.List.{List}
 use native.Mathlib.Omega.{arith}
 use Rattle.types.specs.declared.Round.{Round}
@@ -17,6 +17,31 @@ use Rattle.runs.specs.Calls.{judgeRound}
 use Rattle.runs.specs.Verifier.{takeResponse, takeResponseAfter}
 use Rattle.crossing.specs.Verdicts.{judgement}
 use Rattle.crossing.specs.declared.Judgement.{Judgement}
+
+-- an accepted round has 1 for accepted
+pub judgement-accepted : judgement Accepted ≡ record { refusal = 0; accepted = 1; row = 0 }
+unfolding judgement outcome
+judgement-accepted = refl
+
+-- a rejected round has its row
+pub judgement-rejected : (row : ℕ) → judgement (Rejected row) ≡ record { refusal = 0; accepted = 0; row = row }
+unfolding judgement outcome
+judgement-rejected row = refl
+
+-- a refused round has its number
+pub judgement-refused : (number : ℕ) → judgement (Refused number) ≡ record { refusal = number; accepted = 0; row = 0 }
+unfolding judgement outcome
+judgement-refused number = refl
+
+-- so a round is accepted exactly where that number is 1
+pub accepted-told : (v : Verdict) → (judgement v .accepted ≡ 1) ↔ (v ≡ Accepted)
+unfolding judgement outcome
+accepted-told v = (accepted v, ap (λ (v : Verdict). judgement v .accepted))
+  where
+    accepted : (v : Verdict) → judgement v .accepted ≡ 1 → v ≡ Accepted
+    accepted Accepted e = refl
+    accepted (Rejected row) e = absurd (omega arith)
+    accepted (Refused number) e = absurd (omega arith)
 
 -- two verdicts with the same three numbers are the same, if neither is a refusal with 0
 pub judgement-injective : (v w : Verdict) → v ≢ Refused 0 → w ≢ Refused 0 → judgement v ≡ judgement w → v ≡ w

@@ -55,6 +55,12 @@ module _ (call : ProverCall) (s : ProverSession) where
   unfolding proverAnswer
   refused-kept refused = unlessRefused-positive _ s _ refused
 
+  -- the number, and the commitment or the response, are the call's
+  pub values-kept : (answeredProver call s .refusal ≡ callProver call (proverOf s) .refusal)
+      × (answeredProver call s .values ≡ callProver call (proverOf s) .values)
+  unfolding proverAnswer
+  values-kept = (refl, refl)
+
   -- the session handed back is the one after the call
   pub handed-on : proverOf (answeredProver call s .session) ≡ callProver call (proverOf s) .session
   unfolding proverAnswer

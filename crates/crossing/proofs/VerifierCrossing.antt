@@ -50,7 +50,7 @@ in-and-out s few = rw (state-of-phase (s .phase) few)
 -- ---- the calls
 
 -- the number in an answer is that of the call
-answered-refusal : (call : VerifierCall) (s : VerifierSession) → answeredRefusal call s ≡ refusalOf (callVerifier call (verifierOf s))
+pub answered-refusal : (call : VerifierCall) (s : VerifierSession) → answeredRefusal call s ≡ refusalOf (callVerifier call (verifierOf s))
 unfolding answeredRefusal refusalOf callVerifier verifierAnswer verifierJudgement judgement
 answered-refusal (Commitment sheet t) s = refl
 answered-refusal (Challenge sheet c) s = refl

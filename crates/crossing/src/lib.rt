@@ -16,42 +16,42 @@ pub use verifiers::verifier_session;
 // A verdict: accepted is 1, rejected is 0 with the first differing row, and refused is the number beside zeros.
 #[repr(C)]
 pub struct Judgement {
-    pub refusal: u32,
     pub accepted: u32,
     pub row: u32,
+    pub refusal: u32,
 }
 
 // Peggy's session: the phase is 0 for New, 1 for Committed, 2 for Answered, 3 for Dropped. Any other number is a state that
 // allows no call.
 #[repr(C)]
 pub struct ProverSession {
-    pub phase: u32,
     pub nonce: [u32; 8],
     pub commitment: [u32; 8],
+    pub phase: u32,
 }
 
 // What a call on Peggy's session answers: the session handed back, and a commitment or a response.
 #[repr(C)]
 pub struct ProverAnswer {
-    pub refusal: u32,
     pub session: ProverSession,
     pub values: [u32; 8],
+    pub refusal: u32,
 }
 
 // Vic's session: the phase is 0 for Waiting, 1 for Holding, 2 for Asked, 3 for Judged. Any other number is a state that allows
 // no call.
 #[repr(C)]
 pub struct VerifierSession {
-    pub phase: u32,
     pub commitment: [u32; 8],
     pub challenge: u32,
+    pub phase: u32,
 }
 
 // What bringing a commitment or a challenge to Vic's session answers.
 #[repr(C)]
 pub struct VerifierAnswer {
-    pub refusal: u32,
     pub session: VerifierSession,
+    pub refusal: u32,
 }
 
 // What bringing a response to Vic's session answers.

@@ -1,3 +1,4 @@
 -- The demands hold.
 pub mod ReadsBack
+pub mod MarksFiles
 pub mod Demands

@@ -8,6 +8,7 @@ use Rattle.formats.specs.Load.{loadRefusal}
 use Rattle.runs.specs.Demand1.{Demand1}
 use Rattle.runs.specs.Demand2.{Demand2}
 use Rattle.runs.specs.Demand3.{Demand3}
+use Rattle.demands.specs.MarksFiles.{MarksFiles}
 use Rattle.demands.specs.ReadsBack.{ReadsBack}
 
 pub record Demands : Type 0 where
@@ -18,6 +19,8 @@ pub record Demands : Type 0 where
   pub protocol : (sheet : List ℕ) → loadRefusal sheet ≡ 0 → Demand2 sheet
   -- and what is written reads back, and what reads is written back
   pub files : ReadsBack
+  -- and the marker's text on a sheet and a round file is what these verdicts make it
+  pub marker : MarksFiles
   -- 3: the extractor gives a witness, and simulated and honest rounds are exactly the accepted ones, each met once, for every
   -- sheet that loads
   pub knowledge : (sheet : List ℕ) → loadRefusal sheet ≡ 0 → Demand3 sheet

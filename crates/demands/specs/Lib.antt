@@ -1,3 +1,4 @@
 -- What is demanded of the calls.
 pub mod ReadsBack
+pub mod MarksFiles
 pub mod Demands

@@ -133,7 +133,8 @@ pub record VerifierRefusals : Type 0 where
       (outcome (takeResponse sheet v r .verdict) .number)
       (takeResponse sheet v r ≡ record { verdict = Refused (outcome (takeResponse sheet v r .verdict) .number); session = v })
 
--- demand 1: every call but the two that make a new session, which take nothing and refuse nothing
+-- demand 1: every call but the two that make a new session, which take nothing and refuse nothing, and the marker's, whose
+-- lines name what is refused
 pub record Demand1 : Type 0 where
   pub sheets : SheetRefusals
   pub files : FileRefusals

@@ -1,6 +1,7 @@
 // The structs and enums of the calls. There are no functions here, so that the definitions speak of the very records
 // that the code returns. A refusal is its number in 01, and 0 where nothing is refused. Structs of plain numbers have the
-// layout of C, so that they cross to other languages as they are.
+// layout of C, so that they cross to other languages as they are. Arrays stand first in a session and the refusal last in an
+// answer, since copies are made in steps of 16 bytes and are quickest where arrays start at a step.
 
 // The fixed fields of a sheet: kind 1 (exponent) or 2 (root), the modulus m, the order q of kind 1 or the exponent e of
 // kind 2, the challenge count K, the rows s and the columns n.
@@ -17,9 +18,9 @@ pub struct Header {
 // What loading a sheet answers, but for the entries, which are an array of arrays and stand beside it.
 #[repr(C)]
 pub struct Loaded {
-    pub refusal: u32,
     pub header: Header,
     pub statement: [u32; 8],
+    pub refusal: u32,
 }
 
 // A row of the pattern table: rows, columns, how many public values, and the digits, row i, column j at 3 i + j.
@@ -33,8 +34,8 @@ pub struct Pattern {
 // What a call that writes into a lent buffer answers: the length of what stands in it.
 #[repr(C)]
 pub struct Written {
-    pub refusal: u32,
     pub length: usize,
+    pub refusal: u32,
 }
 
 // A round: commitment t, challenge c and response r.
@@ -48,15 +49,15 @@ pub struct Round {
 // How many rounds a round file has.
 #[repr(C)]
 pub struct Counted {
-    pub refusal: u32,
     pub count: u32,
+    pub refusal: u32,
 }
 
 // A round as it stands in a round file.
 #[repr(C)]
 pub struct Fetched {
-    pub refusal: u32,
     pub round: Round,
+    pub refusal: u32,
 }
 
 // What judging a round answers: accepted, rejected with the first differing row, or refused with a number.
@@ -69,8 +70,8 @@ pub enum Verdict {
 // What simulating answers, a commitment, and what extracting answers, a witness.
 #[repr(C)]
 pub struct Computed {
-    pub refusal: u32,
     pub values: [u32; 8],
+    pub refusal: u32,
 }
 
 // The states of Peggy's session.
@@ -83,16 +84,16 @@ pub enum ProverPhase {
 
 // Peggy's session.
 pub struct Prover {
-    pub phase: ProverPhase,
     pub nonce: [u32; 8],
     pub commitment: [u32; 8],
+    pub phase: ProverPhase,
 }
 
 // What a call on Peggy's session answers: the session handed back, and a commitment or a response.
 pub struct ProverStep {
-    pub refusal: u32,
     pub session: Prover,
     pub values: [u32; 8],
+    pub refusal: u32,
 }
 
 // The states of Vic's session.
@@ -105,15 +106,15 @@ pub enum VerifierPhase {
 
 // Vic's session.
 pub struct Verifier {
-    pub phase: VerifierPhase,
     pub commitment: [u32; 8],
     pub challenge: u32,
+    pub phase: VerifierPhase,
 }
 
 // What bringing a commitment or a challenge to Vic's session answers.
 pub struct VerifierStep {
-    pub refusal: u32,
     pub session: Verifier,
+    pub refusal: u32,
 }
 
 // What bringing a response to Vic's session answers.

@@ -13,7 +13,7 @@
 //! let mut round = Round { challenge: 3, ..Round::default() };
 //! round.commitment[0] = 9;
 //! round.response[0] = 4;
-//! assert_eq!(judge(sheet, &round), Judgement { refusal: 0, accepted: 1, row: 0 });
+//! assert_eq!(judge(sheet, &round), Judgement { accepted: 1, row: 0, refusal: 0 });
 //! ```
 
 #![no_std]

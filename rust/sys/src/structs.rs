@@ -31,22 +31,22 @@ pub struct Header {
 #[derive(Clone, Copy, Debug, Default, PartialEq, Eq, Hash)]
 #[repr(C)]
 pub struct Loaded {
-    /// The refusal.
-    pub refusal: u32,
     /// The fixed fields.
     pub header: Header,
     /// The statement z.
     pub statement: Places,
+    /// The refusal.
+    pub refusal: u32,
 }
 
 /// What a call that writes to a buffer answers.
 #[derive(Clone, Copy, Debug, Default, PartialEq, Eq, Hash)]
 #[repr(C)]
 pub struct Written {
-    /// The refusal.
-    pub refusal: u32,
     /// How many bytes of the buffer are in use.
     pub length: usize,
+    /// The refusal.
+    pub refusal: u32,
 }
 
 /// One run of the protocol.
@@ -71,20 +71,20 @@ pub struct Round {
 #[derive(Clone, Copy, Debug, Default, PartialEq, Eq, Hash)]
 #[repr(C)]
 pub struct Counted {
-    /// The refusal.
-    pub refusal: u32,
     /// The count.
     pub count: u32,
+    /// The refusal.
+    pub refusal: u32,
 }
 
 /// A round that was read from a round file.
 #[derive(Clone, Copy, Debug, Default, PartialEq, Eq, Hash)]
 #[repr(C)]
 pub struct Fetched {
-    /// The refusal.
-    pub refusal: u32,
     /// The round.
     pub round: Round,
+    /// The refusal.
+    pub refusal: u32,
 }
 
 /// Where a round stands in the caller's file. Both numbers are 0 where it is refused.
@@ -101,22 +101,22 @@ pub struct Part {
 #[derive(Clone, Copy, Debug, Default, PartialEq, Eq, Hash)]
 #[repr(C)]
 pub struct Computed {
-    /// The refusal.
-    pub refusal: u32,
     /// The commitment or the witness.
     pub values: Places,
+    /// The refusal.
+    pub refusal: u32,
 }
 
 /// A verdict. It is accepted only where `accepted` is 1: a refused round has 0 there too.
 #[derive(Clone, Copy, Debug, Default, PartialEq, Eq, Hash)]
 #[repr(C)]
 pub struct Judgement {
-    /// The refusal.
-    pub refusal: u32,
     /// 1 if the two sides agree in every row, else 0.
     pub accepted: u32,
     /// Of a rejected round, the first row, from 0, in which they differ.
     pub row: u32,
+    /// The refusal.
+    pub refusal: u32,
 }
 
 /// Peggy's session.
@@ -126,46 +126,46 @@ pub struct Judgement {
 #[derive(Clone, Copy, Debug, Default, PartialEq, Eq, Hash)]
 #[repr(C)]
 pub struct ProverSession {
-    /// The state, a number of [`phases::prover`](crate::phases::prover) or any other.
-    pub phase: u32,
     /// The nonce, zeros where none is held.
     pub nonce: Places,
     /// The commitment.
     pub commitment: Places,
+    /// The state, a number of [`phases::prover`](crate::phases::prover) or any other.
+    pub phase: u32,
 }
 
 /// What a call on Peggy's session answers.
 #[derive(Clone, Copy, Debug, Default, PartialEq, Eq, Hash)]
 #[repr(C)]
 pub struct ProverAnswer {
-    /// The refusal.
-    pub refusal: u32,
     /// The session to go on with.
     pub session: ProverSession,
     /// The commitment or the response.
     pub values: Places,
+    /// The refusal.
+    pub refusal: u32,
 }
 
 /// Vic's session.
 #[derive(Clone, Copy, Debug, Default, PartialEq, Eq, Hash)]
 #[repr(C)]
 pub struct VerifierSession {
-    /// The state, a number of [`phases::verifier`](crate::phases::verifier) or any other.
-    pub phase: u32,
     /// The commitment.
     pub commitment: Places,
     /// The challenge.
     pub challenge: u32,
+    /// The state, a number of [`phases::verifier`](crate::phases::verifier) or any other.
+    pub phase: u32,
 }
 
 /// What bringing a commitment or a challenge to Vic's session answers.
 #[derive(Clone, Copy, Debug, Default, PartialEq, Eq, Hash)]
 #[repr(C)]
 pub struct VerifierAnswer {
-    /// The refusal.
-    pub refusal: u32,
     /// The session to go on with.
     pub session: VerifierSession,
+    /// The refusal.
+    pub refusal: u32,
 }
 
 /// What bringing a response to Vic's session answers.

@@ -17,12 +17,11 @@ static void print_places(const uint32_t places[8]) {
 }
 
 static void print_loaded(DimkhorosLoaded a) {
-    printf("Loaded { refusal: %u, header: Header { kind: %u, modulus: %u, order: %u, challenges: %u, rows: %u, columns: %u }",
-           a.refusal, a.header.kind, a.header.modulus, a.header.order, a.header.challenges, a.header.rows,
-           a.header.columns);
+    printf("Loaded { header: Header { kind: %u, modulus: %u, order: %u, challenges: %u, rows: %u, columns: %u }",
+           a.header.kind, a.header.modulus, a.header.order, a.header.challenges, a.header.rows, a.header.columns);
     printf(", statement: ");
     print_places(a.statement);
-    printf(" }\n");
+    printf(", refusal: %u }\n", a.refusal);
 }
 
 /* What asking for a sheet's entries answers, and what then stands in an array of ones in each byte. */
@@ -38,11 +37,11 @@ static void print_entries(const uint8_t *sheet, size_t length) {
 }
 
 static void print_written(DimkhorosWritten a) {
-    printf("Written { refusal: %u, length: %zu }\n", a.refusal, a.length);
+    printf("Written { length: %zu, refusal: %u }\n", a.length, a.refusal);
 }
 
 static void print_counted(DimkhorosCounted a) {
-    printf("Counted { refusal: %u, count: %u }\n", a.refusal, a.count);
+    printf("Counted { count: %u, refusal: %u }\n", a.count, a.refusal);
 }
 
 static void print_part(DimkhorosPart a) {
@@ -50,21 +49,21 @@ static void print_part(DimkhorosPart a) {
 }
 
 static void print_fetched(DimkhorosFetched a) {
-    printf("Fetched { refusal: %u, round: Round { commitment: ", a.refusal);
+    printf("Fetched { round: Round { commitment: ");
     print_places(a.round.commitment);
     printf(", challenge: %u, response: ", a.round.challenge);
     print_places(a.round.response);
-    printf(" } }\n");
+    printf(" }, refusal: %u }\n", a.refusal);
 }
 
 static void print_computed(DimkhorosComputed a) {
-    printf("Computed { refusal: %u, values: ", a.refusal);
+    printf("Computed { values: ");
     print_places(a.values);
-    printf(" }\n");
+    printf(", refusal: %u }\n", a.refusal);
 }
 
 static void print_verdict(DimkhorosJudgement a) {
-    printf("Judgement { refusal: %u, accepted: %u, row: %u }", a.refusal, a.accepted, a.row);
+    printf("Judgement { accepted: %u, row: %u, refusal: %u }", a.accepted, a.row, a.refusal);
 }
 
 static void print_judgement(DimkhorosJudgement a) {
@@ -73,31 +72,31 @@ static void print_judgement(DimkhorosJudgement a) {
 }
 
 static void print_prover_session(DimkhorosProverSession a) {
-    printf("ProverSession { phase: %u, nonce: ", a.phase);
+    printf("ProverSession { nonce: ");
     print_places(a.nonce);
     printf(", commitment: ");
     print_places(a.commitment);
-    printf(" }");
+    printf(", phase: %u }", a.phase);
 }
 
 static void print_prover_answer(DimkhorosProverAnswer a) {
-    printf("ProverAnswer { refusal: %u, session: ", a.refusal);
+    printf("ProverAnswer { session: ");
     print_prover_session(a.session);
     printf(", values: ");
     print_places(a.values);
-    printf(" }\n");
+    printf(", refusal: %u }\n", a.refusal);
 }
 
 static void print_verifier_session(DimkhorosVerifierSession a) {
-    printf("VerifierSession { phase: %u, commitment: ", a.phase);
+    printf("VerifierSession { commitment: ");
     print_places(a.commitment);
-    printf(", challenge: %u }", a.challenge);
+    printf(", challenge: %u, phase: %u }", a.challenge, a.phase);
 }
 
 static void print_verifier_answer(DimkhorosVerifierAnswer a) {
-    printf("VerifierAnswer { refusal: %u, session: ", a.refusal);
+    printf("VerifierAnswer { session: ");
     print_verifier_session(a.session);
-    printf(" }\n");
+    printf(", refusal: %u }\n", a.refusal);
 }
 
 static void print_verifier_judgement(DimkhorosVerifierJudgement a) {

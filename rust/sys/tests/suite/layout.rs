@@ -27,18 +27,18 @@ macro_rules! describe {
 fn every_struct_is_laid_out_as_in_c() {
     let mut text = String::new();
     describe!(text, Header { kind, modulus, order, challenges, rows, columns });
-    describe!(text, Loaded { refusal, header, statement });
-    describe!(text, Written { refusal, length });
+    describe!(text, Loaded { header, statement, refusal });
+    describe!(text, Written { length, refusal });
     describe!(text, Round { commitment, challenge, response });
-    describe!(text, Counted { refusal, count });
-    describe!(text, Fetched { refusal, round });
+    describe!(text, Counted { count, refusal });
+    describe!(text, Fetched { round, refusal });
     describe!(text, Part { offset, length });
-    describe!(text, Computed { refusal, values });
-    describe!(text, Judgement { refusal, accepted, row });
-    describe!(text, ProverSession { phase, nonce, commitment });
-    describe!(text, ProverAnswer { refusal, session, values });
-    describe!(text, VerifierSession { phase, commitment, challenge });
-    describe!(text, VerifierAnswer { refusal, session });
+    describe!(text, Computed { values, refusal });
+    describe!(text, Judgement { accepted, row, refusal });
+    describe!(text, ProverSession { nonce, commitment, phase });
+    describe!(text, ProverAnswer { session, values, refusal });
+    describe!(text, VerifierSession { commitment, challenge, phase });
+    describe!(text, VerifierAnswer { session, refusal });
     describe!(text, VerifierJudgement { verdict, session });
     assert_eq!(text, cc::run("layout.c"));
 }
