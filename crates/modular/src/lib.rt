@@ -72,7 +72,7 @@ pub fn gcd(a: u32, b: u32) -> u32
 }
 
 // The inverse of v modulo m, for a v that has no divisor in common with m, by Euclid's algorithm on m and v. At each turn
-// v times s is x modulo m, and v times t is y.
+// v times s is x and v times t is -y modulo m, or both with the other sign. Which it is at the end is tried.
 pub fn inverse(v: u32, m: u32) -> u32
     requires { ⌜ (1 < m) × (gcd v m ≡ 1) ⌝ }
     ensures value { λ r. ⌜ r ≡ inverse m v ⌝ }
@@ -85,13 +85,16 @@ pub fn inverse(v: u32, m: u32) -> u32
     while y > 0 {
         let quotient = x / y;
         let rest = x % y;
-        let next = sub_mod(s, mul_mod(quotient, t, m), m);
+        let next = s + quotient * t;
         x = y;
         y = rest;
         s = t;
         t = next;
     }
-    s
+    if mul_mod(v, s, m) == 1 {
+        return s;
+    }
+    m - s
 }
 
 // What a search for a divisor finds.
