@@ -3,7 +3,7 @@
 pub use dimkhoros_sys::{
     phases, Computed, Counted, Fetched, Header, Judgement, Loaded, Part, Places, ProverAnswer,
     ProverSession, Round, VerifierAnswer, VerifierJudgement, VerifierSession, Written,
-    LONGEST_TEXT, MOST_ROUNDS,
+    LONGEST_FILE, LONGEST_SHEET, LONGEST_TEXT, MOST_ROUNDS,
 };
 
 /// The numbers that the sheet maker takes.
