@@ -158,7 +158,7 @@ mod tests {
         for number in 0..COUNT {
             let case = making::case(SEED, number);
             let judged = case.run(&Judge);
-            left.retain(|planted| judged.agrees(&case.run(&Faulty(planted.fault))));
+            left.retain(|planted| judged == case.run(&Faulty(planted.fault)));
             if left.is_empty() {
                 return;
             }
