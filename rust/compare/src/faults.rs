@@ -40,7 +40,7 @@ impl Library for Faulty {
         writers::encode(self.0, header, entries, statement, buffer)
     }
 
-    fn sheet_from_pattern(
+    fn from_pattern(
         &self,
         plan: Plan,
         values: &[u32],

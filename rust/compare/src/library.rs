@@ -31,7 +31,7 @@ pub trait Library {
         buffer: &mut [u8],
     ) -> Written;
 
-    fn sheet_from_pattern(
+    fn from_pattern(
         &self,
         plan: Plan,
         values: &[u32],
