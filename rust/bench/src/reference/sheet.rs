@@ -55,9 +55,18 @@ pub fn load(bytes: &[u8]) -> Result<Sheet, u32> {
     Ok(sheet)
 }
 
-/// The values of a sheet of the right shape: refusals 2 to 9.
-fn shape(bytes: &[u8]) -> Result<Sheet, u32> {
-    let (head, body) = bytes.split_first_chunk::<20>().ok_or(2u32)?;
+/// The fixed fields of a sheet.
+struct Header {
+    kind: Kind,
+    modulus: u32,
+    order: u32,
+    challenges: u32,
+    rows: usize,
+    columns: usize,
+}
+
+/// The fixed fields of a sheet: refusals 2 to 8.
+fn header(head: &[u8; 20]) -> Result<Header, u32> {
     if head[..3] != *b"HOM" {
         return Err(2);
     }
@@ -88,6 +97,27 @@ fn shape(bytes: &[u8]) -> Result<Sheet, u32> {
     if !(2..=65_536).contains(&challenges) || has_divisor(order, challenges) {
         return Err(8);
     }
+    Ok(Header {
+        kind,
+        modulus,
+        order,
+        challenges,
+        rows,
+        columns,
+    })
+}
+
+/// The values of a sheet of the right shape: refusals 2 to 9.
+fn shape(bytes: &[u8]) -> Result<Sheet, u32> {
+    let (head, body) = bytes.split_first_chunk::<20>().ok_or(2u32)?;
+    let Header {
+        kind,
+        modulus,
+        order,
+        challenges,
+        rows,
+        columns,
+    } = header(head)?;
     let count = if kind == Kind::Exponent {
         rows * columns
     } else {
