@@ -87,10 +87,9 @@ fn header(head: &[u8; 20]) -> Result<Header, u32> {
         return Err(6);
     }
     let (rows, columns) = (usize::from(head[18]), usize::from(head[19]));
-    if !(1..=8).contains(&rows) || !(1..=8).contains(&columns) {
-        return Err(7);
-    }
-    if kind == Kind::Root && rows != columns {
+    let sides = 1..=8;
+    let differ = kind == Kind::Root && rows != columns;
+    if !sides.contains(&rows) || !sides.contains(&columns) || differ {
         return Err(7);
     }
     let challenges = word(head, 14);
