@@ -2,9 +2,12 @@
  * The C interface of Dimkhoros: Maurer's proof of knowledge of a preimage under a group homomorphism, on numbers of at
  * most 32 bits. It is for C11 and C++ on x86-64 Linux.
  *
- * To link. `rt staticlib interface` writes target/staticlib/libinterface.a. A program is built by
+ * To link. At the root of the repository `rt staticlib interface` writes target/staticlib/libinterface.a. There a program is
+ * built by
  *
  *     cc -std=c11 -I include program.c target/staticlib/libinterface.a
+ *
+ * and elsewhere with the whole paths of the two. The archive stands behind the sources that call it.
  *
  * The archive needs memcpy and memset and nothing else. It allocates nothing and keeps nothing between calls, so calls may
  * run in several threads at once.
