@@ -2,9 +2,12 @@
  * The C interface of Dimkhoros: Maurer's proof of knowledge of a preimage under a group homomorphism, on numbers of at
  * most 32 bits. It is for C11 and C++ on x86-64 Linux.
  *
- * To link. `rt staticlib interface` writes target/staticlib/libinterface.a. A program is built by
+ * To link. At the root of the repository `rt staticlib interface` writes target/staticlib/libinterface.a. There a program is
+ * built by
  *
  *     cc -std=c11 -I include program.c target/staticlib/libinterface.a
+ *
+ * and elsewhere with the whole paths of the two. The archive stands behind the sources that call it.
  *
  * The archive needs memcpy and memset and nothing else. It allocates nothing and keeps nothing between calls, so calls may
  * run in several threads at once.
@@ -48,7 +51,7 @@ extern "C" {
 #define DIMKHOROS_EMPTY_FILE 7       /* bytes of a round file without rounds */
 #define DIMKHOROS_MOST_ROUNDS 512    /* rounds in the fullest round file */
 #define DIMKHOROS_LONGEST_FILE 34823 /* bytes of the longest round file */
-#define DIMKHOROS_LONGEST_TEXT 7696  /* bytes that hold the marker's longest text */
+#define DIMKHOROS_LONGEST_TEXT 7696  /* bytes that hold every text of the marker */
 
 /* Kinds of sheets. */
 #define DIMKHOROS_EXPONENT 1 /* the image multiplies powers of the table's entries; the witness is in the exponents */
@@ -323,7 +326,7 @@ DimkhorosProverAnswer dimkhoros_prover_commit(const uint8_t *sheet, size_t sheet
 
 /*
  * Answers the response of a committed session to a challenge, by a witness, and sets the nonce to zeros. Leads to Answered.
- * Refuses 2 to 11, 15 to 17 and 21; a refused session can still answer.
+ * Refuses 2 to 11, 15 to 17 and 21; a committed session that is refused stays committed and can still answer.
  */
 DimkhorosProverAnswer dimkhoros_prover_respond(const uint8_t *sheet, size_t sheet_length, DimkhorosProverSession session,
                                                uint32_t challenge, const uint32_t witness[DIMKHOROS_PLACES]);

@@ -40,7 +40,7 @@ impl Library for Faulty {
         writers::encode(self.0, header, entries, statement, buffer)
     }
 
-    fn sheet_from_pattern(
+    fn from_pattern(
         &self,
         plan: Plan,
         values: &[u32],
@@ -158,7 +158,7 @@ mod tests {
         for number in 0..COUNT {
             let case = making::case(SEED, number);
             let judged = case.run(&Judge);
-            left.retain(|planted| judged.agrees(&case.run(&Faulty(planted.fault))));
+            left.retain(|planted| judged == case.run(&Faulty(planted.fault)));
             if left.is_empty() {
                 return;
             }

@@ -42,7 +42,7 @@ impl Library for Judge {
         written(judge::encode(&sheet, buffer))
     }
 
-    fn sheet_from_pattern(
+    fn from_pattern(
         &self,
         plan: Plan,
         values: &[u32],

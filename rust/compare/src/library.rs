@@ -3,7 +3,7 @@
 pub use dimkhoros_sys::{
     phases, Computed, Counted, Fetched, Header, Judgement, Loaded, Part, Places, ProverAnswer,
     ProverSession, Round, VerifierAnswer, VerifierJudgement, VerifierSession, Written,
-    LONGEST_TEXT, MOST_ROUNDS,
+    LONGEST_FILE, LONGEST_SHEET, LONGEST_TEXT, MOST_ROUNDS,
 };
 
 /// The numbers that the sheet maker takes.
@@ -31,7 +31,7 @@ pub trait Library {
         buffer: &mut [u8],
     ) -> Written;
 
-    fn sheet_from_pattern(
+    fn from_pattern(
         &self,
         plan: Plan,
         values: &[u32],

@@ -1,11 +1,12 @@
 //! Compares the proved library with the judge.
 //!
-//! Each case is one call, or a run of both sessions, with inputs made from the
-//! seed. Both libraries get it, and every field of the answers and every byte
-//! of a lent buffer must be the same. The first difference is printed and ends
-//! the run. Then page K is run in both, and demand 3 is tried on small sheets.
-//! Exit status: 0 no difference, 1 a difference or a number met too seldom, 2
-//! wrong words or a folder in which nothing can be stored.
+//! First the program `marker` is run in some folders. Then each case is one
+//! call, or a run of both sessions, with inputs made from the seed. Both
+//! libraries get it, and every field of the answers and every byte of a lent
+//! buffer must be the same. The first difference is printed and ends the run.
+//! Last page K is run in both, and demand 3 is tried on small sheets. Exit
+//! status: 0 no difference, 1 a difference, a number met too seldom or no
+//! program `marker`, 2 wrong words or a folder in which nothing can be stored.
 
 #![forbid(unsafe_code)]
 
@@ -26,6 +27,7 @@ mod options;
 mod outcome;
 mod page_k;
 mod printing;
+mod program;
 mod proved;
 mod random;
 mod run;
@@ -40,6 +42,7 @@ use faults::Faulty;
 use judged::Judge;
 use library::Library;
 use options::{Options, Other, COUNT};
+use program::PROGRAM;
 use proved::Proved;
 
 /// The fewest times that a full run must meet each number and verdict.
@@ -79,30 +82,32 @@ fn store(folder: &Path) -> ExitCode {
 
 /// Compares the library with the judge and prints what comes out.
 fn compare(options: &Options, library: &dyn Library) -> ExitCode {
-    let Options { seed, count, .. } = options;
-    println!("seed {seed}, {count} cases");
-    let tally = match run::run(*seed, *count, library) {
-        Ok(tally) => tally,
-        Err(difference) => {
-            println!("{difference}");
-            return ExitCode::FAILURE;
+    println!("seed {}, {} cases", options.seed, options.count);
+    match stages(options, library) {
+        Ok(()) => {
+            println!("no difference");
+            ExitCode::SUCCESS
         }
-    };
+        Err(text) => {
+            println!("{text}");
+            ExitCode::FAILURE
+        }
+    }
+}
+
+/// Prints what comes out of each stage. An error is the text of one that fails.
+fn stages(options: &Options, library: &dyn Library) -> Result<(), String> {
+    if options.other == Other::Proved {
+        println!("{}", program::check(options.seed, Path::new(PROGRAM))?);
+    }
+    let tally = run::run(options.seed, options.count, library)
+        .map_err(|difference| difference.to_string())?;
     println!("{tally}");
     let lacks = tally.lacks(FEWEST);
-    if *count >= COUNT && !lacks.is_empty() {
-        println!("{}", lacks.join("\n"));
-        return ExitCode::FAILURE;
+    if options.count >= COUNT && !lacks.is_empty() {
+        return Err(lacks.join("\n"));
     }
-    for check in [page_k::check, demand_three::check] {
-        match check(library) {
-            Ok(line) => println!("{line}"),
-            Err(text) => {
-                println!("{text}");
-                return ExitCode::FAILURE;
-            }
-        }
-    }
-    println!("no difference");
-    ExitCode::SUCCESS
+    println!("{}", page_k::check(library)?);
+    println!("{}", demand_three::check(library)?);
+    Ok(())
 }

@@ -18,7 +18,7 @@ use std::iter::repeat_n;
 use crate::cases::Case;
 use crate::random::Random;
 
-pub use marking::mark_case;
+pub use marking::{mark_case, mark_file};
 
 /// Makes a case of one call or of a run.
 type Maker = fn(&mut Random) -> Box<dyn Case>;

@@ -36,21 +36,13 @@ pub enum Answer {
 
 /// The answer of each call of a case, and the memory around and in the lent
 /// buffer after it.
-#[derive(Clone, Debug)]
+#[derive(Clone, Debug, PartialEq, Eq)]
 pub struct Outcome {
     pub answers: Vec<(Call, Answer)>,
     pub memory: Vec<u8>,
 }
 
 impl Answer {
-    /// Whether two answers agree. An empty part fixes the length only.
-    fn agrees(&self, other: &Answer) -> bool {
-        match (self, other) {
-            (Answer::Part(one), Answer::Part(two)) if one.length == 0 => two.length == 0,
-            _ => self == other,
-        }
-    }
-
     /// The refusal's number, 0 for none and for an answer that has none.
     pub fn refusal(&self) -> u32 {
         match self {
@@ -105,42 +97,11 @@ impl Outcome {
             memory,
         }
     }
-
-    /// Whether two outcomes agree in every answer and in every byte.
-    pub fn agrees(&self, other: &Outcome) -> bool {
-        let mut pairs = self.answers.iter().zip(&other.answers);
-        self.answers.len() == other.answers.len()
-            && pairs.all(|((_, one), (_, two))| one.agrees(two))
-            && self.memory == other.memory
-    }
 }
 
 #[cfg(test)]
 mod tests {
     use super::*;
-
-    fn part(offset: usize, length: usize) -> Answer {
-        Answer::Part(Part { offset, length })
-    }
-
-    #[test]
-    fn empty_parts_agree_wherever_they_stand() {
-        assert!(part(0, 0).agrees(&part(7, 0)));
-        assert!(part(7, 0).agrees(&part(0, 0)));
-        assert!(!part(0, 0).agrees(&part(0, 12)));
-        assert!(!part(0, 12).agrees(&part(0, 0)));
-        assert!(part(7, 12).agrees(&part(7, 12)));
-        assert!(!part(7, 12).agrees(&part(8, 12)));
-        assert!(!part(7, 12).agrees(&part(7, 13)));
-    }
-
-    #[test]
-    fn one_byte_of_memory_makes_a_difference() {
-        let outcome =
-            |last: u8| Outcome::with_memory(Call::Check, Answer::Checked(0), vec![1, last]);
-        assert!(outcome(2).agrees(&outcome(2)));
-        assert!(!outcome(2).agrees(&outcome(3)));
-    }
 
     #[test]
     fn a_marked_text_has_the_number_of_its_first_refusal() {

@@ -30,7 +30,7 @@ impl Library for Proved {
         sys::encode(header, entries, statement, buffer)
     }
 
-    fn sheet_from_pattern(
+    fn from_pattern(
         &self,
         plan: Plan,
         values: &[u32],

@@ -25,7 +25,7 @@ pub fn run(seed: u64, count: u64, other: &dyn Library) -> Result<Tally, Box<Diff
         let case = making::case(seed, number);
         let judged = case.run(&Judge);
         let answered = case.run(other);
-        if !judged.agrees(&answered) {
+        if judged != answered {
             return Err(Box::new(Difference {
                 number,
                 case,

@@ -135,7 +135,7 @@ impl Prover {
     }
 
     /// Answers the response of a committed session to a challenge, by a witness, and sets the held nonce to zeros. Refused with
-    /// 15 to 17 or 21; the session that a refused call hands back can still answer.
+    /// 15 to 17 or 21; a committed session that is refused stays committed and can still answer.
     ///
     /// ```
     /// use dimkhoros::{places, Prover, Refusal};

@@ -61,10 +61,12 @@ pub const MOST_ROUNDS: usize = 512;
 /// ```
 pub const LONGEST_FILE: usize = 34_823;
 
-/// How many bytes hold the marker's longest text.
+/// How many bytes are lent to the marker's text. They hold 512 lines of the longest, and so every text; the longest text has
+/// 7,586.
 ///
 /// ```
-/// # use dimkhoros_sys::LONGEST_TEXT;
-/// assert_eq!(LONGEST_TEXT, 7696);
+/// # use dimkhoros_sys::{LONGEST_TEXT, MOST_ROUNDS};
+/// let lines = ["rounds 512\n", "511 rejected 0\n", "fail\n"].map(str::len);
+/// assert_eq!(LONGEST_TEXT, lines[0] + MOST_ROUNDS * lines[1] + lines[2]);
 /// ```
 pub const LONGEST_TEXT: usize = 7696;

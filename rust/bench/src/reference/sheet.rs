@@ -55,9 +55,18 @@ pub fn load(bytes: &[u8]) -> Result<Sheet, u32> {
     Ok(sheet)
 }
 
-/// The values of a sheet of the right shape: refusals 2 to 9.
-fn shape(bytes: &[u8]) -> Result<Sheet, u32> {
-    let (head, body) = bytes.split_first_chunk::<20>().ok_or(2u32)?;
+/// The fixed fields of a sheet.
+struct Header {
+    kind: Kind,
+    modulus: u32,
+    order: u32,
+    challenges: u32,
+    rows: usize,
+    columns: usize,
+}
+
+/// The fixed fields of a sheet: refusals 2 to 8.
+fn header(head: &[u8; 20]) -> Result<Header, u32> {
     if head[..3] != *b"HOM" {
         return Err(2);
     }
@@ -78,16 +87,36 @@ fn shape(bytes: &[u8]) -> Result<Sheet, u32> {
         return Err(6);
     }
     let (rows, columns) = (usize::from(head[18]), usize::from(head[19]));
-    if !(1..=8).contains(&rows) || !(1..=8).contains(&columns) {
-        return Err(7);
-    }
-    if kind == Kind::Root && rows != columns {
+    let sides = 1..=8;
+    let differ = kind == Kind::Root && rows != columns;
+    if !sides.contains(&rows) || !sides.contains(&columns) || differ {
         return Err(7);
     }
     let challenges = word(head, 14);
     if !(2..=65_536).contains(&challenges) || has_divisor(order, challenges) {
         return Err(8);
     }
+    Ok(Header {
+        kind,
+        modulus,
+        order,
+        challenges,
+        rows,
+        columns,
+    })
+}
+
+/// The values of a sheet of the right shape: refusals 2 to 9.
+fn shape(bytes: &[u8]) -> Result<Sheet, u32> {
+    let (head, body) = bytes.split_first_chunk::<20>().ok_or(2u32)?;
+    let Header {
+        kind,
+        modulus,
+        order,
+        challenges,
+        rows,
+        columns,
+    } = header(head)?;
     let count = if kind == Kind::Exponent {
         rows * columns
     } else {

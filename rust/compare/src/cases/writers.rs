@@ -55,7 +55,7 @@ impl Writing {
                 plan,
                 values,
                 statement,
-            } => library.sheet_from_pattern(*plan, values, statement, buffer),
+            } => library.from_pattern(*plan, values, statement, buffer),
             Writing::Empty => library.empty(buffer),
             Writing::Append { sheet, used, round } => library.append(sheet, buffer, *used, *round),
         }

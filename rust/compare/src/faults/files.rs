@@ -61,6 +61,9 @@ pub fn part(fault: Fault, sheet: &[u8], file: &[u8], number: usize) -> Part {
     if fault == Fault::PartCut {
         right.offset &= 0x7fff;
     }
+    if fault == Fault::PartEmptyPlaced && right.length == 0 {
+        right.offset = file.len();
+    }
     right
 }
 

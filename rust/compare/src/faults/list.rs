@@ -65,6 +65,7 @@ faults! {
     RoundFirst, "round-first", "check gives 13 before 12 for huge numbers";
     PartWraps, "part-wraps", "part lets the record's place wrap around";
     PartCut, "part-cut", "part cuts the offset to 15 bits";
+    PartEmptyPlaced, "part-empty-placed", "part answers the file's length as an empty part's offset";
     LastSlot, "last-slot", "read answers 0 for the eighth response slot";
     ReadOn, "read-on", "read answers a value beyond the rows";
     EmptyNeedsEight, "empty-needs-eight", "empty refuses a buffer of 7 bytes";

@@ -96,7 +96,7 @@ pub fn from_pattern(
         let count = [1, 2, 2, 2, 3][plan.number as usize - 1];
         values = &values[..values.len().min(count)];
     }
-    let right = Judge.sheet_from_pattern(plan, values, statement, buffer);
+    let right = Judge.from_pattern(plan, values, statement, buffer);
     if fault == Fault::ProductDigits && plan.number == 5 && right.refusal == 0 {
         buffer[36..44].rotate_left(4);
     }

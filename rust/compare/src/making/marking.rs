@@ -26,7 +26,10 @@ pub fn mark_case(random: &mut Random) -> MarkCase {
         0 => Vec::new(),
         1 => files::damaged(random, record),
         2 => files::file(random, record, 2),
-        _ => file(random, &instance),
+        _ => {
+            let count = round_count(random, &instance);
+            mark_file(random, &instance, count)
+        }
     };
     let sheet = match random.below(24) {
         0 => Vec::new(),
@@ -57,9 +60,8 @@ fn round_count(random: &mut Random, instance: &Instance) -> usize {
     }
 }
 
-/// A file whose rounds are all accepted, or of which some are not.
-fn file(random: &mut Random, instance: &Instance) -> Vec<u8> {
-    let count = round_count(random, instance);
+/// A file of so many rounds that are all accepted, or of which some are not.
+pub fn mark_file(random: &mut Random, instance: &Instance, count: usize) -> Vec<u8> {
     let bad = random.pick(&[0, 0, 1, 2, 8]);
     let mut rounds = Vec::new();
     for _ in 0..count {

@@ -5,6 +5,7 @@ mod cc;
 mod examples;
 mod marks;
 mod pages;
+mod readme;
 mod refusals;
 mod rounds;
 mod sessions;

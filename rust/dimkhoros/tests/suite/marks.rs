@@ -23,11 +23,12 @@ fn a_file_is_marked_round_by_round() {
 }
 
 #[test]
-fn the_longest_text_fits() {
+fn the_longest_text_has_a_line_for_each_of_512_rounds() {
     let text = marked(&page_a(), &[round(9, 1, 2); MOST_ROUNDS]);
     assert_eq!(text.lines().count(), MOST_ROUNDS + 2);
     assert!(text.ends_with("511 rejected 0\nfail\n"));
-    assert!(text.len() <= LONGEST_TEXT);
+    // `rounds 512`, the lines of rounds 0 to 9, 10 to 99 and 100 to 511, and `fail`.
+    assert_eq!(text.len(), 11 + 10 * 13 + 90 * 14 + 412 * 15 + 5);
 }
 
 #[test]

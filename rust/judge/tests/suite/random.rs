@@ -161,6 +161,99 @@ fn any_round(shifts: &mut Shifts) -> Round {
     }
 }
 
+/// The part and the values of a round are refused as the check says.
+fn try_files(sheet: &[u8], file: &[u8], number: u64) {
+    let refusal = check(sheet, file, number);
+    assert_eq!(part(sheet, file, number).is_empty(), refusal != 0);
+    assert_eq!(read(sheet, file, number).err().unwrap_or(0), refusal);
+    let _ = count(sheet, file);
+    let text = marker(sheet, file);
+    assert!(text.ends_with('\n'));
+}
+
+fn try_rounds(sheet: &[u8], first: &Round, second: &Round) {
+    let _ = as_result(judge(sheet, first));
+    let _ = simulate(sheet, first.challenge % 7, &first.response);
+    let _ = extract(sheet, first, second);
+}
+
+/// Asserts that a refused call leaves the buffer that it is lent.
+fn try_writer(before: &[u8], write: impl FnOnce(&mut [u8]) -> bool) {
+    let mut buffer = before.to_vec();
+    let refused = write(&mut buffer);
+    assert!(!refused || buffer == before);
+}
+
+fn try_file_writers(shifts: &mut Shifts, sheet: &[u8], before: &[u8], long: u64, round: &Round) {
+    let used = if shifts.below(3) == 0 {
+        long
+    } else {
+        shifts.below(before.len() as u64 + 2)
+    };
+    try_writer(before, |buffer| append(sheet, buffer, used, round).is_err());
+    try_writer(before, |buffer| empty(buffer).is_err());
+}
+
+fn try_sheet_writers(shifts: &mut Shifts, before: &[u8], long: u64) {
+    let values: Vec<u32> = (0..shifts.below(5)).map(|_| shifts.edge()).collect();
+    let statement: Vec<u32> = (0..shifts.below(4)).map(|_| shifts.edge()).collect();
+    let (m, l, k) = (shifts.edge(), shifts.edge(), shifts.edge());
+    let made = |pattern, buffer: &mut [u8]| make(pattern, m, l, k, &values, &statement, buffer);
+    try_writer(before, |buffer| made(long % 9, buffer).is_err());
+    assert_eq!(made(long | 8, &mut before.to_vec()), Err(1));
+    let any = Sheet {
+        kind: shifts.below(4) as u32,
+        modulus: m,
+        order: l,
+        challenges: k,
+        rows: shifts.below(10) as u32,
+        columns: shifts.edge(),
+        entries: std::array::from_fn(|_| shifts.edges()),
+        statement: shifts.edges(),
+    };
+    try_writer(before, |buffer| encode(&any, buffer).is_err());
+}
+
+/// A refused call hands the prover's session back, and no other does.
+fn try_prover(shifts: &mut Shifts, sheet: &[u8], challenge: u32, slots: &[u32; 8]) {
+    let prover = Prover {
+        phase: [
+            ProverPhase::New,
+            ProverPhase::Committed,
+            ProverPhase::Answered,
+            ProverPhase::Dropped,
+        ][shifts.below(4) as usize],
+        nonce: shifts.edges(),
+        commitment: shifts.edges(),
+    };
+    let (answer, back) = commit(sheet, prover.clone(), slots);
+    assert_eq!(answer.is_err(), back == prover);
+    let (answer, back) = respond(sheet, prover.clone(), challenge, slots);
+    assert_eq!(answer.is_err(), back == prover);
+    let (answer, back) = drop_session(prover.clone());
+    assert_eq!(answer.is_err(), back == prover);
+}
+
+/// A refused call hands the verifier's session back, and no other does.
+fn try_verifier(shifts: &mut Shifts, sheet: &[u8], challenge: u32, round: &Round) {
+    let verifier = Verifier {
+        phase: [
+            VerifierPhase::Waiting,
+            VerifierPhase::Holding,
+            VerifierPhase::Asked,
+            VerifierPhase::Judged,
+        ][shifts.below(4) as usize],
+        commitment: shifts.edges(),
+        challenge: shifts.edge(),
+    };
+    let (answer, back) = take_commitment(sheet, verifier.clone(), &round.commitment);
+    assert_eq!(answer.is_err(), back == verifier);
+    let (answer, back) = take_challenge(sheet, verifier.clone(), challenge);
+    assert_eq!(answer.is_err(), back == verifier);
+    let (answer, back) = take_response(sheet, verifier.clone(), &round.response);
+    assert_eq!(as_result(answer).is_err(), back == verifier);
+}
+
 #[test]
 fn no_call_panics_and_refused_calls_change_nothing() {
     let mut shifts = Shifts(0xFEDC_BA98_7654_3211);
@@ -171,95 +264,14 @@ fn no_call_panics_and_refused_calls_change_nothing() {
         let long = shifts.next();
         let number = if shifts.below(2) == 0 { long % 5 } else { long };
         loaded += u32::from(load(&sheet).is_ok());
-
-        // Files.
-        let refusal = check(&sheet, &file, number);
-        assert_eq!(part(&sheet, &file, number).is_empty(), refusal != 0);
-        assert_eq!(read(&sheet, &file, number).err().unwrap_or(0), refusal);
-        let _ = count(&sheet, &file);
-        let text = marker(&sheet, &file);
-        assert!(text.ends_with('\n'));
-
-        // Rounds.
+        try_files(&sheet, &file, number);
         let (first, second) = (any_round(&mut shifts), any_round(&mut shifts));
-        let _ = as_result(judge(&sheet, &first));
-        let _ = simulate(&sheet, first.challenge % 7, &first.response);
-        let _ = extract(&sheet, &first, &second);
-
-        // Writers.
-        let mut buffer = bytes(&mut shifts);
-        let before = buffer.clone();
-        let used = if shifts.below(3) == 0 {
-            long
-        } else {
-            shifts.below(before.len() as u64 + 2)
-        };
-        if append(&sheet, &mut buffer, used, &first).is_err() {
-            assert_eq!(buffer, before);
-        }
-        let mut buffer = before.clone();
-        if empty(&mut buffer).is_err() {
-            assert_eq!(buffer, before);
-        }
-        let mut buffer = before.clone();
-        let values: Vec<u32> = (0..shifts.below(5)).map(|_| shifts.edge()).collect();
-        let statement: Vec<u32> = (0..shifts.below(4)).map(|_| shifts.edge()).collect();
-        let (m, l, k) = (shifts.edge(), shifts.edge(), shifts.edge());
-        if make(long % 9, m, l, k, &values, &statement, &mut buffer).is_err() {
-            assert_eq!(buffer, before);
-        }
-        assert_eq!(
-            make(long | 8, m, l, k, &values, &statement, &mut buffer),
-            Err(1)
-        );
-        let mut buffer = before.clone();
-        let any = Sheet {
-            kind: shifts.below(4) as u32,
-            modulus: m,
-            order: l,
-            challenges: k,
-            rows: shifts.below(10) as u32,
-            columns: shifts.edge(),
-            entries: std::array::from_fn(|_| shifts.edges()),
-            statement: shifts.edges(),
-        };
-        if encode(&any, &mut buffer).is_err() {
-            assert_eq!(buffer, before);
-        }
-
-        // Sessions.
-        let prover = Prover {
-            phase: [
-                ProverPhase::New,
-                ProverPhase::Committed,
-                ProverPhase::Answered,
-                ProverPhase::Dropped,
-            ][shifts.below(4) as usize],
-            nonce: shifts.edges(),
-            commitment: shifts.edges(),
-        };
-        let (answer, back) = commit(&sheet, prover.clone(), &first.response);
-        assert_eq!(answer.is_err(), back == prover);
-        let (answer, back) = respond(&sheet, prover.clone(), number as u32, &first.response);
-        assert_eq!(answer.is_err(), back == prover);
-        let (answer, back) = drop_session(prover.clone());
-        assert_eq!(answer.is_err(), back == prover);
-        let verifier = Verifier {
-            phase: [
-                VerifierPhase::Waiting,
-                VerifierPhase::Holding,
-                VerifierPhase::Asked,
-                VerifierPhase::Judged,
-            ][shifts.below(4) as usize],
-            commitment: shifts.edges(),
-            challenge: shifts.edge(),
-        };
-        let (answer, back) = take_commitment(&sheet, verifier.clone(), &first.commitment);
-        assert_eq!(answer.is_err(), back == verifier);
-        let (answer, back) = take_challenge(&sheet, verifier.clone(), number as u32);
-        assert_eq!(answer.is_err(), back == verifier);
-        let (answer, back) = take_response(&sheet, verifier.clone(), &first.response);
-        assert_eq!(as_result(answer).is_err(), back == verifier);
+        try_rounds(&sheet, &first, &second);
+        let before = bytes(&mut shifts);
+        try_file_writers(&mut shifts, &sheet, &before, long, &first);
+        try_sheet_writers(&mut shifts, &before, long);
+        try_prover(&mut shifts, &sheet, number as u32, &first.response);
+        try_verifier(&mut shifts, &sheet, number as u32, &first);
     }
     assert!(loaded > 1000);
 }
