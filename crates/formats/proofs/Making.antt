@@ -42,7 +42,7 @@ use Rattle.formats.specs.Pattern.{
 use Rattle.formats.specs.Sheet.{sheetLength, zeros64}
 use Rattle.formats.specs.Write.{written, writtenAtStart}
 use Rattle.formats.proofs.Loads.{loads, loaded-given}
-use Rattle.formats.proofs.Order.{make-positive}
+use Rattle.formats.proofs.Positive.{make-positive}
 use Rattle.formats.proofs.Patterns.{entryOf-element, made-entry, made-exponent, made-root, pattern-digits, pattern-size}
 use Rattle.formats.proofs.SheetRoundTrip.{sheet-loads}
 use Rattle.formats.proofs.SheetWritten.{instanceOf-sheetOf}

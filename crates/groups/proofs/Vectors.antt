@@ -5,7 +5,7 @@ use Prim.Native.Nat.{ℕ, suc, _<_}
 use lib.IntN.{ℤ, pos, negsuc}
 use lib.ListN.{getD}
 use Rattle.groups.specs.Group.{repeated, powerWith, power, quotient}
-use Rattle.groups.specs.Vector.{Number, Vector, NumberGroup, numberPower, numberGroup, vectorGroup}
+use Rattle.groups.specs.Vector.{Vector, NumberGroup, numberPower, vectorGroup}
 use Rattle.groups.specs.Vector.{product-value, unit-value, inverse-value}
 use Rattle.groups.proofs.Powers.{power-image}
 
@@ -24,12 +24,6 @@ module _ {P : ℕ → Type 0} (N : NumberGroup P) where
   pub number-power-negative : (v n : ℕ) → numberPower N v (negsuc n) ≡ numberPower N (N .inverse v) (pos (suc n))
   unfolding numberPower powerWith repeated
   number-power-negative v n = refl
-
-  -- a power in the group of numbers is the power of the number
-  pub number-of-power : (x : Number P) (k : ℤ) → (power (numberGroup N) x k) .0 ≡ numberPower N (x .0) k
-  unfolding numberPower numberGroup
-  number-of-power =
-      power-image (numberGroup N) (λ x. x .0) (N .product) (N .unit) (N .inverse) (λ x y. refl) refl (λ x. refl)
 
 module _ {P : ℕ → Type 0} (N : NumberGroup P) (n : ℕ) where
   -- the j-th value of a product is the product of the j-th values

@@ -13,10 +13,6 @@ use Rattle.lists.specs.Each.{Each}
 use Rattle.lists.proofs.Each.{each-length, each-at, each-from, each-proposition, same-values}
 use Rattle.lists.proofs.Each.{length-zipWith, value-zipWith, value-map}
 
--- a number that satisfies P
-abbrev pub Number : (ℕ → Type 0) → Type 0
-Number P = (v : ℕ) × P v
-
 -- n numbers that satisfy P
 abbrev pub Vector : (ℕ → Type 0) → ℕ → Type 0
 Vector P n = (xs : List ℕ) × Each P n xs
@@ -42,19 +38,6 @@ numberPower N = powerWith (N .product) (N .unit) (N .inverse)
 -- the numbers form a set
 pub numbers-set : IsSet ℕ
 numbers-set = hedberg ℕ-discrete
-
--- the group on the numbers that satisfy P
-unfoldable pub numberGroup : {P : ℕ → Type 0} → NumberGroup P → Group (Number P)
-numberGroup N = record {
-  isSet = Σ-set numbers-set (λ v. prop→set (N .proposition v));
-  product = λ x y. (N .product (x .0) (y .0), N .product-in (x .0) (y .0) (x .1) (y .1));
-  unit = (N .unit, N .unit-in);
-  inverse = λ x. (N .inverse (x .0), N .inverse-in (x .0) (x .1));
-  associative = λ x y z. Σ-prop-path (N .proposition) (N .associative (x .0) (y .0) (z .0) (x .1) (y .1) (z .1));
-  commutative = λ x y. Σ-prop-path (N .proposition) (N .commutative (x .0) (y .0) (x .1) (y .1));
-  unit-left = λ x. Σ-prop-path (N .proposition) (N .unit-left (x .0) (x .1));
-  inverse-left = λ x. Σ-prop-path (N .proposition) (N .inverse-left (x .0) (x .1));
-}
 
 module _ {P : ℕ → Type 0} (N : NumberGroup P) (n : ℕ) where
   -- each value of a vector satisfies P

@@ -1,7 +1,7 @@
 -- The number that a list of rules gives: 0 exactly where no rule applies, else that of the first that applies.
 -- Assumes nothing.
 use Prim.Native.Nat.{ℕ, _<_}
-use mathlib.Core.Path.{_≡_, refl, sym, ap, _∙_}
+use mathlib.Core.Path.{_≡_, refl, _∙_}
 use mathlib.Core.Bool.{Bool, true, false, _&&_, false≢true}
 use mathlib.Core.List.{List, [], _∷_, _++_}
 use mathlib.Core.Logic.{_↔_, _⊎_, inl, inr, ⊎-elim}
@@ -44,19 +44,6 @@ clear-lowest ((n when false) ∷ rules) p e = (refl, clear-lowest rules (positiv
 -- so rules with positive numbers give 0 exactly where none applies
 pub lowest-zero : (rules : List Rule) → T (positive rules) → (lowest rules ≡ 0) ↔ Clear rules
 lowest-zero rules p = (clear-lowest rules p, lowest-clear rules)
-
--- the number of the first rule that applies is given
-pub lowest-first : (n : ℕ) (rules : List Rule) → First n rules → lowest rules ≡ n
-lowest-first n [] f = absurd f
-lowest-first n ((m when b) ∷ rules) (inl f) = stop m rules (f .0) ∙ sym (f .1)
-lowest-first n ((m when b) ∷ rules) (inr f) = pass m rules (f .0) ∙ lowest-first n rules (f .1)
-
--- a number above 0 that is given is that of the first rule that applies
-pub first-lowest : (n : ℕ) (rules : List Rule) → lowest rules ≡ n → 0 < n → First n rules
-unfolding lowest
-first-lowest n [] e h = absurd (omega arith)
-first-lowest n ((m when true) ∷ rules) e h = inl (refl, sym e)
-first-lowest n ((m when false) ∷ rules) e h = inr (refl, first-lowest n rules e h)
 
 -- the first number that applies is one that applies
 pub first-applies : (n : ℕ) (rules : List Rule) → First n rules → Applies n rules
@@ -121,12 +108,6 @@ lowest-append-zero xs ys p q =
       λ e. let c = both .0 (clear-lowest (xs ++ ys) (positive-append xs ys p q) e) in (lowest-clear xs (c .0), c .1),
       λ c. lowest-later-zero xs ys p (c .0) ∙ lowest-clear ys (c .1),
     )
-
--- the numbers of two lists joined
-pub numbersOf-append : (xs ys : List Rule) → numbersOf (xs ++ ys) ≡ numbersOf xs ++ numbersOf ys
-unfolding numbersOf
-numbersOf-append [] ys = refl
-numbersOf-append (x ∷ xs) ys = ap (λ (ns : List ℕ). numberOf x ∷ ns) (numbersOf-append xs ys)
 
 -- ---- the numbers of a list
 
