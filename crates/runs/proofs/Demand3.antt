@@ -20,7 +20,7 @@ use Rattle.sigma.specs.Instance.{Instance}
 use Rattle.sigma.specs.Knowledge.{AcceptedRound, Choice, Witness, honestOn, simulatedOn}
 use Rattle.sigma.specs.Knowledge.{MeetsEachOnce, AcceptedPair, Extraction}
 use Rattle.sigma.specs.Listed.{allChoices, ListsAccepted}
-use Rattle.sigma.specs.Reads.{roundOf, SameRound}
+use Rattle.sigma.specs.Reads.{roundOf, SameRound, paddedRound}
 use Rattle.sigma.specs.Round.{response}
 use Rattle.sigma.specs.Simulator.{simulated}
 use Rattle.sigma.specs.Valid.{Valid}
@@ -34,7 +34,7 @@ use Rattle.sigma.proofs.Values.{length-image, length-response, length-simulated
 use Rattle.runs.specs.Calls.{judgeRound, simulateCommitment, extractWitness}
 use Rattle.runs.specs.Demand3.{ReadAlone, Demand3}
 use Rattle.runs.specs.JointRun.{JointRun, jointRun}
-use Rattle.runs.specs.Knowledge.{Accepts, honestRound, simulatedRound, paddedRound}
+use Rattle.runs.specs.Knowledge.{Accepts, honestRound, simulatedRound}
 use Rattle.runs.specs.OnSheet.{Below}
 use Rattle.runs.specs.Prover.{newProver, commit, respond}
 use Rattle.runs.proofs.JointRun.{joint-steps, joint-loaded}

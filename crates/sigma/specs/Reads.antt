@@ -6,7 +6,7 @@ use mathlib.Core.List.{List}
 use lib.ListN.{getD}
 use Rattle.types.specs.declared.Header.{Header}
 use Rattle.types.specs.declared.Round.{Round}
-use Rattle.lists.specs.Places.{places}
+use Rattle.lists.specs.Places.{places, pad8}
 
 -- two arrays agree in their first n places
 abbrev pub Agree : ℕ → List ℕ → List ℕ → Type 0
@@ -19,6 +19,12 @@ roundOf t c r = record { commitment = t; challenge = c; response = r }
 -- what is read of a round: s places of t, c, and n places of r
 abbrev pub readRound : Header → Round → Round
 readRound h round = roundOf (places (h .rows) (round .commitment)) (round .challenge) (places (h .columns) (round .response))
+
+-- what is read of a round in eight places each, with 0 in those that are not read, as the calls answer it
+unfoldable pub paddedRound : Header → Round → Round
+paddedRound h round =
+    roundOf (pad8 0 (places (h .rows) (round .commitment))) (round .challenge)
+    (pad8 0 (places (h .columns) (round .response)))
 
 -- two rounds are the same: all their t, c and r are equal, unread places being no part of them
 pub record SameRound (h : Header) (round round′ : Round) : Type 0 where
