@@ -15,7 +15,7 @@ use Rattle.numbers.proofs.Search.{find-holds, find-first, find-is}
 use Rattle.rules.specs.Says.{Says}
 use Rattle.rules.proofs.Says.{says-equal, says-not}
 use Rattle.sigma.specs.Comparison.{firstDifference, differ, compareSides}
-use Rattle.sigma.specs.Reads.{Agree}
+use Rattle.sigma.specs.Reads.{Agree, Differ}
 use Rattle.sigma.proofs.Answer.{accepted-not-refused, rejected-not-refused}
 use Rattle.sigma.proofs.Calculus.{says-passes, says-any, all-pass}
 
@@ -26,7 +26,7 @@ says-differs : (xs ys : List ℕ) (r : ℕ) → Says (not (eqb (getD xs r 0) (ge
 says-differs xs ys r = says-not (says-equal (getD xs r 0) (getD ys r 0))
 
 -- the lists differ in some row below n
-pub says-differ : (n : ℕ) (xs ys : List ℕ) → Says (differ n xs ys) ((r : ℕ) × (r < n) × (getD xs r 0 ≢ getD ys r 0))
+pub says-differ : (n : ℕ) (xs ys : List ℕ) → Says (differ n xs ys) (Differ n xs ys)
 unfolding differ firstDifference any
 says-differ n xs ys = says-any n _ (λ r. getD xs r 0 ≢ getD ys r 0) (says-differs xs ys)
 

@@ -2,6 +2,7 @@
 -- Assumes nothing.
 use Prim.Native.Nat.{ℕ, _<_}
 use mathlib.Core.Path.{_≡_}
+use mathlib.Core.Logic.{_≢_}
 use mathlib.Core.List.{List}
 use lib.ListN.{getD}
 use Rattle.types.specs.declared.Header.{Header}
@@ -11,6 +12,10 @@ use Rattle.lists.specs.Places.{places, pad8}
 -- two arrays agree in their first n places
 abbrev pub Agree : ℕ → List ℕ → List ℕ → Type 0
 Agree n xs ys = (j : ℕ) → j < n → getD xs j 0 ≡ getD ys j 0
+
+-- two arrays differ in one of their first n places
+abbrev pub Differ : ℕ → List ℕ → List ℕ → Type 0
+Differ n xs ys = (j : ℕ) × (j < n) × (getD xs j 0 ≢ getD ys j 0)
 
 -- a round of its three values
 abbrev pub roundOf : List ℕ → ℕ → List ℕ → Round
