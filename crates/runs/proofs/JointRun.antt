@@ -29,6 +29,7 @@ use Rattle.sigma.proofs.Prover.{honest-accepted}
 use Rattle.sigma.proofs.Verdict.{verdict-accepted}
 use Rattle.sigma.proofs.Values.{length-image, length-response}
 use Rattle.runs.specs.JointRun.{jointRun, Succeeds}
+use Rattle.runs.specs.OnSheet.{readSlots, Below}
 use Rattle.runs.specs.Prover.{newProver, commitAfter, commit, respondAfter, respond}
 use Rattle.runs.specs.Verifier.{newVerifier, takeCommitmentAfter, takeChallengeAfter, takeResponseAfter}
 use Rattle.runs.specs.Verifier.{takeCommitment, takeChallenge, takeResponse}
@@ -152,9 +153,8 @@ module _ (inst : Instance) (x k : List ℕ) (c : ℕ) where
 -- ---- the run
 
 module _ (sheet : List ℕ) (loaded : loadRefusal sheet ≡ 0) (x k : List ℕ) (c : ℕ)
-    (witness : Witness (instanceOf sheet) (readOf (instanceOf sheet) x))
-    (nonce : Choice (instanceOf sheet) (readOf (instanceOf sheet) k))
-    (below : c < instanceOf sheet .header .challenges) where
+    (witness : Witness (instanceOf sheet) (readSlots sheet x)) (nonce : Choice (instanceOf sheet) (readSlots sheet k))
+    (below : Below sheet c) where
   -- what each call gives, for a witness, a nonce of domain slots and a challenge below K
   pub joint-steps : jointRun sheet x c k
       ≡ record {
