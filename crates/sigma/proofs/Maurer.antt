@@ -11,8 +11,8 @@ use Rattle.lists.proofs.Places.{getD-places}
 use Rattle.groups.specs.Group.{power as groupPower, quotient}
 use Rattle.groups.specs.Round.{Accepts}
 use Rattle.groups.specs.Round.{response as groupResponse, simulated as groupSimulated}
-use Rattle.groups.specs.Vector.{numberPower}
-use Rattle.groups.proofs.Vectors.{value-of-product, value-of-power, value-of-quotient}
+use Rattle.groups.specs.Vector.{numberPower, vectorGroup, value-of-product}
+use Rattle.groups.proofs.Vectors.{value-of-power, value-of-quotient}
 use Rattle.groups.proofs.Rows.{accepted-row, accepted-by-rows, value-of-simulated, value-of-response}
 use Rattle.numbers.specs.Integer.{power}
 use Rattle.numbers.proofs.Congruence.{mod-mul-right}
@@ -45,7 +45,7 @@ module _ {inst : Instance} (v : Valid inst) where
   -- slot j of a product
   pub product-slot : (x y : Domain inst) (j : ℕ) → j < inst .header .columns
       → getD ((domainGroup v .product x y) .0) j 0 ≡ combine (inst .header) (getD (x .0) j 0) (getD (y .0) j 0)
-  unfolding coordinatesOf coordinateGroup
+  unfolding vectorGroup coordinatesOf coordinateGroup
   product-slot = value-of-product (coordinatesOf v) (inst .header .columns)
 
   -- slot j of a power
