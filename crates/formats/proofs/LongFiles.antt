@@ -73,7 +73,7 @@ early-positive : (s : List ℕ) → T (positive (earlyRules s))
 unfolding headerRules
 early-positive s = tt
 
--- where they don't apply, a sheet of more than 308 bytes is refused by 9
+-- where they do not apply, a sheet of more than 308 bytes is refused by 9
 long-refused : (s : List ℕ) → 308 < length s → Clear (earlyRules s) → loadRefusal s ≡ 9
 unfolding loadRefusal headerRules
 long-refused s long c =

@@ -44,11 +44,11 @@ Refusal2 s = (length s < 20) ⊎ Differ 3 s sheetMark
 abbrev pub Refusal3 : List ℕ → Type 0
 Refusal3 s = versionOf s ≢ 1
 
--- the sheet's length isn't exactly what its header gives
+-- the sheet's length is not exactly what its header gives
 abbrev pub Refusal9 : List ℕ → Type 0
 Refusal9 s = length s ≢ sheetLength (headerOf s)
 
--- the file has under 7 bytes, another mark, a version other than 1, a count above 512 or a length that doesn't fit
+-- the file has under 7 bytes, another mark, a version other than 1, a count above 512 or a length that does not fit
 abbrev pub Refusal12 : Header → List ℕ → Type 0
 Refusal12 h f =
     (length f < 7) ⊎ Differ 3 f roundMark ⊎ (fileVersion f ≢ 1) ⊎ (512 < countField f) ⊎
