@@ -11,7 +11,6 @@ use Rattle.lists.specs.Places.{places, pad8}
 use Rattle.lists.proofs.Places.{getD-places, places-agree}
 use Rattle.groups.specs.Round.{Accepts, Bezout}
 use Rattle.groups.specs.Vector.{same-vector}
-use Rattle.groups.proofs.Extraction.{swapped}
 use Rattle.numbers.specs.Integer.{bezoutLeft, bezoutRight}
 use Rattle.numbers.proofs.Coprime.{bezout-challenges}
 use Rattle.sigma.specs.Instance.{Instance}

@@ -16,7 +16,6 @@ use Rattle.sigma.specs.Instance.{Instance}
 use Rattle.sigma.specs.Knowledge.{AcceptedRound, Choice, MeetsEachOnce}
 use Rattle.sigma.specs.Meaning.{Fits}
 use Rattle.sigma.specs.Reads.{roundOf, SameRound}
-use Rattle.sigma.specs.Round.{response}
 use Rattle.sigma.specs.Valid.{Valid}
 use Rattle.sigma.proofs.Calls.{valid-judge-accepted}
 use Rattle.sigma.proofs.Homomorphism.{Domain, Codomain, coordinatesOf, elementsOf, homomorphism}
