@@ -10,6 +10,7 @@ use Rattle.lists.specs.Member.{Member}
 use Rattle.lists.specs.Places.{tabulate}
 use Rattle.encoding.specs.Bytes.{AllBytes}
 use Rattle.sigma.specs.Instance.{Instance}
+use Rattle.sigma.specs.Reads.{paddedRound}
 use Rattle.formats.specs.Append.{emptyFile}
 use Rattle.formats.specs.Encode.{encode}
 use Rattle.formats.specs.Load.{loadRefusal, loaded}
@@ -18,7 +19,7 @@ use Rattle.formats.specs.Outcome.{Puts}
 use Rattle.formats.specs.Pattern.{fromPattern, made}
 use Rattle.formats.specs.RoundCalls.{countRounds, fetchRound, noRound}
 use Rattle.formats.specs.RoundFile.{challengeWidth, recordStart}
-use Rattle.formats.specs.Rounds.{Words, appendEach, storedRound}
+use Rattle.formats.specs.Rounds.{Words, appendEach}
 use Rattle.formats.specs.Sheet.{headerOf}
 use Rattle.formats.specs.Write.{Writing}
 
@@ -50,7 +51,7 @@ pub record ReadsBack : Type 0 where
       → (w : Writing) → w ≡ appendEach sheet (emptyFile buffer) rounds
       → (countRounds sheet (front w) ≡ record { refusal = 0; count = length rounds })
       × ((k : ℕ) → k < length rounds
-      → fetchRound sheet (front w) k ≡ record { refusal = 0; round = getD (map (storedRound (headerOf sheet)) rounds) k noRound })
+      → fetchRound sheet (front w) k ≡ record { refusal = 0; round = getD (map (paddedRound (headerOf sheet)) rounds) k noRound })
   -- a round file that reads is written back as the same bytes from what the read call gives
   pub file-again : (sheet file buffer : List ℕ) → AllBytes file → countRounds sheet file .refusal ≡ 0 → length file ≤ length buffer
       → Puts file buffer

@@ -7,9 +7,9 @@ use mathlib.Core.List.{List, [], _∷_, _++_, append-assoc, append-nil}
 use native.Mathlib.Nat.{zero-add, add-zero, add-suc, mul-zero, mul-suc, mul-assoc, mod-eq-of-lt, one-le-pow, pow-suc, pow-zero, pow-succ'}
 use native.Mathlib.Nat.{mod-one, div-one, div-div-eq-div-mul}
 use native.Mathlib.Omega.{arith}
-use lib.Arith.{digits-lt, digits-div, digits-mod, mod-mul}
+use lib.Arith.{digits-div, digits-mod, mod-mul}
 use lib.ListN.{length, getD, take, drop, length-append, length-drop, List·getD-append}
-use lib.Seq.{take-suc, take-add, drop-drop, getD-at, getD-take, getD-drop, getD-append-add}
+use lib.Seq.{take-suc, take-add, drop-drop, getD-at, getD-take, getD-drop}
 use lib.Seq.{sets}
 use Rattle.lists.specs.Places.{itemsAt, places}
 use Rattle.lists.proofs.Places.{places-suc}
@@ -38,28 +38,6 @@ below-append bound [] ys h k i = k i
 below-append bound (x ∷ xs) ys h k zero = h zero
 below-append bound (x ∷ xs) ys h k (suc i) = below-append bound xs ys (λ j. h (suc j)) k i
 
--- the bytes of a number are bytes
-pub bytes-bytesOf : (w v : ℕ) → AllBytes (bytesOf w v)
-unfolding bytesOf
-bytes-bytesOf zero v = λ i. omega arith
-bytes-bytesOf (suc w) v = below-append 256 (bytesOf w (v / 256)) (v % 256 ∷ []) (bytes-bytesOf w (v / 256)) last
-  where
-    last : AllBytes (v % 256 ∷ [])
-    last zero = omega arith
-    last (suc i) = omega arith
-
--- the bytes of a run of numbers are bytes
-pub bytes-bytesOfEach : (w : ℕ) (vs : List ℕ) → AllBytes (bytesOfEach w vs)
-unfolding bytesOfEach
-bytes-bytesOfEach w [] = λ i. omega arith
-bytes-bytesOfEach w (v ∷ vs) = below-append 256 (bytesOf w v) (bytesOfEach w vs) (bytes-bytesOf w v) (bytes-bytesOfEach w vs)
-
--- a number read from w bytes is below 256 to the power w
-pub numberAt-below : (w : ℕ) (s : List ℕ) (at : ℕ) → AllBytes s → numberAt w s at < 256 ^ w
-unfolding numberAt
-numberAt-below zero s at h = rw (pow-zero 256) (omega arith)
-numberAt-below (suc w) s at h = rw (pow-suc 256 w) (digits-lt (numberAt-below w s at h) (h (at + w)))
-
 -- ---- a number depends on its own bytes alone
 
 -- equal bytes give equal numbers
@@ -69,21 +47,6 @@ unfolding numberAt
 numberAt-agree zero s t at at′ h = refl
 numberAt-agree (suc w) s t at at′ h =
     ap₂ (λ (a b : ℕ). a * 256 + b) (numberAt-agree w s t at at′ (λ k b. h k (omega arith))) (h w (omega arith))
-
--- a number behind a list
-pub numberAt-behind : (w : ℕ) (xs s : List ℕ) (at : ℕ) → numberAt w (xs ++ s) (length xs + at) ≡ numberAt w s at
-numberAt-behind w xs s at =
-    numberAt-agree w (xs ++ s) s (length xs + at) at
-    (λ k b. ap (λ (i : ℕ). getD (xs ++ s) i 0) (omega arith) ∙ getD-append-add xs s (at + k) 0)
-
--- a number in front of a list
-pub numberAt-front : (w : ℕ) (s t : List ℕ) (at : ℕ) → at + w ≤ length s → numberAt w (s ++ t) at ≡ numberAt w s at
-numberAt-front w s t at h = numberAt-agree w (s ++ t) s at at (λ k b. List·getD-append s t 0 (at + k) (omega arith))
-
--- a number of the rest of a list
-pub numberAt-drop : (w k : ℕ) (s : List ℕ) (at : ℕ) → numberAt w (drop k s) at ≡ numberAt w s (k + at)
-numberAt-drop w k s at =
-    numberAt-agree w (drop k s) s at (k + at) (λ i b. getD-drop k s (at + i) 0 ∙ ap (λ (j : ℕ). getD s j 0) (omega arith))
 
 -- a number of the front of a list
 pub numberAt-take : (w k : ℕ) (s : List ℕ) (at : ℕ) → at + w ≤ k → numberAt w (take k s) at ≡ numberAt w s at
@@ -118,11 +81,6 @@ bytesOf-numberAt (suc w) s at h b =
     ∙ ap (λ (bs : List ℕ). bs ++ getD s (at + w) 0 ∷ []) (bytesOf-numberAt w s at (omega arith) b)
     ∙ ap (λ (r : ℕ). take w (drop at s) ++ r ∷ []) (sym (getD-drop at s w 0))
     ∙ sym (take-suc (drop at s) w 0 (omega (arith, length-drop at s)))
-
--- two numbers that fit their bytes and have the same bytes are equal
-pub bytesOf-injective : (w u v : ℕ) → u < 256 ^ w → v < 256 ^ w → bytesOf w u ≡ bytesOf w v → u ≡ v
-bytesOf-injective w u v h k e =
-    sym (numberAt-bytesOf w u [] [] h) ∙ ap (λ (bs : List ℕ). numberAt w (bs ++ []) 0) e ∙ numberAt-bytesOf w v [] [] k
 
 -- ---- fields side by side
 

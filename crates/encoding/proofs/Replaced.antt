@@ -6,7 +6,7 @@ use mathlib.Core.List.{List, [], _∷_, _++_, append-assoc}
 use native.Mathlib.Nat.{add-zero, add-suc}
 use native.Mathlib.Omega.{arith}
 use lib.ListN.{length, getD, take, drop, set, take-append-drop, length-set, length-append}
-use lib.Seq.{sets, sets-eq, getD-set-same, getD-set-other, set-comm, take-set-le, take-set-lt, drop-set-lt, drop-set-add}
+use lib.Seq.{sets, sets-eq, getD-set-same, getD-set-other, take-set-le, take-set-lt, drop-set-lt, drop-set-add}
 use lib.Seq.{length-take-le, drop-at, take-append-seam}
 
 module _ {ℓ} {A : Type ℓ} where
@@ -18,19 +18,6 @@ module _ {ℓ} {A : Type ℓ} where
   sets-sets l i (x ∷ xs) ys =
       let e : i + suc (length xs) ≡ suc i + length xs = omega arith in
       ap (λ (k : ℕ). sets (sets (set l i x) (suc i) xs) k ys) e ∙ sets-sets (set l i x) (suc i) xs ys
-
-  -- a store in front of a run may be made after it
-  set-sets : (l : List A) (i : ℕ) (x : A) (j : ℕ) (ys : List A) → i < j → set (sets l j ys) i x ≡ sets (set l i x) j ys
-  set-sets l i x j [] h = refl
-  set-sets l i x j (y ∷ ys) h =
-      set-sets (set l j y) i x (suc j) ys (omega arith) ∙ ap (λ (m : List A). sets m (suc j) ys) (set-comm l j i y x (omega arith))
-
-  -- runs at places apart may be stored in either order
-  pub sets-comm : (l : List A) (i : ℕ) (xs : List A) (j : ℕ) (ys : List A) → i + length xs ≤ j
-      → sets (sets l i xs) j ys ≡ sets (sets l j ys) i xs
-  sets-comm l i [] j ys h = refl
-  sets-comm l i (x ∷ xs) j ys h =
-      sets-comm (set l i x) (suc i) xs j ys (omega arith) ∙ ap (λ (m : List A). sets m (suc i) xs) (sym (set-sets l i x j ys (omega arith)))
 
   -- ---- reading
 
@@ -107,10 +94,6 @@ module _ {ℓ} {A : Type ℓ} where
   rest-replaced at l i (v ∷ vs) =
       ap₂ (λ (m n : List A). m ++ sets n (suc i) vs) (sym (take-set-le at l (at + i) v (omega arith))) (sym (drop-set-add at l i v))
       ∙ rest-replaced at (set l (at + i) v) (suc i) vs ∙ ap (λ (k : ℕ). sets (set l (at + i) v) k vs) (add-suc at i)
-
-  -- a run stored at the front of the rest
-  pub rest-replaced-front : (at : ℕ) (l vs : List A) → take at l ++ sets (drop at l) 0 vs ≡ sets l at vs
-  rest-replaced-front at l vs = rest-replaced at l 0 vs ∙ ap (λ (k : ℕ). sets l k vs) (add-zero at)
 
   -- a run stored in a lent part, k elements from index `at` on, is stored in the list once the part is back
   pub part-replaced : (at k : ℕ) (l : List A) (i : ℕ) (vs : List A) → i + length vs ≤ k

@@ -90,10 +90,6 @@ pub decimal-back : (n : ℕ) → fromDecimal (decimal n) ≡ n
 unfolding decimal fromDecimal
 decimal-back n = digits-back n n (omega arith)
 
--- two numbers with the same digits are the same
-pub decimal-injective : (m n : ℕ) → decimal m ≡ decimal n → m ≡ n
-decimal-injective m n e = sym (decimal-back m) ∙ ap fromDecimal e ∙ decimal-back n
-
 -- they are ASCII digits
 pub decimal-ascii : (n : ℕ) → AllDigits (decimal n)
 unfolding decimal
@@ -103,11 +99,6 @@ decimal-ascii n = digits-ascii n n
 pub decimal-first : (n : ℕ) → 0 < n → 49 ≤ getD (decimal n) 0 0
 unfolding decimal
 decimal-first n = digits-first n n (omega arith)
-
--- 0 is the digit 0 alone
-pub decimal-zero : decimal 0 ≡ 48 ∷ []
-unfolding decimal digits
-decimal-zero = refl
 
 -- a number below 10 is one digit
 pub decimal-small : (n : ℕ) → n < 10 → decimal n ≡ (48 + n) ∷ []

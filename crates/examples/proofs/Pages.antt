@@ -99,6 +99,7 @@ use Rattle.formats.specs.Sheet.{
 }
 use Rattle.formats.specs.Write.{short, written, writtenAtStart}
 use Rattle.runs.specs.Calls.{judgeRound, simulateCommitment, extractWitness}
+use Rattle.runs.specs.JointRun.{jointRun}
 use Rattle.runs.specs.Marker.{newline, wordLine, verdictText, verdictOn, roundLine, roundLines, markerText}
 use Rattle.runs.specs.Prover.{
   isNew,
@@ -131,7 +132,7 @@ use Rattle.runs.specs.Verifier.{
   takeResponse,
 }
 use Rattle.examples.specs.MarkerExample.{exampleFile, exampleText}
-use Rattle.examples.specs.Pages.{Page, array, roundOf, run, bothWays, judgedNumber, pages}
+use Rattle.examples.specs.Pages.{Page, array, smallRound, run, bothWays, judgedNumber, pages}
 use Rattle.examples.specs.Sheets.{
   smallSheet,
   schnorrSheet,
@@ -162,6 +163,6 @@ unfolding euclid gcd residue quotient power bezoutRight bezoutLeft inverse produ
     isCommitted newProver proverStep commitRules commitAfter unfitProver respondRules respondAfter commit respond
     isWaiting isHolding isAsked newVerifier verifierStep unfitCommitment takeCommitmentRules takeCommitmentAfter
     takeChallengeRules takeChallengeAfter takeResponseRules takeResponseAfter takeCommitment takeChallenge
-    takeResponse exampleFile exampleText array roundOf run bothWays judgedNumber pages smallSheet schnorrSheet
-    madeSheet okamotoSheet diffieHellmanSheet productSheet rootSheet flatten
+    takeResponse jointRun exampleFile exampleText array smallRound run bothWays judgedNumber pages smallSheet
+    schnorrSheet madeSheet okamotoSheet diffieHellmanSheet productSheet rootSheet flatten
 every-page = (refl, refl)

@@ -4,9 +4,7 @@ use Prim.Native.Nat.{ℕ}
 use Prim.Native.String.{String}
 use mathlib.Core.List.{List, [], _∷_, _++_}
 use lib.ListN.{replicate, take}
-use Rattle.types.specs.declared.ProverStep.{ProverStep}
 use Rattle.types.specs.declared.Round.{Round}
-use Rattle.types.specs.declared.Verifier.{Verifier}
 use Rattle.lists.specs.Places.{places}
 use Rattle.examples.specs.MarkerExample.{exampleFile, exampleText}
 use Rattle.examples.specs.Sheets.{
@@ -20,10 +18,11 @@ use Rattle.examples.specs.Sheets.{
 use Rattle.formats.specs.Load.{loadRefusal}
 use Rattle.formats.specs.Sheet.{headerOf}
 use Rattle.runs.specs.Calls.{judgeRound, simulateCommitment, extractWitness}
+use Rattle.runs.specs.JointRun.{JointRun, jointRun}
 use Rattle.runs.specs.Marker.{markerText}
-use Rattle.runs.specs.Prover.{newProver, commit, respond}
-use Rattle.runs.specs.Verifier.{newVerifier, takeCommitment, takeChallenge, takeResponse}
+use Rattle.runs.specs.Prover.{newProver, commit}
 use Rattle.sigma.specs.Answer.{outcome}
+use Rattle.sigma.specs.Reads.{roundOf}
 
 -- a page's letter, what the definitions give, and what the page prints
 pub record Page : Type 0 where
@@ -36,19 +35,15 @@ unfoldable pub array : List ℕ → List ℕ
 array values = take 8 (values ++ replicate 8 99)
 
 -- a round of one row and one column
-unfoldable pub roundOf : ℕ → ℕ → ℕ → Round
-roundOf t c r = record { commitment = array (t ∷ []); challenge = c; response = array (r ∷ []) }
+unfoldable pub smallRound : ℕ → ℕ → ℕ → Round
+smallRound t c r = roundOf (array (t ∷ [])) c (array (r ∷ []))
 
--- a run of both sessions: Peggy commits, Vic takes the commitment and the challenge, Peggy responds, Vic judges.
--- The commitment, the response and the verdict's values, of which the last 1 is accepted
+-- what a run of both sessions gives: the commitment, the response and the verdict's values, of which the last 1 is accepted
 unfoldable pub run : List ℕ → List ℕ → List ℕ → ℕ → List ℕ
 run sheet witness nonce c =
-    let committed : ProverStep = commit sheet newProver (array nonce) in
-    let holding : Verifier = takeCommitment sheet newVerifier (committed .values) .session in
-    let asked : Verifier = takeChallenge sheet holding c .session in
-    let responded : ProverStep = respond sheet (committed .session) c (array witness) in
-    places (headerOf sheet .rows) (committed .values) ++ places (headerOf sheet .columns) (responded .values) ++
-    outcome (takeResponse sheet asked (responded .values) .verdict) .values
+    let calls : JointRun = jointRun sheet (array witness) c (array nonce) in
+    places (headerOf sheet .rows) (calls .committed .values) ++ places (headerOf sheet .columns) (calls .answered .values) ++
+    outcome (calls .told .verdict) .values
 
 -- the witness that two rounds give, and that the same rounds give when swapped
 unfoldable pub bothWays : List ℕ → Round → Round → List ℕ
@@ -64,7 +59,7 @@ judgedNumber sheet round = outcome (judgeRound sheet round) .number
 unfoldable pub pages : List Page
 pages =
     record { letter = "A"; given = run schnorrSheet (7 ∷ []) (5 ∷ []) 3; printed = 9 ∷ 4 ∷ 1 ∷ [] } ∷
-    record { letter = "B"; given = bothWays schnorrSheet (roundOf 9 3 4) (roundOf 9 1 1); printed = 7 ∷ 7 ∷ [] } ∷
+    record { letter = "B"; given = bothWays schnorrSheet (smallRound 9 3 4) (smallRound 9 1 1); printed = 7 ∷ 7 ∷ [] } ∷
     record {
       letter = "C";
       given = places 1 (simulateCommitment schnorrSheet 3 (array (0 ∷ [])) .values);
@@ -86,7 +81,7 @@ pages =
       given = run rootSheet (2 ∷ []) (3 ∷ []) 1 ++ run rootSheet (2 ∷ []) (3 ∷ []) 3;
       printed = 33 ∷ 6 ∷ 1 ∷ 33 ∷ 24 ∷ 1 ∷ [];
     } ∷
-    record { letter = "H"; given = bothWays rootSheet (roundOf 33 1 6) (roundOf 33 3 24); printed = 2 ∷ 2 ∷ [] } ∷
+    record { letter = "H"; given = bothWays rootSheet (smallRound 33 1 6) (smallRound 33 3 24); printed = 2 ∷ 2 ∷ [] } ∷
     record {
       letter = "I";
       given =
@@ -97,8 +92,8 @@ pages =
     record {
       letter = "J";
       given =
-          judgedNumber schnorrSheet (roundOf 5 0 0) ∷ judgedNumber schnorrSheet (roundOf 9 0 10) ∷
-          judgedNumber schnorrSheet (roundOf 9 0 11) ∷ [];
+          judgedNumber schnorrSheet (smallRound 5 0 0) ∷ judgedNumber schnorrSheet (smallRound 9 0 10) ∷
+          judgedNumber schnorrSheet (smallRound 9 0 11) ∷ [];
       printed = 14 ∷ 0 ∷ 16 ∷ [];
     } ∷
     record { letter = "marker"; given = markerText schnorrSheet exampleFile; printed = exampleText } ∷ []

@@ -25,7 +25,7 @@ use Rattle.formats.specs.Sheet.{headerOf}
 use Rattle.formats.specs.Write.{written}
 use Rattle.formats.proofs.Files.{in-use-passes, record-behind}
 use Rattle.formats.proofs.Loads.{load-clear}
-use Rattle.formats.proofs.Order.{record-positive}
+use Rattle.formats.proofs.Positive.{record-positive}
 use Rattle.formats.proofs.Writing.{short-passes, written-refusal, written-refused, written-given}
 
 -- a record is as long as 01 says

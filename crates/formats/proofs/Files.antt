@@ -33,7 +33,7 @@ use Rattle.formats.specs.RoundFile.{
 }
 use Rattle.formats.specs.Sheet.{headerOf}
 use Rattle.formats.proofs.Loads.{begins, load-clear}
-use Rattle.formats.proofs.Order.{count-positive, check-positive}
+use Rattle.formats.proofs.Positive.{count-positive, check-positive}
 
 -- the mark has three bytes
 pub length-roundMark : length roundMark ≡ 3
@@ -141,11 +141,6 @@ module _ (s f : List ℕ) where
               (load-clear s .0 sheet, passes .0 file, below .0 number),
           λ (l, r, b). lowest-clear rules (parts .1 (load-clear s .1 l, (passes .1 r, (below .1 b, tt)))),
         )
-
-    -- reading a round is refused with the number that the check gives
-    pub fetch-refusal : fetchRound s f k .refusal ≡ checkRound s f k
-    unfolding fetchRound fetchAfter checkRound
-    fetch-refusal = refl
 
     -- else it gives the values that stand in the record
     pub fetch-given : checkRound s f k ≡ 0

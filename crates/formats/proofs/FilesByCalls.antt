@@ -10,12 +10,13 @@ use Rattle.encoding.specs.Bytes.{AllBytes}
 use Rattle.lists.specs.Member.{Member}
 use Rattle.lists.specs.Places.{tabulate}
 use Rattle.lists.proofs.Places.{tabulate-agree}
+use Rattle.sigma.specs.Reads.{paddedRound}
 use Rattle.formats.specs.Append.{emptyFile}
 use Rattle.formats.specs.Meaning.{Loads}
 use Rattle.formats.specs.Outcome.{Puts}
 use Rattle.formats.specs.RoundCalls.{countRounds, fetchRound, noRound}
 use Rattle.formats.specs.RoundFile.{challengeWidth, countField, recordStart}
-use Rattle.formats.specs.Rounds.{Words, appendEach, roundsOf, storedRound}
+use Rattle.formats.specs.Rounds.{Words, appendEach, roundsOf}
 use Rattle.formats.specs.Sheet.{headerOf}
 use Rattle.formats.specs.Write.{Writing}
 use Rattle.formats.proofs.Files.{check-runs, count-runs, count-given, fetch-given}
@@ -39,13 +40,13 @@ pub appended-read : (s buffer : List ℕ) → Loads s → (rounds : List Round) 
     → ((round : Round) → Member round rounds → Words (headerOf s) round) → (w : Writing) → w ≡ appendEach s (emptyFile buffer) rounds
     → (countRounds s (take (w .answer .length) (w .buffer)) ≡ record { refusal = 0; count = length rounds })
     × ((k : ℕ) → k < length rounds → fetchRound s (take (w .answer .length) (w .buffer)) k
-    ≡ record { refusal = 0; round = getD (map (storedRound (headerOf s)) rounds) k noRound })
+    ≡ record { refusal = 0; round = getD (map (paddedRound (headerOf s)) rounds) k noRound })
 unfolding roundsOf
 appended-read s buffer l rounds few fits words w e =
     let f = take (w .answer .length) (w .buffer) in
     let (file, same) = append-each-reads s l buffer rounds few fits words w e in
     let count : countField f ≡ length rounds =
-    sym (length-roundsOf (headerOf s) f) ∙ ap length same ∙ length-map rounds (storedRound (headerOf s)) in
+    sym (length-roundsOf (headerOf s) f) ∙ ap length same ∙ length-map rounds (paddedRound (headerOf s)) in
     let runs = count-runs s f .1 (l, file) in (
       count-given s f runs ∙ ap (λ (n : ℕ). record { refusal = 0; count = n }) count,
       λ k h. fetch-round s f k (check-runs s f k .1 (l, file, omega arith))

@@ -15,10 +15,11 @@ use Rattle.encoding.proofs.Bytes.{length-bytesOf, numberAt-agree, numberAt-sets
 use Rattle.encoding.proofs.Replaced.{getD-sets-before, getD-sets-behind, take-sets-before, take-sets-inside}
 use Rattle.lists.specs.Places.{tabulate}
 use Rattle.lists.proofs.Places.{tabulate-agree, tabulate-suc}
+use Rattle.sigma.specs.Reads.{paddedRound}
 use Rattle.formats.specs.Append.{append, appended}
 use Rattle.formats.specs.Meaning.{InUse, IsRoundFile}
 use Rattle.formats.specs.RoundFile.{challengeWidth, countField, fileVersion, recordBytes, recordLength, recordStart, roundAt}
-use Rattle.formats.specs.Rounds.{Grows, Words, roundsOf, storedRound}
+use Rattle.formats.specs.Rounds.{Grows, Words, roundsOf}
 use Rattle.formats.specs.Sheet.{headerOf}
 use Rattle.formats.proofs.Appending.{append-given, append-runs, in-use-count, in-use-long, length-recordBytes}
 use Rattle.formats.proofs.Files.{record-behind}
@@ -93,7 +94,7 @@ module _ {h : Header} {f : List ℕ} (r : IsRoundFile h f) (room : countField f 
       }
 
   -- its rounds are those of the file, and the round
-  grown-rounds : Words h round → roundsOf h (grown h f round) ≡ roundsOf h f ++ storedRound h round ∷ []
+  grown-rounds : Words h round → roundsOf h (grown h f round) ≡ roundsOf h f ++ paddedRound h round ∷ []
   unfolding roundsOf challengeWidth
   grown-rounds words =
       let bytes = recordBytes challengeWidth h round in
@@ -104,7 +105,7 @@ module _ {h : Header} {f : List ℕ} (r : IsRoundFile h f) (room : countField f 
       roundAt-agree challengeWidth h (grown h f round) f (start k) (start k) (λ j c.
       let inside : start k + j < length f = omega (arith, r .exact, recordStart-later challengeWidth h k n b) in
       grown-behind (start k + j) (omega (arith, record-behind h k)) ∙ List·getD-append f bytes 0 (start k + j) inside)) in
-      let new : roundAt challengeWidth h (grown h f round) (start n) ≡ storedRound h round =
+      let new : roundAt challengeWidth h (grown h f round) (start n) ≡ paddedRound h round =
       roundAt-agree challengeWidth h (grown h f round) (f ++ bytes ++ []) (start n) (length f) (λ j c.
       grown-behind (start n + j) (omega (arith, record-behind h n))
       ∙ ap₂ (λ (l : List ℕ) (at : ℕ). getD l (at + j) 0) (sym (append-nil (f ++ bytes))) (sym (r .exact)))

@@ -1,7 +1,7 @@
 -- Laws of sheets and round files as bytes: what each test says, what a call answers and reads, and the round trips.
 pub mod Tests
 pub mod Refusals
-pub mod Order
+pub mod Positive
 pub mod Loads
 pub mod Files
 pub mod After

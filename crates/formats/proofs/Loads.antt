@@ -38,7 +38,7 @@ use Rattle.formats.specs.Load.{
 }
 use Rattle.formats.specs.Meaning.{Loads}
 use Rattle.formats.specs.Sheet.{sheetMark, versionOf, headerOf, sheetLength, zeros64, instanceOf}
-use Rattle.formats.proofs.Order.{load-positive}
+use Rattle.formats.proofs.Positive.{load-positive}
 
 -- a list begins with n values exactly where it agrees with them in n places
 pub begins : (n : ℕ) (s mark : List ℕ) → length mark ≡ n → n ≤ length s → Agree n s mark ↔ (take n s ≡ mark)

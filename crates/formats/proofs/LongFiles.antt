@@ -58,35 +58,35 @@ zero-or-more (suc n) = inr (omega arith)
 -- ---- sheets
 
 -- the rules before the length's
-abbrev front : List ℕ → List Rule
-front s = (2 when badStart s) ∷ (3 when badVersion s) ∷ headerRules (headerOf s)
+abbrev earlyRules : List ℕ → List Rule
+earlyRules s = (2 when badStart s) ∷ (3 when badVersion s) ∷ headerRules (headerOf s)
 
 -- a sheet's rules are those, then the length's and the elements'
-load-front : (s : List ℕ) → loadRules s ≡ front s ++ (9 when badLength s) ∷ elementRules (instanceOf s)
+load-early : (s : List ℕ) → loadRules s ≡ earlyRules s ++ (9 when badLength s) ∷ elementRules (instanceOf s)
 unfolding loadRules shapeRules
-load-front s =
+load-early s =
     ap (λ (rules : List Rule). (2 when badStart s) ∷ (3 when badVersion s) ∷ rules)
     (append-snoc (headerRules (headerOf s)) (9 when badLength s) (elementRules (instanceOf s)))
 
 -- they have positive numbers
-front-positive : (s : List ℕ) → T (positive (front s))
+early-positive : (s : List ℕ) → T (positive (earlyRules s))
 unfolding headerRules
-front-positive s = tt
+early-positive s = tt
 
--- where they don't apply, a sheet of more than 308 bytes is refused by 9
-long-refused : (s : List ℕ) → 308 < length s → Clear (front s) → loadRefusal s ≡ 9
+-- where they do not apply, a sheet of more than 308 bytes is refused by 9
+long-refused : (s : List ℕ) → 308 < length s → Clear (earlyRules s) → loadRefusal s ≡ 9
 unfolding loadRefusal headerRules
 long-refused s long c =
     let (start, (version, header)) = c in
     let (kind, (modulus, (order, (size, rest)))) = header in
     let (a, b, d, e, same) = size-passes (headerOf s) .0 size in
     let other = says-badLength s .complete (λ (same : length s ≡ sheetLength (headerOf s)). omega (arith, sheet-short (headerOf s) b e)) in
-    ap lowest (load-front s) ∙ lowest-later (front s) _ c ∙ stop 9 (elementRules (instanceOf s)) other
+    ap lowest (load-early s) ∙ lowest-later (earlyRules s) _ c ∙ stop 9 (elementRules (instanceOf s)) other
 
 -- a longer sheet, refused by a rule before the length's, gives that rule's number
-early-refused : (s : List ℕ) → 0 < lowest (front s) → loadRefusal s ≡ lowest (front s)
+early-refused : (s : List ℕ) → 0 < lowest (earlyRules s) → loadRefusal s ≡ lowest (earlyRules s)
 unfolding loadRefusal
-early-refused s some = ap lowest (load-front s) ∙ lowest-earlier (front s) _ some
+early-refused s some = ap lowest (load-early s) ∙ lowest-earlier (earlyRules s) _ some
 
 module _ (n : ℕ) (s : List ℕ) (enough : 20 ≤ n) (long : n ≤ length s) where
   -- the first 20 bytes have the same start
@@ -114,20 +114,20 @@ module _ (n : ℕ) (s : List ℕ) (enough : 20 ≤ n) (long : n ≤ length s) wh
   }
 
   -- and so the same rules before the length's
-  front-cut : front (take n s) ≡ front s
+  early-cut : earlyRules (take n s) ≡ earlyRules s
   unfolding badVersion versionOf
-  front-cut = rw (start-cut, header-cut, numberAt-take 2 n s 3 (omega arith))
+  early-cut = rw (start-cut, header-cut, numberAt-take 2 n s 3 (omega arith))
 
 -- a sheet of more than 308 bytes, cut to more than 308 bytes, is refused with the same number
-cut-refused : (n : ℕ) (s : List ℕ) → 309 ≤ n → n ≤ length s → (lowest (front s) ≡ 0) ⊎ (0 < lowest (front s))
+cut-refused : (n : ℕ) (s : List ℕ) → 309 ≤ n → n ≤ length s → (lowest (earlyRules s) ≡ 0) ⊎ (0 < lowest (earlyRules s))
     → loadRefusal (take n s) ≡ loadRefusal s
 cut-refused n s enough long (inl e) =
-    let same = front-cut n s (omega arith) long in
+    let same = early-cut n s (omega arith) long in
     let size = length-take-le n s long in
-    long-refused (take n s) (omega arith) (clear-lowest (front (take n s)) (front-positive (take n s)) (ap lowest same ∙ e))
-    ∙ sym (long-refused s (omega arith) (clear-lowest (front s) (front-positive s) e))
+    long-refused (take n s) (omega arith) (clear-lowest (earlyRules (take n s)) (early-positive (take n s)) (ap lowest same ∙ e))
+    ∙ sym (long-refused s (omega arith) (clear-lowest (earlyRules s) (early-positive s) e))
 cut-refused n s enough long (inr some) =
-    let same = ap lowest (front-cut n s (omega arith) long) in
+    let same = ap lowest (early-cut n s (omega arith) long) in
     early-refused (take n s) (omega arith) ∙ same ∙ sym (early-refused s some)
 
 module _ (n : ℕ) (enough : 309 ≤ n) (s : List ℕ) where
@@ -135,7 +135,7 @@ module _ (n : ℕ) (enough : 309 ≤ n) (s : List ℕ) where
   pub refusal-cut : loadRefusal (take n s) ≡ loadRefusal s
   refusal-cut = elim (decLe (length s) n) [
     | yes short ↦ ap loadRefusal (take-all n s short)
-    | no long ↦ cut-refused n s enough (omega arith) (zero-or-more (lowest (front s)))
+    | no long ↦ cut-refused n s enough (omega arith) (zero-or-more (lowest (earlyRules s)))
   ]
 
   -- it is the same sheet where it loads

@@ -42,7 +42,7 @@ use Rattle.formats.specs.Pattern.{
 use Rattle.formats.specs.Sheet.{sheetLength, zeros64}
 use Rattle.formats.specs.Write.{written, writtenAtStart}
 use Rattle.formats.proofs.Loads.{loads, loaded-given}
-use Rattle.formats.proofs.Order.{make-positive}
+use Rattle.formats.proofs.Positive.{make-positive}
 use Rattle.formats.proofs.Patterns.{entryOf-element, made-entry, made-exponent, made-root, pattern-digits, pattern-size}
 use Rattle.formats.proofs.SheetRoundTrip.{sheet-loads}
 use Rattle.formats.proofs.SheetWritten.{instanceOf-sheetOf}
@@ -106,7 +106,7 @@ module _ (number modulus order challenges : ℕ) (values statement : List ℕ) w
         absurd (omega arith)
   ]
 
-  -- where 1, 5, 6, 8, 10 and 11 don't apply, the values are Valid
+  -- where 1, 5, 6, 8, 10 and 11 do not apply, the values are Valid
   made-valid : (1 ≤ number) × (number ≤ 6) × (length values ≡ patternOf number .values) × (length statement ≡ patternOf number .rows)
       → 3 ≤ modulus → 2 ≤ order
       → (2 ≤ challenges) × (challenges ≤ 65536) × ((d : ℕ) → 2 ≤ d → d < challenges → ¬ (d ∣ order))

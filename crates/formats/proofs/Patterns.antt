@@ -5,7 +5,6 @@ use mathlib.Core.Path.{_≡_, refl, ap}
 use mathlib.Core.Logic.{_≢_}
 use mathlib.Core.Bool.{false}
 use mathlib.Core.List.{List}
-use native.Mathlib.Nat.{eq-one-of-dvd-one, mod-eq-of-lt}
 use native.Mathlib.Omega.{arith}
 use lib.Dec.{ltb}
 use lib.ListN.{length, getD}
@@ -14,11 +13,10 @@ use Rattle.types.specs.declared.Header.{Header}
 use Rattle.types.specs.declared.Pattern.{Pattern}
 use Rattle.lists.proofs.Rows.{getD-table}
 use Rattle.numbers.specs.Search.{any, find}
-use Rattle.numbers.proofs.Gcd.{gcd-one}
-use Rattle.numbers.proofs.Powers.{one-pow}
 use Rattle.numbers.proofs.Search.{any-false}
 use Rattle.sigma.specs.Element.{Element}
 use Rattle.sigma.specs.Instance.{entry}
+use Rattle.sigma.proofs.ElementGroup.{element-one}
 use Rattle.formats.specs.Pattern.{patterns, patternOf, entryOf, patternEntries, madeHeader, made}
 
 -- ---- the table
@@ -73,19 +71,10 @@ entryOf-value values j =
     let e : suc j - 1 ≡ j = omega arith in
     rw (ne-eqb (suc j) 0 (λ (z : suc j ≡ 0). omega arith)) (ap (λ (k : ℕ). getD values k 0) e)
 
--- 1 is a group element
-pub one-element : (h : Header) → 3 ≤ h .modulus → Element h 1
-one-element h low = record {
-  positive = omega arith;
-  below = omega arith;
-  ordered = λ e. rw (one-pow (h .order)) (mod-eq-of-lt (omega arith));
-  coprime = λ n. gcd-one 1 (h .modulus) .1 (λ d a b. eq-one-of-dvd-one a);
-}
-
 -- what a digit stands for is a group element where the public values are
 pub entryOf-element : (h : Header) (values : List ℕ) (digit : ℕ) → 3 ≤ h .modulus
     → ((j : ℕ) → j < length values → Element h (getD values j 0)) → digit ≤ length values → Element h (entryOf values digit)
-entryOf-element h values zero low elements inside = rw (entryOf-none values) (one-element h low)
+entryOf-element h values zero low elements inside = rw (entryOf-none values) (element-one h (omega arith))
 entryOf-element h values (suc j) low elements inside = rw (entryOf-value values j) (elements j inside)
 
 -- ---- the kind of a made sheet

@@ -23,8 +23,8 @@ use Rattle.encoding.proofs.Bytes.{
 }
 use Rattle.lists.specs.Places.{itemsAt, pad8, places}
 use Rattle.lists.proofs.Places.{itemsAt-agree, length-itemsAt, length-places, places-pad8, places-whole}
+use Rattle.sigma.specs.Reads.{paddedRound}
 use Rattle.formats.specs.RoundFile.{recordBytes, recordLength, recordStart, roundAt}
-use Rattle.formats.specs.Rounds.{storedRound}
 
 -- the next record begins a record's length later
 pub recordStart-suc : (width : ℕ) (h : Header) (k : ℕ) → recordStart width h (suc k) ≡ recordStart width h k + recordLength width h
@@ -65,8 +65,8 @@ roundAt-agree width h s t at at′ same =
 pub roundAt-recordBytes : (width : ℕ) (h : Header) (round : Round) (xs ys : List ℕ)
     → ((j : ℕ) → j < h .rows → getD (round .commitment) j 0 < 2 ^ 32) → round .challenge < 256 ^ width
     → ((j : ℕ) → j < h .columns → getD (round .response) j 0 < 2 ^ 32)
-    → roundAt width h (xs ++ recordBytes width h round ++ ys) (length xs) ≡ storedRound h round
-unfolding roundAt recordBytes storedRound
+    → roundAt width h (xs ++ recordBytes width h round ++ ys) (length xs) ≡ paddedRound h round
+unfolding roundAt recordBytes paddedRound
 roundAt-recordBytes width h round xs ys small low few =
     let t = bytesOfEach 4 (places (h .rows) (round .commitment)) in
     let c = bytesOf width (round .challenge) in

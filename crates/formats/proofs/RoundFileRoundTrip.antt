@@ -16,6 +16,7 @@ use Rattle.encoding.proofs.Bytes.{length-bytesOf}
 use Rattle.encoding.proofs.Replaced.{sets-middle}
 use Rattle.lists.specs.Member.{Member}
 use Rattle.lists.proofs.Rows.{flatten-append}
+use Rattle.sigma.specs.Reads.{paddedRound}
 use Rattle.formats.specs.Append.{append, appended, emptyFile}
 use Rattle.formats.specs.Meaning.{InUse, IsRoundFile, Loads}
 use Rattle.formats.specs.Outcome.{Puts}
@@ -28,7 +29,7 @@ use Rattle.formats.specs.RoundFile.{
   recordStart,
   roundMark,
 }
-use Rattle.formats.specs.Rounds.{Words, appendEach, fileOf, roundsOf, storedRound}
+use Rattle.formats.specs.Rounds.{Words, appendEach, fileOf, roundsOf}
 use Rattle.formats.specs.Sheet.{headerOf}
 use Rattle.formats.specs.Write.{Writing}
 use Rattle.formats.proofs.Appending.{append-given, append-runs, appended-behind, appended-size}
@@ -158,7 +159,7 @@ module _ (s : List ℕ) (l : Loads s) (buffer : List ℕ) where
       → recordStart challengeWidth (headerOf s) (length rounds) ≤ length buffer
       → ((round : Round) → Member round rounds → Words (headerOf s) round) → (w : Writing) → w ≡ appendEach s (emptyFile buffer) rounds
       → IsRoundFile (headerOf s) (take (w .answer .length) (w .buffer))
-      × (roundsOf (headerOf s) (take (w .answer .length) (w .buffer)) ≡ map (storedRound (headerOf s)) rounds)
+      × (roundsOf (headerOf s) (take (w .answer .length) (w .buffer)) ≡ map (paddedRound (headerOf s)) rounds)
   append-each-reads rounds few fits words w e =
       let h = headerOf s in
       rw (e, puts-front (append-each rounds few fits)) (fileOf-is-file h rounds few, roundsOf-fileOf h rounds few words)

@@ -16,6 +16,7 @@ use Rattle.encoding.proofs.Bytes.{length-bytesOf, number-behind, take-bytesOf}
 use Rattle.lists.specs.Member.{Member}
 use Rattle.lists.specs.Places.{itemsAt}
 use Rattle.lists.proofs.Places.{itemsAt-tabulate, length-tabulate, tabulate-agree}
+use Rattle.sigma.specs.Reads.{paddedRound}
 use Rattle.formats.specs.Meaning.{IsRoundFile}
 use Rattle.formats.specs.RoundFile.{
   challengeWidth,
@@ -27,7 +28,7 @@ use Rattle.formats.specs.RoundFile.{
   roundAt,
   roundMark,
 }
-use Rattle.formats.specs.Rounds.{Words, fileOf, roundsOf, storedRound}
+use Rattle.formats.specs.Rounds.{Words, fileOf, roundsOf}
 use Rattle.formats.proofs.Appending.{length-recordBytes}
 use Rattle.formats.proofs.Files.{length-roundMark}
 use Rattle.formats.proofs.Records.{recordBytes-roundAt, roundAt-recordBytes}
@@ -53,7 +54,7 @@ module _ (h : Header) where
   -- records that stand behind xs are read as the rounds that they were written from
   records-back : (rounds : List Round) (xs ys : List ℕ) → ((round : Round) → Member round rounds → Words h round)
       → itemsAt (roundAt challengeWidth h (xs ++ records rounds ++ ys)) (length xs) (recordLength challengeWidth h) (length rounds)
-      ≡ map (storedRound h) rounds
+      ≡ map (paddedRound h) rounds
   unfolding flatten itemsAt challengeWidth
   records-back [] xs ys words = refl
   records-back (round ∷ rounds) xs ys words =
@@ -130,7 +131,7 @@ module _ (h : Header) where
 
   -- it reads back as what was stored of the rounds
   pub roundsOf-fileOf : (rounds : List Round) → length rounds ≤ 512 → ((round : Round) → Member round rounds → Words h round)
-      → roundsOf h (fileOf h rounds) ≡ map (storedRound h) rounds
+      → roundsOf h (fileOf h rounds) ≡ map (paddedRound h) rounds
   unfolding fileOf
   roundsOf-fileOf rounds few words =
       let front = roundMark ++ bytesOf 2 1 ++ bytesOf 2 (length rounds) in

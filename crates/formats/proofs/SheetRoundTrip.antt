@@ -7,14 +7,13 @@ use mathlib.Core.List.{List}
 use native.Mathlib.Omega.{arith}
 use lib.ListN.{length}
 use Rattle.encoding.specs.Bytes.{AllBytes}
-use Rattle.encoding.proofs.Bytes.{numberAt-below}
 use Rattle.sigma.specs.Instance.{Instance}
 use Rattle.sigma.specs.Valid.{Valid}
 use Rattle.formats.specs.Encode.{sheetOf, encode}
 use Rattle.formats.specs.Load.{loadRefusal, loaded}
 use Rattle.formats.specs.Meaning.{Loads, readInstance}
 use Rattle.formats.specs.Outcome.{Puts}
-use Rattle.formats.specs.Sheet.{headerOf, instanceOf, sheetLength}
+use Rattle.formats.specs.Sheet.{instanceOf, sheetLength}
 use Rattle.formats.proofs.Loads.{loads, loaded-given}
 use Rattle.formats.proofs.SheetRead.{sheetOf-instanceOf}
 use Rattle.formats.proofs.SheetWritten.{sheet-mark, sheet-version, sheet-header, instanceOf-sheetOf}
@@ -47,16 +46,6 @@ encode-loads i buffer small short e =
 -- ---- loaded and written
 
 module _ (s : List ℕ) (b : AllBytes s) where
-  -- the modulus of bytes has 32 bits
-  pub modulus-below : headerOf s .modulus < 2 ^ 32
-  unfolding headerOf
-  modulus-below = numberAt-below 4 s 6 b
-
-  -- so has ℓ
-  pub order-below : headerOf s .order < 2 ^ 32
-  unfolding headerOf
-  order-below = numberAt-below 4 s 10 b
-
   -- what the loader gives of a sheet that loads, the second writer writes as the same bytes
   pub load-encodes : loadRefusal s ≡ 0 → (buffer : List ℕ) → length s ≤ length buffer
       → Puts s buffer (encode (loaded s) buffer)
@@ -67,10 +56,3 @@ module _ (s : List ℕ) (b : AllBytes s) where
       let runs = encode-runs (instanceOf s) buffer .1 (l .valid, omega (arith, l .exact)) in
       rw (loaded-given s e)
       (subst (λ (bytes : List ℕ). Puts bytes buffer (encode (instanceOf s) buffer)) same (encode-puts (instanceOf s) buffer runs))
-
-  -- the values of a sheet that loads have 0 in the places that are not read
-  pub loaded-read : loadRefusal s ≡ 0 → readInstance (instanceOf s) ≡ instanceOf s
-  unfolding instanceOf
-  loaded-read e =
-      let l = loads s .0 e in
-      sym (instanceOf-sheetOf (instanceOf s) (l .valid) modulus-below order-below) ∙ ap instanceOf (sheetOf-instanceOf s l b)

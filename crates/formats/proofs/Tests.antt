@@ -42,7 +42,7 @@ pub says-badVersion : (s : List ℕ) → Says (badVersion s) (Refusal3 s)
 unfolding badVersion
 says-badVersion s = says-not (says-equal (versionOf s) 1)
 
--- 9: the length isn't exactly what the header gives
+-- 9: the length is not exactly what the header gives
 pub says-badLength : (s : List ℕ) → Says (badLength s) (Refusal9 s)
 unfolding badLength
 says-badLength s = says-not (says-equal (length s) (sheetLength (headerOf s)))
@@ -54,7 +54,7 @@ says-badValues h values = says-someNonElement h (length values) values
 
 -- ---- round files
 
--- 12: under 7 bytes, another mark, a version other than 1, a count above 512 or a length that doesn't fit
+-- 12: under 7 bytes, another mark, a version other than 1, a count above 512 or a length that does not fit
 pub says-badFile : (h : Header) (f : List ℕ) → Says (badFile h f) (Refusal12 h f)
 unfolding badFile
 says-badFile h f =

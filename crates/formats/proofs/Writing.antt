@@ -30,7 +30,7 @@ use Rattle.formats.specs.Write.{Writing, short, written, writtenAtStart}
 use Rattle.formats.proofs.Entries.{length-storedEntries}
 use Rattle.formats.proofs.Files.{length-roundMark}
 use Rattle.formats.proofs.Loads.{length-sheetMark}
-use Rattle.formats.proofs.Order.{encode-positive}
+use Rattle.formats.proofs.Positive.{encode-positive}
 
 -- ---- any writing call
 

@@ -32,7 +32,7 @@ badStart s = ltb (length s) 20 || differ 3 s sheetMark
 unfoldable pub badVersion : List ℕ → Bool
 badVersion s = not (eqb (versionOf s) 1)
 
--- the length isn't exactly what the header gives
+-- the length is not exactly what the header gives
 unfoldable pub badLength : List ℕ → Bool
 badLength s = not (eqb (length s) (sheetLength (headerOf s)))
 

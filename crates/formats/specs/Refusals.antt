@@ -4,10 +4,11 @@
 use Prim.Native.Nat.{ℕ, _+_, _<_, _≤_}
 use mathlib.Core.Logic.{_⊎_, _≢_}
 use mathlib.Core.List.{List, [], _∷_, _++_}
-use lib.ListN.{length, getD, take}
+use lib.ListN.{length, take}
 use Rattle.types.specs.declared.Header.{Header}
 use Rattle.rules.specs.Condition.{Condition, _if_}
 use Rattle.sigma.specs.Instance.{Instance}
+use Rattle.sigma.specs.Reads.{Differ}
 use Rattle.sigma.specs.Refusals.{
   Refusal5,
   Refusal6,
@@ -29,10 +30,6 @@ use Rattle.formats.specs.RoundFile.{
 }
 use Rattle.formats.specs.Sheet.{headerOf, instanceOf, sheetLength, sheetMark, versionOf}
 
--- the first three bytes are not the mark
-abbrev pub OtherMark : List ℕ → List ℕ → Type 0
-OtherMark s mark = (i : ℕ) × (i < 3) × (getD s i 0 ≢ getD mark i 0)
-
 -- the pattern number is outside 1 to 6, or the count of public or statement values is wrong
 abbrev pub Refusal1 : ℕ → List ℕ → List ℕ → Type 0
 Refusal1 number values statement =
@@ -41,20 +38,20 @@ Refusal1 number values statement =
 
 -- the sheet has under 20 bytes or another mark
 abbrev pub Refusal2 : List ℕ → Type 0
-Refusal2 s = (length s < 20) ⊎ OtherMark s sheetMark
+Refusal2 s = (length s < 20) ⊎ Differ 3 s sheetMark
 
 -- the sheet's version is not 1
 abbrev pub Refusal3 : List ℕ → Type 0
 Refusal3 s = versionOf s ≢ 1
 
--- the sheet's length isn't exactly what its header gives
+-- the sheet's length is not exactly what its header gives
 abbrev pub Refusal9 : List ℕ → Type 0
 Refusal9 s = length s ≢ sheetLength (headerOf s)
 
--- the file has under 7 bytes, another mark, a version other than 1, a count above 512 or a length that doesn't fit
+-- the file has under 7 bytes, another mark, a version other than 1, a count above 512 or a length that does not fit
 abbrev pub Refusal12 : Header → List ℕ → Type 0
 Refusal12 h f =
-    (length f < 7) ⊎ OtherMark f roundMark ⊎ (fileVersion f ≢ 1) ⊎ (512 < countField f) ⊎
+    (length f < 7) ⊎ Differ 3 f roundMark ⊎ (fileVersion f ≢ 1) ⊎ (512 < countField f) ⊎
     (length f ≢ recordStart challengeWidth h (countField f))
 
 -- for the writer: more bytes in use than the buffer has, no file in those bytes, or 512 rounds already

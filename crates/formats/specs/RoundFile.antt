@@ -56,7 +56,7 @@ roundAt width h f at =
       response = pad8 0 (itemsAt (numberAt 4 f) (at + 4 * h .rows + width) 4 (h .columns));
     }
 
--- under 7 bytes, another mark, a version other than 1, a count above 512 or a length that doesn't fit (12)
+-- under 7 bytes, another mark, a version other than 1, a count above 512 or a length that does not fit (12)
 unfoldable pub badFile : Header → List ℕ → Bool
 badFile h f =
     ltb (length f) 7 || differ 3 f roundMark || not (eqb (fileVersion f) 1) || ltb 512 (countField f) ||

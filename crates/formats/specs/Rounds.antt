@@ -7,20 +7,12 @@ use lib.ListN.{length, getD}
 use Rattle.types.specs.declared.Header.{Header}
 use Rattle.types.specs.declared.Round.{Round}
 use Rattle.encoding.specs.Bytes.{bytesOf}
-use Rattle.lists.specs.Places.{pad8, places, tabulate}
+use Rattle.lists.specs.Places.{tabulate}
+use Rattle.sigma.specs.Reads.{paddedRound}
 use Rattle.formats.specs.Append.{append}
 use Rattle.formats.specs.Meaning.{IsRoundFile}
 use Rattle.formats.specs.RoundFile.{challengeWidth, recordBytes, recordStart, roundAt, roundMark, countField}
 use Rattle.formats.specs.Write.{Writing}
-
--- what a record holds of a round: s places of t, c, and n places of r, with 0 in the places beyond
-unfoldable pub storedRound : Header → Round → Round
-storedRound h round =
-    record {
-      commitment = pad8 0 (places (h .rows) (round .commitment));
-      challenge = round .challenge;
-      response = pad8 0 (places (h .columns) (round .response));
-    }
 
 -- the values that a record holds have 32 bits
 pub record Words (h : Header) (round : Round) : Type 0 where
@@ -46,4 +38,4 @@ appendEach sheet w (round ∷ rounds) = appendEach sheet (append sheet (w .buffe
 pub record Grows (h : Header) (f : List ℕ) (round : Round) (f′ : List ℕ) : Type 0 where
   pub file : IsRoundFile h f′
   pub count : countField f′ ≡ countField f + 1
-  pub rounds : Words h round → roundsOf h f′ ≡ roundsOf h f ++ storedRound h round ∷ []
+  pub rounds : Words h round → roundsOf h f′ ≡ roundsOf h f ++ paddedRound h round ∷ []

@@ -82,16 +82,6 @@ module _ {A : Type 0} (G : Group A) where
         interchange G (power G x k) (power G y k) (inverse x) (inverse y),
       ))
 
-  -- a power of the unit is the unit
-  pub power-of-unit : (k : ℤ) → power G unit k ≡ unit
-  power-of-unit k = cancel-right G (power G unit k) unit (power G unit k)
-      (cc (power-of-product unit unit k, G .unit-left unit, G .unit-left (power G unit k)))
-
-  -- a power of an inverse is the inverse of the power
-  pub power-of-inverse : (x : A) (k : ℤ) → power G (inverse x) k ≡ inverse (power G x k)
-  power-of-inverse x k = inverse-unique G (power G x k) (power G (inverse x) k)
-      (cc (power-of-product (inverse x) x k, G .inverse-left x, power-of-unit k))
-
 module _ {A B : Type 0} (G : Group A) (g : A → B) (product : B → B → B) (unit : B) (inverse : B → B)
     (products : (x y : A) → g (G .product x y) ≡ product (g x) (g y))
     (units : g (G .unit) ≡ unit)

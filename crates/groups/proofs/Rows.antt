@@ -6,15 +6,16 @@ use lib.IntN.{ℤ, pos, negℤ}
 use lib.ListN.{getD}
 use Rattle.groups.specs.Group.{power}
 use Rattle.groups.specs.Homomorphism.{Homomorphism}
-use Rattle.groups.specs.Vector.{Vector, NumberGroup, numberPower, vectorGroup, same-slots}
+use Rattle.groups.specs.Vector.{Vector, NumberGroup, numberPower, vectorGroup, same-slots, value-of-product}
 use Rattle.groups.specs.Round.{Accepts, response, simulated}
-use Rattle.groups.proofs.Vectors.{value-of-product, value-of-power}
+use Rattle.groups.proofs.Vectors.{value-of-power}
 
 module _ {P : ℕ → Type 0} (N : NumberGroup P) (n : ℕ) where
   -- the j-th value of y · x^k
   pub value-of-side : (y x : Vector P n) (k : ℤ) (j : ℕ) → j < n
       → getD (((vectorGroup N n) .product y (power (vectorGroup N n) x k)) .0) j 0
       ≡ N .product (getD (y .0) j 0) (numberPower N (getD (x .0) j 0) k)
+  unfolding vectorGroup
   value-of-side y x k j h = cc (value-of-product N n y (power (vectorGroup N n) x k) j h, value-of-power N n x k j h)
 
   -- the j-th value of the response to c with witness x and nonce k: k_j · x_j^c

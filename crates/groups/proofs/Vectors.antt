@@ -5,8 +5,8 @@ use Prim.Native.Nat.{ℕ, suc, _<_}
 use lib.IntN.{ℤ, pos, negsuc}
 use lib.ListN.{getD}
 use Rattle.groups.specs.Group.{repeated, powerWith, power, quotient}
-use Rattle.groups.specs.Vector.{Number, Vector, NumberGroup, numberPower, numberGroup, vectorGroup}
-use Rattle.groups.specs.Vector.{product-value, unit-value, inverse-value}
+use Rattle.groups.specs.Vector.{Vector, NumberGroup, numberPower, vectorGroup}
+use Rattle.groups.specs.Vector.{value-of-product, value-of-unit, value-of-inverse}
 use Rattle.groups.proofs.Powers.{power-image}
 
 module _ {P : ℕ → Type 0} (N : NumberGroup P) where
@@ -25,40 +25,17 @@ module _ {P : ℕ → Type 0} (N : NumberGroup P) where
   unfolding numberPower powerWith repeated
   number-power-negative v n = refl
 
-  -- a power in the group of numbers is the power of the number
-  pub number-of-power : (x : Number P) (k : ℤ) → (power (numberGroup N) x k) .0 ≡ numberPower N (x .0) k
-  unfolding numberPower numberGroup
-  number-of-power =
-      power-image (numberGroup N) (λ x. x .0) (N .product) (N .unit) (N .inverse) (λ x y. refl) refl (λ x. refl)
-
 module _ {P : ℕ → Type 0} (N : NumberGroup P) (n : ℕ) where
-  -- the j-th value of a product is the product of the j-th values
-  pub value-of-product : (x y : Vector P n) (j : ℕ) → j < n
-      → getD (((vectorGroup N n) .product x y) .0) j 0 ≡ N .product (getD (x .0) j 0) (getD (y .0) j 0)
-  unfolding vectorGroup
-  value-of-product = product-value N n
-
-  -- each value of the unit is the unit
-  pub value-of-unit : (j : ℕ) → j < n → getD (((vectorGroup N n) .unit) .0) j 0 ≡ N .unit
-  unfolding vectorGroup
-  value-of-unit = unit-value N n
-
-  -- the j-th value of an inverse is the inverse of the j-th value
-  pub value-of-inverse : (x : Vector P n) (j : ℕ) → j < n
-      → getD (((vectorGroup N n) .inverse x) .0) j 0 ≡ N .inverse (getD (x .0) j 0)
-  unfolding vectorGroup
-  value-of-inverse = inverse-value N n
-
   -- the j-th value of a quotient is the quotient of the j-th values
   pub value-of-quotient : (x y : Vector P n) (j : ℕ) → j < n
       → getD ((quotient (vectorGroup N n) x y) .0) j 0 ≡ N .product (getD (x .0) j 0) (N .inverse (getD (y .0) j 0))
-  unfolding quotient
-  value-of-quotient x y j h = cc (value-of-product x ((vectorGroup N n) .inverse y) j h, value-of-inverse y j h)
+  unfolding quotient vectorGroup
+  value-of-quotient x y j h = cc (value-of-product N n x ((vectorGroup N n) .inverse y) j h, value-of-inverse N n y j h)
 
   -- the j-th value of a power is the power of the j-th value
   pub value-of-power : (x : Vector P n) (k : ℤ) (j : ℕ) → j < n
       → getD ((power (vectorGroup N n) x k) .0) j 0 ≡ numberPower N (getD (x .0) j 0) k
-  unfolding numberPower
+  unfolding numberPower vectorGroup
   value-of-power x k j h =
       power-image (vectorGroup N n) (λ (y : Vector P n). getD (y .0) j 0) (N .product) (N .unit) (N .inverse)
-      (λ y y′. value-of-product y y′ j h) (value-of-unit j h) (λ y. value-of-inverse y j h) x k
+      (λ y y′. value-of-product N n y y′ j h) (value-of-unit N n j h) (λ y. value-of-inverse N n y j h) x k

@@ -13,10 +13,6 @@ use Rattle.lists.specs.Each.{Each}
 use Rattle.lists.proofs.Each.{each-length, each-at, each-from, each-proposition, same-values}
 use Rattle.lists.proofs.Each.{length-zipWith, value-zipWith, value-map}
 
--- a number that satisfies P
-abbrev pub Number : (ℕ → Type 0) → Type 0
-Number P = (v : ℕ) × P v
-
 -- n numbers that satisfy P
 abbrev pub Vector : (ℕ → Type 0) → ℕ → Type 0
 Vector P n = (xs : List ℕ) × Each P n xs
@@ -42,19 +38,6 @@ numberPower N = powerWith (N .product) (N .unit) (N .inverse)
 -- the numbers form a set
 pub numbers-set : IsSet ℕ
 numbers-set = hedberg ℕ-discrete
-
--- the group on the numbers that satisfy P
-unfoldable pub numberGroup : {P : ℕ → Type 0} → NumberGroup P → Group (Number P)
-numberGroup N = record {
-  isSet = Σ-set numbers-set (λ v. prop→set (N .proposition v));
-  product = λ x y. (N .product (x .0) (y .0), N .product-in (x .0) (y .0) (x .1) (y .1));
-  unit = (N .unit, N .unit-in);
-  inverse = λ x. (N .inverse (x .0), N .inverse-in (x .0) (x .1));
-  associative = λ x y z. Σ-prop-path (N .proposition) (N .associative (x .0) (y .0) (z .0) (x .1) (y .1) (z .1));
-  commutative = λ x y. Σ-prop-path (N .proposition) (N .commutative (x .0) (y .0) (x .1) (y .1));
-  unit-left = λ x. Σ-prop-path (N .proposition) (N .unit-left (x .0) (x .1));
-  inverse-left = λ x. Σ-prop-path (N .proposition) (N .inverse-left (x .0) (x .1));
-}
 
 module _ {P : ℕ → Type 0} (N : NumberGroup P) (n : ℕ) where
   -- each value of a vector satisfies P
@@ -102,41 +85,41 @@ module _ {P : ℕ → Type 0} (N : NumberGroup P) (n : ℕ) where
   same-slots x y agree = same-vector x y (same-values P n (x .0) (y .0) (x .1) (y .1) agree)
 
   -- the j-th value of a product is the product of the j-th values
-  pub product-value : (x y : Vector P n) (j : ℕ) → j < n
+  pub value-of-product : (x y : Vector P n) (j : ℕ) → j < n
       → getD ((vectorProduct x y) .0) j 0 ≡ N .product (getD (x .0) j 0) (getD (y .0) j 0)
   unfolding vectorProduct
-  product-value x y j h = value-zipWith (N .product) (x .0) (y .0) j
+  value-of-product x y j h = value-zipWith (N .product) (x .0) (y .0) j
       (omega (arith, each-length P n (x .0) (x .1))) (omega (arith, each-length P n (y .0) (y .1)))
 
   -- each value of the unit is the unit
-  pub unit-value : (j : ℕ) → j < n → getD (vectorUnit .0) j 0 ≡ N .unit
+  pub value-of-unit : (j : ℕ) → j < n → getD (vectorUnit .0) j 0 ≡ N .unit
   unfolding vectorUnit
-  unit-value j h = getD-replicate n j (N .unit) 0 h
+  value-of-unit j h = getD-replicate n j (N .unit) 0 h
 
   -- the j-th value of an inverse is the inverse of the j-th value
-  pub inverse-value : (x : Vector P n) (j : ℕ) → j < n → getD ((vectorInverse x) .0) j 0 ≡ N .inverse (getD (x .0) j 0)
+  pub value-of-inverse : (x : Vector P n) (j : ℕ) → j < n → getD ((vectorInverse x) .0) j 0 ≡ N .inverse (getD (x .0) j 0)
   unfolding vectorInverse
-  inverse-value x j h = value-map (N .inverse) (x .0) j (omega (arith, each-length P n (x .0) (x .1)))
+  value-of-inverse x j h = value-map (N .inverse) (x .0) j (omega (arith, each-length P n (x .0) (x .1)))
 
   -- the product of vectors is associative
   pub vector-associative : (x y z : Vector P n) → vectorProduct (vectorProduct x y) z ≡ vectorProduct x (vectorProduct y z)
   vector-associative x y z = same-slots _ _ (λ j h.
-      rw (product-value _ z j h, product-value x y j h, product-value x _ j h, product-value y z j h)
+      rw (value-of-product _ z j h, value-of-product x y j h, value-of-product x _ j h, value-of-product y z j h)
       (N .associative _ _ _ (value-in x j h) (value-in y j h) (value-in z j h)))
 
   -- the product of vectors is commutative
   pub vector-commutative : (x y : Vector P n) → vectorProduct x y ≡ vectorProduct y x
   vector-commutative x y = same-slots _ _ (λ j h.
-      rw (product-value x y j h, product-value y x j h) (N .commutative _ _ (value-in x j h) (value-in y j h)))
+      rw (value-of-product x y j h, value-of-product y x j h) (N .commutative _ _ (value-in x j h) (value-in y j h)))
 
   -- the unit vector is the product's unit
   pub vector-unit-left : (x : Vector P n) → vectorProduct vectorUnit x ≡ x
-  vector-unit-left x = same-slots _ _ (λ j h. rw (product-value vectorUnit x j h, unit-value j h) (N .unit-left _ (value-in x j h)))
+  vector-unit-left x = same-slots _ _ (λ j h. rw (value-of-product vectorUnit x j h, value-of-unit j h) (N .unit-left _ (value-in x j h)))
 
   -- a vector's inverse is its inverse under the product
   pub vector-inverse-left : (x : Vector P n) → vectorProduct (vectorInverse x) x ≡ vectorUnit
   vector-inverse-left x = same-slots _ _ (λ j h.
-      rw (product-value (vectorInverse x) x j h, inverse-value x j h, unit-value j h) (N .inverse-left _ (value-in x j h)))
+      rw (value-of-product (vectorInverse x) x j h, value-of-inverse x j h, value-of-unit j h) (N .inverse-left _ (value-in x j h)))
 
   -- the n-fold product of the group of numbers
   unfoldable pub vectorGroup : Group (Vector P n)

@@ -2,14 +2,13 @@
 -- Assumes nothing.
 use Prim.Native.Nat.{ℕ, zero, suc, _+_, _-_, _*_, _≤_, _<_}
 use mathlib.Core.Path.{_≡_, refl, sym, ap, ap₂, _∙_}
-use mathlib.Core.List.{List, [], _∷_, _++_, map}
+use mathlib.Core.List.{List, [], _∷_, _++_}
 use native.Mathlib.Nat.{zero-add, suc-add, mul-suc, mul-zero}
 use native.Mathlib.Numerals.{add-one}
-use native.Mathlib.Decide.{decLt}
 use native.Mathlib.Omega.{arith}
-use lib.ListN.{length, getD, take, replicate, length-append, length-replicate, getD-replicate}
-use lib.ListN.{List·getD-append, List·getD-eq-default}
-use lib.Seq.{ext-getD, getD-take, getD-append-add}
+use lib.ListN.{length, getD, replicate}
+use lib.ListN.{List·getD-append}
+use lib.Seq.{ext-getD}
 use Rattle.lists.specs.Places.{itemsAt, tabulate, places, pad8, zeros8}
 
 -- ---- items at a stride
@@ -89,24 +88,10 @@ module _ {ℓ} {A : Type ℓ} where
 
   -- ---- eight places
 
-  -- at most eight elements, padded, are eight
-  pub length-pad8 : (d : A) (xs : List A) → length xs ≤ 8 → length (pad8 d xs) ≡ 8
-  unfolding pad8
-  length-pad8 d xs h = simp (length-append, length-replicate) (omega arith)
-
   -- an element's place is the same after padding
   pub getD-pad8-inside : (d : A) (xs : List A) (j : ℕ) (e : A) → j < length xs → getD (pad8 d xs) j e ≡ getD xs j e
   unfolding pad8
   getD-pad8-inside d xs j e h = List·getD-append xs (replicate (8 - length xs) d) e j h
-
-  -- the places beyond hold d
-  pub getD-pad8-beyond : (d : A) (xs : List A) (j : ℕ) (e : A) → length xs ≤ j → j < 8 → getD (pad8 d xs) j e ≡ d
-  unfolding pad8
-  getD-pad8-beyond d xs j e h l =
-      let k : j ≡ length xs + (j - length xs) = omega arith in
-      let b : j - length xs < 8 - length xs = omega arith in
-      ap (λ (m : ℕ). getD (xs ++ replicate (8 - length xs) d) m e) k
-      ∙ getD-append-add xs (replicate (8 - length xs) d) (j - length xs) e ∙ getD-replicate (8 - length xs) (j - length xs) d e b
 
   -- a copy of d and what lies beyond it are read as d
   getD-copies : (k : ℕ) (d : A) (j : ℕ) → getD (replicate k d) j d ≡ d
@@ -125,18 +110,6 @@ module _ {ℓ} {A : Type ℓ} where
   unfolding pad8
   getD-pad8 d xs j = getD-behind xs (8 - length xs) d j
 
-module _ {ℓ ℓ′} {A : Type ℓ} {B : Type ℓ′} where
-  -- a map of items is items of the mapped function
-  pub map-itemsAt : (g : A → B) (f : ℕ → A) (at step n : ℕ) → map g (itemsAt f at step n) ≡ itemsAt (λ j. g (f j)) at step n
-  unfolding itemsAt
-  map-itemsAt g f at step zero = refl
-  map-itemsAt g f at step (suc n) = ap (λ (ys : List B). g (f at) ∷ ys) (map-itemsAt g f (at + step) step n)
-
-  -- a map of first values is the first values of the mapped function
-  pub map-tabulate : (g : A → B) (n : ℕ) (f : ℕ → A) → map g (tabulate n f) ≡ tabulate n (λ j. g (f j))
-  unfolding tabulate
-  map-tabulate g n f = map-itemsAt g f 0 1 n
-
 -- ---- the places of an array of numbers that are read
 
 -- there are n of them
@@ -148,10 +121,6 @@ length-places n xs = length-tabulate n (λ j. getD xs j 0)
 pub getD-places : (n : ℕ) (xs : List ℕ) (j : ℕ) → j < n → getD (places n xs) j 0 ≡ getD xs j 0
 unfolding places
 getD-places n xs j h = getD-tabulate n (λ k. getD xs k 0) j 0 h
-
--- beyond them there is nothing
-pub getD-places-beyond : (n : ℕ) (xs : List ℕ) (j : ℕ) → n ≤ j → getD (places n xs) j 0 ≡ 0
-getD-places-beyond n xs j h = List·getD-eq-default (places n xs) 0 (omega (arith, length-places n xs))
 
 -- one place more, at the end
 pub places-suc : (n : ℕ) (xs : List ℕ) → places (suc n) xs ≡ places n xs ++ getD xs n 0 ∷ []
@@ -171,36 +140,12 @@ places-places m n xs h = places-agree m (places n xs) xs (λ j b. getD-places n 
 pub places-pad8 : (n : ℕ) (xs : List ℕ) → places n (pad8 0 xs) ≡ places n xs
 places-pad8 n xs = places-agree n (pad8 0 xs) xs (λ j b. getD-pad8 0 xs j)
 
--- what is taken away behind the places does not count
-pub places-take : (m n : ℕ) (xs : List ℕ) → m ≤ n → places m (take n xs) ≡ places m xs
-places-take m n xs h = places-agree m (take n xs) xs (λ j b. getD-take n xs j 0 (omega arith))
-
 -- a list of n numbers is its n places
 pub places-whole : (n : ℕ) (xs : List ℕ) → length xs ≡ n → places n xs ≡ xs
 places-whole n xs e =
     ext-getD 0 (places n xs) xs (length-places n xs ∙ sym e) (λ j b. getD-places n xs j (omega (arith, length-places n xs)))
 
--- eight places that are 0 from n on are their first n, with zeros behind
-pub pad8-places : (n : ℕ) (xs : List ℕ) → length xs ≡ 8 → n ≤ 8 → ((j : ℕ) → n ≤ j → getD xs j 0 ≡ 0) → pad8 0 (places n xs) ≡ xs
-pad8-places n xs e h z =
-    ext-getD 0 (pad8 0 (places n xs)) xs (length-pad8 0 (places n xs) (omega (arith, length-places n xs)) ∙ sym e)
-    (λ j b. getD-pad8 0 (places n xs) j ∙ place j (decLt j n))
-  where
-    place : (j : ℕ) → Dec (j < n) → getD (places n xs) j 0 ≡ getD xs j 0
-    place j (yes b) = getD-places n xs j b
-    place j (no b) = getD-places-beyond n xs j (omega arith) ∙ sym (z j (omega arith))
-
--- eight zeros are eight numbers
-pub length-zeros8 : length zeros8 ≡ 8
-unfolding zeros8
-length-zeros8 = refl
-
 -- each of eight zeros is 0, and so is what lies beyond
 pub getD-zeros8 : (j : ℕ) → getD zeros8 j 0 ≡ 0
 unfolding zeros8
 getD-zeros8 j = getD-copies 8 0 j
-
--- eight zeros are nothing, padded
-pub pad8-nothing : pad8 0 [] ≡ zeros8
-unfolding pad8 zeros8
-pad8-nothing = refl

@@ -1,4 +1,4 @@
--- Euclid's algorithm gives the greatest common divisor, its steps, and Bezout's identity in natural numbers and in integers.
+-- Euclid's algorithm gives the greatest common divisor, its steps, and Bezout's identity.
 -- Assumes nothing.
 use mathlib.Core.Path.{_≡_, refl, sym, _∙_, ap}
 use mathlib.Core.Bool.{Bool, true, false}
@@ -8,10 +8,8 @@ use native.Mathlib.Nat.{mod-lt, mod-add-div, eq-zero-or-pos, le-dest, le-trans, 
 use native.Mathlib.Nat.{dvd-refl, dvd-zero, dvd-antisymm, dvd-mod-iff, eq-one-of-dvd-one}
 use native.Mathlib.Omega.{arith}
 use lib.Dec.{eqb}
-use lib.IntN.{ℤ, pos, negℤ, _+ℤ_, _*ℤ_}
 use borrow.Author.Tests.{eqb-true, eqb-false}
 use Rattle.numbers.specs.Gcd.{euclid, gcd, IsGcd}
-use Rattle.numbers.proofs.Difference.{Difference, pos-difference, neg-difference, difference-same, difference-add, difference-mul}
 
 -- every number is the greatest common divisor of itself and 0
 isGcd-zero : (a : ℕ) → IsGcd a 0 a
@@ -96,15 +94,3 @@ euclid-bezout (suc n) a b h p = elim (eq-zero-or-pos b) [
 -- Bezout's identity in natural numbers: a multiple of a exceeds one of b by the greatest common divisor
 pub bezout : (a b : ℕ) → 0 < a → (x : ℕ) × (y : ℕ) × (a * x ≡ b * y + gcd a b)
 bezout a b p = euclid-bezout (suc b) a b (omega arith) p
-
--- Bezout's identity in integers
-pub bezout-integer : (a b : ℕ) → (x : ℤ) × (y : ℤ) × (pos a *ℤ x +ℤ pos b *ℤ y ≡ pos (gcd a b))
-bezout-integer a b = elim (eq-zero-or-pos a) [
-  | inl none ↦ (pos 0, pos 1, ap pos (omega (arith, ap (λ (z : ℕ). gcd z b) none, gcd-comm 0 b, gcd-zero b)))
-  | inr some ↦
-      let (x, y, e) = bezout a b some in
-      let left : Difference (pos (a * x)) (a * x) 0 = pos-difference (omega arith) in
-      let factor : Difference (pos b) b 0 = pos-difference (omega arith) in
-      let right : Difference (negℤ (pos y)) 0 y = neg-difference y (omega arith) in
-      (pos x, negℤ (pos y), difference-same (difference-add left (difference-mul factor right)) (pos-difference (omega arith)))
-]

@@ -1,8 +1,8 @@
 -- Laws of residues of integers, and of the exact quotient.
 -- Assumes nothing.
-use mathlib.Core.Path.{_≡_, refl, sym, _∙_, ap}
-use Prim.Native.Nat.{ℕ, zero, suc, _+_, _-_, _*_, _/_, _%_, _<_}
-use native.Mathlib.Nat.{mod-lt, mod-self, mod-add-div, zero-mod, zero-add, mul-zero, sub-zero}
+use mathlib.Core.Path.{_≡_, refl, sym, ap}
+use Prim.Native.Nat.{ℕ, suc, _+_, _-_, _*_, _/_, _%_, _<_}
+use native.Mathlib.Nat.{mod-lt, mod-add-div, zero-mod, zero-add}
 use native.Mathlib.Omega.{arith}
 use lib.IntN.{ℤ, pos, negsuc, negℤ, _+ℤ_, _*ℤ_}
 use Rattle.numbers.specs.Congruence.{Cong}
@@ -16,12 +16,6 @@ use Rattle.numbers.proofs.Difference.{difference, difference-same, diff
 pub residue-pos : (m n : ℕ) → residue m (pos n) ≡ n % m
 unfolding residue
 residue-pos m n = refl
-
--- the residue of a negated natural number
-pub residue-neg : (m n : ℕ) → residue m (negℤ (pos n)) ≡ (m - n % m) % m
-unfolding residue
-residue-neg m zero = rw (zero-mod m, sub-zero m) (sym (mod-self m))
-residue-neg m (suc n) = refl
 
 -- a residue is below the modulus
 pub residue-below : (m : ℕ) (k : ℤ) → 0 < m → residue m k < m
@@ -76,10 +70,6 @@ residue-mul m j k positive =
     let (c, d, q) = difference k in
     let product = product-serves m _ _ a b c d (residue-difference m positive p) (residue-difference m positive q) in
     residue-is m _ (mod-lt _ positive) (difference-mul p q) product
-
--- the residue of a multiple of the modulus is 0
-pub residue-multiple : (m : ℕ) (k : ℤ) → 0 < m → residue m (k *ℤ pos m) ≡ 0
-residue-multiple m k positive = residue-mul m k (pos m) positive ∙ rw (residue-pos m m, mod-self m, mul-zero) (zero-mod m)
 
 -- an integer whose residue is 0 is the modulus times the quotient
 pub quotient-exact : (m : ℕ) (k : ℤ) → 0 < m → residue m k ≡ 0 → pos m *ℤ quotient k m ≡ k

@@ -4,7 +4,7 @@ use mathlib.Core.Path.{_≡_, sym, _∙_, ap}
 use mathlib.Core.Bool.{Bool, true, true≢false}
 use mathlib.Core.Logic.{inl, inr}
 use Prim.Native.Nat.{ℕ, _*_, _%_, _^_, _<_, _∣_}
-use native.Mathlib.Nat.{add-comm, mul-comm, mul-zero, mul-mul-mul-comm, mod-lt, mod-one, zero-mod, eq-zero-or-pos}
+use native.Mathlib.Nat.{add-comm, mul-comm, mul-mul-mul-comm, mod-lt, mod-one, eq-zero-or-pos}
 use native.Mathlib.Nat.{dvd-mod-iff, dvd-mul-right-of-dvd, eq-one-of-dvd-one}
 use native.Mathlib.Decide.{decLt}
 use native.Mathlib.Omega.{arith}
@@ -50,15 +50,6 @@ inverses-coprime {m} {v} {w} h = gcd-one v m .1 only
     only d p q =
         let rest : d ∣ v * w % m = dvd-mod-iff d q .1 (dvd-mul-right-of-dvd d p w) in
         eq-one-of-dvd-one (dvd-mod-iff d q .0 (rw (h .one .same) at rest))
-
--- an inverse modulo more than 1 is not congruent to 0
-pub inverses-positive : {m v w : ℕ} → 1 < m → Inverses m v w → 0 < w % m
-inverses-positive {m} {v} {w} big h = elim (eq-zero-or-pos (w % m)) [
-  | inl none ↦
-      let vanishes : v * w % m ≡ 0 = sym (mod-mul-right m v w) ∙ rw (none, mul-zero v) (zero-mod m) in
-      absurd (omega (arith, mod-is-one big (h .one)))
-  | inr some ↦ some
-]
 
 -- a number that has no divisor in common with the modulus has an inverse
 pub coprime-inverses : (m v : ℕ) → gcd v m ≡ 1 → (w : ℕ) × Inverses m v w

@@ -5,11 +5,9 @@ use Prim.Native.Nat.{ℕ, zero, suc, _*_, _^_, _<_}
 use native.Mathlib.Nat.{mul-one, mul-mul-mul-comm}
 use native.Mathlib.Omega.{arith}
 use Rattle.numbers.specs.Congruence.{Cong}
-use Rattle.numbers.specs.Inverse.{Inverses}
 use Rattle.numbers.specs.Product.{product}
 use Rattle.numbers.proofs.Congruence.{cong-refl, cong-mul}
 use Rattle.numbers.proofs.Powers.{mul-pow, one-pow}
-use Rattle.numbers.proofs.Inverse.{inverses-mul}
 
 -- the product of no factors
 pub product-zero : (f : ℕ → ℕ) → product 0 f ≡ 1
@@ -52,9 +50,3 @@ pub product-one : (n : ℕ) → product n (λ j. 1) ≡ 1
 unfolding product
 product-one zero = refl
 product-one (suc n) = mul-one (product n (λ j. 1)) ∙ product-one n
-
--- the product of the inverses inverts the product
-pub product-inverses : (m n : ℕ) (f g : ℕ → ℕ) → ((j : ℕ) → j < n → Inverses m (f j) (g j)) → Inverses m (product n f) (product n g)
-unfolding product
-product-inverses m zero f g inv = record { one = cong-refl m 1 }
-product-inverses m (suc n) f g inv = inverses-mul (product-inverses m n f g (λ j h. inv j (omega arith))) (inv n (omega arith))

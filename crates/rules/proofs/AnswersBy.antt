@@ -1,17 +1,17 @@
--- A number that conditions give is 0 or one of theirs, and so one of 01's 22.
+-- A number that conditions give is 0 or one of theirs, and so one of 01's 22, and of those that apply it is 01's lowest.
 -- Assumes nothing.
 use mathlib.Core.Path.{_≡_, subst}
 use mathlib.Core.Bool.{true}
 use mathlib.Core.List.{List, [], _∷_}
 use mathlib.Core.Logic.{_⊎_, inl, inr, ⊎-elim}
-use Prim.Native.Nat.{ℕ}
+use Prim.Native.Nat.{ℕ, _≤_}
 use Rattle.lists.specs.Member.{Member}
 use Rattle.rules.specs.AnswersBy.{conditionNumbers, AnswersBy}
-use Rattle.rules.specs.Condition.{Condition, _if_, Given, Tests}
-use Rattle.rules.specs.Order.{refusalOrder, isSublist}
+use Rattle.rules.specs.Condition.{Condition, _if_, Given, Applies, Tests}
+use Rattle.rules.specs.Order.{refusalOrder, isSublist, position}
 use Rattle.rules.specs.Rule.{Rule, lowest}
 use Rattle.rules.proofs.Condition.{given}
-use Rattle.rules.proofs.Order.{sublist-member}
+use Rattle.rules.proofs.Order.{sublist-member, given-earliest, order-distinct}
 
 -- the number that conditions give is 0 or one of their numbers
 pub given-among : (conditions : List Condition) (n : ℕ) → Given conditions n → (n ≡ 0) ⊎ Member n (conditionNumbers conditions)
@@ -41,3 +41,10 @@ pub answers-known : {numbers : List ℕ} {conditions : List Condition} {n : ℕ}
     → (n ≡ 0) ⊎ Member n refusalOrder
 answers-known {numbers} {conditions} {n} a =
     ⊎-elim (λ none. inl none) (λ found. inr (sublist-member n numbers refusalOrder (a .ordered) found)) (a .among)
+
+-- of the numbers whose conditions hold, the one given stands first in 01's order
+pub earliest : {numbers : List ℕ} {conditions : List Condition} {n : ℕ} → AnswersBy numbers conditions n
+    → (m : ℕ) → Applies conditions m → position n ≤ position m
+unfolding position
+earliest {numbers} {conditions} {n} a m applies =
+    given-earliest refusalOrder conditions n m order-distinct (rw (a .numbered) (a .ordered)) (a .given) applies

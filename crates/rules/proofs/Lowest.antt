@@ -1,13 +1,13 @@
 -- The number that a list of rules gives: 0 exactly where no rule applies, else that of the first that applies.
 -- Assumes nothing.
 use Prim.Native.Nat.{ℕ, _<_}
-use mathlib.Core.Path.{_≡_, refl, sym, ap, _∙_}
-use mathlib.Core.Bool.{Bool, true, false, _&&_, false≢true}
+use mathlib.Core.Path.{_≡_, refl, _∙_}
+use mathlib.Core.Bool.{Bool, true, false, _&&_}
 use mathlib.Core.List.{List, [], _∷_, _++_}
 use mathlib.Core.Logic.{_↔_, _⊎_, inl, inr, ⊎-elim}
 use native.Mathlib.Omega.{arith}
 use lib.Dec.{T, ltb, ltb→lt}
-use Rattle.rules.specs.Rule.{Rule, _when_, lowest, numberOf, numbersOf, Clear, First, Applies, positive}
+use Rattle.rules.specs.Rule.{Rule, _when_, lowest, numberOf, numbersOf, Clear, positive}
 use Rattle.lists.specs.Member.{Member}
 
 -- a rule that does not apply is passed over
@@ -44,33 +44,6 @@ clear-lowest ((n when false) ∷ rules) p e = (refl, clear-lowest rules (positiv
 -- so rules with positive numbers give 0 exactly where none applies
 pub lowest-zero : (rules : List Rule) → T (positive rules) → (lowest rules ≡ 0) ↔ Clear rules
 lowest-zero rules p = (clear-lowest rules p, lowest-clear rules)
-
--- the number of the first rule that applies is given
-pub lowest-first : (n : ℕ) (rules : List Rule) → First n rules → lowest rules ≡ n
-lowest-first n [] f = absurd f
-lowest-first n ((m when b) ∷ rules) (inl f) = stop m rules (f .0) ∙ sym (f .1)
-lowest-first n ((m when b) ∷ rules) (inr f) = pass m rules (f .0) ∙ lowest-first n rules (f .1)
-
--- a number above 0 that is given is that of the first rule that applies
-pub first-lowest : (n : ℕ) (rules : List Rule) → lowest rules ≡ n → 0 < n → First n rules
-unfolding lowest
-first-lowest n [] e h = absurd (omega arith)
-first-lowest n ((m when true) ∷ rules) e h = inl (refl, sym e)
-first-lowest n ((m when false) ∷ rules) e h = inr (refl, first-lowest n rules e h)
-
--- the first number that applies is one that applies
-pub first-applies : (n : ℕ) (rules : List Rule) → First n rules → Applies n rules
-first-applies n [] f = f
-first-applies n ((m when b) ∷ rules) (inl f) = inl f
-first-applies n ((m when b) ∷ rules) (inr f) = inr (first-applies n rules (f .1))
-
--- where some rule applies, the number given is that of the first that does
-pub applies-first : (n : ℕ) (rules : List Rule) → Applies n rules → First (lowest rules) rules
-unfolding lowest
-applies-first n [] a = a
-applies-first n ((m when true) ∷ rules) a = inl (refl, refl)
-applies-first n ((m when false) ∷ rules) (inl a) = absurd (false≢true (a .0))
-applies-first n ((m when false) ∷ rules) (inr a) = inr (refl, applies-first n rules a)
 
 -- ---- lists joined
 
@@ -122,20 +95,7 @@ lowest-append-zero xs ys p q =
       λ c. lowest-later-zero xs ys p (c .0) ∙ lowest-clear ys (c .1),
     )
 
--- the numbers of two lists joined
-pub numbersOf-append : (xs ys : List Rule) → numbersOf (xs ++ ys) ≡ numbersOf xs ++ numbersOf ys
-unfolding numbersOf
-numbersOf-append [] ys = refl
-numbersOf-append (x ∷ xs) ys = ap (λ (ns : List ℕ). numberOf x ∷ ns) (numbersOf-append xs ys)
-
 -- ---- the numbers of a list
-
--- a number that applies is one of the list's numbers
-pub applies-member : (n : ℕ) (rules : List Rule) → Applies n rules → Member n (numbersOf rules)
-unfolding numbersOf numberOf
-applies-member n [] a = a
-applies-member n ((m when b) ∷ rules) (inl a) = inl (a .1)
-applies-member n ((m when b) ∷ rules) (inr a) = inr (applies-member n rules a)
 
 -- the number given is 0 or one of the list's numbers
 pub lowest-member : (rules : List Rule) → (lowest rules ≡ 0) ⊎ Member (lowest rules) (numbersOf rules)

@@ -1,20 +1,19 @@
--- 01's order of refusals ("Turned back", the lowest number that applies): where a call's rules stand in that order,
+-- 01's order of refusals ("Turned back", the lowest number that applies): where the numbers of conditions stand in that order,
 -- the number given stands in it at or before every number that applies.
 -- Assumes nothing.
 use Prim.Native.Nat.{ℕ, suc, _≤_, zero-le, suc-le-suc}
-use mathlib.Core.Path.{_≡_, refl, sym, _∙_, subst}
+use mathlib.Core.Path.{_≡_, refl, _∙_, subst}
 use mathlib.Core.Bool.{true, false≢true}
 use mathlib.Core.List.{List, [], _∷_}
 use mathlib.Core.Logic.{_⊎_, inl, inr, ⊎-elim}
 use lib.Dec.{eqb}
 use borrow.Author.Tests.{eqb-true, eq-eqb, ne-eqb}
-use Rattle.rules.specs.Rule.{Rule, _when_, lowest, numberOf, numbersOf}
-use Rattle.rules.specs.Rule.{First, Applies}
-use Rattle.rules.specs.Order.{refusalOrder, isSublist, isMember, isDistinct, positionIn, position}
+use Rattle.rules.specs.AnswersBy.{conditionNumbers}
+use Rattle.rules.specs.Condition.{Condition, _if_, Given, Applies}
+use Rattle.rules.specs.Order.{refusalOrder, isSublist, isMember, isDistinct, positionIn}
 use Rattle.lists.specs.Member.{Member}
 use Rattle.rules.specs.Says.{Says}
 use Rattle.rules.proofs.Says.{says-true, says-equal, says-or, says-and, says-not, says-cond}
-use Rattle.rules.proofs.Lowest.{first-applies, applies-first, applies-member}
 
 -- the test of membership says it
 pub says-member : (n : ℕ) (ns : List ℕ) → Says (isMember n ns) (Member n ns)
@@ -59,51 +58,61 @@ position-head : (y : ℕ) (ys : List ℕ) (n : ℕ) → n ≡ y → positionIn (
 unfolding positionIn
 position-head y ys n e = rw (eq-eqb n y e)
 
--- where the rules' numbers stand in a list's order, k, the first that applies, stands in it at or before n
-abbrev Earlier : List ℕ → List Rule → ℕ → ℕ → Type 0
-Earlier order rules k n =
-    isSublist (numbersOf rules) order ≡ true → First k rules → Applies n rules → positionIn order k ≤ positionIn order n
+-- the number of a condition that holds is one of the conditions' numbers
+applies-member : (conditions : List Condition) (n : ℕ) → Applies conditions n → Member n (conditionNumbers conditions)
+unfolding conditionNumbers
+applies-member [] n a = a
+applies-member ((m if P) ∷ conditions) n (inl a) = inl (a .1)
+applies-member ((m if P) ∷ conditions) n (inr a) = inr (applies-member conditions n a)
+
+-- where some condition holds, the number given is that of a condition that holds
+given-applies : (conditions : List Condition) (k n : ℕ) → Given conditions k → Applies conditions n → Applies conditions k
+given-applies [] k n g a = absurd a
+given-applies ((m if P) ∷ conditions) k n (inl g) a = inl g
+given-applies ((m if P) ∷ conditions) k n (inr g) (inl a) = absurd (g .0 (a .0))
+given-applies ((m if P) ∷ conditions) k n (inr g) (inr a) = inr (given-applies conditions k n (g .1) a)
+
+-- where the conditions' numbers stand in a list's order, k, the number given, stands in it at or before n
+abbrev Earlier : List ℕ → List Condition → ℕ → ℕ → Type 0
+Earlier order conditions k n =
+    isSublist (conditionNumbers conditions) order ≡ true → Given conditions k → Applies conditions n
+    → positionIn order k ≤ positionIn order n
 
 -- a number that applies is one of the order's numbers
-applies-order : (order : List ℕ) (rules : List Rule) (n : ℕ) → isSublist (numbersOf rules) order ≡ true → Applies n rules
-    → Member n order
-applies-order order rules n s a = sublist-member n (numbersOf rules) order s (applies-member n rules a)
+applies-order : (order : List ℕ) (conditions : List Condition) (n : ℕ) → isSublist (conditionNumbers conditions) order ≡ true
+    → Applies conditions n → Member n order
+applies-order order conditions n s a = sublist-member n (conditionNumbers conditions) order s (applies-member conditions n a)
 
 -- what is earlier in the rest of an order is earlier in the whole
-earlier-rest : (y : ℕ) (ys : List ℕ) (rules : List Rule) (k n : ℕ) → ¬ Member y ys → isSublist (numbersOf rules) ys ≡ true
-    → Earlier ys rules k n → First k rules → Applies n rules → positionIn (y ∷ ys) k ≤ positionIn (y ∷ ys) n
-earlier-rest y ys rules k n u s h f a =
-    let e = position-rest y ys k u (applies-order ys rules k s (first-applies k rules f)) in
-    rw (e, position-rest y ys n u (applies-order ys rules n s a)) (suc-le-suc (h s f a))
+earlier-rest : (y : ℕ) (ys : List ℕ) (conditions : List Condition) (k n : ℕ) → ¬ Member y ys
+    → isSublist (conditionNumbers conditions) ys ≡ true → Earlier ys conditions k n → Given conditions k → Applies conditions n
+    → positionIn (y ∷ ys) k ≤ positionIn (y ∷ ys) n
+earlier-rest y ys conditions k n u s h g a =
+    let e = position-rest y ys k u (applies-order ys conditions k s (given-applies conditions k n g a)) in
+    rw (e, position-rest y ys n u (applies-order ys conditions n s a)) (suc-le-suc (h s g a))
 
--- where the rules' numbers stand in the order of a list without repetition, the first that applies stands in that list
--- at or before every number that applies
-pub first-earliest : (order : List ℕ) (rules : List Rule) (k n : ℕ)
-    → isDistinct order ≡ true → isSublist (numbersOf rules) order ≡ true → First k rules → Applies n rules
+-- where the conditions' numbers stand in the order of a list without repetition, the number given stands in that list at or
+-- before every number that applies
+pub given-earliest : (order : List ℕ) (conditions : List Condition) (k n : ℕ)
+    → isDistinct order ≡ true → isSublist (conditionNumbers conditions) order ≡ true → Given conditions k → Applies conditions n
     → positionIn order k ≤ positionIn order n
-unfolding isSublist numbersOf numberOf
-first-earliest order [] k n d s f a = absurd a
-first-earliest [] (r ∷ rules) k n d s f a = absurd (false≢true s)
-first-earliest (y ∷ ys) ((m when b) ∷ rules) k n d s f a =
+unfolding isSublist conditionNumbers
+given-earliest order [] k n d s g a = absurd a
+given-earliest [] ((m if P) ∷ conditions) k n d s g a = absurd (false≢true s)
+given-earliest (y ∷ ys) ((m if P) ∷ conditions) k n d s g a =
     let p = distinct-parts y ys d in
-    choose (p .0) (first-earliest ys rules k n (p .1)) (first-earliest ys ((m when b) ∷ rules) k n (p .1))
-    (sublist-cases m y (numbersOf rules) ys s) f a
+    choose (p .0) (given-earliest ys conditions k n (p .1)) (given-earliest ys ((m if P) ∷ conditions) k n (p .1))
+    (sublist-cases m y (conditionNumbers conditions) ys s) g a
   where
-    choose : ¬ Member y ys → Earlier ys rules k n → Earlier ys ((m when b) ∷ rules) k n
-        → ((m ≡ y) × (isSublist (numbersOf rules) ys ≡ true)) ⊎ (isSublist (m ∷ numbersOf rules) ys ≡ true)
-        → First k ((m when b) ∷ rules) → Applies n ((m when b) ∷ rules) → positionIn (y ∷ ys) k ≤ positionIn (y ∷ ys) n
-    choose u g h (inl c) (inl e) t = rw (position-head y ys k (e .1 ∙ c .0)) zero-le
-    choose u g h (inl c) (inr e) (inl t) = absurd (false≢true (sym (e .0) ∙ t .0))
-    choose u g h (inl c) (inr e) (inr t) = earlier-rest y ys rules k n u (c .1) g (e .1) t
-    choose u g h (inr c) e t = earlier-rest y ys ((m when b) ∷ rules) k n u c h e t
+    choose : ¬ Member y ys → Earlier ys conditions k n → Earlier ys ((m if P) ∷ conditions) k n
+        → ((m ≡ y) × (isSublist (conditionNumbers conditions) ys ≡ true)) ⊎ (isSublist (m ∷ conditionNumbers conditions) ys ≡ true)
+        → Given ((m if P) ∷ conditions) k → Applies ((m if P) ∷ conditions) n → positionIn (y ∷ ys) k ≤ positionIn (y ∷ ys) n
+    choose u f h (inl c) (inl e) t = rw (position-head y ys k (e .1 ∙ c .0)) zero-le
+    choose u f h (inl c) (inr e) (inl t) = absurd (e .0 (t .0))
+    choose u f h (inl c) (inr e) (inr t) = earlier-rest y ys conditions k n u (c .1) f (e .1) t
+    choose u f h (inr c) e t = earlier-rest y ys ((m if P) ∷ conditions) k n u c h e t
 
 -- no number stands twice in 01's order
 pub order-distinct : isDistinct refusalOrder ≡ true
 unfolding isDistinct isMember refusalOrder
 order-distinct = refl
-
--- where a call's rules stand in 01's order, the number given is the earliest that applies
-pub earliest : (rules : List Rule) (n : ℕ) → isSublist (numbersOf rules) refusalOrder ≡ true → Applies n rules
-    → position (lowest rules) ≤ position n
-unfolding position
-earliest rules n s a = first-earliest refusalOrder rules (lowest rules) n order-distinct s (applies-first n rules a) a

@@ -17,6 +17,11 @@ abbrev pub Given : List Condition → ℕ → Type 0
 Given [] n = n ≡ 0
 Given ((m if holds) ∷ conditions) n = (holds × (n ≡ m)) ⊎ ((¬ holds) × Given conditions n)
 
+-- n is the number of a condition that holds
+abbrev pub Applies : List Condition → ℕ → Type 0
+Applies [] n = ⊥
+Applies ((m if holds) ∷ conditions) n = (holds × (n ≡ m)) ⊎ Applies conditions n
+
 -- the rules have the conditions' numbers, and each test says its condition
 abbrev pub Tests : List Rule → List Condition → Type 0
 Tests [] [] = Unit {0}

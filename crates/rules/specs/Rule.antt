@@ -3,7 +3,6 @@
 use mathlib.Core.Path.{_≡_}
 use mathlib.Core.Bool.{Bool, true, false, cond, _&&_}
 use mathlib.Core.List.{List, [], _∷_, map}
-use mathlib.Core.Logic.{_⊎_}
 use Prim.Native.Nat.{ℕ}
 use lib.Dec.{ltb}
 
@@ -29,16 +28,6 @@ numbersOf rules = map numberOf rules
 abbrev pub Clear : List Rule → Type 0
 Clear [] = Unit {0}
 Clear ((n when broken) ∷ rules) = (broken ≡ false) × Clear rules
-
--- n is the number of a rule that applies, and none before it in the list does
-abbrev pub First : ℕ → List Rule → Type 0
-First n [] = ⊥
-First n ((m when broken) ∷ rules) = ((broken ≡ true) × (n ≡ m)) ⊎ ((broken ≡ false) × First n rules)
-
--- n is the number of a rule that applies
-abbrev pub Applies : ℕ → List Rule → Type 0
-Applies n [] = ⊥
-Applies n ((m when broken) ∷ rules) = ((broken ≡ true) × (n ≡ m)) ⊎ Applies n rules
 
 -- every rule has a number above 0, so that 0 can stand for "no rule applies"
 abbrev pub positive : List Rule → Bool

@@ -20,7 +20,7 @@ use Rattle.rules.specs.Rule.{lowest}
 use Rattle.formats.specs.Load.{loadRules, loadRefusal}
 use Rattle.formats.specs.Sheet.{instanceOf}
 use Rattle.formats.proofs.Loads.{loads-valid}
-use Rattle.formats.proofs.Order.{load-positive}
+use Rattle.formats.proofs.Positive.{load-positive}
 use Rattle.sigma.specs.Answer.{eightPlaces}
 use Rattle.sigma.specs.Instance.{Instance}
 use Rattle.sigma.specs.Meaning.{Holds, FailsFirst, Fits}

@@ -20,7 +20,7 @@ use Rattle.sigma.specs.Instance.{Instance}
 use Rattle.sigma.specs.Knowledge.{AcceptedRound, Choice, Witness, honestOn, simulatedOn}
 use Rattle.sigma.specs.Knowledge.{MeetsEachOnce, AcceptedPair, Extraction}
 use Rattle.sigma.specs.Listed.{allChoices, ListsAccepted}
-use Rattle.sigma.specs.Reads.{roundOf, SameRound}
+use Rattle.sigma.specs.Reads.{roundOf, SameRound, paddedRound}
 use Rattle.sigma.specs.Round.{response}
 use Rattle.sigma.specs.Simulator.{simulated}
 use Rattle.sigma.specs.Valid.{Valid}
@@ -34,10 +34,10 @@ use Rattle.sigma.proofs.Values.{length-image, length-response, length-simulated
 use Rattle.runs.specs.Calls.{judgeRound, simulateCommitment, extractWitness}
 use Rattle.runs.specs.Demand3.{ReadAlone, Demand3}
 use Rattle.runs.specs.JointRun.{JointRun, jointRun}
-use Rattle.runs.specs.Knowledge.{Accepts, honestRound, simulatedRound, paddedRound}
+use Rattle.runs.specs.Knowledge.{Accepts, honestRound, simulatedRound}
 use Rattle.runs.specs.OnSheet.{Below}
 use Rattle.runs.specs.Prover.{newProver, commit, respond}
-use Rattle.runs.proofs.JointRun.{joint-steps, joint-loaded}
+use Rattle.runs.proofs.JointRun.{joint-steps}
 use Rattle.runs.proofs.Loaded.{accepts-loaded, simulate-loaded, extract-loaded}
 use Rattle.runs.proofs.Unread.{commitAfter-same, respondAfter-same}
 
@@ -160,8 +160,7 @@ module _ (sheet : List ℕ) (loaded : loadRefusal sheet ≡ 0) where
           let n = values .header .columns in
           let read = places-whole n x (each-length _ _ x (w .slots)) in
           let read′ = places-whole n k (each-length _ _ k slots) in
-          let run = rw (read, read′) at (joint-steps valid x k c (rw read w) (rw read′ slots) below) in
-          let same = joint-loaded sheet loaded x c k ∙ run in (
+          let same = rw (read, read′) at (joint-steps sheet loaded x k c (rw read w) (rw read′ slots) below) in (
             ap (λ (r : JointRun). r .committed .refusal) same,
             ap (λ (r : JointRun). r .answered .refusal) same,
             ap (λ (r : JointRun). r .committed .values) same,

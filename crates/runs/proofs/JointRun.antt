@@ -14,7 +14,6 @@ use Rattle.types.specs.declared.VerifierPhase.the-variants.{Holding, Asked, Jud
 use Rattle.lists.specs.Places.{pad8, places, zeros8}
 use Rattle.lists.proofs.Each.{each-at}
 use Rattle.lists.proofs.Places.{places-pad8, places-places, places-whole}
-use Rattle.rules.specs.Rule.{Rule, Clear}
 use Rattle.rules.proofs.Lowest.{lowest-clear}
 use Rattle.formats.specs.Load.{loadRules, loadRefusal}
 use Rattle.formats.specs.Sheet.{instanceOf}
@@ -25,12 +24,12 @@ use Rattle.sigma.specs.Knowledge.{Choice, Witness, honestOn}
 use Rattle.sigma.specs.Meaning.{Coordinates, Elements, Fits}
 use Rattle.sigma.specs.Reads.{roundOf}
 use Rattle.sigma.specs.Round.{response, verdict}
-use Rattle.sigma.specs.Valid.{Valid}
 use Rattle.sigma.proofs.Calls.{valid-judge-accepted}
 use Rattle.sigma.proofs.Prover.{honest-accepted}
 use Rattle.sigma.proofs.Verdict.{verdict-accepted}
 use Rattle.sigma.proofs.Values.{length-image, length-response}
-use Rattle.runs.specs.JointRun.{jointRunAfter, jointRun, Succeeds}
+use Rattle.runs.specs.JointRun.{jointRun, Succeeds}
+use Rattle.runs.specs.OnSheet.{readSlots, Below}
 use Rattle.runs.specs.Prover.{newProver, commitAfter, commit, respondAfter, respond}
 use Rattle.runs.specs.Verifier.{newVerifier, takeCommitmentAfter, takeChallengeAfter, takeResponseAfter}
 use Rattle.runs.specs.Verifier.{takeCommitment, takeChallenge, takeResponse}
@@ -153,63 +152,49 @@ module _ (inst : Instance) (x k : List ℕ) (c : ℕ) where
 
 -- ---- the run
 
--- where no rule of the sheet applies, the calls after its rules are the calls themselves
-pub jointRunAfter-clear : (before : List Rule) (inst : Instance) → Clear before → (x : List ℕ) (c : ℕ) (k : List ℕ)
-    → jointRunAfter before inst x c k ≡ jointRunAfter [] inst x c k
-unfolding jointRunAfter
-jointRunAfter-clear before inst none x c k =
-    rw (
-      commitAfter-clear before inst none newProver k,
-      takeCommitmentAfter-clear before inst none newVerifier _,
-      takeChallengeAfter-clear before inst none _ c,
-      respondAfter-clear before inst none _ c x,
-      takeResponseAfter-clear before inst none _ _,
-    )
-
-module _ {inst : Instance} (valid : Valid inst) (x k : List ℕ) (c : ℕ) (witness : Witness inst (readOf inst x))
-    (nonce : Choice inst (readOf inst k)) (below : c < inst .header .challenges) where
+module _ (sheet : List ℕ) (loaded : loadRefusal sheet ≡ 0) (x k : List ℕ) (c : ℕ)
+    (witness : Witness (instanceOf sheet) (readSlots sheet x)) (nonce : Choice (instanceOf sheet) (readSlots sheet k))
+    (below : Below sheet c) where
   -- what each call gives, for a witness, a nonce of domain slots and a challenge below K
-  pub joint-steps : jointRunAfter [] inst x c k
+  pub joint-steps : jointRun sheet x c k
       ≡ record {
-        committed = record { refusal = 0; session = proverCommitted inst k; values = pad8 0 (commitmentOf inst k) };
-        held = record { refusal = 0; session = verifierHolding Holding inst k 0 };
-        asked = record { refusal = 0; session = verifierHolding Asked inst k c };
+        committed =
+            record {
+              refusal = 0;
+              session = proverCommitted (instanceOf sheet) k;
+              values = pad8 0 (commitmentOf (instanceOf sheet) k);
+            };
+        held = record { refusal = 0; session = verifierHolding Holding (instanceOf sheet) k 0 };
+        asked = record { refusal = 0; session = verifierHolding Asked (instanceOf sheet) k c };
         answered =
             record {
               refusal = 0;
-              session = record { phase = Answered; nonce = zeros8; commitment = pad8 0 (commitmentOf inst k) };
-              values = pad8 0 (responseOf inst x c k);
+              session = record { phase = Answered; nonce = zeros8; commitment = pad8 0 (commitmentOf (instanceOf sheet) k) };
+              values = pad8 0 (responseOf (instanceOf sheet) x c k);
             };
-        told = record { verdict = Accepted; session = verifierHolding Judged inst k c };
+        told = record { verdict = Accepted; session = verifierHolding Judged (instanceOf sheet) k c };
       }
-  unfolding jointRunAfter honestOn
+  unfolding jointRun commit respond takeCommitment takeChallenge takeResponse honestOn
   joint-steps =
+      let inst = instanceOf sheet in
+      let none = sheet-clear sheet loaded in
+      let valid = loads-valid sheet loaded in
       let accepted = honest-accepted valid (readOf inst x) witness c below (readOf inst k) nonce in
       let (fits, holds) = valid-judge-accepted inst (roundOf (commitmentOf inst k) c (responseOf inst x c k)) valid .0 accepted in
       let verdict-is = verdict-accepted inst (commitmentOf inst k) c (responseOf inst x c k) .1 holds in
       rw (
+        commitAfter-clear (loadRules sheet) inst none newProver k,
         joint-commit inst x k c nonce,
+        takeCommitmentAfter-clear (loadRules sheet) inst none newVerifier _,
         joint-commitment inst x k c (fits .commitment),
+        takeChallengeAfter-clear (loadRules sheet) inst none _ c,
         joint-challenge inst x k c (fits .commitment) below,
+        respondAfter-clear (loadRules sheet) inst none _ c x,
         joint-response inst x k c witness nonce below,
+        takeResponseAfter-clear (loadRules sheet) inst none _ _,
         joint-verdict inst x k c fits verdict-is,
       )
 
   -- none of the calls is refused, and Vic accepts
-  pub joint-run : Succeeds (jointRunAfter [] inst x c k)
-  joint-run = rw joint-steps (record { committed = refl; held = refl; asked = refl; answered = refl; accepted = refl })
-
--- ---- on the bytes of a sheet that loads
-
-module _ (sheet : List ℕ) (loaded : loadRefusal sheet ≡ 0) where
-  -- the calls on its bytes are the calls on its values
-  pub joint-loaded : (x : List ℕ) (c : ℕ) (k : List ℕ) → jointRun sheet x c k ≡ jointRunAfter [] (instanceOf sheet) x c k
-  unfolding jointRun jointRunAfter commit respond takeCommitment takeChallenge takeResponse
-  joint-loaded = jointRunAfter-clear (loadRules sheet) (instanceOf sheet) (sheet-clear sheet loaded)
-
-  -- none of the calls is refused, and Vic accepts
-  pub sheet-joint-run : (x k : List ℕ) (c : ℕ) → Witness (instanceOf sheet) (readOf (instanceOf sheet) x)
-      → Choice (instanceOf sheet) (readOf (instanceOf sheet) k) → c < instanceOf sheet .header .challenges
-      → Succeeds (jointRun sheet x c k)
-  sheet-joint-run x k c witness nonce below =
-      rw (joint-loaded x c k) (joint-run (loads-valid sheet loaded) x k c witness nonce below)
+  pub sheet-joint-run : Succeeds (jointRun sheet x c k)
+  sheet-joint-run = rw joint-steps (record { committed = refl; held = refl; asked = refl; answered = refl; accepted = refl })

@@ -6,7 +6,7 @@ pub mod Demand1
 pub mod Demand2
 pub mod Demand3
 pub mod Refusals
-pub mod Order
+pub mod Positive
 pub mod Outcome
 pub mod After
 pub mod Unread

@@ -13,7 +13,7 @@ use Rattle.numbers.proofs.Search.{any-of}
 use Rattle.lists.specs.Member.{Member}
 use Rattle.lists.specs.Places.{itemsAt, tabulate, places}
 use Rattle.encoding.specs.Text.{ascii, digits, decimal}
-use Rattle.rules.specs.Rule.{_when_, lowest, numbersOf}
+use Rattle.rules.specs.Rule.{_when_, lowest, numberOf, numbersOf}
 use Rattle.rules.proofs.Lowest.{clear-lowest, lowest-later-zero, lowest-member}
 use Rattle.rules.proofs.Says.{says-not}
 use Rattle.formats.specs.Load.{loadRules, loadRefusal}
@@ -22,14 +22,13 @@ use Rattle.formats.specs.RoundFile.{badFile, challengeWidth, countField, record
 use Rattle.formats.specs.Sheet.{headerOf, instanceOf}
 use Rattle.formats.proofs.Files.{count-runs, count-given, check-runs, fetch-given}
 use Rattle.formats.proofs.Loads.{load-clear, loads}
-use Rattle.formats.proofs.Order.{load-positive}
+use Rattle.formats.proofs.Positive.{load-positive}
 use Rattle.sigma.specs.Answer.{isAccepted}
 use Rattle.sigma.specs.Judge.{judgeRules, judge}
 use Rattle.sigma.proofs.After.{judgeAfter-clear}
 use Rattle.sigma.proofs.Answer.{unlessRefused-zero, unlessRefused-positive}
 use Rattle.sigma.proofs.Calculus.{all-pass}
 use Rattle.sigma.proofs.Calls.{judge-refused}
-use Rattle.sigma.proofs.Order.{judge-numbers}
 use Rattle.sigma.proofs.Tests.{says-accepted}
 use Rattle.runs.specs.Calls.{judgeRound}
 use Rattle.runs.specs.Marker.{newline, wordLine, verdictText, verdictOn, roundLine, roundLines, markerText}
@@ -128,7 +127,7 @@ module _ (sheet f : List ℕ) where
   -- of a sheet that loads, a round is refused with 14, 15 or 16
   pub round-refusal : loadRefusal sheet ≡ 0 → (k number : ℕ) → verdictOn sheet f k ≡ Refused number
       → Member number (14 ∷ 15 ∷ 16 ∷ [])
-  unfolding verdictOn judgeRound loadRefusal
+  unfolding verdictOn judgeRound loadRefusal judgeRules numbersOf numberOf
   round-refusal e k number refused =
       let round = fetchRound sheet f k .round in
       let inst = instanceOf sheet in
@@ -139,5 +138,5 @@ module _ (sheet f : List ℕ) where
       let (some, given) = judge-refused inst round number .0 (sym (judgeAfter-clear (loadRules sheet) inst none round) ∙ refused) in
       let member : Member (lowest rules) (14 ∷ 15 ∷ 16 ∷ []) =
       ⊎-elim (λ (z : lowest rules ≡ 0). absurd (omega arith))
-      (λ (m : Member (lowest rules) (numbersOf rules)). rw (judge-numbers inst t (round .challenge) r) at m) (lowest-member rules) in
+      (λ (m : Member (lowest rules) (numbersOf rules)). m) (lowest-member rules) in
       subst (λ (n : ℕ). Member n (14 ∷ 15 ∷ 16 ∷ [])) given member

@@ -19,14 +19,14 @@ use Rattle.lists.proofs.Rows.{flatten-append}
 use Rattle.encoding.specs.Text.{ascii, decimal}
 use Rattle.encoding.proofs.Text.{decimal-length}
 use Rattle.numbers.specs.Search.{any}
-use Rattle.rules.specs.Rule.{lowest, numbersOf}
+use Rattle.rules.specs.Rule.{lowest, numberOf, numbersOf}
 use Rattle.rules.proofs.Lowest.{lowest-member}
-use Rattle.formats.specs.Load.{loadRules, loadRefusal}
+use Rattle.formats.specs.Load.{shapeRules, loadRules, loadRefusal}
 use Rattle.formats.specs.RoundCalls.{countRounds, fetchRound}
 use Rattle.formats.specs.RoundFile.{countField}
 use Rattle.formats.proofs.Files.{count-runs}
 use Rattle.formats.proofs.Loads.{loads-valid}
-use Rattle.formats.proofs.Order.{load-numbers}
+use Rattle.sigma.specs.Admission.{headerRules, elementRules}
 use Rattle.sigma.specs.Answer.{isAccepted}
 use Rattle.runs.specs.Marker.{newline, wordLine, verdictText, verdictOn, roundLine, roundLines, markerText}
 use Rattle.runs.proofs.Demand2.{sheet-rejected}
@@ -102,10 +102,10 @@ module _ (sheet f : List ℕ) where
 
   -- the number of a refused sheet
   sheet-small : loadRefusal sheet < 100
-  unfolding loadRefusal
+  unfolding loadRefusal loadRules shapeRules headerRules elementRules numbersOf numberOf
   sheet-small = elim (lowest-member (loadRules sheet)) [
     | inl none ↦ omega arith
-    | inr m ↦ member-small (lowest (loadRules sheet)) (numbersOf (loadRules sheet)) (rw load-numbers tt) m
+    | inr m ↦ member-small (lowest (loadRules sheet)) (numbersOf (loadRules sheet)) tt m
   ]
 
   -- the whole text

@@ -6,7 +6,6 @@ use mathlib.Core.List.{List, _++_}
 use Rattle.types.specs.declared.Prover.{Prover}
 use Rattle.types.specs.declared.Round.{Round}
 use Rattle.types.specs.declared.Verifier.{Verifier}
-use Rattle.lists.specs.Places.{places}
 use Rattle.rules.specs.Condition.{Condition, Given, Tests}
 use Rattle.rules.specs.Rule.{Rule, lowest}
 use Rattle.rules.proofs.Condition.{given, tests-append}
@@ -22,6 +21,7 @@ use Rattle.sigma.specs.Simulator.{simulateAfter}
 use Rattle.sigma.proofs.Refusals.{judge-tests, simulate-tests, extract-tests}
 use Rattle.sigma.proofs.Verdict.{verdict-not-refused}
 use Rattle.runs.specs.Calls.{judgeRound, simulateCommitment, extractWitness}
+use Rattle.runs.specs.OnSheet.{readSlots, readValues}
 use Rattle.runs.specs.Prover.{proverStep, commitAfter, commit, respondAfter, respond, dropRules, dropSession}
 use Rattle.runs.specs.Refusals.{
   commitConditions,
@@ -45,21 +45,13 @@ behind-sheet sheet rules conditions tests =
     (tests-append (loadRules sheet) rules (loadConditions sheet) conditions (load-tests sheet) tests)
 
 module _ (sheet : List ℕ) where
-  -- what is read of a commitment
-  abbrev rows : List ℕ → List ℕ
-  rows t = places (instanceOf sheet .header .rows) t
-
-  -- what is read of a nonce, a witness or a response
-  abbrev columns : List ℕ → List ℕ
-  columns x = places (instanceOf sheet .header .columns) x
-
   -- ---- calls on rounds
 
   -- judging
   pub judge-number : (round : Round)
       → Given
       (loadConditions sheet
-      ++ judgeConditions (instanceOf sheet) (rows (round .commitment)) (round .challenge) (columns (round .response)))
+      ++ judgeConditions (instanceOf sheet) (readValues sheet (round .commitment)) (round .challenge) (readSlots sheet (round .response)))
       (outcome (judgeRound sheet round) .number)
   unfolding judgeRound judgeAfter
   judge-number round =
@@ -67,7 +59,7 @@ module _ (sheet : List ℕ) where
 
   -- simulating
   pub simulate-number : (c : ℕ) (r : List ℕ)
-      → Given (loadConditions sheet ++ simulateConditions (instanceOf sheet) c (columns r)) (simulateCommitment sheet c r .refusal)
+      → Given (loadConditions sheet ++ simulateConditions (instanceOf sheet) c (readSlots sheet r)) (simulateCommitment sheet c r .refusal)
   unfolding simulateCommitment simulateAfter computed
   simulate-number c r = behind-sheet sheet _ _ (simulate-tests (instanceOf sheet) c _)
 
@@ -75,8 +67,8 @@ module _ (sheet : List ℕ) where
   pub extract-number : (first second : Round)
       → Given
       (loadConditions sheet
-      ++ extractConditions (instanceOf sheet) (rows (first .commitment)) (first .challenge) (columns (first .response))
-      (rows (second .commitment)) (second .challenge) (columns (second .response)))
+      ++ extractConditions (instanceOf sheet) (readValues sheet (first .commitment)) (first .challenge) (readSlots sheet (first .response))
+      (readValues sheet (second .commitment)) (second .challenge) (readSlots sheet (second .response)))
       (extractWitness sheet first second .refusal)
   unfolding extractWitness extractAfter computed
   extract-number first second = behind-sheet sheet _ _ (extract-tests (instanceOf sheet) _ _ _ _ _ _)
@@ -85,13 +77,13 @@ module _ (sheet : List ℕ) where
 
   -- committing
   pub commit-number : (p : Prover) (k : List ℕ)
-      → Given (loadConditions sheet ++ commitConditions (instanceOf sheet) p (columns k)) (commit sheet p k .refusal)
+      → Given (loadConditions sheet ++ commitConditions (instanceOf sheet) p (readSlots sheet k)) (commit sheet p k .refusal)
   unfolding commit commitAfter proverStep
   commit-number p k = behind-sheet sheet _ _ (commit-tests (instanceOf sheet) p _)
 
   -- responding
   pub respond-number : (p : Prover) (c : ℕ) (x : List ℕ)
-      → Given (loadConditions sheet ++ respondConditions (instanceOf sheet) p c (columns x)) (respond sheet p c x .refusal)
+      → Given (loadConditions sheet ++ respondConditions (instanceOf sheet) p c (readSlots sheet x)) (respond sheet p c x .refusal)
   unfolding respond respondAfter proverStep
   respond-number p c x = behind-sheet sheet _ _ (respond-tests (instanceOf sheet) p c _)
 
@@ -99,7 +91,8 @@ module _ (sheet : List ℕ) where
 
   -- the commitment
   pub takeCommitment-number : (v : Verifier) (t : List ℕ)
-      → Given (loadConditions sheet ++ takeCommitmentConditions (instanceOf sheet) v (rows t)) (takeCommitment sheet v t .refusal)
+      → Given (loadConditions sheet ++ takeCommitmentConditions (instanceOf sheet) v (readValues sheet t))
+      (takeCommitment sheet v t .refusal)
   unfolding takeCommitment takeCommitmentAfter verifierStep
   takeCommitment-number v t = behind-sheet sheet _ _ (takeCommitment-tests (instanceOf sheet) v _)
 
@@ -111,7 +104,7 @@ module _ (sheet : List ℕ) where
 
   -- the response
   pub takeResponse-number : (v : Verifier) (r : List ℕ)
-      → Given (loadConditions sheet ++ takeResponseConditions (instanceOf sheet) v (columns r))
+      → Given (loadConditions sheet ++ takeResponseConditions (instanceOf sheet) v (readSlots sheet r))
       (outcome (takeResponse sheet v r .verdict) .number)
   unfolding takeResponse
   takeResponse-number v r =

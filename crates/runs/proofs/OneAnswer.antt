@@ -3,7 +3,7 @@
 -- Assumes nothing.
 use Prim.Native.Nat.{ℕ, _<_, _≤_}
 use mathlib.Core.Path.{_≡_, ap, _∙_}
-use mathlib.Core.Logic.{_≢_, _⊎_, inl, inr, ⊎-elim}
+use mathlib.Core.Logic.{_⊎_, inl, inr, ⊎-elim}
 use mathlib.Core.Bool.{true}
 use mathlib.Core.List.{List, _∷_, _++_}
 use native.Mathlib.Omega.{arith}
@@ -16,8 +16,7 @@ use Rattle.runs.specs.ProverCalls.{countCommits, countAnswers, Ended}
 use Rattle.runs.specs.Run.{sessionAfter}
 use Rattle.runs.proofs.ProverCalls.{prover-moves, ended-refuses, ended-kept}
 use Rattle.runs.proofs.ProverCalls.{commits-moves, answers-moves, drops-moves}
-use Rattle.runs.proofs.Tests.{proverState-injective}
-use Rattle.runs.proofs.Run.{after-append, stays, kept-after, level-after, unmoved, none-past, at-most-once, ready-after}
+use Rattle.runs.proofs.Run.{after-append, stays, at-most-once, ready-after}
 
 -- ---- at most once
 
@@ -68,19 +67,6 @@ pub one-commit : (calls : List ProverCall) (p : Prover) → countCommits calls p
 unfolding countCommits
 one-commit =
     at-most-once callProver (λ step. step .session) stateOf same-or-higher commits 1 commits-lifts
-
--- a session that is not New never commits
-pub no-commit : (calls : List ProverCall) (p : Prover) → p .phase ≢ New → countCommits calls p ≡ 0
-unfolding countCommits proverState
-no-commit calls p other =
-    let started : proverState (p .phase) ≢ 0 = λ e. other (proverState-injective (p .phase) New e) in
-    none-past callProver (λ step. step .session) stateOf same-or-higher commits 1 commits-lifts calls p
-    (omega arith)
-
--- no list of calls leads to a state with a lower number
-pub prover-forward : (calls : List ProverCall) (p : Prover) → proverState (p .phase) ≤ proverState (proverAfter calls p .phase)
-unfolding proverAfter
-prover-forward = level-after callProver (λ step. step .session) stateOf same-or-higher
 
 -- ---- once it has ended
 
@@ -148,24 +134,3 @@ committed-after = ready-after callProver (λ step. step .session) commits (λ q.
 pub answer-after-commit : (earlier : List ProverCall) (call : ProverCall) (p : Prover)
     → answers call (callProver call (proverAfter earlier p)) ≡ true → (p .phase ≡ Committed) ⊎ (0 < countCommits earlier p)
 answer-after-commit earlier call p t = committed-after earlier p (answers-moves (proverAfter earlier p) call t .0)
-
--- calls that leave the state as it is leave all that is held as it is
-pub same-state-same-session : (calls : List ProverCall) (p : Prover) → proverAfter calls p .phase ≡ p .phase → proverAfter calls p ≡ p
-unfolding proverAfter
-same-state-same-session calls p e =
-    unmoved callProver (λ step. step .session) stateOf same-or-higher calls p (ap proverState e)
-
--- once a session is no longer New, no call changes its commitment
-pub commitment-fixed : (calls : List ProverCall) (p : Prover) → 1 ≤ proverState (p .phase)
-    → proverAfter calls p .commitment ≡ p .commitment
-unfolding proverAfter
-commitment-fixed = kept-after callProver (λ step. step .session) (λ q. q .commitment) (λ q. 1 ≤ stateOf q) keeps
-  where
-    keeps : (call : ProverCall) (p : Prover) → 1 ≤ stateOf p
-        → (callProver call p .session .commitment ≡ p .commitment) × (1 ≤ stateOf (callProver call p .session))
-    keeps call p h = elim (prover-moves p call) [
-      | inl same ↦ (ap (λ (q : Prover). q .commitment) same, omega (arith, ap stateOf same))
-      | inr (inl t) ↦ absurd (omega (arith, commits-lifts call p t))
-      | inr (inr (inl t)) ↦ (ap (λ (q : Prover). q .commitment) (answers-moves p call t .1), omega (arith, answers-lifts call p t))
-      | inr (inr (inr t)) ↦ (ap (λ (q : Prover). q .commitment) (drops-moves p call t .1), omega (arith, drops-lifts call p t))
-    ]

@@ -12,11 +12,11 @@ use Rattle.types.specs.declared.VerifierPhase.the-variants.{Holding, Asked, Jud
 use Rattle.runs.specs.Verifier.{verifierState}
 use Rattle.runs.specs.VerifierCalls.{VerifierCall, callVerifier, refusalOf, sessionOf, verifierAfter}
 use Rattle.runs.specs.VerifierCalls.{takesCommitment, takesChallenge, judges, countCommitments, countChallenges, countVerdicts}
-use Rattle.runs.proofs.Run.{stays, kept-after, level-after, unmoved, at-most-once, ready-after}
+use Rattle.runs.proofs.Run.{stays, kept-after, at-most-once, ready-after}
 use Rattle.runs.proofs.VerifierCalls.{verifier-kept, verifier-moves, verifier-next, judged-refuses}
 use Rattle.runs.proofs.VerifierCalls.{takesCommitment-moves, takesChallenge-moves, judges-moves}
 
--- ---- at most once, and never back
+-- ---- at most once
 
 -- the number of a session's state
 abbrev stateOf : Verifier → ℕ
@@ -61,17 +61,6 @@ one-challenge = at-most-once callVerifier sessionOf stateOf same-or-higher takes
 pub one-verdict : (calls : List VerifierCall) (v : Verifier) → countVerdicts calls v ≤ 1
 unfolding countVerdicts
 one-verdict = at-most-once callVerifier sessionOf stateOf same-or-higher judges 3 verdict-lifts
-
--- no list of calls leads back to an earlier state
-pub verifier-forward : (calls : List VerifierCall) (v : Verifier) → verifierState (v .phase) ≤ verifierState (verifierAfter calls v .phase)
-unfolding verifierAfter
-verifier-forward = level-after callVerifier sessionOf stateOf same-or-higher
-
--- calls that leave the state as it is leave all that is held as it is
-pub same-state-same-session : (calls : List VerifierCall) (v : Verifier) → verifierAfter calls v .phase ≡ v .phase
-    → verifierAfter calls v ≡ v
-unfolding verifierAfter
-same-state-same-session calls v e = unmoved callVerifier sessionOf stateOf same-or-higher calls v (ap verifierState e)
 
 -- a Judged session stays as it is
 pub judged-stays : (calls : List VerifierCall) (v : Verifier) → v .phase ≡ Judged → verifierAfter calls v ≡ v

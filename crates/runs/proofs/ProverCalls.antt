@@ -14,7 +14,7 @@ use Rattle.types.specs.declared.ProverStep.{ProverStep}
 use Rattle.lists.specs.Places.{zeros8}
 use Rattle.formats.specs.Load.{loadRules}
 use Rattle.formats.specs.Sheet.{instanceOf}
-use Rattle.formats.proofs.Order.{load-positive}
+use Rattle.formats.proofs.Positive.{load-positive}
 use Rattle.runs.specs.Meaning.{Drops}
 use Rattle.runs.specs.Prover.{commit, respond}
 use Rattle.runs.specs.ProverCalls.{ProverCall, Commit, Respond, Drop, callProver, commits, answers, drops, Ended}

@@ -26,7 +26,7 @@ use Rattle.sigma.proofs.Passed.{challenge-passes, coordinates-pass, witness-pas
 use Rattle.runs.specs.Meaning.{Commits, Responds, Drops}
 use Rattle.runs.specs.Prover.{isCommitted, unfitProver, proverStep}
 use Rattle.runs.specs.Prover.{commitRules, commitAfter, respondRules, respondAfter, dropRules, dropSession}
-use Rattle.runs.proofs.Order.{commit-positive, respond-positive, drop-positive}
+use Rattle.runs.proofs.Positive.{commit-positive, respond-positive, drop-positive}
 use Rattle.runs.proofs.Outcome.{proverStep-positive, proverStep-given}
 use Rattle.runs.proofs.Tests.{says-new, says-committed}
 use Rattle.runs.proofs.Witness.{witness-slots}

@@ -1,7 +1,7 @@
 -- Lists of calls on a session: what happens at most once, what stays, and what must have come before.
 -- Assumes nothing.
 use Prim.Native.Nat.{ℕ, _+_, _≤_, _<_}
-use mathlib.Core.Path.{_≡_, refl, sym, ap, _∙_}
+use mathlib.Core.Path.{_≡_, refl, ap, _∙_}
 use mathlib.Core.Bool.{Bool, true, false, cond}
 use mathlib.Core.List.{List, [], _∷_, _++_}
 use mathlib.Core.Logic.{_⊎_, inl, inr, ⊎-elim}
@@ -39,26 +39,6 @@ module _ {Call Session Outcome : Type 0} (answer : Call → Session → Outcome)
     rises call s =
         ⊎-elim (λ (same : session (answer call s) ≡ s). omega (arith, ap level same))
         (λ (up : level s < level (session (answer call s))). omega arith) (moves call s)
-
-    -- is lowered by no list of calls
-    pub level-after : (calls : List Call) (s : Session) → level s ≤ level (sessionAfter answer session calls s)
-    unfolding sessionAfter
-    level-after [] s = omega arith
-    level-after (call ∷ calls) s = omega (arith, rises call s, level-after calls (session (answer call s)))
-
-    -- is left as it is only by a list of calls that hands back the same session
-    pub unmoved : (calls : List Call) (s : Session) → level (sessionAfter answer session calls s) ≡ level s
-        → sessionAfter answer session calls s ≡ s
-    unfolding sessionAfter
-    unmoved [] s e = refl
-    unmoved (call ∷ calls) s e = go (unmoved calls (session (answer call s))) (moves call s)
-      where
-        go : (level (sessionAfter answer session calls (session (answer call s))) ≡ level (session (answer call s))
-            → sessionAfter answer session calls (session (answer call s)) ≡ session (answer call s))
-            → (session (answer call s) ≡ s) ⊎ (level s < level (session (answer call s)))
-            → sessionAfter answer session calls (session (answer call s)) ≡ s
-        go rest (inl same) = rest (e ∙ sym (ap level same)) ∙ same
-        go rest (inr up) = absurd (omega (arith, level-after calls (session (answer call s))))
 
     -- a test that only a call which lifts the level over a bound meets
     module _ (test : Call → Outcome → Bool) (bound : ℕ)

@@ -1,7 +1,6 @@
--- What each test of a session says, and that a state's number tells the state (01, "Sessions"; refusal 21).
+-- What each test of a session says (01, "Sessions"; refusal 21).
 -- Assumes nothing.
-use Prim.Native.Nat.{ℕ, zero, suc}
-use mathlib.Core.Path.{_≡_, refl, sym, ap, _∙_}
+use mathlib.Core.Path.{_≡_, refl}
 use mathlib.Core.Bool.{false≢true}
 use Rattle.types.specs.declared.Prover.{Prover}
 use Rattle.types.specs.declared.ProverPhase.{ProverPhase}
@@ -14,9 +13,9 @@ use Rattle.rules.proofs.Says.{says-or}
 use Rattle.sigma.specs.Instance.{Instance}
 use Rattle.sigma.proofs.Comparison.{says-differ}
 use Rattle.sigma.proofs.Tests.{says-badCommitment, says-badCoordinates}
-use Rattle.runs.specs.Prover.{proverState, isNew, isCommitted, unfitProver}
+use Rattle.runs.specs.Prover.{isNew, isCommitted, unfitProver}
 use Rattle.runs.specs.Refusals.{UnfitProver, UnfitCommitment}
-use Rattle.runs.specs.Verifier.{verifierState, isWaiting, isHolding, isAsked, unfitCommitment}
+use Rattle.runs.specs.Verifier.{isWaiting, isHolding, isAsked, unfitCommitment}
 
 -- ---- Peggy's states
 
@@ -35,25 +34,6 @@ says-committed New = record { sound = λ e. absurd (false≢true e); complete = 
 says-committed Committed = record { sound = λ e. refl; complete = λ e. refl }
 says-committed Answered = record { sound = λ e. absurd (false≢true e); complete = λ e. cc }
 says-committed Dropped = record { sound = λ e. absurd (false≢true e); complete = λ e. cc }
-
--- the state of a number
-proverPhase : ℕ → ProverPhase
-proverPhase zero = New
-proverPhase (suc zero) = Committed
-proverPhase (suc (suc zero)) = Answered
-proverPhase (suc (suc (suc n))) = Dropped
-
--- the number of a state gives the state back
-proverPhase-of-state : (s : ProverPhase) → proverPhase (proverState s) ≡ s
-unfolding proverState proverPhase
-proverPhase-of-state New = refl
-proverPhase-of-state Committed = refl
-proverPhase-of-state Answered = refl
-proverPhase-of-state Dropped = refl
-
--- two states of Peggy with one number are the same
-pub proverState-injective : (s s′ : ProverPhase) → proverState s ≡ proverState s′ → s ≡ s′
-proverState-injective s s′ e = sym (proverPhase-of-state s) ∙ ap proverPhase e ∙ proverPhase-of-state s′
 
 -- ---- Vic's states
 
@@ -80,25 +60,6 @@ says-asked Waiting = record { sound = λ e. absurd (false≢true e); complete = 
 says-asked Holding = record { sound = λ e. absurd (false≢true e); complete = λ e. cc }
 says-asked Asked = record { sound = λ e. refl; complete = λ e. refl }
 says-asked Judged = record { sound = λ e. absurd (false≢true e); complete = λ e. cc }
-
--- the state of a number
-verifierPhase : ℕ → VerifierPhase
-verifierPhase zero = Waiting
-verifierPhase (suc zero) = Holding
-verifierPhase (suc (suc zero)) = Asked
-verifierPhase (suc (suc (suc n))) = Judged
-
--- the number of a state gives the state back
-verifierPhase-of-state : (s : VerifierPhase) → verifierPhase (verifierState s) ≡ s
-unfolding verifierState verifierPhase
-verifierPhase-of-state Waiting = refl
-verifierPhase-of-state Holding = refl
-verifierPhase-of-state Asked = refl
-verifierPhase-of-state Judged = refl
-
--- two states of Vic with one number are the same
-pub verifierState-injective : (s s′ : VerifierPhase) → verifierState s ≡ verifierState s′ → s ≡ s′
-verifierState-injective s s′ e = sym (verifierPhase-of-state s) ∙ ap verifierPhase e ∙ verifierPhase-of-state s′
 
 -- ---- held values (21)
 

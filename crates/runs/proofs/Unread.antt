@@ -12,18 +12,10 @@ use Rattle.sigma.specs.Comparison.{differ}
 use Rattle.sigma.specs.Instance.{Instance}
 use Rattle.sigma.specs.Reads.{Agree}
 use Rattle.sigma.proofs.Comparison.{says-differ}
-use Rattle.runs.specs.Prover.{proverStep, unfitProver, commitRules, respondRules, dropRules, commitAfter, respondAfter, dropSession}
+use Rattle.runs.specs.Prover.{proverStep, unfitProver, respondRules, commitAfter, respondAfter}
 use Rattle.runs.specs.Reads.{SameProver, SameVerifier}
-use Rattle.runs.specs.Verifier.{
-  verifierStep,
-  unfitCommitment,
-  takeCommitmentRules,
-  takeChallengeRules,
-  takeResponseRules,
-  takeCommitmentAfter,
-  takeChallengeAfter,
-  takeResponseAfter,
-}
+use Rattle.runs.specs.Verifier.{verifierStep, unfitCommitment, takeChallengeRules, takeResponseRules}
+use Rattle.runs.specs.Verifier.{takeCommitmentAfter, takeChallengeAfter, takeResponseAfter}
 
 -- ---- what a call brings
 
@@ -68,20 +60,7 @@ unfitProver-same inst p p′ s =
     let nonce = places-agree (inst .header .columns) (p .nonce) (p′ .nonce) (s .nonce) in
     rw (nonce, differ-same 8 _ (p .commitment) (p′ .commitment) (s .commitment))
 
--- dropping reads the state alone
-pub dropSession-held : (p p′ : Prover) → p .phase ≡ p′ .phase
-    → (dropSession p .refusal ≡ dropSession p′ .refusal) × (dropSession p .values ≡ dropSession p′ .values)
-unfolding dropSession proverStep dropRules
-dropSession-held p p′ e = (rw e, rw e)
-
 module _ (before : List Rule) (inst : Instance) (p p′ : Prover) where
-  -- committing reads the state alone
-  pub commitAfter-held : p .phase ≡ p′ .phase → (k : List ℕ)
-      → (commitAfter before inst p k .refusal ≡ commitAfter before inst p′ k .refusal)
-      × (commitAfter before inst p k .values ≡ commitAfter before inst p′ k .values)
-  unfolding commitAfter proverStep commitRules
-  commitAfter-held e k = (rw e, rw e)
-
   -- responding reads the state, n places of the nonce and all of the commitment
   pub respondAfter-held : SameProver (inst .header) p p′ → (c : ℕ) (x : List ℕ)
       → (respondAfter before inst p c x .refusal ≡ respondAfter before inst p′ c x .refusal)
@@ -100,12 +79,6 @@ unfolding unfitCommitment
 unfitCommitment-same inst v v′ a = rw (places-agree (inst .header .rows) (v .commitment) (v′ .commitment) a)
 
 module _ (before : List Rule) (inst : Instance) (v v′ : Verifier) where
-  -- the commitment call reads the state alone
-  pub takeCommitmentAfter-held : v .phase ≡ v′ .phase → (t : List ℕ)
-      → takeCommitmentAfter before inst v t .refusal ≡ takeCommitmentAfter before inst v′ t .refusal
-  unfolding takeCommitmentAfter verifierStep takeCommitmentRules
-  takeCommitmentAfter-held e t = rw e
-
   -- the challenge call reads the state and s places of the commitment
   pub takeChallengeAfter-held : v .phase ≡ v′ .phase → Agree (inst .header .rows) (v .commitment) (v′ .commitment) → (c : ℕ)
       → takeChallengeAfter before inst v c .refusal ≡ takeChallengeAfter before inst v′ c .refusal

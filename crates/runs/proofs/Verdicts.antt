@@ -2,20 +2,15 @@
 -- brought (01, "Sessions" and "A round").
 -- Assumes nothing.
 use Prim.Native.Nat.{ℕ}
-use mathlib.Core.Path.{_≡_, sym, ap, _∙_}
-use mathlib.Core.Logic.{_↔_}
+use mathlib.Core.Path.{_≡_}
 use mathlib.Core.List.{List}
-use lib.Dec.{T}
 use Rattle.types.specs.declared.Round.{Round}
-use Rattle.types.specs.declared.Verdict.{Verdict}
-use Rattle.types.specs.declared.Verdict.the-variants.{Accepted}
 use Rattle.types.specs.declared.Verifier.{Verifier}
 use Rattle.lists.specs.Places.{places}
-use Rattle.rules.specs.Rule.{Rule, lowest, positive}
+use Rattle.rules.specs.Rule.{Rule, lowest}
 use Rattle.rules.proofs.Lowest.{lowest-behind}
 use Rattle.formats.specs.Load.{loadRules}
 use Rattle.formats.specs.Sheet.{instanceOf}
-use Rattle.sigma.specs.Answer.{outcome}
 use Rattle.sigma.specs.Instance.{Instance}
 use Rattle.sigma.specs.Judge.{judgeRules, judgeAfter}
 use Rattle.sigma.specs.Reads.{roundOf}
@@ -23,7 +18,7 @@ use Rattle.sigma.proofs.Passed.{challenge-passes, commitment-passes}
 use Rattle.runs.specs.Calls.{judgeRound}
 use Rattle.runs.specs.Meaning.{ReadyToJudge}
 use Rattle.runs.specs.Verifier.{takeResponseRules, takeResponseAfter, takeResponse}
-use Rattle.runs.proofs.VerifierSteps.{ready-passes, takeResponseAfter-runs}
+use Rattle.runs.proofs.VerifierSteps.{ready-passes}
 
 -- the round of what Vic holds and a response
 abbrev pub heldRound : Verifier → List ℕ → Round
@@ -44,23 +39,6 @@ module _ (inst : Instance) (v : Verifier) (ready : ReadyToJudge inst v) where
       → takeResponseAfter before inst v r .verdict ≡ judgeAfter before inst (heldRound v r)
   unfolding takeResponseAfter judgeAfter
   response-judged before r = rw (lowest-behind before _ _ (same-number (places (inst .header .columns) r)))
-
-module _ (before : List Rule) (safe : T (positive before)) (inst : Instance) (v : Verifier) (r : List ℕ) where
-  -- a response call that is not refused answers what judging answers
-  pub verdict-judged : outcome (takeResponseAfter before inst v r .verdict) .number ≡ 0
-      → takeResponseAfter before inst v r .verdict ≡ judgeAfter before inst (heldRound v r)
-  verdict-judged e = response-judged inst v (takeResponseAfter-runs before inst v r safe .0 e .1 .ready) before r
-
-  -- a response is accepted exactly where 21 does not apply and judging accepts the round
-  pub response-accepted : (takeResponseAfter before inst v r .verdict ≡ Accepted)
-      ↔ (ReadyToJudge inst v × (judgeAfter before inst (heldRound v r) ≡ Accepted))
-  unfolding outcome
-  response-accepted = (
-    λ e.
-        let none : outcome (takeResponseAfter before inst v r .verdict) .number ≡ 0 = ap (λ (w : Verdict). outcome w .number) e in
-        (takeResponseAfter-runs before inst v r safe .0 none .1 .ready, sym (verdict-judged none) ∙ e),
-    λ (ready, e). response-judged inst v ready before r ∙ e,
-  )
 
 -- on a sheet's bytes: where 21 does not apply, the response call answers what the call that judges rounds answers
 pub takeResponse-judged : (sheet : List ℕ) (v : Verifier) → ReadyToJudge (instanceOf sheet) v → (r : List ℕ)

@@ -13,7 +13,7 @@ use Rattle.types.specs.declared.VerifierStep.{VerifierStep}
 use Rattle.types.specs.declared.VerifierVerdict.{VerifierVerdict}
 use Rattle.formats.specs.Load.{loadRules}
 use Rattle.formats.specs.Sheet.{instanceOf}
-use Rattle.formats.proofs.Order.{load-positive}
+use Rattle.formats.proofs.Positive.{load-positive}
 use Rattle.runs.specs.Verifier.{verifierState, takeCommitment, takeChallenge, takeResponse}
 use Rattle.runs.specs.VerifierCalls.{VerifierCall, Commitment, Challenge, Response, refusalOf, sessionOf}
 use Rattle.runs.specs.VerifierCalls.{callVerifier, takesCommitment, takesChallenge, judges}

@@ -25,7 +25,7 @@ use Rattle.runs.specs.Meaning.{TakesCommitment, TakesChallenge, ReadyToJ
 use Rattle.runs.specs.Verifier.{isHolding, isAsked, unfitCommitment, verifierStep}
 use Rattle.runs.specs.Verifier.{takeCommitmentRules, takeCommitmentAfter, takeChallengeRules, takeChallengeAfter}
 use Rattle.runs.specs.Verifier.{takeResponseRules, takeResponseAfter}
-use Rattle.runs.proofs.Order.{takeCommitment-positive, takeChallenge-positive, takeResponse-positive}
+use Rattle.runs.proofs.Positive.{takeCommitment-positive, takeChallenge-positive, takeResponse-positive}
 use Rattle.runs.proofs.Outcome.{verifierStep-positive, verifierStep-given, judged-number}
 use Rattle.runs.proofs.Tests.{says-waiting, says-holding, says-asked}
 

@@ -9,8 +9,9 @@ use Rattle.lists.specs.Member.{Member, EachOnce}
 use Rattle.formats.specs.Sheet.{instanceOf}
 use Rattle.sigma.specs.Knowledge.{Choice, Witness, MeetsEachOnce, AcceptedPair, Extraction}
 use Rattle.sigma.specs.Listed.{allChoices, ListsAccepted}
+use Rattle.sigma.specs.Reads.{paddedRound}
 use Rattle.runs.specs.Calls.{judgeRound, simulateCommitment, extractWitness}
-use Rattle.runs.specs.Knowledge.{Accepts, honestRound, simulatedRound, paddedRound}
+use Rattle.runs.specs.Knowledge.{Accepts, honestRound, simulatedRound}
 use Rattle.runs.specs.OnSheet.{SameSlots, Same, Below}
 use Rattle.runs.specs.Prover.{newProver, commit, respond}
 

@@ -7,18 +7,8 @@ use Rattle.types.specs.declared.ProverStep.{ProverStep}
 use Rattle.types.specs.declared.Verdict.the-variants.{Accepted}
 use Rattle.types.specs.declared.VerifierStep.{VerifierStep}
 use Rattle.types.specs.declared.VerifierVerdict.{VerifierVerdict}
-use Rattle.rules.specs.Rule.{Rule}
-use Rattle.sigma.specs.Instance.{Instance}
-use Rattle.runs.specs.Prover.{newProver, commitAfter, commit, respondAfter, respond}
-use Rattle.runs.specs.Verifier.{
-  newVerifier,
-  takeCommitmentAfter,
-  takeCommitment,
-  takeChallengeAfter,
-  takeChallenge,
-  takeResponseAfter,
-  takeResponse,
-}
+use Rattle.runs.specs.Prover.{newProver, commit, respond}
+use Rattle.runs.specs.Verifier.{newVerifier, takeCommitment, takeChallenge, takeResponse}
 
 -- what the five calls gave
 pub record JointRun : Type 0 where
@@ -28,22 +18,7 @@ pub record JointRun : Type 0 where
   pub answered : ProverStep
   pub told : VerifierVerdict
 
--- the calls for witness x, challenge c and nonce k, after the rules of the sheet
-unfoldable pub jointRunAfter : List Rule → Instance → List ℕ → ℕ → List ℕ → JointRun
-jointRunAfter before inst x c k =
-    let committed : ProverStep = commitAfter before inst newProver k in
-    let held : VerifierStep = takeCommitmentAfter before inst newVerifier (committed .values) in
-    let asked : VerifierStep = takeChallengeAfter before inst (held .session) c in
-    let answered : ProverStep = respondAfter before inst (committed .session) c x in
-    record {
-      committed = committed;
-      held = held;
-      asked = asked;
-      answered = answered;
-      told = takeResponseAfter before inst (asked .session) (answered .values);
-    }
-
--- the calls on a sheet's bytes
+-- the calls for witness x, challenge c and nonce k
 unfoldable pub jointRun : List ℕ → List ℕ → ℕ → List ℕ → JointRun
 jointRun sheet x c k =
     let committed : ProverStep = commit sheet newProver k in

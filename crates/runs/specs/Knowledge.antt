@@ -3,11 +3,10 @@
 use Prim.Native.Nat.{ℕ}
 use mathlib.Core.Path.{_≡_}
 use mathlib.Core.List.{List}
-use Rattle.types.specs.declared.Header.{Header}
 use Rattle.types.specs.declared.ProverStep.{ProverStep}
 use Rattle.types.specs.declared.Round.{Round}
 use Rattle.types.specs.declared.Verdict.the-variants.{Accepted}
-use Rattle.lists.specs.Places.{pad8, places}
+use Rattle.lists.specs.Places.{pad8}
 use Rattle.sigma.specs.Reads.{roundOf}
 use Rattle.runs.specs.Calls.{judgeRound, simulateCommitment}
 use Rattle.runs.specs.Prover.{newProver, commit, respond}
@@ -26,9 +25,3 @@ honestRound sheet x c k =
 -- the simulated round of c and r: t is what the simulator gives for them; r stands in eight places
 unfoldable pub simulatedRound : List ℕ → ℕ → List ℕ → Round
 simulatedRound sheet c r = roundOf (simulateCommitment sheet c r .values) c (pad8 0 r)
-
--- what is read of a round in eight places each, with 0 in those that are not read, as the calls answer it
-unfoldable pub paddedRound : Header → Round → Round
-paddedRound h round =
-    roundOf (pad8 0 (places (h .rows) (round .commitment))) (round .challenge)
-    (pad8 0 (places (h .columns) (round .response)))

@@ -1,9 +1,8 @@
 -- The conditions of 01's refusal 21 as facts, and which conditions each call on a session asks, in order.
 -- Assumes nothing.
-use Prim.Native.Nat.{ℕ, _<_}
+use Prim.Native.Nat.{ℕ}
 use mathlib.Core.Logic.{_⊎_, _≢_}
 use mathlib.Core.List.{List, [], _∷_}
-use lib.ListN.{getD}
 use Rattle.types.specs.declared.Prover.{Prover}
 use Rattle.types.specs.declared.ProverPhase.the-variants.{New, Committed}
 use Rattle.types.specs.declared.Verifier.{Verifier}
@@ -12,14 +11,14 @@ use Rattle.lists.specs.Places.{pad8, places}
 use Rattle.rules.specs.Condition.{Condition, _if_}
 use Rattle.sigma.specs.Image.{image}
 use Rattle.sigma.specs.Instance.{Instance}
+use Rattle.sigma.specs.Reads.{Differ}
 use Rattle.sigma.specs.Refusals.{Refusal14, Refusal15, Refusal16, Refusal17}
 
 -- a held nonce slot is no domain slot, or the nonce's image, 0 beyond s, is not the held commitment in all eight places
 abbrev pub UnfitProver : Instance → Prover → Type 0
 UnfitProver inst p =
     Refusal16 inst (places (inst .header .columns) (p .nonce)) ⊎
-    ((i : ℕ) × (i < 8) ×
-    (getD (pad8 0 (image inst (places (inst .header .columns) (p .nonce)))) i 0 ≢ getD (p .commitment) i 0))
+    Differ 8 (pad8 0 (image inst (places (inst .header .columns) (p .nonce)))) (p .commitment)
 
 -- a held commitment value is no group element
 abbrev pub UnfitCommitment : Instance → Verifier → Type 0

@@ -18,22 +18,22 @@ pub data VerifierCall : Type 0 where
   Response : List ℕ → List ℕ → VerifierCall
 
 -- what a call answers: a step, or a verdict
-pub data VerifierAnswer : Type 0 where
-  Step : VerifierStep → VerifierAnswer
-  Told : VerifierVerdict → VerifierAnswer
+pub data VerifierOutcome : Type 0 where
+  Step : VerifierStep → VerifierOutcome
+  Told : VerifierVerdict → VerifierOutcome
 
 -- the number that an answer is refused with, 0 for none
-unfoldable pub refusalOf : VerifierAnswer → ℕ
+unfoldable pub refusalOf : VerifierOutcome → ℕ
 refusalOf (Step step) = step .refusal
 refusalOf (Told told) = outcome (told .verdict) .number
 
 -- the session that an answer hands back
-unfoldable pub sessionOf : VerifierAnswer → Verifier
+unfoldable pub sessionOf : VerifierOutcome → Verifier
 sessionOf (Step step) = step .session
 sessionOf (Told told) = told .session
 
 -- what a call on a session gives
-unfoldable pub callVerifier : VerifierCall → Verifier → VerifierAnswer
+unfoldable pub callVerifier : VerifierCall → Verifier → VerifierOutcome
 callVerifier (Commitment sheet t) v = Step (takeCommitment sheet v t)
 callVerifier (Challenge sheet c) v = Step (takeChallenge sheet v c)
 callVerifier (Response sheet r) v = Told (takeResponse sheet v r)
@@ -43,19 +43,19 @@ unfoldable pub verifierAfter : List VerifierCall → Verifier → Verifier
 verifierAfter calls v = sessionAfter callVerifier sessionOf calls v
 
 -- the call brings a commitment and is not refused
-unfoldable pub takesCommitment : VerifierCall → VerifierAnswer → Bool
+unfoldable pub takesCommitment : VerifierCall → VerifierOutcome → Bool
 takesCommitment (Commitment sheet t) answer = eqb (refusalOf answer) 0
 takesCommitment (Challenge sheet c) answer = false
 takesCommitment (Response sheet r) answer = false
 
 -- the call brings a challenge and is not refused
-unfoldable pub takesChallenge : VerifierCall → VerifierAnswer → Bool
+unfoldable pub takesChallenge : VerifierCall → VerifierOutcome → Bool
 takesChallenge (Commitment sheet t) answer = false
 takesChallenge (Challenge sheet c) answer = eqb (refusalOf answer) 0
 takesChallenge (Response sheet r) answer = false
 
 -- the call brings a response and is not refused: it is accepted or rejected
-unfoldable pub judges : VerifierCall → VerifierAnswer → Bool
+unfoldable pub judges : VerifierCall → VerifierOutcome → Bool
 judges (Commitment sheet t) answer = false
 judges (Challenge sheet c) answer = false
 judges (Response sheet r) answer = eqb (refusalOf answer) 0

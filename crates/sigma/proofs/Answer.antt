@@ -63,10 +63,6 @@ judged-given zero v w u = (λ e. (refl, sym (judged-zero v) ∙ e), λ x. judged
 judged-given (suc n) v w u =
     (λ e. absurd (u (suc n) (sym e ∙ judged-positive (suc n) v (omega arith))), λ x. absurd (omega arith))
 
--- accepted is given only where nothing is refused
-pub judged-accepted : (n : ℕ) (v : Verdict) → judged n v ≡ Accepted → (n ≡ 0) × (v ≡ Accepted)
-judged-accepted n v = judged-given n v Accepted accepted-not-refused .0
-
 -- of a verdict that is no refusal, exactly a refusal's number above 0 makes one
 pub judged-refused : (n : ℕ) (v : Verdict) (k : ℕ) → ((l : ℕ) → v ≢ Refused l) → (judged n v ≡ Refused k) ↔ ((0 < k) × (n ≡ k))
 judged-refused zero v k u = (λ e. absurd (u k (sym (judged-zero v) ∙ e)), λ x. absurd (omega arith))

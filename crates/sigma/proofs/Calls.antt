@@ -28,7 +28,7 @@ use Rattle.sigma.proofs.Tests.{says-accepted}
 use Rattle.sigma.proofs.Passed.{commitment-passes, challenge-passes, coordinates-pass}
 use Rattle.sigma.proofs.Answer.{accepted-not-refused, rejected-not-refused, judged-given, judged-refused}
 use Rattle.sigma.proofs.Answer.{computed-refusal, computed-given}
-use Rattle.sigma.proofs.Order.{judge-positive, simulate-positive, extract-positive}
+use Rattle.sigma.proofs.Positive.{judge-positive, simulate-positive, extract-positive}
 use Rattle.sigma.proofs.Unread.{same-round-sym, same-round-of-read, coordinates-agree}
 use Rattle.sigma.proofs.Unread.{fits-same, holds-same, fails-same, extracts-same}
 use Rattle.sigma.proofs.Verdict.{verdict-accepted, verdict-rejected, verdict-not-refused}

@@ -1,6 +1,6 @@
 -- Two lists compared row by row: whether they differ below n, the first row in which they do, and the verdict on them.
 -- Assumes nothing.
-use Prim.Native.Nat.{ℕ, _<_, _≤_}
+use Prim.Native.Nat.{ℕ, _<_}
 use mathlib.Core.Path.{_≡_, refl, ap, subst}
 use mathlib.Core.Logic.{_↔_, _≢_}
 use mathlib.Core.Bool.{Bool, true, false, cond, not}
@@ -11,11 +11,11 @@ use lib.ListN.{getD}
 use borrow.Author.Tests.{ltb-true}
 use Rattle.types.specs.declared.Verdict.the-variants.{Accepted, Rejected, Refused}
 use Rattle.numbers.specs.Search.{any}
-use Rattle.numbers.proofs.Search.{find-within, find-holds, find-first, find-is}
+use Rattle.numbers.proofs.Search.{find-holds, find-first, find-is}
 use Rattle.rules.specs.Says.{Says}
 use Rattle.rules.proofs.Says.{says-equal, says-not}
 use Rattle.sigma.specs.Comparison.{firstDifference, differ, compareSides}
-use Rattle.sigma.specs.Reads.{Agree}
+use Rattle.sigma.specs.Reads.{Agree, Differ}
 use Rattle.sigma.proofs.Answer.{accepted-not-refused, rejected-not-refused}
 use Rattle.sigma.proofs.Calculus.{says-passes, says-any, all-pass}
 
@@ -26,7 +26,7 @@ says-differs : (xs ys : List ℕ) (r : ℕ) → Says (not (eqb (getD xs r 0) (ge
 says-differs xs ys r = says-not (says-equal (getD xs r 0) (getD ys r 0))
 
 -- the lists differ in some row below n
-pub says-differ : (n : ℕ) (xs ys : List ℕ) → Says (differ n xs ys) ((r : ℕ) × (r < n) × (getD xs r 0 ≢ getD ys r 0))
+pub says-differ : (n : ℕ) (xs ys : List ℕ) → Says (differ n xs ys) (Differ n xs ys)
 unfolding differ firstDifference any
 says-differ n xs ys = says-any n _ (λ r. getD xs r 0 ≢ getD ys r 0) (says-differs xs ys)
 
@@ -35,11 +35,6 @@ pub differ-false : (n : ℕ) (xs ys : List ℕ) → (differ n xs ys ≡ false) �
 unfolding differ firstDifference any
 differ-false n xs ys =
     all-pass n (λ r. eqb (getD xs r 0) (getD ys r 0)) (λ r. getD xs r 0 ≡ getD ys r 0) (λ r. says-equal (getD xs r 0) (getD ys r 0))
-
--- the first differing row is a row, or n
-pub first-difference-within : (n : ℕ) (xs ys : List ℕ) → firstDifference n xs ys ≤ n
-unfolding firstDifference
-first-difference-within n xs ys = omega (arith, find-within (λ r. not (eqb (getD xs r 0) (getD ys r 0))) 0 n)
 
 -- all rows before the first differing row agree
 pub first-difference-before : (n : ℕ) (xs ys : List ℕ) → Agree (firstDifference n xs ys) xs ys

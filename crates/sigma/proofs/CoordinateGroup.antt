@@ -95,7 +95,7 @@ module _ (h : Header) (big : 1 < h .modulus) (some : 0 < h .order) where
   unfolding neutral
   neutral-in =
       by-kind h (λ e. rw (exponent-kind h e) (coordinate-exponent h e 0 some))
-      (λ n. rw (root-kind h n) (coordinate-root h n 1 (element-one h big some)))
+      (λ n. rw (root-kind h n) (coordinate-root h n 1 (element-one h big)))
 
   -- the opposite of a coordinate is one
   pub opposite-in : (x : ℕ) → Coordinate h x → Coordinate h (opposite h x)

@@ -33,6 +33,15 @@ module _ (h : Header) where
     coprime = λ n. numbers-set _ _ (a .coprime n) (b .coprime n) i;
   }
 
+  -- 1 is a group element
+  pub element-one : 1 < h .modulus → Element h 1
+  element-one big = record {
+    positive = omega arith;
+    below = big;
+    ordered = λ e. rw (one-pow (h .order)) (mod-eq-of-lt big);
+    coprime = λ n. gcd-one 1 (h .modulus) .1 (λ d p q. eq-one-of-dvd-one p);
+  }
+
 module _ (h : Header) (big : 1 < h .modulus) (some : 0 < h .order) where
   -- in both kinds a group element has no divisor in common with the modulus
   pub element-coprime : (v : ℕ) → Element h v → gcd v (h .modulus) ≡ 1
@@ -76,11 +85,6 @@ module _ (h : Header) (big : 1 < h .modulus) (some : 0 < h .order) where
       cong-pow (cong-mod m (v * w)) (h .order) then cong-of-equal m (mul-pow v w (h .order))
       then cong-mul (element-order v x e) (element-order w y e))
 
-  -- 1 is a group element
-  pub element-one : Element h 1
-  element-one =
-      element-from 1 big (gcd-one 1 (h .modulus) .1 (λ d p q. eq-one-of-dvd-one p)) (λ e. cong-of-equal (h .modulus) (one-pow (h .order)))
-
   -- the inverse of a group element is one
   pub element-inverse : (v : ℕ) → Element h v → Element h (inverse (h .modulus) v)
   element-inverse v x =
@@ -99,7 +103,7 @@ module _ (h : Header) (big : 1 < h .modulus) (some : 0 < h .order) where
     unit = 1;
     inverse = inverse (h .modulus);
     product-in = element-product;
-    unit-in = element-one;
+    unit-in = element-one h big;
     inverse-in = element-inverse;
     associative = λ u v w x y z.
         mod-mul-left (h .modulus) (u * v) w ∙ ap (λ (k : ℕ). k % h .modulus) (mul-assoc u v w)

@@ -11,7 +11,6 @@ use Rattle.lists.specs.Places.{places, pad8}
 use Rattle.lists.proofs.Places.{getD-places, places-agree}
 use Rattle.groups.specs.Round.{Accepts, Bezout}
 use Rattle.groups.specs.Vector.{same-vector}
-use Rattle.groups.proofs.Extraction.{swapped}
 use Rattle.numbers.specs.Integer.{bezoutLeft, bezoutRight}
 use Rattle.numbers.proofs.Coprime.{bezout-challenges}
 use Rattle.sigma.specs.Instance.{Instance}
@@ -23,7 +22,7 @@ use Rattle.sigma.proofs.FormulaValue.{formula-witness, formula-any, for
 use Rattle.sigma.proofs.Calls.{valid-judge-accepted, valid-extract-runs, extract-given}
 use Rattle.sigma.proofs.Formula.{formula-agree}
 use Rattle.sigma.proofs.Homomorphism.{Codomain, elementsOf, homomorphism}
-use Rattle.sigma.proofs.Maurer.{statementOf}
+use Rattle.sigma.proofs.Maurer.{statementVector}
 use Rattle.sigma.proofs.Transfer.{roundFrom, from-accepted}
 
 -- what the extractor gives for two rounds
@@ -85,7 +84,7 @@ module _ {inst : Instance} (v : Valid inst) (first second : Round)
       let same : two .commitment ≡ one .commitment = same-vector (elementsOf v) (inst .header .rows) (two .commitment) (one .commitment)
       (places-agree (inst .header .rows) (second .commitment) (first .commitment) (λ i h. sym (p .commitments i h))) in
       let accepts = from-accepted v first (runs v first second p .first-fits) (p .first-accepted) in
-      let accepts′ = subst (λ (t : Codomain inst). Accepts (homomorphism v) (statementOf v) t c′ (two .response)) same
+      let accepts′ = subst (λ (t : Codomain inst). Accepts (homomorphism v) (statementVector v) t c′ (two .response)) same
       (from-accepted v second (runs v first second p .second-fits) (p .second-accepted)) in
       let delta : ℤ = pos c -ℤ pos c′ in
       let fit = chosen v first second p in

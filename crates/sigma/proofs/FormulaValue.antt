@@ -31,7 +31,7 @@ use Rattle.sigma.proofs.CoordinateGroup.{coordinate-exponent, coordinat
 use Rattle.sigma.proofs.Formula.{length-formula, formula-at}
 use Rattle.sigma.proofs.Homomorphism.{Domain, Codomain, coordinatesOf, elementsOf, domainGroup, codomainGroup}
 use Rattle.sigma.proofs.Homomorphism.{imageOf, imageOf-at, homomorphism, row-column}
-use Rattle.sigma.proofs.Maurer.{statementOf, statementOf-at, product-slot, power-slot, power-row, quotient-slot}
+use Rattle.sigma.proofs.Maurer.{statementVector, statementVector-at, product-slot, power-slot, power-row, quotient-slot}
 use Rattle.sigma.proofs.Valid.{valid-modulus, valid-order, valid-kind}
 
 module _ {inst : Instance} (v : Valid inst) where
@@ -72,11 +72,11 @@ module _ {inst : Instance} (v : Valid inst) where
       ∙ rw (baseOf-at i (row-column v n i h), baseCoordinate-root inst n i))
 
   -- [u] = z^ℓ
-  pub base-image : homomorphism v .map baseOf ≡ groupPower (codomainGroup v) (statementOf v) (pos (inst .header .order))
+  pub base-image : homomorphism v .map baseOf ≡ groupPower (codomainGroup v) (statementVector v) (pos (inst .header .order))
   unfolding homomorphism
   base-image = same-slots (elementsOf v) (inst .header .rows) _ _ (λ i h.
       imageOf-at v baseOf i h ∙ base-row i h
-      ∙ sym (power-row v (statementOf v) (pos (inst .header .order)) i h ∙ rw (power-pos, statementOf-at v i h)))
+      ∙ sym (power-row v (statementVector v) (pos (inst .header .order)) i h ∙ rw (power-pos, statementVector-at v i h)))
 
   -- the formula on values is Maurer's
   pub formula-value : (a b : ℤ) (r r′ : Domain inst)
@@ -107,7 +107,7 @@ module _ {inst : Instance} (v : Valid inst) where
       ∙ rw (baseCoordinate-exponent inst e j, *ℤ-zero k) (residue-pos q 0 ∙ zero-mod q))
 
   module _ (t : Codomain inst) (c c′ : ℕ) (r r′ : Domain inst)
-      (first : Accepts (homomorphism v) (statementOf v) t c r) (second : Accepts (homomorphism v) (statementOf v) t c′ r′) where
+      (first : Accepts (homomorphism v) (statementVector v) t c r) (second : Accepts (homomorphism v) (statementVector v) t c′ r′) where
     -- in kind 2 a row of the image is the slot's power ℓ, and [r/r′] = z^(c − c′)
     root-matching : inst .header .kind ≢ 1 → (j : ℕ) → j < inst .header .columns
         → raise (inst .header) (getD ((quotient (domainGroup v) r r′) .0) j 0) (pos (inst .header .order))
@@ -116,12 +116,12 @@ module _ {inst : Instance} (v : Valid inst) where
     root-matching n j h =
         let row = column-row n j h in
         let y : Domain inst = quotient (domainGroup v) r r′ in
-        let whole = quotient-image (homomorphism v) (statementOf v) t c c′ r r′ first second in
+        let whole = quotient-image (homomorphism v) (statementVector v) t c c′ r r′ first second in
         let carried = ap (λ (w : Codomain inst). getD (w .0) j 0) whole in
         raise-root (inst .header) n _ (pos (inst .header .order)) ∙ power-pos _ _ _ ∙ sym (rowImage-root inst n (y .0) j)
-        ∙ sym (imageOf-at v y j row) ∙ carried ∙ power-row v (statementOf v) (pos c -ℤ pos c′) j row
+        ∙ sym (imageOf-at v y j row) ∙ carried ∙ power-row v (statementVector v) (pos c -ℤ pos c′) j row
         ∙ sym (raise-root (inst .header) n (baseCoordinate inst j) (pos c -ℤ pos c′)
-        ∙ rw (baseCoordinate-root inst n j, statementOf-at v j row))
+        ∙ rw (baseCoordinate-root inst n j, statementVector-at v j row))
 
     -- (r/r′)^ℓ = u^(c − c′)
     pub matching : groupPower (domainGroup v) (quotient (domainGroup v) r r′) (pos (inst .header .order))
@@ -133,11 +133,11 @@ module _ {inst : Instance} (v : Valid inst) where
 
     -- the formula's value is a witness
     pub formula-witness : (a b : ℤ) → Bezout (inst .header .order) c c′ a b → Witness inst (formula inst a b (r .0) (r′ .0))
-    unfolding homomorphism imageOf statementOf
+    unfolding homomorphism imageOf statementVector
     formula-witness a b one =
         let x : Domain inst = witnessFormula (domainGroup v) baseOf a b r r′ in
         let ℓ = inst .header .order in
-        let carried = extracted (homomorphism v) (statementOf v) t c c′ r r′ first second baseOf ℓ base-image a b one in
+        let carried = extracted (homomorphism v) (statementVector v) t c c′ r r′ first second baseOf ℓ base-image a b one in
         subst (Witness inst) (formula-value a b r r′) (record { slots = x .1; carried = ap (λ (y : Codomain inst). y .0) carried })
 
     -- all integers that fit give the same value

@@ -13,8 +13,7 @@ use Rattle.lists.specs.Each.{Each}
 use Rattle.lists.proofs.Each.{each-from, each-at}
 use Rattle.groups.specs.Group.{Group}
 use Rattle.groups.specs.Homomorphism.{Homomorphism as GroupHomomorphism}
-use Rattle.groups.specs.Vector.{Vector, NumberGroup, vectorGroup, same-slots}
-use Rattle.groups.proofs.Vectors.{value-of-product}
+use Rattle.groups.specs.Vector.{Vector, NumberGroup, vectorGroup, same-slots, value-of-product}
 use Rattle.numbers.specs.Congruence.{Cong}
 use Rattle.numbers.specs.Product.{product}
 use Rattle.numbers.proofs.Congruence.{_then_, cong-of-equal, cong-mod, cong-one, cong-pow, mod-mul-both, mod-pow}
@@ -152,7 +151,7 @@ module _ {inst : Instance} (v : Valid inst) where
   -- [x y] = [x] · [y]
   pub image-product : (x y : Domain inst)
       → imageOf (domainGroup .product x y) ≡ codomainGroup .product (imageOf x) (imageOf y)
-  unfolding coordinatesOf coordinateGroup elementsOf elementGroup
+  unfolding vectorGroup coordinatesOf coordinateGroup elementsOf elementGroup
   image-product x y = same-slots (elementsOf v) (inst .header .rows) _ _ (λ i h.
       rw (value-of-product (elementsOf v) (inst .header .rows) (imageOf x) (imageOf y) i h, imageOf-at (domainGroup .product x y) i h)
       (row-combine (x .0) (y .0) _ (value-of-product (coordinatesOf v) (inst .header .columns) x y) i h

@@ -1,6 +1,6 @@
 -- Laws of the protocol on values: what each test says, what a call answers, what it reads, and demand 3.
 pub mod Answer
-pub mod Order
+pub mod Positive
 pub mod After
 pub mod Calculus
 pub mod Comparison

@@ -1,31 +1,24 @@
--- Demand 3's lists word for word: all choices of domain slots are listed, each once, and the simulated rounds, and the honest
--- rounds of a witness, over them are the list of the accepted rounds with one challenge, each once.
+-- Demand 3's lists word for word: all choices of domain slots are listed, each once, and rounds made of them that meet each
+-- accepted round once are the list of the accepted rounds with one challenge, each once.
 -- Assumes nothing.
-use Prim.Native.Nat.{ℕ, _<_}
+use Prim.Native.Nat.{ℕ}
 use mathlib.Core.Path.{_≡_, sym, ap, _∙_, subst}
-use mathlib.Core.Logic.{_↔_, Iff·trans, Iff·symm}
+use mathlib.Core.Logic.{_↔_}
 use mathlib.Core.Bool.{cond}
 use mathlib.Core.List.{List, map}
-use lib.ListN.{length}
 use Rattle.types.specs.declared.Header.{Header}
 use Rattle.types.specs.declared.Round.{Round}
 use Rattle.lists.specs.Member.{Member, EachOnce}
 use Rattle.lists.proofs.Choices.{selected-member, selected-once, choices-complete, choices-sound, choices-once}
-use Rattle.lists.proofs.Each.{each-length}
 use Rattle.lists.proofs.Member.{member-map, member-of-map, each-once-map}
-use Rattle.lists.proofs.Places.{places-whole}
 use Rattle.sigma.specs.Instance.{Instance, isExponent}
 use Rattle.sigma.specs.Element.{Coordinate, isCoordinate}
-use Rattle.sigma.specs.Knowledge.{AcceptedRound, Choice, Witness, honestOn, simulatedOn, MeetsEachOnce}
+use Rattle.sigma.specs.Knowledge.{Choice, MeetsEachOnce}
 use Rattle.sigma.specs.Listed.{allCoordinates, allChoices, ListsAccepted}
-use Rattle.sigma.specs.Reads.{roundOf, SameRound, readRound}
-use Rattle.sigma.specs.Valid.{Valid}
+use Rattle.sigma.specs.Reads.{SameRound}
 use Rattle.sigma.proofs.ByKind.{by-kind, exponent-kind, root-kind}
-use Rattle.sigma.proofs.Prover.{honest-rounds}
-use Rattle.sigma.proofs.Simulator.{simulated-rounds}
 use Rattle.sigma.proofs.Tests.{says-coordinate}
-use Rattle.sigma.proofs.Unread.{same-commitment, same-response, same-round-refl}
-use Rattle.sigma.proofs.Values.{length-image, length-response, length-simulated}
+use Rattle.sigma.proofs.Unread.{same-round-refl}
 
 module _ (h : Header) where
   -- a number is listed exactly if it is a coordinate
@@ -85,33 +78,3 @@ module _ (inst : Instance) where
             (member-map make x (allChoices inst) (all-choices-member x .1 slots)),
       );
     }
-
--- what is read of rounds that are the same is equal
-pub read-same : (h : Header) (round round′ : Round) → SameRound h round round′ → readRound h round ≡ readRound h round′
-read-same h round round′ s = cc (same-commitment s, s .challenge, same-response s)
-
--- a round of s values and n slots is all read
-pub read-whole : (h : Header) (round : Round) → length (round .commitment) ≡ h .rows → length (round .response) ≡ h .columns
-    → readRound h round ≡ round
-read-whole h round l k = λ i.
-    roundOf (places-whole (h .rows) (round .commitment) l i) (round .challenge) (places-whole (h .columns) (round .response) k i)
-
-module _ {inst : Instance} (v : Valid inst) (c : ℕ) (below : c < inst .header .challenges) where
-  -- the simulated rounds over all responses, listed, are the accepted rounds with challenge c, each once
-  pub simulated-list :
-      ListsAccepted (readRound (inst .header)) (AcceptedRound inst) c (map (simulatedOn inst c) (allChoices inst))
-  unfolding simulatedOn
-  simulated-list = lists-accepted inst (readRound (inst .header)) (read-same (inst .header)) _ c (simulatedOn inst c)
-      (λ r slots. read-whole (inst .header) _ (length-simulated inst c r) (each-length _ _ r slots)) (simulated-rounds v c below)
-
-  -- the honest rounds of a witness over all nonces, listed, are the accepted rounds with challenge c, each once
-  pub honest-list : (x : List ℕ) → Witness inst x
-      → ListsAccepted (readRound (inst .header)) (AcceptedRound inst) c (map (honestOn inst x c) (allChoices inst))
-  unfolding honestOn
-  honest-list x w = lists-accepted inst (readRound (inst .header)) (read-same (inst .header)) _ c (honestOn inst x c)
-      (λ k slots. read-whole (inst .header) _ (length-image inst k) (length-response inst k c x)) (honest-rounds v x w c below)
-
-  -- the honest rounds of a witness are the simulated rounds, in lists of the same members
-  pub honest-simulated : (x : List ℕ) → Witness inst x → (round : Round)
-      → Member round (map (honestOn inst x c) (allChoices inst)) ↔ Member round (map (simulatedOn inst c) (allChoices inst))
-  honest-simulated x w round = Iff·trans (honest-list x w .members round) (Iff·symm (simulated-list .members round))

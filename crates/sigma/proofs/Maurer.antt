@@ -11,8 +11,8 @@ use Rattle.lists.proofs.Places.{getD-places}
 use Rattle.groups.specs.Group.{power as groupPower, quotient}
 use Rattle.groups.specs.Round.{Accepts}
 use Rattle.groups.specs.Round.{response as groupResponse, simulated as groupSimulated}
-use Rattle.groups.specs.Vector.{numberPower}
-use Rattle.groups.proofs.Vectors.{value-of-product, value-of-power, value-of-quotient}
+use Rattle.groups.specs.Vector.{numberPower, vectorGroup, value-of-product}
+use Rattle.groups.proofs.Vectors.{value-of-power, value-of-quotient}
 use Rattle.groups.proofs.Rows.{accepted-row, accepted-by-rows, value-of-simulated, value-of-response}
 use Rattle.numbers.specs.Integer.{power}
 use Rattle.numbers.proofs.Congruence.{mod-mul-right}
@@ -33,19 +33,19 @@ use Rattle.sigma.proofs.Values.{simulated-at, response-at}
 
 module _ {inst : Instance} (v : Valid inst) where
   -- the statement as s group elements
-  unfoldable pub statementOf : Codomain inst
+  unfoldable pub statementVector : Codomain inst
   unfolding statementAt
-  statementOf = (places (inst .header .rows) (inst .statement), each-places _ _ (inst .statement) (v .statement))
+  statementVector = (places (inst .header .rows) (inst .statement), each-places _ _ (inst .statement) (v .statement))
 
   -- row i of it
-  pub statementOf-at : (i : ℕ) → i < inst .header .rows → getD (statementOf .0) i 0 ≡ statementAt inst i
-  unfolding statementOf statementAt
-  statementOf-at i h = getD-places (inst .header .rows) (inst .statement) i h
+  pub statementVector-at : (i : ℕ) → i < inst .header .rows → getD (statementVector .0) i 0 ≡ statementAt inst i
+  unfolding statementVector statementAt
+  statementVector-at i h = getD-places (inst .header .rows) (inst .statement) i h
 
   -- slot j of a product
   pub product-slot : (x y : Domain inst) (j : ℕ) → j < inst .header .columns
       → getD ((domainGroup v .product x y) .0) j 0 ≡ combine (inst .header) (getD (x .0) j 0) (getD (y .0) j 0)
-  unfolding coordinatesOf coordinateGroup
+  unfolding vectorGroup coordinatesOf coordinateGroup
   product-slot = value-of-product (coordinatesOf v) (inst .header .columns)
 
   -- slot j of a power
@@ -81,34 +81,34 @@ module _ {inst : Instance} (v : Valid inst) where
   module _ (c : ℕ) where
     -- row i of t · z^c
     expected-at : (t i : ℕ) → i < inst .header .rows
-        → elementsOf v .product t (numberPower (elementsOf v) (getD (statementOf .0) i 0) (pos c))
+        → elementsOf v .product t (numberPower (elementsOf v) (getD (statementVector .0) i 0) (pos c))
         ≡ t * statementAt inst i ^ c % inst .header .modulus
     expected-at t i h =
-        side-at t _ (pos c) ∙ rw (power-pos, statementOf-at i h) (mod-mul-right (inst .header .modulus) t (statementAt inst i ^ c))
+        side-at t _ (pos c) ∙ rw (power-pos, statementVector-at i h) (mod-mul-right (inst .header .modulus) t (statementAt inst i ^ c))
 
     -- Maurer's verifier accepts exactly where 01's equation holds in every row
     pub accepts-holds : (t : Codomain inst) (r : Domain inst)
-        → Accepts (homomorphism v) statementOf t c r ↔ Holds inst (roundOf (t .0) c (r .0))
+        → Accepts (homomorphism v) statementVector t c r ↔ Holds inst (roundOf (t .0) c (r .0))
     unfolding homomorphism
     accepts-holds t r =
         let s = inst .header .rows in
         let n = inst .header .columns in (
           λ a i h.
-              sym (imageOf-at v r i h) ∙ accepted-row (coordinatesOf v) n (elementsOf v) s (homomorphism v) statementOf c t r a i h
+              sym (imageOf-at v r i h) ∙ accepted-row (coordinatesOf v) n (elementsOf v) s (homomorphism v) statementVector c t r a i h
               ∙ expected-at (getD (t .0) i 0) i h,
-          λ f. accepted-by-rows (coordinatesOf v) n (elementsOf v) s (homomorphism v) statementOf c t r
+          λ f. accepted-by-rows (coordinatesOf v) n (elementsOf v) s (homomorphism v) statementVector c t r
               (λ i h. imageOf-at v r i h ∙ f i h ∙ sym (expected-at (getD (t .0) i 0) i h)),
         )
 
     -- row i of the simulator's commitment
     pub simulated-value : (r : Domain inst) (i : ℕ) → i < inst .header .rows
-        → getD ((groupSimulated (homomorphism v) statementOf c r) .0) i 0 ≡ getD (simulated inst c (r .0)) i 0
+        → getD ((groupSimulated (homomorphism v) statementVector c r) .0) i 0 ≡ getD (simulated inst c (r .0)) i 0
     unfolding homomorphism
     simulated-value r i h =
         let s = inst .header .rows in
         let n = inst .header .columns in
-        value-of-simulated (coordinatesOf v) n (elementsOf v) s (homomorphism v) statementOf c r i h
-        ∙ side-at _ _ (negℤ (pos c)) ∙ rw (imageOf-at v r i h, statementOf-at i h) (sym (simulated-at inst c (r .0) i h))
+        value-of-simulated (coordinatesOf v) n (elementsOf v) s (homomorphism v) statementVector c r i h
+        ∙ side-at _ _ (negℤ (pos c)) ∙ rw (imageOf-at v r i h, statementVector-at i h) (sym (simulated-at inst c (r .0) i h))
 
     -- slot j of the response
     pub response-value : (x k : Domain inst) (j : ℕ) → j < inst .header .columns

@@ -13,13 +13,13 @@ use Rattle.sigma.specs.Judge.{judge}
 use Rattle.sigma.specs.Knowledge.{AcceptedRound, Choice, Witness, honestOn, MeetsEachOnce}
 use Rattle.sigma.specs.Valid.{Valid}
 use Rattle.sigma.proofs.Homomorphism.{Domain, elementsOf, imageOf, homomorphism}
-use Rattle.sigma.proofs.Maurer.{statementOf, response-value}
+use Rattle.sigma.proofs.Maurer.{statementVector, response-value}
 use Rattle.sigma.proofs.Transfer.{transfer}
 
 module _ {inst : Instance} (v : Valid inst) (x : List ℕ) (w : Witness inst x) where
   -- the homomorphism carries the witness to the statement
-  pub witness-image : homomorphism v .map (x, w .slots) ≡ statementOf v
-  unfolding homomorphism imageOf statementOf
+  pub witness-image : homomorphism v .map (x, w .slots) ≡ statementVector v
+  unfolding homomorphism imageOf statementVector
   witness-image = same-vector (elementsOf v) (inst .header .rows) _ _ (w .carried)
 
   module _ (c : ℕ) (below : c < inst .header .challenges) where
@@ -29,7 +29,7 @@ module _ {inst : Instance} (v : Valid inst) (x : List ℕ) (w : Witness inst x) 
     honest-rounds =
         let witness : Domain inst = (x, w .slots) in
         transfer v c below (honestRound (homomorphism v) witness c)
-        (group-honest-rounds (homomorphism v) (statementOf v) c witness witness-image) (honestOn inst x c) (λ k. record {
+        (group-honest-rounds (homomorphism v) (statementVector v) c witness witness-image) (honestOn inst x c) (λ k. record {
           commitment = λ i h. refl;
           challenge = refl;
           response = λ j h. sym (response-value v c witness k j h);

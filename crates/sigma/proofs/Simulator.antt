@@ -15,7 +15,7 @@ use Rattle.sigma.specs.Simulator.{simulated, simulate}
 use Rattle.sigma.specs.Valid.{Valid}
 use Rattle.sigma.proofs.Calls.{simulate-runs, simulate-given}
 use Rattle.sigma.proofs.Homomorphism.{homomorphism}
-use Rattle.sigma.proofs.Maurer.{statementOf, simulated-value}
+use Rattle.sigma.proofs.Maurer.{statementVector, simulated-value}
 use Rattle.sigma.proofs.Transfer.{transfer}
 
 module _ {inst : Instance} (v : Valid inst) (c : ℕ) (below : c < inst .header .challenges) where
@@ -23,7 +23,7 @@ module _ {inst : Instance} (v : Valid inst) (c : ℕ) (below : c < inst .header 
   pub simulated-rounds : MeetsEachOnce (inst .header) (Choice inst) (AcceptedRound inst) c (simulatedOn inst c)
   unfolding simulatedOn simulatedRound
   simulated-rounds =
-      transfer v c below (simulatedRound (homomorphism v) (statementOf v) c) (group-simulated-rounds (homomorphism v) (statementOf v) c)
+      transfer v c below (simulatedRound (homomorphism v) (statementVector v) c) (group-simulated-rounds (homomorphism v) (statementVector v) c)
       (simulatedOn inst c) (λ r. record {
         commitment = λ i h. sym (simulated-value v c r i h);
         challenge = refl;

@@ -16,11 +16,10 @@ use Rattle.sigma.specs.Instance.{Instance}
 use Rattle.sigma.specs.Knowledge.{AcceptedRound, Choice, MeetsEachOnce}
 use Rattle.sigma.specs.Meaning.{Fits}
 use Rattle.sigma.specs.Reads.{roundOf, SameRound}
-use Rattle.sigma.specs.Round.{response}
 use Rattle.sigma.specs.Valid.{Valid}
 use Rattle.sigma.proofs.Calls.{valid-judge-accepted}
 use Rattle.sigma.proofs.Homomorphism.{Domain, Codomain, coordinatesOf, elementsOf, homomorphism}
-use Rattle.sigma.proofs.Maurer.{statementOf, accepts-holds}
+use Rattle.sigma.proofs.Maurer.{statementVector, accepts-holds}
 use Rattle.sigma.proofs.Unread.{same-round-sym, same-round-trans, same-round-of-read, judge-same}
 
 -- a round of Maurer's over the instance's groups
@@ -28,13 +27,13 @@ abbrev pub VectorRound : Instance → Type 0
 VectorRound inst = GroupRound (Domain inst) (Codomain inst)
 
 -- a round of Maurer's, as a round on values
-abbrev pub valuesOf : (inst : Instance) → VectorRound inst → Round
-valuesOf inst round = roundOf (round .commitment .0) (round .challenge) (round .response .0)
+abbrev pub roundValues : (inst : Instance) → VectorRound inst → Round
+roundValues inst round = roundOf (round .commitment .0) (round .challenge) (round .response .0)
 
 module _ {inst : Instance} (v : Valid inst) where
   -- two rounds of Maurer's are equal where they are the same round on values
   pub same-vectors : (round round′ : VectorRound inst)
-      → SameRound (inst .header) (valuesOf inst round) (valuesOf inst round′) → round ≡ round′
+      → SameRound (inst .header) (roundValues inst round) (roundValues inst round′) → round ≡ round′
   same-vectors round round′ same = λ i. record {
     commitment = same-slots (elementsOf v) (inst .header .rows) (round .commitment) (round′ .commitment) (same .commitment) i;
     challenge = same .challenge i;
@@ -43,12 +42,12 @@ module _ {inst : Instance} (v : Valid inst) where
 
   -- of n coordinates and s group elements, the call that judges accepts exactly what Maurer's verifier accepts
   pub judge-accepts : (round : VectorRound inst) → round .challenge < inst .header .challenges
-      → AcceptedRound inst (valuesOf inst round)
-      ↔ Accepts (homomorphism v) (statementOf v) (round .commitment) (round .challenge) (round .response)
+      → AcceptedRound inst (roundValues inst round)
+      ↔ Accepts (homomorphism v) (statementVector v) (round .commitment) (round .challenge) (round .response)
   judge-accepts round below =
-      let call = valid-judge-accepted inst (valuesOf inst round) v in
+      let call = valid-judge-accepted inst (roundValues inst round) v in
       let rows = accepts-holds v (round .challenge) (round .commitment) (round .response) in
-      let fits : Fits inst (valuesOf inst round) = record {
+      let fits : Fits inst (roundValues inst round) = record {
         commitment = each-at _ _ (round .commitment .0) (round .commitment .1);
         challenge = below;
         response = each-at _ _ (round .response .0) (round .response .1);
@@ -65,13 +64,13 @@ module _ {inst : Instance} (v : Valid inst) where
 
   -- Maurer's verifier accepts what is read of a round that the call accepts
   pub from-accepted : (round : Round) (fits : Fits inst round) → AcceptedRound inst round
-      → Accepts (homomorphism v) (statementOf v) (roundFrom round fits .commitment) (round .challenge) (roundFrom round fits .response)
+      → Accepts (homomorphism v) (statementVector v) (roundFrom round fits .commitment) (round .challenge) (roundFrom round fits .response)
   from-accepted round fits accepted =
       judge-accepts (roundFrom round fits) (fits .challenge) .0 (judge-same inst (same-round-of-read (inst .header) round) ∙ accepted)
 
   module _ (c : ℕ) (below : c < inst .header .challenges) (rounds : Domain inst → VectorRound inst)
-      (meets : GroupMeets (homomorphism v) (statementOf v) c rounds) (make : List ℕ → Round)
-      (same : (x : Domain inst) → SameRound (inst .header) (make (x .0)) (valuesOf inst (rounds x))) where
+      (meets : GroupMeets (homomorphism v) (statementVector v) c rounds) (make : List ℕ → Round)
+      (same : (x : Domain inst) → SameRound (inst .header) (make (x .0)) (roundValues inst (rounds x))) where
     -- where Maurer's rounds are exactly the accepted ones, each met once, so are the same rounds on values
     pub transfer : MeetsEachOnce (inst .header) (Choice inst) (AcceptedRound inst) c make
     transfer = record {
@@ -83,10 +82,10 @@ module _ {inst : Instance} (v : Valid inst) where
       met = λ round e accepted.
           let fits = valid-judge-accepted inst round v .0 accepted .0 in
           let read = roundFrom round fits in
-          let accepts = subst (λ (k : ℕ). Accepts (homomorphism v) (statementOf v) (read .commitment) k (read .response)) e
+          let accepts = subst (λ (k : ℕ). Accepts (homomorphism v) (statementVector v) (read .commitment) k (read .response)) e
           (from-accepted round fits accepted) in
           let (x, equal) = meets .met (read .commitment) (read .response) accepts in
-          let agree : SameRound (inst .header) (valuesOf inst (rounds x)) round = record {
+          let agree : SameRound (inst .header) (roundValues inst (rounds x)) round = record {
             commitment = λ i h.
                 ap (λ (w : VectorRound inst). getD (w .commitment .0) i 0) equal
                 ∙ getD-places (inst .header .rows) (round .commitment) i h;

@@ -3,19 +3,16 @@
 use Prim.Native.Nat.{ℕ, _<_, _≤_}
 use mathlib.Core.Path.{_≡_}
 use mathlib.Core.Logic.{_↔_, _≢_, ⊎-elim}
-use mathlib.Core.List.{_++_}
 use native.Mathlib.Nat.{dvd-refl}
 use native.Mathlib.Decide.{decLt}
 use native.Mathlib.Omega.{arith}
 use Rattle.numbers.specs.Gcd.{gcd}
-use Rattle.rules.specs.Rule.{lowest, Clear}
-use Rattle.rules.proofs.Lowest.{lowest-clear, clear-lowest, clear-append}
+use Rattle.rules.specs.Rule.{Clear}
 use Rattle.sigma.specs.Instance.{Instance}
 use Rattle.sigma.specs.Element.{Element}
 use Rattle.sigma.specs.Admission.{headerRules, elementRules}
 use Rattle.sigma.specs.Valid.{Valid}
 use Rattle.sigma.proofs.ElementGroup.{element-coprime}
-use Rattle.sigma.proofs.Order.{value-positive}
 use Rattle.sigma.proofs.Passed.{kind-passes, modulus-passes, order-passes, size-passes, count-passes}
 use Rattle.sigma.proofs.Passed.{entries-pass, statement-passes}
 
@@ -49,15 +46,6 @@ module _ (i : Instance) where
               (kind-passes h .1 (v .kind), (modulus-passes h .1 (v .modulus), (order-passes h .1 (v .order), (size, (count, tt))))),
               (entries-pass i .1 (v .entries), (statement-passes i .1 (v .statement), tt)),
             ),
-      )
-
-  -- the rules of the sheet's values give 0 exactly when the instance is Valid
-  pub lowest-valid : (lowest (headerRules (i .header) ++ elementRules i) ≡ 0) ↔ Valid i
-  lowest-valid =
-      let rules = headerRules (i .header) ++ elementRules i in
-      let parts = clear-append (headerRules (i .header)) (elementRules i) in (
-        λ e. clear-valid .0 (parts .0 (clear-lowest rules (value-positive i) e)),
-        λ v. lowest-clear rules (parts .1 (clear-valid .1 v)),
       )
 
 -- ---- what a Valid instance has

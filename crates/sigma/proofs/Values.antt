@@ -23,11 +23,6 @@ module _ (i : Instance) where
   unfolding image
   image-at x r h = getD-tabulate _ _ r 0 h
 
-  -- t · z^c has a value for each row
-  pub length-expected-image : (t : List ℕ) (c : ℕ) → length (expectedImage i t c) ≡ i .header .rows
-  unfolding expectedImage
-  length-expected-image t c = length-tabulate _ _
-
   -- row r of t · z^c
   pub expected-image-at : (t : List ℕ) (c r : ℕ) → r < i .header .rows
       → getD (expectedImage i t c) r 0 ≡ getD t r 0 * statementAt i r ^ c % i .header .modulus

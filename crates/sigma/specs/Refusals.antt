@@ -12,7 +12,7 @@ use Rattle.sigma.specs.Element.{Element, Coordinate}
 use Rattle.sigma.specs.Image.{rowImage}
 use Rattle.sigma.specs.Instance.{Instance, entry, statementAt}
 use Rattle.sigma.specs.Meaning.{Holds}
-use Rattle.sigma.specs.Reads.{roundOf}
+use Rattle.sigma.specs.Reads.{Differ, roundOf}
 
 -- the kind is neither 1 nor 2
 abbrev pub Refusal4 : Header → Type 0
@@ -71,7 +71,7 @@ Refusal17 inst x = (i : ℕ) × (i < inst .header .rows) × (rowImage inst x i �
 
 -- the two commitments differ
 abbrev pub Refusal18 : Instance → List ℕ → List ℕ → Type 0
-Refusal18 inst t t′ = (i : ℕ) × (i < inst .header .rows) × (getD t i 0 ≢ getD t′ i 0)
+Refusal18 inst t t′ = Differ (inst .header .rows) t t′
 
 -- the fixed fields
 abbrev pub headerConditions : Header → List Condition

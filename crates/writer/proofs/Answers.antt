@@ -18,7 +18,7 @@ use Rattle.rules.proofs.Lowest.{lowest-clear, lowest-earlier, lowest-later-zero
 use Rattle.sigma.specs.Admission.{elementRules, headerRules}
 use Rattle.sigma.specs.Instance.{Instance}
 use Rattle.sigma.proofs.Answer.{unlessRefused-positive}
-use Rattle.sigma.proofs.Order.{element-positive, header-positive}
+use Rattle.sigma.proofs.Positive.{element-positive, header-positive}
 use Rattle.formats.specs.Encode.{encode, encodeRules, sheetOf}
 use Rattle.formats.specs.Pattern.{fromPattern, made, madeHeader, makeRules, patternEntries, patternOf}
 use Rattle.formats.specs.Refusals.{Refusal1}
