@@ -27,7 +27,7 @@ ghost use Rattle.extractor.specs.Rules.{pairRules};
 
 // The number of 14 to 16, 18 and 19 that two rounds are refused with, or 0. Each of 14 to 16 is asked of both rounds before
 // the next; 18 is for commitments that differ, 19 for equal challenges.
-pub fn pair_refusal(h: Header, first: Round, second: Round) -> u32
+fn pair_refusal(h: Header, first: Round, second: Round) -> u32
     requires { ⌜ (0 < h .modulus) × (h .rows ≤ 8) × (h .columns ≤ 8) ⌝ }
     ensures { λ r. ⌜ ((entries : List (List ℕ)) (statement : List ℕ)
         → r ≡ lowest (pairRules (instanceWith h entries statement) first second)) ⌝ }
@@ -93,7 +93,7 @@ fn witness_slot(h: Header, z: u32, a: u32, b: u32, r: u32, s: u32) -> u32
 
 // The witness from the responses r and s to two challenges, the first larger by delta: the formula with the exponents -a
 // and b, where b inverts delta modulo ℓ, and delta b is ℓ a + 1.
-pub fn witness(h: Header, statement: [u32; 8], delta: u32, r: [u32; 8], s: [u32; 8]) -> [u32; 8]
+fn witness(h: Header, statement: [u32; 8], delta: u32, r: [u32; 8], s: [u32; 8]) -> [u32; 8]
     requires { ⌜ WitnessFits h statement delta r s ⌝ }
     ensures { λ x. ⌜ ((entries : List (List ℕ)) → x ≡ pad8 0 (formula (instanceWith h entries statement)
         (negℤ (pos (leftCoefficient (h .order) delta))) (pos (inverse (h .order) delta)) r s)) ⌝ }

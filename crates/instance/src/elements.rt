@@ -46,7 +46,7 @@ pub fn read_statement(sheet: &[u8], h: Header) -> [u32; 8]
 }
 
 // The first row with an entry that is no group element, or the count of the rows where there is none, as in kind 2.
-pub fn first_bad_row(h: Header, entries: [[u32; 8]; 8]) -> usize
+fn first_bad_row(h: Header, entries: [[u32; 8]; 8]) -> usize
     requires modulus { ⌜ 0 < h .modulus ⌝ }
     requires rows { ⌜ h .rows ≤ 8 ⌝ }
     requires columns { ⌜ h .columns ≤ 8 ⌝ }

@@ -40,7 +40,7 @@ pub fn judge_loaded(h: Header, entries: [[u32; 8]; 8], statement: [u32; 8], roun
 }
 
 // The simulated commitment for challenge c and response r: the image of r times the statement by -c, a value for each row.
-pub fn simulated(
+fn simulated(
     h: Header,
     entries: [[u32; 8]; 8],
     statement: [u32; 8],

@@ -1,4 +1,4 @@
--- How long the marker's text is: `rounds 512`, 512 lines of at most 15 bytes such as `511 refused 16`, and `fail` are 7,696 bytes.
+-- How long the marker's text is at most: `rounds 512`, 512 lines of at most 15 bytes, and `fail` are 7,696 bytes.
 -- Assumes nothing.
 use Prim.Native.Nat.{ℕ, zero, suc, _+_, _*_, _<_, _≤_}
 use mathlib.Core.Path.{_≡_, refl, ap, _∙_}

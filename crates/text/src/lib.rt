@@ -18,7 +18,7 @@ pub fn write_word(s: &mut [u8], at: usize, word: &[u8]) -> usize
 }
 
 // Stores the one digit of a number below 10.
-pub fn write_digit(s: &mut [u8], at: usize, digit: u32) -> usize
+fn write_digit(s: &mut [u8], at: usize, digit: u32) -> usize
     requires digit { ⌜ digit < 10 ⌝ }
     requires room { ⌜ at + 1 ≤ length (now s) ⌝ }
     ensures { λ r. ⌜ Placed (now (s .entry)) at ((48 + digit) ∷ []) (now (s .exit)) r ⌝ }
