@@ -16,7 +16,7 @@ ghost use Rattle.sigma.specs.Element.{Element};
 ghost use Rattle.sigma.specs.Image.{rowImage, image};
 ghost use Rattle.sigma.specs.Round.{responseCoordinate, response, expectedImage, verdict};
 ghost use Rattle.sigma.specs.Valid.{Valid};
-ghost use Rattle.image.specs.Values.{instanceWith};
+ghost use Rattle.sigma.specs.Instance.{instanceWith};
 
 // Row i of the image of x: in kind 1 the product over the columns of the entry by x's slot, in kind 2 slot i by the exponent.
 pub fn row_image(h: Header, entries: [[u32; 8]; 8], x: [u32; 8], i: usize) -> u32

@@ -12,7 +12,7 @@ use Rattle.sigma.specs.Instance.{Instance}
 use Rattle.sigma.specs.Admission.{headerRules, elementRules}
 use Rattle.sigma.specs.Judge.{judgeRules}
 use Rattle.sigma.specs.Simulator.{simulateRules}
-use Rattle.sigma.specs.Extractor.{extractRules}
+use Rattle.sigma.specs.Extractor.{pairRules, extractRules}
 
 -- ---- the numbers
 
@@ -39,7 +39,7 @@ simulate-numbers i c r = refl
 -- the numbers of extracting
 pub extract-numbers : (i : Instance) (t : List ℕ) (c : ℕ) (r t′ : List ℕ) (c′ : ℕ) (r′ : List ℕ)
     → numbersOf (extractRules i t c r t′ c′ r′) ≡ 14 ∷ 15 ∷ 16 ∷ 18 ∷ 19 ∷ 20 ∷ []
-unfolding extractRules numbersOf numberOf
+unfolding extractRules pairRules numbersOf numberOf
 extract-numbers i t c r t′ c′ r′ = refl
 
 -- ---- their order
@@ -62,7 +62,7 @@ simulate-order i c r = refl
 -- the rules of extracting are in 01's order
 pub extract-order : (i : Instance) (t : List ℕ) (c : ℕ) (r t′ : List ℕ) (c′ : ℕ) (r′ : List ℕ)
     → isSublist (numbersOf (extractRules i t c r t′ c′ r′)) refusalOrder ≡ true
-unfolding extractRules numbersOf numberOf isSublist refusalOrder
+unfolding extractRules pairRules numbersOf numberOf isSublist refusalOrder
 extract-order i t c r t′ c′ r′ = refl
 
 -- ---- no number is 0
@@ -95,5 +95,5 @@ simulate-positive i c r = tt
 -- the numbers of extracting are positive
 pub extract-positive : (i : Instance) (t : List ℕ) (c : ℕ) (r t′ : List ℕ) (c′ : ℕ) (r′ : List ℕ)
     → T (positive (extractRules i t c r t′ c′ r′))
-unfolding extractRules
+unfolding extractRules pairRules
 extract-positive i t c r t′ c′ r′ = tt

@@ -4,7 +4,7 @@ ghost use Prim.Native.Nat.{_+_, _≤_, _<_};
 ghost use mathlib.Core.List.{[], _∷_, _++_};
 ghost use lib.ListN.{length};
 ghost use Rattle.encoding.specs.Text.{ascii, decimal};
-ghost use Rattle.text.specs.Placed.{Placed};
+ghost use Rattle.encoding.specs.Placed.{Placed};
 
 // Stores a word.
 pub fn write_word(s: &mut [u8], at: usize, word: &[u8]) -> usize
