@@ -33,10 +33,6 @@ use Rattle.formats.proofs.Writing.{Leaves, length-sheetOf, short-passes}
 abbrev pub refusedWith : ℕ → Written
 refusedWith number = record { refusal = number; length = 0 }
 
--- a number that is not above 0 refuses nothing
-pub not-refused : {n m : ℕ} → n ≡ m → n ≤ 0 → m ≡ 0
-not-refused e none = omega arith
-
 -- a call with a refusal's number answers it and keeps the buffer
 start-refused : (n m : ℕ) (bytes buffer : List ℕ) {answer : Written} → answer ≡ refusedWith n → n ≡ m → 0 < n
     → Leaves answer buffer (writtenAtStart m bytes buffer)

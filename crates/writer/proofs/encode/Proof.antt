@@ -7,19 +7,19 @@ use Rattle.rules.specs.Rule.{lowest}
 use Rattle.sigma.specs.Admission.{elementRules, headerRules}
 use Rattle.sigma.specs.Instance.{instanceWith}
 use Rattle.instance.proofs.FixedFields.{header-passes}
-use Rattle.writer.proofs.Answers.{encode-elements, encode-fields, encode-short, encode-written, not-refused}
+use Rattle.writer.proofs.Answers.{encode-elements, encode-fields, encode-short, encode-written}
 use Rattle.writer.proofs.encode.Statement.{statement}
 use Rattle.writer.proofs.encode.Tie as tie
 
 -- past the first test the fixed fields have no number
 fields : (c : tie.Else1) → lowest (headerRules (c .before .before .before .args .h)) ≡ 0
-fields c = not-refused (c .before .header-refusal .ensures) (c .if1 .left)
+fields c = omega arith
 
 -- past the second the entries and the statement have none
 elements : (c : tie.Else2)
     → let args = c .before .before .before .before .before .args in
     lowest (elementRules (instanceWith (args .h) (args .entries) (args .statement))) ≡ 0
-elements c = not-refused (c .before .element-refusal .ensures) (c .if2 .left)
+elements c = omega arith
 
 header-refusal-requires : tie.Need-header-refusal-requires
 header-refusal-requires c κs = search needs
@@ -40,7 +40,7 @@ returns-2 : tie.Need-returns-2
 returns-2 c =
     let tested = c .before in
     let values = tested .before in
-    encode-elements _ _ (fields (values .before)) (c .refused2 .ensures) (values .element-refusal .ensures) (tested .if2 .taken)
+    encode-elements _ _ (fields (values .before)) (c .refused2 .ensures) (values .element-refusal .ensures) (omega (arith, tested .if2 .taken))
 
 sheet-length-requires : tie.Need-sheet-length-requires
 sheet-length-requires c κs = header-passes _ (fields (c .before .before)) .1
