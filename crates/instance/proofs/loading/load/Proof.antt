@@ -62,7 +62,7 @@ refused-requires-2 c κs = search needs
 
 returns-2 : tie.Need-returns-2
 returns-2 c =
-    let tested = c .before in c .refused2 .ensures ∙ refused-answer _ (number (tested .before)) (tested .if2 .taken)
+    let tested = c .before in c .refused2 .ensures ∙ refused-answer _ (number (tested .before)) (omega (arith, tested .if2 .taken))
 
 -- past the second test the sheet loads
 loads : (c : tie.Else2) → loadRefusal (c .before .before .before .before .before .before .before .before .args .sheet .now) ≡ 0
