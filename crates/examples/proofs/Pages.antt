@@ -32,8 +32,10 @@ use Rattle.sigma.specs.Extractor.{
   divide,
   raise,
   baseCoordinate,
+  slotFormula,
   formula,
   extracted,
+  pairRules,
   extractRules,
   extractAfter,
 }
@@ -51,7 +53,7 @@ use Rattle.sigma.specs.Round.{
   badWitness,
 }
 use Rattle.sigma.specs.Simulator.{simulated, simulateRules, simulateAfter}
-use Rattle.formats.specs.Encode.{storedEntries, sheetOf}
+use Rattle.formats.specs.Encode.{headerBytes, storedEntries, sheetOf}
 use Rattle.formats.specs.Load.{badStart, badVersion, badLength, shapeRules, loadRules, loadRefusal}
 use Rattle.formats.specs.Pattern.{
   patterns,
@@ -100,7 +102,17 @@ use Rattle.formats.specs.Sheet.{
 use Rattle.formats.specs.Write.{short, written, writtenAtStart}
 use Rattle.runs.specs.Calls.{judgeRound, simulateCommitment, extractWitness}
 use Rattle.runs.specs.JointRun.{jointRun}
-use Rattle.runs.specs.Marker.{newline, wordLine, verdictText, verdictOn, roundLine, roundLines, markerText}
+use Rattle.runs.specs.Marker.{
+  newline,
+  wordLine,
+  verdictText,
+  verdictLine,
+  resultLine,
+  verdictOn,
+  roundLine,
+  roundLines,
+  markerText,
+}
 use Rattle.runs.specs.Prover.{
   isNew,
   isCommitted,
@@ -152,14 +164,14 @@ unfolding euclid gcd residue quotient power bezoutRight bezoutLeft inverse produ
     pad8 zeros8 unlessRefused lowest numberAt bytesOf bytesOfEach ascii digits decimal firstDivisor badKind badModulus
     badOrder badSize badCount badEntries badStatement headerRules elementRules outcome isAccepted judged eightPlaces
     computed firstDifference differ compareSides isElement someNonElement isCoordinate combine divide raise
-    baseCoordinate formula extracted extractRules extractAfter rowImage image isExponent entry statementAt judgeRules
+    baseCoordinate slotFormula formula extracted pairRules extractRules extractAfter rowImage image isExponent entry statementAt judgeRules
     judgeAfter responseCoordinate response expectedImage verdict badCommitment badChallenge badCoordinates badWitness
-    simulated simulateRules simulateAfter storedEntries sheetOf badStart badVersion badLength shapeRules loadRules
+    simulated simulateRules simulateAfter headerBytes storedEntries sheetOf badStart badVersion badLength shapeRules loadRules
     loadRefusal patterns patternOf entryOf patternEntries madeHeader made badPattern badValues makeRules fromPattern
     fileRules badNumber roundRules noRound countAfter checkAfter fetchAfter countRounds fetchRound roundMark
     fileVersion countField challengeWidth recordLength recordStart roundAt badFile sheetMark versionOf headerOf
     entryCount sheetLength zeros64 entriesOf statementOf instanceOf short written writtenAtStart judgeRound
-    simulateCommitment extractWitness newline wordLine verdictText verdictOn roundLine roundLines markerText isNew
+    simulateCommitment extractWitness newline wordLine verdictText verdictLine resultLine verdictOn roundLine roundLines markerText isNew
     isCommitted newProver proverStep commitRules commitAfter unfitProver respondRules respondAfter commit respond
     isWaiting isHolding isAsked newVerifier verifierStep unfitCommitment takeCommitmentRules takeCommitmentAfter
     takeChallengeRules takeChallengeAfter takeResponseRules takeResponseAfter takeCommitment takeChallenge

@@ -4,7 +4,7 @@ use mathlib.Core.Path.{_≡_, sym, ap, _∙_}
 use mathlib.Core.Bool.{not, _||_, or-true}
 use mathlib.Core.Logic.{_≢_}
 use mathlib.Core.List.{List, [], _∷_, _++_}
-use Prim.Native.Nat.{ℕ, _+_, _-_, _<_}
+use Prim.Native.Nat.{ℕ, _-_, _<_}
 use native.Mathlib.Omega.{arith}
 use lib.Dec.{T}
 use lib.IntN.{pos, negℤ}
@@ -21,7 +21,7 @@ use Rattle.rules.specs.Rule.{Rule, _when_, lowest, positive}
 use Rattle.rules.proofs.Lowest.{stop, lowest-clear, lowest-earlier, lowest-later-zero}
 use Rattle.rules.proofs.Says.{says-false}
 use Rattle.sigma.specs.Answer.{isAccepted, computed}
-use Rattle.sigma.specs.Extractor.{formula, extractRules, extractAfter, extract}
+use Rattle.sigma.specs.Extractor.{formula, pairRules, extractRules, extractAfter, extract}
 use Rattle.sigma.specs.Instance.{Instance, statementAt}
 use Rattle.sigma.specs.Knowledge.{AcceptedRound, AcceptedPair}
 use Rattle.sigma.specs.Meaning.{Extracts}
@@ -33,7 +33,7 @@ use Rattle.sigma.proofs.Extractor.{extraction}
 use Rattle.sigma.proofs.Tests.{says-accepted}
 use Rattle.sigma.proofs.Valid.{valid-modulus, valid-kind, valid-challenge}
 use Rattle.extractor.specs.Coefficients.{leftCoefficient, WitnessFits}
-use Rattle.extractor.specs.Rules.{pairRules}
+use Rattle.extractor.specs.Rules.{rulesOfPair}
 use Rattle.extractor.proofs.Coefficients.{coefficients-fit}
 
 -- a round's verdict on what is read of it
@@ -53,8 +53,8 @@ module _ (inst : Instance) (first second : Round) where
   verdictRules = (20 when (not (isAccepted (judgedRound inst first)) || not (isAccepted (judgedRound inst second)))) ∷ []
 
   -- the number is that of the rules before judging, or 20
-  refusal-split : extract inst first second .refusal ≡ lowest (pairRules inst first second ++ verdictRules)
-  unfolding pairRules extractRules
+  refusal-split : extract inst first second .refusal ≡ lowest (rulesOfPair inst first second ++ verdictRules)
+  unfolding extractRules
   refusal-split = extract-refusal inst first second
 
   -- where the number is above 0 it is the whole answer
@@ -64,18 +64,18 @@ module _ (inst : Instance) (first second : Round) where
   refused-with n some e = rw (sym e) (sym (computed-positive _ _ (rw e some)))
 
   -- a rule before judging gives the answer
-  pub pair-refused : {n : ℕ} → n ≡ lowest (pairRules inst first second) → n ≢ 0
+  pub pair-refused : {n : ℕ} → n ≡ lowest (rulesOfPair inst first second) → n ≢ 0
       → record { refusal = n; values = zeros8 } ≡ extract inst first second
   pair-refused {n} is-lowest other =
       let some : 0 < n = omega arith in
       refused-with n some (refusal-split ∙ lowest-earlier _ _ (rw (sym is-lowest) some) ∙ sym is-lowest)
 
   -- the numbers of these rules are above 0
-  pair-positive : T (positive (pairRules inst first second))
+  pair-positive : T (positive (rulesOfPair inst first second))
   unfolding pairRules
   pair-positive = tt
 
-  module _ (none : 0 ≡ lowest (pairRules inst first second)) where
+  module _ (none : 0 ≡ lowest (rulesOfPair inst first second)) where
     -- behind them 20 is left
     verdicts-left : extract inst first second .refusal ≡ lowest verdictRules
     verdicts-left = refusal-split ∙ lowest-later-zero _ _ pair-positive (sym none)

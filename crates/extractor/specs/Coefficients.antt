@@ -12,7 +12,7 @@ use Rattle.types.specs.declared.Header.{Header}
 use Rattle.numbers.specs.Gcd.{gcd}
 use Rattle.numbers.specs.Inverse.{inverse}
 use Rattle.sigma.specs.Element.{Element, Coordinate}
-use Rattle.sigma.specs.Extractor.{combine, divide, raise}
+use Rattle.sigma.specs.Extractor.{slotFormula}
 use Rattle.sigma.specs.Instance.{isExponent}
 
 -- a, how often ℓ goes into delta · b, where b inverts delta modulo ℓ
@@ -20,8 +20,8 @@ unfoldable pub leftCoefficient : ℕ → ℕ → ℕ
 leftCoefficient order delta = delta * inverse order delta / order
 
 -- a slot of u^(−a) · (r/s)^b, where u is 0 in kind 1 and z in kind 2
-unfoldable pub slotFormula : Header → ℕ → ℕ → ℕ → ℕ → ℕ → ℕ
-slotFormula h z a b r s = combine h (raise h (cond (isExponent h) 0 z) (negℤ (pos a))) (raise h (divide h r s) (pos b))
+unfoldable pub witnessSlot : Header → ℕ → ℕ → ℕ → ℕ → ℕ → ℕ
+witnessSlot h z a b r s = slotFormula h (cond (isExponent h) 0 z) (negℤ (pos a)) (pos b) r s
 
 -- what a slot's powers and quotient ask for
 pub record SlotFits (h : Header) (z a r s : ℕ) : Type 0 where

@@ -1,22 +1,16 @@
--- The extractor's rules before any round is judged: 14 to 16, 18 and 19.
+-- The extractor's rules before any round is judged, on what is read of the two rounds: 14 to 16, 18 and 19.
 -- Assumes nothing.
-use mathlib.Core.Bool.{_||_}
-use mathlib.Core.List.{List, [], _∷_}
-use lib.Dec.{eqb}
+use mathlib.Core.List.{List}
 use Rattle.types.specs.declared.Round.{Round}
 use Rattle.lists.specs.Places.{places}
-use Rattle.rules.specs.Rule.{Rule, _when_}
-use Rattle.sigma.specs.Comparison.{differ}
+use Rattle.rules.specs.Rule.{Rule}
+use Rattle.sigma.specs.Extractor.{pairRules}
 use Rattle.sigma.specs.Instance.{Instance}
-use Rattle.sigma.specs.Round.{badCommitment, badChallenge, badCoordinates}
 
 -- the rules of two rounds but for 20; s places of each commitment and n of each response are read
-unfoldable pub pairRules : Instance → Round → Round → List Rule
-pairRules inst first second =
+abbrev pub rulesOfPair : Instance → Round → Round → List Rule
+rulesOfPair inst first second =
     let rows = inst .header .rows in
     let columns = inst .header .columns in
-    (14 when (badCommitment inst (places rows (first .commitment)) || badCommitment inst (places rows (second .commitment)))) ∷
-    (15 when (badChallenge inst (first .challenge) || badChallenge inst (second .challenge))) ∷
-    (16 when (badCoordinates inst (places columns (first .response)) || badCoordinates inst (places columns (second .response)))) ∷
-    (18 when differ rows (places rows (first .commitment)) (places rows (second .commitment))) ∷
-    (19 when eqb (first .challenge) (second .challenge)) ∷ []
+    pairRules inst (places rows (first .commitment)) (first .challenge) (places columns (first .response))
+    (places rows (second .commitment)) (second .challenge) (places columns (second .response))

@@ -5,5 +5,3 @@ mod loaded; // loaded.rt: extracting on loaded values
 
 pub use calls::extract;
 pub use loaded::extract_loaded;
-pub use loaded::pair_refusal;
-pub use loaded::witness;

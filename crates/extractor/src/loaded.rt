@@ -21,16 +21,16 @@ ghost use Rattle.numbers.specs.Inverse.{inverse};
 ghost use Rattle.rules.specs.Rule.{lowest};
 ghost use Rattle.sigma.specs.Extractor.{formula, extract};
 ghost use Rattle.sigma.specs.Valid.{Valid};
-ghost use Rattle.image.specs.Values.{instanceWith};
-ghost use Rattle.extractor.specs.Coefficients.{slotFormula, leftCoefficient, SlotFits, WitnessFits};
-ghost use Rattle.extractor.specs.Rules.{pairRules};
+ghost use Rattle.sigma.specs.Instance.{instanceWith};
+ghost use Rattle.extractor.specs.Coefficients.{witnessSlot, leftCoefficient, SlotFits, WitnessFits};
+ghost use Rattle.extractor.specs.Rules.{rulesOfPair};
 
 // The number of 14 to 16, 18 and 19 that two rounds are refused with, or 0. Each of 14 to 16 is asked of both rounds before
 // the next; 18 is for commitments that differ, 19 for equal challenges.
-pub fn pair_refusal(h: Header, first: Round, second: Round) -> u32
+fn pair_refusal(h: Header, first: Round, second: Round) -> u32
     requires { ⌜ (0 < h .modulus) × (h .rows ≤ 8) × (h .columns ≤ 8) ⌝ }
     ensures { λ r. ⌜ ((entries : List (List ℕ)) (statement : List ℕ)
-        → r ≡ lowest (pairRules (instanceWith h entries statement) first second)) ⌝ }
+        → r ≡ lowest (rulesOfPair (instanceWith h entries statement) first second)) ⌝ }
 {
     let t = first.commitment;
     let u = second.commitment;
@@ -78,7 +78,7 @@ pub fn refused(number: u32) -> Computed
 // A slot of the formula with the exponents -a and b: in kind 1 b (r - s) mod q, in kind 2 z^(-a) (r/s)^b mod m.
 fn witness_slot(h: Header, z: u32, a: u32, b: u32, r: u32, s: u32) -> u32
     requires { ⌜ SlotFits h z a r s ⌝ }
-    ensures { λ x. ⌜ x ≡ slotFormula h z a b r s ⌝ }
+    ensures { λ x. ⌜ x ≡ witnessSlot h z a b r s ⌝ }
 {
     if h.kind == 1 {
         return mul_mod(b, sub_mod(r, s, h.order), h.order);
@@ -93,7 +93,7 @@ fn witness_slot(h: Header, z: u32, a: u32, b: u32, r: u32, s: u32) -> u32
 
 // The witness from the responses r and s to two challenges, the first larger by delta: the formula with the exponents -a
 // and b, where b inverts delta modulo ℓ, and delta b is ℓ a + 1.
-pub fn witness(h: Header, statement: [u32; 8], delta: u32, r: [u32; 8], s: [u32; 8]) -> [u32; 8]
+fn witness(h: Header, statement: [u32; 8], delta: u32, r: [u32; 8], s: [u32; 8]) -> [u32; 8]
     requires { ⌜ WitnessFits h statement delta r s ⌝ }
     ensures { λ x. ⌜ ((entries : List (List ℕ)) → x ≡ pad8 0 (formula (instanceWith h entries statement)
         (negℤ (pos (leftCoefficient (h .order) delta))) (pos (inverse (h .order) delta)) r s)) ⌝ }

@@ -17,7 +17,7 @@ use Rattle.rules.proofs.Says.{says-decides}
 use Rattle.sigma.specs.Instance.{entry}
 use Rattle.sigma.proofs.ByKind.{exponent-kind}
 use Rattle.sigma.proofs.Tests.{says-exponent}
-use Rattle.formats.specs.Encode.{storedEntries, sheetOf}
+use Rattle.formats.specs.Encode.{headerBytes, storedEntries, sheetOf}
 use Rattle.formats.specs.Meaning.{Loads}
 use Rattle.formats.specs.Sheet.{
   entriesOf,
@@ -79,7 +79,7 @@ module _ (s : List ℕ) where
 
   -- the sheet of the values of a sheet that loads is that sheet
   pub sheetOf-instanceOf : Loads s → AllBytes s → sheetOf (instanceOf s) ≡ s
-  unfolding sheetOf instanceOf headerOf versionOf sheetLength
+  unfolding sheetOf headerBytes instanceOf headerOf versionOf sheetLength
   sheetOf-instanceOf l b =
       let h = headerOf s in
       let start : sheetMark ++ bytesOf 2 1 ≡ take 5 s =

@@ -21,7 +21,7 @@ use Rattle.sigma.specs.Instance.{Instance, isExponent, entry, statementAt}
 use Rattle.sigma.specs.Valid.{Valid}
 use Rattle.sigma.proofs.ByKind.{root-kind}
 use Rattle.sigma.proofs.Tests.{says-exponent}
-use Rattle.formats.specs.Encode.{storedEntries, sheetOf}
+use Rattle.formats.specs.Encode.{headerBytes, storedEntries, sheetOf}
 use Rattle.formats.specs.Meaning.{readInstance}
 use Rattle.formats.specs.Sheet.{entriesOf, entryCount, headerOf, instanceOf, sheetMark, statementOf, versionOf, zeros64}
 use Rattle.formats.proofs.Entries.{
@@ -32,30 +32,20 @@ use Rattle.formats.proofs.Entries.{
   below-storedEntries,
 }
 use Rattle.formats.proofs.Loads.{length-sheetMark}
+use Rattle.formats.proofs.Writing.{length-headerBytes}
 
 -- the lengths of the parts of a sheet
 ruleset lengths = (length-append, length-bytesOf, length-sheetMark)
 
 module _ (i : Instance) where
-  -- the 20 bytes of the fixed fields
-  abbrev fixed : List ℕ
-  fixed =
-      sheetMark ++ bytesOf 2 1 ++ bytesOf 1 (i .header .kind) ++ bytesOf 4 (i .header .modulus) ++
-      bytesOf 4 (i .header .order) ++ bytesOf 4 (i .header .challenges) ++ bytesOf 1 (i .header .rows) ++
-      bytesOf 1 (i .header .columns)
-
-  -- they are 20
-  length-fixed : length fixed ≡ 20
-  length-fixed = simp lengths
-
   -- a sheet begins with its mark
   pub sheet-mark : take 3 (sheetOf i) ≡ sheetMark
-  unfolding sheetOf
+  unfolding sheetOf headerBytes
   sheet-mark = simp append-assoc (take-at sheetMark _ 3 length-sheetMark)
 
   -- its version is 1
   pub sheet-version : versionOf (sheetOf i) ≡ 1
-  unfolding sheetOf versionOf
+  unfolding sheetOf headerBytes versionOf
   sheet-version =
       let h = i .header in
       number-behind 2 1 sheetMark
@@ -65,7 +55,7 @@ module _ (i : Instance) where
 
   -- its fixed fields are the instance's
   pub sheet-header : Valid i → i .header .modulus < 2 ^ 32 → i .header .order < 2 ^ 32 → headerOf (sheetOf i) ≡ i .header
-  unfolding sheetOf headerOf
+  unfolding sheetOf headerBytes headerOf
   sheet-header v small short =
       let h = i .header in
       let s = sheetOf i in
@@ -102,8 +92,8 @@ module _ (i : Instance) where
     stored-back : itemsAt (numberAt 4 (sheetOf i)) 20 4 (entryCount (i .header)) ≡ storedEntries i
     unfolding sheetOf
     stored-back =
-        numbers-behind 4 (storedEntries i) fixed (bytesOfEach 4 (places (i .header .rows) (i .statement))) (sheetOf i) 20 _ refl
-        length-fixed (length-storedEntries i) (below-storedEntries i v small)
+        numbers-behind 4 (storedEntries i) (headerBytes (i .header)) (bytesOfEach 4 (places (i .header .rows) (i .statement)))
+        (sheetOf i) 20 _ refl (length-headerBytes (i .header)) (length-storedEntries i) (below-storedEntries i v small)
 
     -- an entry, read
     entry-back : i .header .kind ≡ 1 → (r c : ℕ) → r < i .header .rows → c < i .header .columns
@@ -139,8 +129,8 @@ module _ (i : Instance) where
     unfolding statementOf readInstance sheetOf statementAt
     sheet-statement =
         let h = i .header in
-        let front = fixed ++ bytesOfEach 4 (storedEntries i) in
-        let size : length front ≡ 20 + 4 * entryCount h = simp (lengths, length-bytesOfEach, length-storedEntries) in
+        let front = headerBytes h ++ bytesOfEach 4 (storedEntries i) in
+        let size : length front ≡ 20 + 4 * entryCount h = simp (length-append, length-headerBytes, length-bytesOfEach, length-storedEntries) in
         let below =
         below-places (256 ^ 4) (h .rows) (i .statement) (omega arith) (λ r b. omega (arith, v .statement r b .below)) in
         ap (λ (l : List ℕ). pad8 0 l)

@@ -10,6 +10,7 @@ use native.Mathlib.Omega.{arith}
 use lib.ListN.{length, take, length-append}
 use lib.Seq.{sets, length-sets}
 use borrow.Author.Tests.{ltb-false, le-ltb}
+use Rattle.types.specs.declared.Header.{Header}
 use Rattle.types.specs.declared.Written.{Written}
 use Rattle.encoding.proofs.Bytes.{length-bytesOf, length-bytesOfEach}
 use Rattle.encoding.proofs.Replaced.{take-sets-front, drop-sets-front}
@@ -22,7 +23,7 @@ use Rattle.sigma.specs.Valid.{Valid}
 use Rattle.sigma.proofs.Answer.{unlessRefused-zero, unlessRefused-positive}
 use Rattle.sigma.proofs.Valid.{clear-valid}
 use Rattle.formats.specs.Append.{emptyFile}
-use Rattle.formats.specs.Encode.{sheetOf, encodeRules, encode}
+use Rattle.formats.specs.Encode.{headerBytes, sheetOf, encodeRules, encode}
 use Rattle.formats.specs.Outcome.{Keeps, Puts}
 use Rattle.formats.specs.RoundFile.{noRounds}
 use Rattle.formats.specs.Sheet.{sheetLength}
@@ -80,11 +81,16 @@ puts-front {w = w} p = ap (λ (n : ℕ). take n (w .buffer)) (p .answered) ∙ p
 
 -- ---- the length of a sheet
 
+-- the fixed fields are 20 bytes
+pub length-headerBytes : (h : Header) → length (headerBytes h) ≡ 20
+unfolding headerBytes
+length-headerBytes h = simp (length-append, length-bytesOf, length-sheetMark)
+
 -- a sheet is as long as its header says
 pub length-sheetOf : (i : Instance) → length (sheetOf i) ≡ sheetLength (i .header)
 unfolding sheetOf sheetLength
 length-sheetOf i =
-    simp (length-append, length-bytesOf, length-bytesOfEach, length-places, length-storedEntries, length-sheetMark) (omega arith)
+    simp (length-append, length-headerBytes, length-bytesOfEach, length-places, length-storedEntries) (omega arith)
 
 -- ---- the second writer
 

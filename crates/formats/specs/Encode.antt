@@ -3,6 +3,7 @@
 use Prim.Native.Nat.{ℕ}
 use mathlib.Core.Bool.{cond}
 use mathlib.Core.List.{List, [], _∷_, _++_, flatten}
+use Rattle.types.specs.declared.Header.{Header}
 use Rattle.encoding.specs.Bytes.{bytesOf, bytesOfEach}
 use Rattle.lists.specs.Places.{tabulate, places}
 use Rattle.rules.specs.Rule.{Rule, _when_, lowest}
@@ -10,6 +11,12 @@ use Rattle.sigma.specs.Admission.{headerRules, elementRules}
 use Rattle.sigma.specs.Instance.{Instance, isExponent, entry}
 use Rattle.formats.specs.Sheet.{sheetMark, sheetLength}
 use Rattle.formats.specs.Write.{Writing, short, writtenAtStart}
+
+-- bytes 0..19: the mark, the version 1, the kind, m, ℓ, K, and the counts of rows and columns
+unfoldable pub headerBytes : Header → List ℕ
+headerBytes h =
+    sheetMark ++ bytesOf 2 1 ++ bytesOf 1 (h .kind) ++ bytesOf 4 (h .modulus) ++ bytesOf 4 (h .order) ++
+    bytesOf 4 (h .challenges) ++ bytesOf 1 (h .rows) ++ bytesOf 1 (h .columns)
 
 -- the entries that a sheet stores, row by row; none in kind 2
 unfoldable pub storedEntries : Instance → List ℕ
@@ -20,9 +27,7 @@ storedEntries inst =
 -- the sheet of an instance; entries and statement are read within rows and columns
 unfoldable pub sheetOf : Instance → List ℕ
 sheetOf inst =
-    sheetMark ++ bytesOf 2 1 ++ bytesOf 1 (inst .header .kind) ++ bytesOf 4 (inst .header .modulus) ++
-    bytesOf 4 (inst .header .order) ++ bytesOf 4 (inst .header .challenges) ++ bytesOf 1 (inst .header .rows) ++
-    bytesOf 1 (inst .header .columns) ++ bytesOfEach 4 (storedEntries inst) ++
+    headerBytes (inst .header) ++ bytesOfEach 4 (storedEntries inst) ++
     bytesOfEach 4 (places (inst .header .rows) (inst .statement))
 
 -- the rules of any values and the buffer

@@ -1,6 +1,6 @@
 -- Laws that the proofs of the functions cite, by topic.
 pub mod RowImage
 pub mod Slots
-pub mod FirstDifference
+pub mod TwoSides
 pub mod Unread
 pub mod Tested

@@ -11,9 +11,8 @@ use Rattle.numbers.specs.Product.{product}
 use Rattle.numbers.proofs.Congruence.{mod-mul-both}
 use Rattle.numbers.proofs.Product.{product-zero, product-suc}
 use Rattle.sigma.specs.Image.{rowImage}
-use Rattle.sigma.specs.Instance.{entry}
+use Rattle.sigma.specs.Instance.{instanceWith, entry}
 use Rattle.sigma.proofs.ByKind.{rowImage-exponent, rowImage-root}
-use Rattle.image.specs.Values.{instanceWith}
 
 -- the product of the first j factors of row i, modulo m
 pub rowProduct : Header → List (List ℕ) → List ℕ → ℕ → ℕ → ℕ

@@ -16,7 +16,7 @@ ghost use Rattle.sigma.specs.Element.{Element};
 ghost use Rattle.sigma.specs.Image.{rowImage, image};
 ghost use Rattle.sigma.specs.Round.{responseCoordinate, response, expectedImage, verdict};
 ghost use Rattle.sigma.specs.Valid.{Valid};
-ghost use Rattle.image.specs.Values.{instanceWith};
+ghost use Rattle.sigma.specs.Instance.{instanceWith};
 
 // Row i of the image of x: in kind 1 the product over the columns of the entry by x's slot, in kind 2 slot i by the exponent.
 pub fn row_image(h: Header, entries: [[u32; 8]; 8], x: [u32; 8], i: usize) -> u32
@@ -48,7 +48,7 @@ pub fn image(h: Header, entries: [[u32; 8]; 8], x: [u32; 8]) -> [u32; 8]
 }
 
 // What the response's image has to be: t times the statement by the challenge, a value for each row.
-pub fn expected_image(h: Header, statement: [u32; 8], t: [u32; 8], c: u32) -> [u32; 8]
+fn expected_image(h: Header, statement: [u32; 8], t: [u32; 8], c: u32) -> [u32; 8]
     requires { ⌜ (0 < h .modulus) × (h .rows ≤ 8) ⌝ }
     ensures { λ r. ⌜ ((entries : List (List ℕ)) → r ≡ pad8 0 (expectedImage (instanceWith h entries statement) t c)) ⌝ }
 {
@@ -89,7 +89,7 @@ pub fn first_difference(xs: [u32; 8], ys: [u32; 8], n: usize) -> usize
 }
 
 // The verdict on two sides of n rows: accepted where they agree in each, else rejected with the first row that differs.
-pub fn compare(xs: [u32; 8], ys: [u32; 8], n: usize) -> Verdict
+fn compare(xs: [u32; 8], ys: [u32; 8], n: usize) -> Verdict
     requires { ⌜ n ≤ 8 ⌝ }
     ensures { λ r. ⌜ r ≡ compareSides n xs ys ⌝ }
 {
@@ -121,7 +121,7 @@ pub fn verdict(
 }
 
 // A slot of the response to c, of the nonce's slot k and the witness's slot x: k + c x mod q in kind 1, k x^c mod m in kind 2.
-pub fn response_coordinate(h: Header, k: u32, c: u32, x: u32) -> u32
+fn response_coordinate(h: Header, k: u32, c: u32, x: u32) -> u32
     requires { ⌜ (0 < h .modulus) × (0 < h .order) ⌝ }
     ensures { λ r. ⌜ r ≡ responseCoordinate h k c x ⌝ }
 {

@@ -9,7 +9,7 @@ use native.Mathlib.Omega.{arith}
 use Rattle.types.specs.declared.Header.{Header}
 use Rattle.types.specs.declared.Loaded.{Loaded}
 use Rattle.rules.specs.Rule.{Rule, Clear, lowest}
-use Rattle.sigma.specs.Instance.{Instance}
+use Rattle.sigma.specs.Instance.{Instance, instanceWith}
 use Rattle.sigma.specs.Valid.{Valid}
 use Rattle.formats.specs.Sheet.{headerOf, entriesOf, instanceOf}
 use Rattle.formats.specs.Load.{loadRules, loadRefusal, load}
@@ -40,7 +40,7 @@ module _ (s : List ℕ) (answer : Loaded) (same : answer ≡ load s) where
 
     -- and with the entries of such a sheet it makes up the sheet's instance
     pub answer-instance : {entries : List (List ℕ)} → entries ≡ entriesOf s (answer .header)
-        → record { header = answer .header; entries = entries; statement = answer .statement } ≡ instanceOf s
+        → instanceWith (answer .header) entries (answer .statement) ≡ instanceOf s
     unfolding instanceOf
     answer-instance read =
         let (loads, header) = answer-header in
@@ -50,7 +50,7 @@ module _ (s : List ℕ) (answer : Loaded) (same : answer ≡ load s) where
 
     -- which is Valid
     pub answer-valid : {entries : List (List ℕ)} → entries ≡ entriesOf s (answer .header)
-        → Valid (record { header = answer .header; entries = entries; statement = answer .statement })
+        → Valid (instanceWith (answer .header) entries (answer .statement))
     answer-valid read = rw (answer-instance read) (loads-valid s (answer-header .0))
 
     -- a call that the sheet's rules come before is the call on values that are the sheet's
@@ -71,6 +71,6 @@ module _ (s : List ℕ) (answer : Loaded) (same : answer ≡ load s) where
     pub answer-call : {A : Type 0} {call : List Rule → Instance → A} {onValues : Instance → A}
         → ((before : List Rule) (inst : Instance) → Clear before → call before inst ≡ onValues inst)
         → {entries : List (List ℕ)} → entries ≡ entriesOf s (answer .header) → {result : A}
-        → result ≡ onValues (record { header = answer .header; entries = entries; statement = answer .statement })
+        → result ≡ onValues (instanceWith (answer .header) entries (answer .statement))
         → result ≡ call (loadRules s) (instanceOf s)
     answer-call is-clear read = called is-clear (answer-instance read)

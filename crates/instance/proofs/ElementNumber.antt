@@ -1,7 +1,7 @@
 -- The number of a sheet's entries and statement, 10 and 11, test by test.
 -- Assumes nothing.
 use Prim.Native.Nat.{ℕ, _-_, _≤_, _<_}
-use mathlib.Core.Path.{_≡_, refl, sym, ap, _∙_}
+use mathlib.Core.Path.{_≡_, refl, sym, _∙_}
 use mathlib.Core.Bool.{Bool, true, false, cond, _&&_}
 use mathlib.Core.List.{List, []}
 use native.Mathlib.Omega.{arith}
@@ -10,11 +10,12 @@ use lib.ListN.{getD}
 use borrow.Author.Tests.{eq-eqb, lt-ltb, le-ltb}
 use Rattle.types.specs.declared.Header.{Header}
 use Rattle.numbers.specs.Search.{find, any}
+use Rattle.numbers.proofs.Search.{find-to-start}
 use Rattle.rules.specs.Rule.{lowest}
 use Rattle.rules.proofs.Lowest.{pass, stop, lowest-clear}
 use Rattle.sigma.specs.Admission.{badEntries, badStatement, elementRules}
 use Rattle.sigma.specs.Element.{isElement, someNonElement}
-use Rattle.sigma.specs.Instance.{Instance, isExponent, entry}
+use Rattle.sigma.specs.Instance.{Instance, instanceWith, isExponent, entry}
 use Rattle.modular.specs.FirstFailing.{firstFailing}
 use Rattle.modular.proofs.FirstFailing.{someNonElement-first}
 use Rattle.instance.specs.Rows.{isBadRow, firstBadRow}
@@ -34,12 +35,12 @@ module _ (h : Header) (entries : List (List ℕ)) where
   -- in kind 1 the search over the rows begins at the first
   pub rows-start : h .kind ≡ 1 → find (isBadRow h entries) 0 (h .rows - 0) ≡ firstBadRow h entries
   unfolding firstBadRow isExponent
-  rows-start kind = rw (eq-eqb (h .kind) 1 kind) (ap (find (isBadRow h entries) 0) (omega arith))
+  rows-start kind = rw (eq-eqb (h .kind) 1 kind) (find-to-start (isBadRow h entries) (h .rows))
 
   module _ (statement : List ℕ) where
     -- the values that are tested
-    abbrev pub tested : Instance
-    tested = record { header = h; entries = entries; statement = statement }
+    abbrev tested : Instance
+    tested = instanceWith h entries statement
 
     -- entries are bad where the search over the rows ends before the last
     bad-entries : badEntries tested ≡ ltb (firstBadRow h entries) (h .rows)

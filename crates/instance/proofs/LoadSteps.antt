@@ -11,6 +11,7 @@ use Rattle.lists.specs.Places.{zeros8}
 use Rattle.rules.specs.Rule.{lowest}
 use Rattle.rules.proofs.Lowest.{lowest-earlier, lowest-later-zero, lowest-append-zero}
 use Rattle.sigma.specs.Admission.{headerRules, elementRules}
+use Rattle.sigma.specs.Instance.{instanceWith}
 use Rattle.formats.specs.Sheet.{headerOf, sheetLength, entriesOf, statementOf, instanceOf}
 use Rattle.formats.specs.Load.{shapeRules, loadRules, loadRefusal, noHeader, load, loadEntries}
 use Rattle.formats.proofs.Loads.{sheet-long, load-given, entries-given, load-refused}
@@ -48,7 +49,7 @@ module _ (s : List ℕ) where
     -- where the shape gives no number, that of the entries and the statement is the sheet's
     pub elements-next : {entries : List (List ℕ)} {statement : List ℕ} → entries ≡ entriesOf s h → statement ≡ statementOf s h
         → lowest (shapeRules s) ≡ 0
-        → lowest (elementRules (record { header = h; entries = entries; statement = statement })) ≡ loadRefusal s
+        → lowest (elementRules (instanceWith h entries statement)) ≡ loadRefusal s
     unfolding loadRefusal loadRules shapeRules headerRules instanceOf
     elements-next read-entries read-statement passed =
         rw (read-entries, read-statement, same) (sym (lowest-later-zero (shapeRules s) (elementRules (instanceOf s)) tt passed))

@@ -1,10 +1,9 @@
--- The entries of a sheet by rows: where a row lies, and that the rows are the entries.
+-- The entries of a sheet by rows: they lie within the sheet and are its entries.
 -- Assumes nothing.
-use Prim.Native.Nat.{ℕ, _+_, _*_, _≤_, _<_}
+use Prim.Native.Nat.{ℕ, _+_, _*_, _≤_}
 use mathlib.Core.Path.{_≡_}
 use mathlib.Core.Logic.{_≢_}
 use mathlib.Core.List.{List}
-use native.Mathlib.Nat.{mul-le-mul-left}
 use native.Mathlib.Omega.{arith}
 use lib.ListN.{length}
 use borrow.Author.Tests.{eq-eqb, ne-eqb}
@@ -13,10 +12,6 @@ use Rattle.sigma.specs.Instance.{isExponent}
 use Rattle.formats.specs.Sheet.{entryCount, sheetLength, zeros64, entriesOf}
 use Rattle.instance.specs.Shaped.{Shaped}
 use Rattle.instance.specs.Rows.{rowAt, rowsAt}
-
--- a row before the last ends where the next begins, at or before the end of all
-pub row-within : (width i n : ℕ) → i < n → width * i + width ≤ width * n
-row-within width i n before = omega (arith, mul-le-mul-left width before)
 
 module _ (s : List ℕ) (h : Header) where
   -- in kind 1 the rows lie within the sheet

@@ -8,6 +8,7 @@ ghost use mathlib.Core.Path.{_≡_};
 ghost use lib.ListN.{length};
 ghost use Rattle.rules.specs.Rule.{lowest};
 ghost use Rattle.sigma.specs.Admission.{elementRules};
+ghost use Rattle.sigma.specs.Instance.{instanceWith};
 ghost use Rattle.formats.specs.Sheet.{entriesOf, statementOf};
 ghost use Rattle.instance.specs.Shaped.{Shaped};
 ghost use Rattle.instance.specs.Rows.{rowsAt, firstBadRow};
@@ -46,7 +47,7 @@ pub fn read_statement(sheet: &[u8], h: Header) -> [u32; 8]
 }
 
 // The first row with an entry that is no group element, or the count of the rows where there is none, as in kind 2.
-pub fn first_bad_row(h: Header, entries: [[u32; 8]; 8]) -> usize
+fn first_bad_row(h: Header, entries: [[u32; 8]; 8]) -> usize
     requires modulus { ⌜ 0 < h .modulus ⌝ }
     requires rows { ⌜ h .rows ≤ 8 ⌝ }
     requires columns { ⌜ h .columns ≤ 8 ⌝ }
@@ -73,7 +74,7 @@ pub fn element_refusal(h: Header, entries: [[u32; 8]; 8], statement: [u32; 8]) -
     requires modulus { ⌜ 0 < h .modulus ⌝ }
     requires rows { ⌜ h .rows ≤ 8 ⌝ }
     requires columns { ⌜ h .columns ≤ 8 ⌝ }
-    ensures { λ r. ⌜ r ≡ lowest (elementRules (record { header = h; entries = entries; statement = statement })) ⌝ }
+    ensures { λ r. ⌜ r ≡ lowest (elementRules (instanceWith h entries statement)) ⌝ }
 {
     let rows = h.rows as usize;
     if first_bad_row(h, entries) < rows {

@@ -5,16 +5,9 @@ mod loading; // loading.rt: the calls
 mod shape; // shape.rt: the mark, the fixed fields and the length
 
 pub use elements::element_refusal;
-pub use elements::first_bad_row;
-pub use elements::read_entries;
-pub use elements::read_statement;
 pub use loading::entries;
 pub use loading::load;
-pub use loading::load_refusal;
 pub use loading::loaded_entries;
 pub use shape::MARK;
-pub use shape::entry_count;
-pub use shape::header;
 pub use shape::header_refusal;
-pub use shape::shape_refusal;
 pub use shape::sheet_length;

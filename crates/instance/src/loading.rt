@@ -7,44 +7,43 @@ use crate::shape::shape_refusal;
 use types::Header;
 use types::Loaded;
 ghost use mathlib.Core.Path.{_≡_};
+ghost use Rattle.lists.specs.Places.{zeros8};
 ghost use Rattle.formats.specs.Sheet.{headerOf, entriesOf};
-ghost use Rattle.formats.specs.Load.{loadRefusal, load, loadEntries};
+ghost use Rattle.formats.specs.Load.{loadRefusal, noHeader, load, loadEntries};
 
-// The number that a sheet is refused with, from 2 to 11, or 0.
-pub fn load_refusal(sheet: &[u8]) -> u32
-    ensures { λ r. ⌜ r ≡ loadRefusal (now (sheet .entry)) ⌝ }
+// The answer to a refused sheet: the number and zeros.
+fn refused(refusal: u32) -> Loaded
+    ensures { λ r. ⌜ r ≡ record { refusal = refusal; header = noHeader; statement = zeros8 } ⌝ }
 {
-    let refused = shape_refusal(sheet);
-    if refused > 0 {
-        return refused;
+    Loaded {
+        refusal,
+        header: Header {
+            kind: 0,
+            modulus: 0,
+            order: 0,
+            challenges: 0,
+            rows: 0,
+            columns: 0,
+        },
+        statement: [0u32; 8],
     }
-    let h = header(sheet);
-    let entries = read_entries(sheet, h);
-    let statement = read_statement(sheet, h);
-    element_refusal(h, entries, statement)
 }
 
 // The fixed fields and the statement of a sheet, and zeros beside the number of one that is refused.
 pub fn load(sheet: &[u8]) -> Loaded
     ensures { λ r. ⌜ r ≡ load (now (sheet .entry)) ⌝ }
 {
-    let refusal = load_refusal(sheet);
-    if refusal > 0 {
-        return Loaded {
-            refusal,
-            header: Header {
-                kind: 0,
-                modulus: 0,
-                order: 0,
-                challenges: 0,
-                rows: 0,
-                columns: 0,
-            },
-            statement: [0u32; 8],
-        };
+    let shape = shape_refusal(sheet);
+    if shape > 0 {
+        return refused(shape);
     }
     let h = header(sheet);
+    let entries = read_entries(sheet, h);
     let statement = read_statement(sheet, h);
+    let elements = element_refusal(h, entries, statement);
+    if elements > 0 {
+        return refused(elements);
+    }
     Loaded {
         refusal: 0,
         header: h,

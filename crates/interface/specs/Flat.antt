@@ -7,7 +7,7 @@ use Rattle.types.specs.declared.Header.{Header}
 use Rattle.lists.specs.Places.{tabulate}
 use Rattle.rules.specs.Answer.{unlessRefused}
 use Rattle.formats.specs.Load.{loadEntries, loadRefusal}
-use Rattle.sigma.specs.Instance.{Instance}
+use Rattle.sigma.specs.Instance.{Instance, instanceWith}
 
 -- the number in row k / 8 and column k % 8
 unfoldable pub flatAt : List (List ℕ) → ℕ → ℕ
@@ -31,7 +31,7 @@ square xs = tabulate 8 (squareRow xs)
 
 -- the values of a sheet whose entries are 64 numbers
 abbrev pub flatInstance : Header → List ℕ → List ℕ → Instance
-flatInstance header entries statement = record { header = header; entries = square entries; statement = statement }
+flatInstance h entries statement = instanceWith h (square entries) statement
 
 -- what stands in a caller's 64 numbers when a sheet's entries were asked for: the entries, or what stood there where the sheet
 -- is refused

@@ -1,14 +1,18 @@
--- Rows one behind the other, the length and the items of joined rows of equal length, and tables of eight rows of eight.
+-- Rows one behind the other: where a row ends, the length and the items of joined rows of equal length, and tables of eight rows of eight.
 -- Assumes nothing.
-use Prim.Native.Nat.{ℕ, zero, suc, _+_, _*_, _<_}
+use Prim.Native.Nat.{ℕ, zero, suc, _+_, _*_, _≤_, _<_}
 use mathlib.Core.Path.{_≡_, refl, sym, ap, _∙_}
 use mathlib.Core.List.{List, [], _∷_, _++_, append-assoc, flatten}
-use native.Mathlib.Nat.{mul-zero, mul-suc}
+use native.Mathlib.Nat.{mul-le-mul-left, mul-zero, mul-suc}
 use native.Mathlib.Omega.{arith}
 use lib.ListN.{length, getD, length-append, List·getD-append}
 use lib.Seq.{getD-append-add}
 use Rattle.lists.specs.Places.{itemsAt, pad8, tabulate, zeros8}
 use Rattle.lists.proofs.Places.{itemsAt-add, length-tabulate, getD-tabulate, getD-pad8, getD-pad8-inside}
+
+-- a row before the last ends where the next begins, at or before the end of all
+pub row-within : (width i n : ℕ) → i < n → width * i + width ≤ width * n
+row-within width i n before = omega (arith, mul-le-mul-left width before)
 
 module _ {ℓ} {A : Type ℓ} where
   -- two runs of rows, joined

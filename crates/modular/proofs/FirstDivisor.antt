@@ -1,17 +1,16 @@
--- The search for a divisor: from d on it gives what the whole search gives, and no two answers have the same outcome.
+-- The search for a divisor: what it answers where it ends, and no two answers have the same outcome.
 -- Assumes nothing.
 use mathlib.Core.Path.{_≡_, refl, sym, _∙_, ap}
 use mathlib.Core.Bool.{Bool, true, false, cond}
-use mathlib.Core.Logic.{_↔_, _≢_}
-use Prim.Native.Nat.{ℕ, _+_, _-_, _%_, _≤_, _<_, _∣_}
+use mathlib.Core.Logic.{_↔_}
+use Prim.Native.Nat.{ℕ, _-_, _%_, _≤_, _<_}
 use native.Mathlib.Omega.{arith}
 use lib.Dec.{eqb, ltb}
-use borrow.Author.Tests.{eq-eqb, ne-eqb, lt-ltb, le-ltb, ltb-true, ltb-false}
+use borrow.Author.Tests.{eq-eqb, lt-ltb, le-ltb, ltb-true, ltb-false}
 use Rattle.numbers.specs.Search.{find}
-use Rattle.numbers.proofs.Search.{find-to-end, find-to-here, find-to-on}
+use Rattle.numbers.proofs.Search.{find-to-end, find-to-here}
 use Rattle.sigma.specs.Admission.{firstDivisor}
 use Rattle.sigma.specs.Answer.{Outcome}
-use Rattle.sigma.proofs.Tests.{says-divisor}
 use Rattle.modular.specs.Divisor.{divisorOutcome, divisorOf}
 use Rattle.modular.specs.declared.Divisor.{Divisor}
 use Rattle.modular.specs.declared.Divisor.the-variants.{Found, Nothing}
@@ -55,50 +54,19 @@ divisorOf-nothing order challenges =
     ends true below e = let z : _≡_ {A = ℕ} 0 1 = cc in absurd (omega arith)
     ends false past e = ltb-false first challenges past
 
--- the search's outcome is refusal 8 exactly if some d with 2 ≤ d < K divides ℓ
-pub divisorOf-refused : (order challenges : ℕ)
-    → (divisorOutcome (divisorOf order challenges) .number ≡ 8) ↔ ((d : ℕ) × (2 ≤ d) × (d < challenges) × (d ∣ order))
-unfolding divisorOutcome divisorOf
-divisorOf-refused order challenges =
-    ((λ e. says-divisor order challenges .sound (below (ltb first challenges) e)), (λ h. rw (says-divisor order challenges .complete h)))
-  where
-    first : ℕ
-    first = firstDivisor order challenges
-
-    below : (t : Bool) → divisorOutcome (cond t (Found first) Nothing) .number ≡ 8 → t ≡ true
-    below true e = refl
-    below false e = absurd (omega arith)
-
 -- the test of the search
-divides : ℕ → ℕ → Bool
+abbrev pub divides : ℕ → ℕ → Bool
 divides order d = eqb (order % d) 0
-
--- what is left of the search at d
-pub divisorFrom : ℕ → ℕ → ℕ → ℕ
-divisorFrom order challenges d = find (divides order) d (challenges - d)
-
--- at the start the whole search is left
-pub divisor-start : (order challenges : ℕ) → divisorFrom order challenges 2 ≡ firstDivisor order challenges
-unfolding divides divisorFrom firstDivisor
-divisor-start order challenges = refl
-
--- a d that does not divide leaves the search to the next one
-pub divisor-on : (order challenges d : ℕ) → d < challenges → order % d ≢ 0
-    → divisorFrom order challenges (d + 1) ≡ divisorFrom order challenges d
-unfolding divides divisorFrom
-divisor-on order challenges d below fails = find-to-on (divides order) d challenges below (ne-eqb (order % d) 0 fails)
 
 -- the first d below K that divides is what the search finds
 pub divisor-found : (order challenges d : ℕ) → d < challenges → order % d ≡ 0
-    → divisorFrom order challenges d ≡ firstDivisor order challenges → Found d ≡ divisorOf order challenges
-unfolding divides divisorFrom
+    → find (divides order) d (challenges - d) ≡ firstDivisor order challenges → Found d ≡ divisorOf order challenges
 divisor-found order challenges d below holds kept =
     let here = find-to-here (divides order) d challenges below (eq-eqb (order % d) 0 holds) in
     sym (divisorOf-found order challenges d .1 (sym kept ∙ here, below))
 
 -- where the search comes to K it finds nothing
 pub divisor-nothing : (order challenges d : ℕ) → challenges ≤ d
-    → divisorFrom order challenges d ≡ firstDivisor order challenges → Nothing ≡ divisorOf order challenges
-unfolding divisorFrom
+    → find (divides order) d (challenges - d) ≡ firstDivisor order challenges → Nothing ≡ divisorOf order challenges
 divisor-nothing order challenges d past kept =
     sym (divisorOf-nothing order challenges .1 (omega (arith, kept, find-to-end (divides order) d challenges past)))

@@ -17,15 +17,6 @@ pub fn mul_mod(a: u32, b: u32, m: u32) -> u32
     (a as u64 * b as u64 % m as u64) as u32
 }
 
-// The sum of a and b modulo m.
-pub fn add_mod(a: u32, b: u32, m: u32) -> u32
-    requires { ⌜ 0 < m ⌝ }
-    ensures value { λ r. ⌜ r ≡ (a + b) % m ⌝ }
-    ensures below { λ r. ⌜ r < m ⌝ }
-{
-    ((a as u64 + b as u64) % m as u64) as u32
-}
-
 // The difference of a and b modulo m, for an a below m and a b of at most m.
 pub fn sub_mod(a: u32, b: u32, m: u32) -> u32
     requires { ⌜ (a < m) × (b ≤ m) ⌝ }
@@ -58,7 +49,7 @@ pub fn pow_mod(base: u32, exponent: u32, m: u32) -> u32
 }
 
 // The greatest common divisor of a and b, by Euclid's algorithm.
-pub fn gcd(a: u32, b: u32) -> u32
+fn gcd(a: u32, b: u32) -> u32
     ensures { λ r. ⌜ r ≡ gcd a b ⌝ }
 {
     let mut x = a;
@@ -120,7 +111,7 @@ pub fn first_divisor(order: u32, challenges: u32) -> Divisor
 }
 
 // Whether v is a group element: from 1 to m - 1, with v^q mod m = 1 in kind 1 and gcd(v, m) = 1 in kind 2.
-pub fn is_element(h: Header, v: u32) -> bool
+fn is_element(h: Header, v: u32) -> bool
     requires { ⌜ 0 < h .modulus ⌝ }
     ensures { λ r. ⌜ r ≡ isElement h v ⌝ }
 {
@@ -137,7 +128,7 @@ pub fn is_element(h: Header, v: u32) -> bool
 }
 
 // Whether x is a coordinate of the domain: from 0 to q - 1 in kind 1, a group element in kind 2.
-pub fn is_coordinate(h: Header, x: u32) -> bool
+fn is_coordinate(h: Header, x: u32) -> bool
     requires { ⌜ 0 < h .modulus ⌝ }
     ensures { λ r. ⌜ r ≡ isCoordinate h x ⌝ }
 {

@@ -26,6 +26,10 @@ pub find-on : (p : ℕ → Bool) (from n : ℕ) → p from ≡ false → find p 
 unfolding find
 find-on p from n e = rw (e, find)
 
+-- a search from 0 up to an end
+pub find-to-start : (p : ℕ → Bool) (end : ℕ) → find p 0 (end - 0) ≡ find p 0 end
+find-to-start p end = ap (find p 0) (omega arith)
+
 -- a search up to an end that is not past its first place ends there
 pub find-to-end : (p : ℕ → Bool) (from end : ℕ) → end ≤ from → find p from (end - from) ≡ from
 find-to-end p from end past = ap (find p from) {y = 0} (omega arith) ∙ find-end p from

@@ -7,4 +7,3 @@ pub use calls::judge;
 pub use calls::simulate;
 pub use loaded::judge_loaded;
 pub use loaded::simulate_loaded;
-pub use loaded::simulated;

@@ -15,7 +15,7 @@ ghost use Rattle.lists.specs.Places.{pad8, places};
 ghost use Rattle.sigma.specs.Judge.{judge};
 ghost use Rattle.sigma.specs.Simulator.{simulated, simulate};
 ghost use Rattle.sigma.specs.Valid.{Valid};
-ghost use Rattle.image.specs.Values.{instanceWith};
+ghost use Rattle.sigma.specs.Instance.{instanceWith};
 
 // The verdict on a round: accepted, rejected with the first row whose two sides differ, or refused with 14 for a commitment
 // value that is no group element, 15 for a challenge of K or more, 16 for a response slot that is no domain slot.
@@ -40,7 +40,7 @@ pub fn judge_loaded(h: Header, entries: [[u32; 8]; 8], statement: [u32; 8], roun
 }
 
 // The simulated commitment for challenge c and response r: the image of r times the statement by -c, a value for each row.
-pub fn simulated(
+fn simulated(
     h: Header,
     entries: [[u32; 8]; 8],
     statement: [u32; 8],

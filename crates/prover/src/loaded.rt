@@ -20,7 +20,7 @@ ghost use Rattle.lists.specs.Places.{places};
 ghost use Rattle.rules.specs.Rule.{lowest};
 ghost use Rattle.sigma.specs.Valid.{Valid};
 ghost use Rattle.runs.specs.Prover.{commitRules, commitAfter, unfitProver, respondRules, respondAfter};
-ghost use Rattle.image.specs.Values.{instanceWith};
+ghost use Rattle.sigma.specs.Instance.{instanceWith};
 
 // The number that committing is refused with: 16 for a nonce slot that is no domain slot, 21 in any state but New, or 0.
 fn commit_refusal(h: Header, session: Prover, nonce: [u32; 8]) -> u32

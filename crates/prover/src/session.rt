@@ -28,7 +28,7 @@ pub fn may_respond(phase: ProverPhase) -> bool
 }
 
 // Whether the state allows dropping: New and Committed do.
-pub fn may_drop(phase: ProverPhase) -> bool
+fn may_drop(phase: ProverPhase) -> bool
     ensures { λ r. ⌜ r ≡ (isNew phase || isCommitted phase) ⌝ }
 {
     match phase {

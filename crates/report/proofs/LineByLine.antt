@@ -2,7 +2,7 @@
 -- Assumes nothing.
 use Prim.Native.Nat.{ℕ, zero, suc, _+_, _<_, _≤_}
 use mathlib.Core.Path.{_≡_, refl, ap, _∙_}
-use mathlib.Core.Bool.{Bool, true, false, not, _||_}
+use mathlib.Core.Bool.{Bool, false, not, _||_}
 use mathlib.Core.List.{List, [], _∷_, _++_, append-nil, flatten}
 use native.Mathlib.Decide.{decLt}
 use native.Mathlib.Numerals.{add-one}
@@ -14,26 +14,19 @@ use Rattle.numbers.proofs.Search.{any-suc}
 use Rattle.lists.specs.Places.{itemsAt, tabulate}
 use Rattle.lists.proofs.Places.{tabulate-suc}
 use Rattle.lists.proofs.Rows.{flatten-append}
+use Rattle.encoding.specs.Placed.{Placed}
+use Rattle.encoding.proofs.Placed.{placed-behind}
 use Rattle.encoding.specs.Text.{ascii, decimal}
 use Rattle.sigma.specs.Answer.{isAccepted}
 use Rattle.sigma.specs.Instance.{Instance}
-use Rattle.runs.specs.Marker.{newline, verdictText}
-use Rattle.text.specs.Placed.{Placed}
-use Rattle.text.proofs.Laws.{placed-behind}
-use Rattle.report.specs.Lines.{failsIn, linesIn, resultLine, roundsIn, verdictIn, verdictLine}
+use Rattle.runs.specs.Marker.{newline, resultLine, verdictLine, verdictText}
+use Rattle.runs.proofs.MarkerLength.{length-resultLine}
+use Rattle.report.specs.Lines.{failsIn, linesIn, roundsIn, verdictIn}
 
--- ---- lengths
-
--- the line of a round
+-- the length of a round's line
 length-verdictLine : (k : ℕ) (v : Verdict) → length (verdictLine k v) ≡ length (decimal k) + length (verdictText v) + 2
 unfolding verdictLine ascii newline
 length-verdictLine k v = simp length-append (omega arith)
-
--- the last line
-length-resultLine : (failed : Bool) → length (resultLine failed) ≡ 5
-unfolding resultLine ascii newline
-length-resultLine true = refl
-length-resultLine false = refl
 
 module _ (i : Instance) (f : List ℕ) where
   -- ---- one line more

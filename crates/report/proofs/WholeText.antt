@@ -15,6 +15,7 @@ use Rattle.numbers.specs.Search.{any}
 use Rattle.numbers.proofs.Search.{any-agree}
 use Rattle.lists.specs.Places.{tabulate}
 use Rattle.lists.proofs.Places.{tabulate-agree}
+use Rattle.encoding.specs.Placed.{Placed}
 use Rattle.encoding.specs.Text.{ascii}
 use Rattle.sigma.specs.Answer.{isAccepted}
 use Rattle.formats.specs.Load.{load}
@@ -24,13 +25,12 @@ use Rattle.formats.specs.RoundFile.{countField}
 use Rattle.formats.specs.Sheet.{entriesOf, instanceOf}
 use Rattle.formats.proofs.After.{countAfter-clear}
 use Rattle.formats.proofs.Files.{count-given, count-runs}
-use Rattle.runs.specs.Marker.{markerText, roundLine, roundLines, verdictOn, wordLine}
+use Rattle.runs.specs.Marker.{markerText, roundLine, roundLines, verdictLine, verdictOn, wordLine}
 use Rattle.runs.proofs.Marker.{file-line, file-refusal, round-lines, sheet-line, verdict-on-record}
 use Rattle.runs.proofs.MarkerLength.{text-short}
 use Rattle.instance.proofs.Answers.{answer-number, answer-header, answer-instance, answer-header-call}
-use Rattle.image.specs.Values.{instanceWith}
-use Rattle.text.specs.Placed.{Placed}
-use Rattle.report.specs.Lines.{failsIn, linesIn, resultLine, roundsIn, verdictIn, verdictLine}
+use Rattle.sigma.specs.Instance.{instanceWith}
+use Rattle.report.specs.Lines.{failsIn, linesIn, roundsIn, verdictIn}
 
 -- the marker's text placed at the start of 7,696 bytes is what the contract asks for
 pub text-placed : (s f : List ℕ) {l bytes m : List ℕ} {r : ℕ} → 7696 ≤ length l → markerText s f ≡ bytes → Placed l 0 bytes m r
@@ -50,7 +50,7 @@ module _ (s f : List ℕ) (e : countRounds s f .refusal ≡ 0) where
 
   -- the rounds' lines
   lines-same : flatten (tabulate (countField f) (roundLine s f)) ≡ linesIn (instanceOf s) f (countField f)
-  unfolding linesIn roundLine verdictLine
+  unfolding linesIn roundLine
   lines-same =
       ap flatten (tabulate-agree (countField f) _ _ (λ k h. ap (verdictLine k) (verdict-same k h)))
 
@@ -61,7 +61,7 @@ module _ (s f : List ℕ) (e : countRounds s f .refusal ≡ 0) where
 
   -- the whole text
   rounds-same : markerText s f ≡ wordLine (ascii "rounds") (countField f) ++ roundsIn (instanceOf s) f (countField f)
-  unfolding roundLines roundsIn resultLine
+  unfolding roundLines roundsIn
   rounds-same = round-lines s f e ∙ rw (lines-same, fails-same) (simp append-assoc)
 
 module _ (s f : List ℕ) {loaded : Loaded} (is-load : loaded ≡ load s) where

@@ -1,25 +1,16 @@
 -- The marker's lines (01, "The marker's lines") on loaded values and a round file.
 -- Assumes nothing.
 use Prim.Native.Nat.{ℕ}
-use mathlib.Core.Bool.{Bool, cond, not}
+use mathlib.Core.Bool.{Bool, not}
 use mathlib.Core.List.{List, _++_, flatten}
 use Rattle.types.specs.declared.Verdict.{Verdict}
 use Rattle.numbers.specs.Search.{any}
 use Rattle.lists.specs.Places.{tabulate}
-use Rattle.encoding.specs.Text.{ascii, decimal}
 use Rattle.sigma.specs.Answer.{isAccepted}
 use Rattle.sigma.specs.Instance.{Instance}
 use Rattle.sigma.specs.Judge.{judge}
 use Rattle.formats.specs.RoundFile.{challengeWidth, recordStart, roundAt}
-use Rattle.runs.specs.Marker.{newline, verdictText}
-
--- the line of round k and its verdict
-unfoldable pub verdictLine : ℕ → Verdict → List ℕ
-verdictLine k verdict = decimal k ++ ascii " " ++ verdictText verdict ++ newline
-
--- the last line
-unfoldable pub resultLine : Bool → List ℕ
-resultLine failed = cond failed (ascii "fail") (ascii "pass") ++ newline
+use Rattle.runs.specs.Marker.{resultLine, verdictLine}
 
 -- the verdict on the values in record k
 unfoldable pub verdictIn : Instance → List ℕ → ℕ → Verdict

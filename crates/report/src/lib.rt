@@ -13,7 +13,7 @@ ghost use lib.ListN.{length};
 ghost use lib.Seq.{sets};
 ghost use Rattle.runs.specs.Marker.{markerText};
 
-// How many bytes the longest text has: `rounds 512`, 512 lines such as `511 refused 16`, and `fail`.
+// As many bytes hold every text: `rounds 512`, 512 lines of at most 15 bytes, and `fail`.
 pub const LONGEST: usize = 7696;
 
 // Stores the marker's text at the start of text and answers its length; no byte behind it is changed. A refused sheet gives

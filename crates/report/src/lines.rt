@@ -6,10 +6,9 @@ use text::write_word;
 use types::Verdict;
 ghost use Prim.Native.Nat.{_+_, _≤_};
 ghost use lib.ListN.{length};
+ghost use Rattle.encoding.specs.Placed.{Placed};
 ghost use Rattle.encoding.specs.Text.{decimal};
-ghost use Rattle.runs.specs.Marker.{verdictText, wordLine};
-ghost use Rattle.text.specs.Placed.{Placed};
-ghost use Rattle.report.specs.Lines.{resultLine, verdictLine};
+ghost use Rattle.runs.specs.Marker.{resultLine, verdictLine, verdictText, wordLine};
 
 // Stores a line of a word and a number, of at most ten digits, at the start.
 pub fn write_line(text: &mut [u8], word: &[u8], number: u32) -> usize

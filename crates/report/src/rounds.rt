@@ -10,12 +10,12 @@ ghost use Prim.Native.Nat.{_+_, _≤_, _<_};
 ghost use mathlib.Core.Bool.{not, _||_};
 ghost use mathlib.Core.Path.{_≡_};
 ghost use lib.ListN.{length};
+ghost use Rattle.encoding.specs.Placed.{Placed};
 ghost use Rattle.formats.specs.Meaning.{IsRoundFile};
 ghost use Rattle.formats.specs.RoundFile.{countField};
-ghost use Rattle.image.specs.Values.{instanceWith};
+ghost use Rattle.sigma.specs.Instance.{instanceWith};
 ghost use Rattle.sigma.specs.Answer.{isAccepted};
 ghost use Rattle.sigma.specs.Valid.{Valid};
-ghost use Rattle.text.specs.Placed.{Placed};
 ghost use Rattle.report.specs.Lines.{roundsIn, verdictIn};
 
 // The verdict on round k of a file.

@@ -1,12 +1,12 @@
 -- The calls that write a round file, return by return. `tested` is what the test before the return answered.
 -- Assumes nothing.
 use Prim.Native.Nat.{ℕ, _+_, _-_, _*_, _≤_, _<_}
-use mathlib.Core.Path.{_≡_, sym, ap, ap₂, _∙_}
+use mathlib.Core.Path.{_≡_, refl, sym, _∙_}
 use mathlib.Core.Bool.{true, not-eq-not}
 use mathlib.Core.List.{List, [], _++_}
 use mathlib.Core.Logic.{_≢_}
 use native.Mathlib.Omega.{arith}
-use lib.ListN.{length, take, drop, length-append}
+use lib.ListN.{length, take, drop}
 use lib.Seq.{sets}
 use borrow.Author.Tests.{le-ltb, lt-ltb}
 use Rattle.types.specs.declared.Header.{Header}
@@ -14,8 +14,10 @@ use Rattle.types.specs.declared.Round.{Round}
 use Rattle.lists.specs.Places.{places}
 use Rattle.lists.proofs.Places.{length-places}
 use Rattle.encoding.specs.Bytes.{bytesOf, bytesOfEach}
-use Rattle.encoding.proofs.Bytes.{length-bytesOf, length-bytesOfEach}
-use Rattle.encoding.proofs.Replaced.{part-replaced-front, sets-sets}
+use Rattle.encoding.specs.Placed.{Placed}
+use Rattle.encoding.proofs.Bytes.{length-bytesOfEach}
+use Rattle.encoding.proofs.Placed.{placed-number, placed-words}
+use Rattle.encoding.proofs.Replaced.{part-replaced-front}
 use Rattle.rules.specs.Answer.{unlessRefused}
 use Rattle.rules.specs.Rule.{lowest}
 use Rattle.rules.proofs.Lowest.{clear-lowest, lowest-clear, pass, stop}
@@ -28,21 +30,14 @@ use Rattle.formats.proofs.Appending.{in-use-long, length-recordBytes}
 use Rattle.formats.proofs.Files.{in-use-passes, length-roundMark}
 use Rattle.formats.proofs.Writing.{Leaves, length-noRounds, short-passes}
 
--- three runs stored one behind the other from the start on are one run stored there
-three-runs : (l xs ys zs : List ℕ) (i j : ℕ) → length xs ≡ i → i + length ys ≡ j
-    → sets (sets (sets l 0 xs) i ys) j zs ≡ sets l 0 (xs ++ ys ++ zs)
-three-runs l xs ys zs i j is-i is-j =
-    let behind-xs : i ≡ 0 + length xs = omega arith in
-    let behind-ys : j ≡ 0 + length (xs ++ ys) = omega (arith, length-append xs ys) in
-    ap₂ (λ (m n : ℕ). sets (sets (sets l 0 xs) m ys) n zs) behind-xs behind-ys
-    ∙ ap (λ (m : List ℕ). sets m (0 + length (xs ++ ys)) zs) (sets-sets l 0 xs ys) ∙ sets-sets l 0 (xs ++ ys) zs
-
 module _ (buffer : List ℕ) where
   -- the mark, the version and the count of no rounds stored one behind the other are the file of no rounds stored
   no-rounds-stored : sets (sets (sets buffer 0 roundMark) 3 (bytesOf 2 1)) 5 (bytesOf 2 0) ≡ sets buffer 0 noRounds
   unfolding noRounds
   no-rounds-stored =
-      three-runs buffer roundMark (bytesOf 2 1) (bytesOf 2 0) 3 5 length-roundMark (ap (λ (n : ℕ). 3 + n) (length-bytesOf 2 1))
+      let mark : Placed buffer 0 roundMark (sets buffer 0 roundMark) 3 =
+      record { stored = refl; behind = omega (arith, length-roundMark) } in
+      placed-number (placed-number mark 2 1 refl) 2 0 refl .stored
 
   -- a buffer of under seven bytes is kept
   pub empty-none : length buffer < 7 → Leaves (record { refusal = 22; length = 0 }) buffer (emptyFile buffer)
@@ -68,12 +63,12 @@ pub record-stored : (width : ℕ) (h : Header) (round : Round) (l : List ℕ) {w
 unfolding recordBytes
 record-stored width h round l is-t is-c is-r =
     let t = places (h .rows) (round .commitment) in
-    let c = bytesOf width (round .challenge) in
-    let r = bytesOfEach 4 (places (h .columns) (round .response)) in
-    rw (is-r, is-c, is-t)
-    (three-runs l (bytesOfEach 4 t) c r (4 * h .rows) (4 * h .rows + width)
-    (omega (arith, length-bytesOfEach 4 t, length-places (h .rows) (round .commitment)))
-    (omega (arith, length-bytesOf width (round .challenge))))
+    let commitment : Placed l 0 (bytesOfEach 4 t) _ (4 * h .rows) = record {
+      stored = is-t;
+      behind = omega (arith, length-bytesOfEach 4 t, length-places (h .rows) (round .commitment));
+    } in
+    let challenge = placed-number commitment width (round .challenge) is-c in
+    placed-words challenge (h .columns) (places (h .columns) (round .response)) is-r (length-places _ _) .stored
 
 module _ (h : Header) (buffer : List ℕ) (used : ℕ) where
   -- bytes in use that are no round file with room for a round are refused

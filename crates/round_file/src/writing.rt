@@ -42,7 +42,7 @@ pub fn empty(buffer: &mut [u8]) -> Written
 }
 
 // Stores a round at the start of part: the commitment, the challenge and the response. No byte behind them is changed.
-pub fn write_record(part: &mut [u8], h: Header, round: Round)
+fn write_record(part: &mut [u8], h: Header, round: Round)
     requires rows { ⌜ h .rows ≤ 8 ⌝ }
     requires columns { ⌜ h .columns ≤ 8 ⌝ }
     requires room { ⌜ recordLength challengeWidth h ≤ length (now part) ⌝ }
@@ -58,7 +58,7 @@ pub fn write_record(part: &mut [u8], h: Header, round: Round)
 }
 
 // The number that the record writer is refused with, 12, 22 or 0, for the first used bytes of buffer.
-pub fn append_refusal(h: Header, buffer: &[u8], used: usize) -> u32
+fn append_refusal(h: Header, buffer: &[u8], used: usize) -> u32
     requires rows { ⌜ h .rows ≤ 8 ⌝ }
     requires columns { ⌜ h .columns ≤ 8 ⌝ }
     ensures { λ r. ⌜ r ≡ lowest (appendRules h (now (buffer .entry)) used) ⌝ }

@@ -5,7 +5,7 @@ use Prim.Native.Nat.{ℕ, _<_}
 use mathlib.Core.Path.{_≡_, refl, sym, ap, subst, _∙_}
 use mathlib.Core.Logic.{_↔_, _≢_, ⊎-elim}
 use mathlib.Core.Bool.{Bool, true, false, not}
-use mathlib.Core.List.{List, [], _∷_, _++_, flatten}
+use mathlib.Core.List.{List, [], _∷_, _++_, append-assoc, flatten}
 use native.Mathlib.Omega.{arith}
 use Rattle.types.specs.declared.Verdict.the-variants.{Accepted, Rejected, Refused}
 use Rattle.numbers.specs.Search.{any}
@@ -31,7 +31,17 @@ use Rattle.sigma.proofs.Calculus.{all-pass}
 use Rattle.sigma.proofs.Calls.{judge-refused}
 use Rattle.sigma.proofs.Tests.{says-accepted}
 use Rattle.runs.specs.Calls.{judgeRound}
-use Rattle.runs.specs.Marker.{newline, wordLine, verdictText, verdictOn, roundLine, roundLines, markerText}
+use Rattle.runs.specs.Marker.{
+  newline,
+  wordLine,
+  verdictText,
+  verdictLine,
+  resultLine,
+  verdictOn,
+  roundLine,
+  roundLines,
+  markerText,
+}
 
 module _ (sheet f : List ℕ) where
   -- ---- one line
@@ -88,15 +98,17 @@ module _ (sheet f : List ℕ) where
     pub pass-line : ((k : ℕ) → k < count → verdictOn sheet f k ≡ Accepted)
         → roundLines sheet f count
         ≡ wordLine (ascii "rounds") count ++ flatten (tabulate count (roundLine sheet f)) ++ ascii "pass" ++ newline
-    unfolding roundLines
-    pass-line all = rw (all-accepted count .1 all)
+    unfolding roundLines resultLine
+    pass-line all = rw (all-accepted count .1 all) (simp append-assoc)
 
     -- `fail` where some round is not
     pub fail-line : (k : ℕ) → k < count → verdictOn sheet f k ≢ Accepted
         → roundLines sheet f count
         ≡ wordLine (ascii "rounds") count ++ flatten (tabulate count (roundLine sheet f)) ++ ascii "fail" ++ newline
-    unfolding roundLines
-    fail-line k h other = rw (any-of count _ k h (says-not (says-accepted (verdictOn sheet f k)) .complete other))
+    unfolding roundLines resultLine
+    fail-line k h other =
+        rw (any-of count _ k h (says-not (says-accepted (verdictOn sheet f k)) .complete other))
+        (simp append-assoc)
 
   -- a file of no rounds passes
   pub empty-passes : countRounds sheet f .refusal ≡ 0 → countField f ≡ 0
@@ -109,19 +121,19 @@ module _ (sheet f : List ℕ) where
   -- an accepted round
   pub accepted-line : (k : ℕ) → verdictOn sheet f k ≡ Accepted
       → roundLine sheet f k ≡ decimal k ++ ascii " " ++ ascii "accepted" ++ newline
-  unfolding roundLine verdictText
+  unfolding roundLine verdictLine verdictText
   accepted-line k e = rw e
 
   -- a rejected round, with its first differing row
   pub rejected-line : (k row : ℕ) → verdictOn sheet f k ≡ Rejected row
       → roundLine sheet f k ≡ decimal k ++ ascii " " ++ (ascii "rejected " ++ decimal row) ++ newline
-  unfolding roundLine verdictText
+  unfolding roundLine verdictLine verdictText
   rejected-line k row e = rw e
 
   -- a refused round, with its number
   pub refused-line : (k number : ℕ) → verdictOn sheet f k ≡ Refused number
       → roundLine sheet f k ≡ decimal k ++ ascii " " ++ (ascii "refused " ++ decimal number) ++ newline
-  unfolding roundLine verdictText
+  unfolding roundLine verdictLine verdictText
   refused-line k number e = rw e
 
   -- of a sheet that loads, a round is refused with 14, 15 or 16

@@ -1,9 +1,9 @@
--- How long the marker's text is: `rounds 512`, 512 lines of at most 15 bytes such as `511 refused 16`, and `fail` are 7,696 bytes.
+-- How long the marker's text is at most: `rounds 512`, 512 lines of at most 15 bytes, and `fail` are 7,696 bytes.
 -- Assumes nothing.
 use Prim.Native.Nat.{ℕ, zero, suc, _+_, _*_, _<_, _≤_}
 use mathlib.Core.Path.{_≡_, refl, ap, _∙_}
 use mathlib.Core.Logic.{_⊎_, inl, inr}
-use mathlib.Core.Bool.{Bool, true, false, cond, not, _&&_}
+use mathlib.Core.Bool.{Bool, true, false, not, _&&_}
 use mathlib.Core.List.{List, [], _∷_, _++_, flatten}
 use native.Mathlib.Decide.{decLt}
 use native.Mathlib.Omega.{arith}
@@ -28,7 +28,17 @@ use Rattle.formats.proofs.Files.{count-runs}
 use Rattle.formats.proofs.Loads.{loads-valid}
 use Rattle.sigma.specs.Admission.{headerRules, elementRules}
 use Rattle.sigma.specs.Answer.{isAccepted}
-use Rattle.runs.specs.Marker.{newline, wordLine, verdictText, verdictOn, roundLine, roundLines, markerText}
+use Rattle.runs.specs.Marker.{
+  newline,
+  wordLine,
+  verdictText,
+  verdictLine,
+  resultLine,
+  verdictOn,
+  roundLine,
+  roundLines,
+  markerText,
+}
 use Rattle.runs.proofs.Demand2.{sheet-rejected}
 use Rattle.runs.proofs.Marker.{sheet-line, file-line, round-lines, round-refusal}
 
@@ -55,11 +65,11 @@ length-wordLine : (word : List ℕ) (n : ℕ) → length (wordLine word n) ≡ l
 unfolding wordLine ascii newline
 length-wordLine word n = simp length-append (omega arith)
 
--- the last line's word
-length-result : (failed : Bool) → length (cond failed (ascii "fail") (ascii "pass")) ≡ 4
-unfolding ascii
-length-result true = refl
-length-result false = refl
+-- the last line
+pub length-resultLine : (failed : Bool) → length (resultLine failed) ≡ 5
+unfolding resultLine ascii newline
+length-resultLine true = refl
+length-resultLine false = refl
 
 module _ (sheet f : List ℕ) where
   module _ (loaded : loadRefusal sheet ≡ 0) where
@@ -77,7 +87,7 @@ module _ (sheet f : List ℕ) where
 
     -- a round's line
     line-short : (k : ℕ) → k < 512 → length (roundLine sheet f k) ≤ 15
-    unfolding roundLine ascii newline
+    unfolding roundLine verdictLine ascii newline
     line-short k few =
         simp length-append (omega (arith, short k (verdictOn sheet f k) refl, decimal-length 2 k (omega arith)))
 
@@ -93,11 +103,11 @@ module _ (sheet f : List ℕ) where
 
     -- all lines
     rounds-short : (n : ℕ) → n ≤ 512 → length (roundLines sheet f n) ≤ 7696
-    unfolding roundLines ascii newline
+    unfolding roundLines ascii
     rounds-short n few =
         let head = length-wordLine (ascii "rounds") n in
         let count = decimal-length 2 n (omega arith) in
-        let last = length-result (any n (λ k. not (isAccepted (verdictOn sheet f k)))) in
+        let last = length-resultLine (any n (λ k. not (isAccepted (verdictOn sheet f k)))) in
         simp length-append (omega (arith, lines-short n few))
 
   -- the number of a refused sheet

@@ -1,7 +1,7 @@
 -- The marker's text (01, "The marker's lines"), as the bytes that it prints.
 -- Assumes nothing.
 use Prim.Native.Nat.{ℕ}
-use mathlib.Core.Bool.{not, cond}
+use mathlib.Core.Bool.{Bool, not, cond}
 use mathlib.Core.List.{List, [], _∷_, _++_, flatten}
 use Rattle.types.specs.declared.Verdict.{Verdict}
 use Rattle.types.specs.declared.Verdict.the-variants.{Accepted, Rejected, Refused}
@@ -28,19 +28,27 @@ verdictText Accepted = ascii "accepted"
 verdictText (Rejected row) = ascii "rejected " ++ decimal row
 verdictText (Refused number) = ascii "refused " ++ decimal number
 
+-- the line of round k and its verdict
+unfoldable pub verdictLine : ℕ → Verdict → List ℕ
+verdictLine k verdict = decimal k ++ ascii " " ++ verdictText verdict ++ newline
+
+-- the last line: `fail` where some round is not accepted, else `pass`
+unfoldable pub resultLine : Bool → List ℕ
+resultLine failed = cond failed (ascii "fail") (ascii "pass") ++ newline
+
 -- the verdict on round k of a file
 unfoldable pub verdictOn : List ℕ → List ℕ → ℕ → Verdict
 verdictOn sheet f k = judgeRound sheet (fetchRound sheet f k .round)
 
--- the line of round k
+-- the line of round k of a file
 unfoldable pub roundLine : List ℕ → List ℕ → ℕ → List ℕ
-roundLine sheet f k = decimal k ++ ascii " " ++ verdictText (verdictOn sheet f k) ++ newline
+roundLine sheet f k = verdictLine k (verdictOn sheet f k)
 
 -- the lines of a file that reads: the count, a line per round, and `pass` if every round is accepted
 unfoldable pub roundLines : List ℕ → List ℕ → ℕ → List ℕ
 roundLines sheet f count =
     wordLine (ascii "rounds") count ++ flatten (tabulate count (roundLine sheet f)) ++
-    cond (any count (λ k. not (isAccepted (verdictOn sheet f k)))) (ascii "fail") (ascii "pass") ++ newline
+    resultLine (any count (λ k. not (isAccepted (verdictOn sheet f k))))
 
 -- the marker's whole text on a sheet and a round file
 unfoldable pub markerText : List ℕ → List ℕ → List ℕ

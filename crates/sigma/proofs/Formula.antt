@@ -16,7 +16,7 @@ use Rattle.numbers.proofs.Difference.{minus-difference}
 use Rattle.numbers.proofs.Integer.{residue-pos, residue-below, residue-is, residue-mul}
 use Rattle.sigma.specs.Instance.{Instance, statementAt}
 use Rattle.sigma.specs.Reads.{Agree}
-use Rattle.sigma.specs.Extractor.{combine, divide, raise, baseCoordinate, formula}
+use Rattle.sigma.specs.Extractor.{combine, divide, raise, baseCoordinate, slotFormula, formula}
 use Rattle.sigma.proofs.ByKind.{combine-exponent, divide-exponent, raise-exponent, baseCoordinate-exponent}
 use Rattle.sigma.proofs.ByKind.{combine-root, divide-root, raise-root, baseCoordinate-root}
 
@@ -44,7 +44,7 @@ module _ (i : Instance) (a b : ℤ) (r r′ : List ℕ) where
   pub formula-at : (j : ℕ) → j < i .header .columns
       → getD (formula i a b r r′) j 0
       ≡ combine (i .header) (raise (i .header) (baseCoordinate i j) a) (raise (i .header) (divide (i .header) (getD r j 0) (getD r′ j 0)) b)
-  unfolding formula
+  unfolding formula slotFormula
   formula-at j h = getD-tabulate _ _ j 0 h
 
   -- the formula reads n places of the two responses

@@ -10,7 +10,7 @@ use Rattle.rules.specs.Says.{Says}
 use Rattle.rules.proofs.Says.{says-equal, says-or, says-not, says-iff}
 use Rattle.sigma.specs.Admission.{headerRules, elementRules}
 use Rattle.sigma.specs.Answer.{isAccepted}
-use Rattle.sigma.specs.Extractor.{extractRules}
+use Rattle.sigma.specs.Extractor.{pairRules, extractRules}
 use Rattle.sigma.specs.Instance.{Instance}
 use Rattle.sigma.specs.Judge.{judgeRules}
 use Rattle.sigma.specs.Meaning.{Holds}
@@ -53,7 +53,7 @@ says-rejected i t c r = says-not (says-iff (says-accepted (verdict i t c r)) (ve
 -- 14 to 16 of both rounds, then 18 to 20
 pub extract-tests : (i : Instance) (t : List ℕ) (c : ℕ) (r t′ : List ℕ) (c′ : ℕ) (r′ : List ℕ)
     → Tests (extractRules i t c r t′ c′ r′) (extractConditions i t c r t′ c′ r′)
-unfolding extractRules
+unfolding extractRules pairRules
 extract-tests i t c r t′ c′ r′ = (
   refl,
   says-or (says-badCommitment i t) (says-badCommitment i t′),

@@ -34,13 +34,15 @@ raise h x k = cond (isExponent h) (residue (h .order) (k *ℤ pos x)) (power (h 
 unfoldable pub baseCoordinate : Instance → ℕ → ℕ
 baseCoordinate inst j = cond (isExponent (inst .header)) 0 (statementAt inst j)
 
+-- a slot of u^a · (r/r′)^b
+unfoldable pub slotFormula : Header → ℕ → ℤ → ℤ → ℕ → ℕ → ℕ
+slotFormula h u a b r r′ = combine h (raise h u a) (raise h (divide h r r′) b)
+
 -- 01's formula u^a · (r/r′)^b, slot by slot
 unfoldable pub formula : Instance → ℤ → ℤ → List ℕ → List ℕ → List ℕ
 formula inst a b r r′ =
     tabulate (inst .header .columns)
-    (λ j.
-    combine (inst .header) (raise (inst .header) (baseCoordinate inst j) a)
-    (raise (inst .header) (divide (inst .header) (getD r j 0) (getD r′ j 0)) b))
+    (λ j. slotFormula (inst .header) (baseCoordinate inst j) a b (getD r j 0) (getD r′ j 0))
 
 -- the formula at the coefficients a and b that belong to the challenges c and c′
 unfoldable pub extracted : Instance → ℕ → List ℕ → ℕ → List ℕ → List ℕ
@@ -48,14 +50,19 @@ extracted inst c r c′ r′ =
     let delta : ℤ = pos c -ℤ pos c′ in
     formula inst (bezoutLeft (inst .header .order) delta) (bezoutRight (inst .header .order) delta) r r′
 
--- the rules of the rounds (t, c, r) and (t′, c′, r′), each asked of both rounds before the next
-unfoldable pub extractRules : Instance → List ℕ → ℕ → List ℕ → List ℕ → ℕ → List ℕ → List Rule
-extractRules inst t c r t′ c′ r′ =
+-- the rules of the rounds (t, c, r) and (t′, c′, r′) before either is judged, each asked of both rounds before the next
+unfoldable pub pairRules : Instance → List ℕ → ℕ → List ℕ → List ℕ → ℕ → List ℕ → List Rule
+pairRules inst t c r t′ c′ r′ =
     (14 when (badCommitment inst t || badCommitment inst t′)) ∷
     (15 when (badChallenge inst c || badChallenge inst c′)) ∷
     (16 when (badCoordinates inst r || badCoordinates inst r′)) ∷
     (18 when differ (inst .header .rows) t t′) ∷
-    (19 when eqb c c′) ∷
+    (19 when eqb c c′) ∷ []
+
+-- the rules of the two rounds; 20 comes last
+unfoldable pub extractRules : Instance → List ℕ → ℕ → List ℕ → List ℕ → ℕ → List ℕ → List Rule
+extractRules inst t c r t′ c′ r′ =
+    pairRules inst t c r t′ c′ r′ ++
     (20 when (not (isAccepted (verdict inst t c r)) || not (isAccepted (verdict inst t′ c′ r′)))) ∷ []
 
 -- the witness from two rounds after the rules of the sheet; s places of each commitment and n of each response are read

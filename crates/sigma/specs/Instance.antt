@@ -13,6 +13,10 @@ pub record Instance : Type 0 where
   pub entries : List (List ℕ)
   pub statement : List ℕ
 
+-- the fixed fields, the entries and the statement as one instance
+abbrev pub instanceWith : Header → List (List ℕ) → List ℕ → Instance
+instanceWith h entries statement = record { header = h; entries = entries; statement = statement }
+
 -- kind 1, where the domain is numbers mod q; the other is kind 2, where it is group elements
 unfoldable pub isExponent : Header → Bool
 isExponent h = eqb (h .kind) 1

@@ -1,16 +1,17 @@
--- Text placed in a slice: a word byte by byte, one text straight behind another, and a number digit by digit.
+-- Text placed in a slice: a word byte by byte, and a number digit by digit.
 -- Assumes nothing.
 use Prim.Native.Nat.{ℕ, _+_, _/_, _%_, _≤_, _<_}
 use mathlib.Core.Path.{_≡_, refl, ap, _∙_}
-use mathlib.Core.List.{List, [], _∷_, _++_}
+use mathlib.Core.List.{List, [], _∷_}
 use native.Mathlib.Numerals.{add-one}
 use native.Mathlib.Omega.{arith}
 use lib.ListN.{length, getD, take, set, length-append}
 use lib.Seq.{sets, take-all, take-suc, length-take-le}
+use Rattle.encoding.specs.Placed.{Placed}
 use Rattle.encoding.specs.Text.{decimal}
+use Rattle.encoding.proofs.Placed.{placed-behind}
 use Rattle.encoding.proofs.Replaced.{sets-sets}
 use Rattle.encoding.proofs.Text.{decimal-small, decimal-large}
-use Rattle.text.specs.Placed.{Placed}
 
 -- the first i bytes of a word stored, and then the next straight behind, are the first i + 1 stored
 pub byte-stored : (l word : List ℕ) (at i : ℕ) → i < length word
@@ -26,14 +27,6 @@ byte-stored l word at i h =
 pub word-placed : {l word m : List ℕ} {at i : ℕ} → m ≡ sets l at (take i word) → length word ≤ i
     → Placed l at word m (at + length word)
 word-placed {word = word} {i = i} stored whole = record { stored = rw (take-all i word whole) at stored; behind = refl }
-
--- bytes placed straight behind others are placed as one text with them
-pub placed-behind : {l : List ℕ} {at : ℕ} {xs m : List ℕ} {i : ℕ} {ys n : List ℕ} {j : ℕ}
-    → Placed l at xs m i → Placed m i ys n j → Placed l at (xs ++ ys) n j
-placed-behind {l} {at} {xs} {m} {i} {ys} first second = record {
-  stored = rw (second .stored, first .stored, first .behind) (sets-sets l at xs ys);
-  behind = omega (arith, first .behind, second .behind, length-append xs ys);
-}
 
 -- the digit of a number below 10 is the number placed
 pub digit-placed : {l m : List ℕ} {at j n : ℕ} → n < 10 → Placed l at ((48 + n) ∷ []) m j → Placed l at (decimal n) m j

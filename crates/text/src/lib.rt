@@ -4,7 +4,7 @@ ghost use Prim.Native.Nat.{_+_, _≤_, _<_};
 ghost use mathlib.Core.List.{[], _∷_, _++_};
 ghost use lib.ListN.{length};
 ghost use Rattle.encoding.specs.Text.{ascii, decimal};
-ghost use Rattle.text.specs.Placed.{Placed};
+ghost use Rattle.encoding.specs.Placed.{Placed};
 
 // Stores a word.
 pub fn write_word(s: &mut [u8], at: usize, word: &[u8]) -> usize
@@ -18,7 +18,7 @@ pub fn write_word(s: &mut [u8], at: usize, word: &[u8]) -> usize
 }
 
 // Stores the one digit of a number below 10.
-pub fn write_digit(s: &mut [u8], at: usize, digit: u32) -> usize
+fn write_digit(s: &mut [u8], at: usize, digit: u32) -> usize
     requires digit { ⌜ digit < 10 ⌝ }
     requires room { ⌜ at + 1 ≤ length (now s) ⌝ }
     ensures { λ r. ⌜ Placed (now (s .entry)) at ((48 + digit) ∷ []) (now (s .exit)) r ⌝ }

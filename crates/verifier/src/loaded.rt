@@ -17,7 +17,7 @@ ghost use Rattle.lists.specs.Places.{places};
 ghost use Rattle.rules.specs.Rule.{lowest};
 ghost use Rattle.sigma.specs.Round.{badCommitment};
 ghost use Rattle.sigma.specs.Valid.{Valid};
-ghost use Rattle.image.specs.Values.{instanceWith};
+ghost use Rattle.sigma.specs.Instance.{instanceWith};
 ghost use Rattle.runs.specs.Verifier.{takeCommitmentRules, takeChallengeRules, takeResponseRules};
 ghost use Rattle.runs.specs.Verifier.{takeCommitmentAfter, takeChallengeAfter, takeResponseAfter};
 

@@ -16,7 +16,7 @@ use Rattle.rules.specs.Answer.{unlessRefused}
 use Rattle.rules.specs.Rule.{Rule, _when_, lowest}
 use Rattle.rules.proofs.Lowest.{lowest-clear, lowest-earlier, lowest-later-zero, stop}
 use Rattle.sigma.specs.Admission.{elementRules, headerRules}
-use Rattle.sigma.specs.Instance.{Instance}
+use Rattle.sigma.specs.Instance.{Instance, instanceWith}
 use Rattle.sigma.proofs.Answer.{unlessRefused-positive}
 use Rattle.sigma.proofs.Positive.{element-positive, header-positive}
 use Rattle.formats.specs.Encode.{encode, encodeRules, sheetOf}
@@ -28,15 +28,10 @@ use Rattle.formats.proofs.Maker.{maker-encodes}
 use Rattle.formats.proofs.Making.{pattern-passes}
 use Rattle.formats.proofs.Tests.{says-badPattern}
 use Rattle.formats.proofs.Writing.{Leaves, length-sheetOf, short-passes}
-use Rattle.writer.specs.Tested.{testedRules, valuesOf, writeTested}
 
 -- the answer of a refused call: the number, and length 0
 abbrev pub refusedWith : ℕ → Written
 refusedWith number = record { refusal = number; length = 0 }
-
--- a number that is not above 0 refuses nothing
-pub not-refused : {n m : ℕ} → n ≡ m → n ≤ 0 → m ≡ 0
-not-refused e none = omega arith
 
 -- a call with a refusal's number answers it and keeps the buffer
 start-refused : (n m : ℕ) (bytes buffer : List ℕ) {answer : Written} → answer ≡ refusedWith n → n ≡ m → 0 < n
@@ -57,38 +52,9 @@ module _ (i : Instance) (buffer : List ℕ) where
   abbrev room : List Rule
   room = (22 when short buffer (sheetLength (i .header))) ∷ []
 
-  -- ---- behind the fixed fields
-
-  -- an entry or a statement value is no group element
-  pub tested-elements : {n : ℕ} {answer : Written} → answer ≡ refusedWith n → n ≡ lowest (elementRules i) → 0 < n
-      → Leaves answer buffer (writeTested i buffer)
-  unfolding writeTested testedRules
-  tested-elements {n} answered e some =
-      start-refused n _ (sheetOf i) buffer answered (e ∙ sym (lowest-earlier (elementRules i) room (omega arith))) some
-
-  -- the buffer is too short
-  pub tested-short : {answer : Written} → answer ≡ refusedWith 22 → lowest (elementRules i) ≡ 0 → length buffer < sheetLength (i .header)
-      → Leaves answer buffer (writeTested i buffer)
-  unfolding writeTested testedRules short
-  tested-short answered passed less =
-      let number = lowest-later-zero (elementRules i) room (element-positive i) passed ∙ stop 22 [] (lt-ltb _ _ less) in
-      start-refused 22 _ (sheetOf i) buffer answered (sym number) (omega arith)
-
-  -- the sheet is written
-  pub tested-written : {used : ℕ} {after : List ℕ} → lowest (elementRules i) ≡ 0 → used ≡ sheetLength (i .header)
-      → used ≤ length buffer → after ≡ sets buffer 0 (sheetOf i)
-      → Leaves (record { refusal = 0; length = used }) after (writeTested i buffer)
-  unfolding writeTested testedRules
-  tested-written passed size fits stored =
-      let clear = short-passes buffer (sheetLength (i .header)) .1 (omega arith) in
-      let number = lowest-later-zero (elementRules i) room (element-positive i) passed ∙ lowest-clear room (clear, tt) in
-      start-stored _ (sheetOf i) buffer number (size ∙ sym (length-sheetOf i)) stored
-
-  -- ---- the second writer
-
   -- the rules of the fixed fields stand in front of the others
-  in-front : lowest (encodeRules i buffer) ≡ lowest (headerRules (i .header) ++ testedRules i buffer)
-  unfolding encodeRules testedRules
+  in-front : lowest (encodeRules i buffer) ≡ lowest (headerRules (i .header) ++ (elementRules i ++ room))
+  unfolding encodeRules
   in-front = ap (λ (rules : List Rule). lowest rules) (append-assoc (headerRules (i .header)) (elementRules i) room)
 
   -- the fixed fields are refused
@@ -96,16 +62,43 @@ module _ (i : Instance) (buffer : List ℕ) where
       → Leaves answer buffer (encode i buffer)
   unfolding encode
   encode-fields {n} answered e some =
-      let number = in-front ∙ lowest-earlier (headerRules (i .header)) (testedRules i buffer) (omega arith) in
+      let number = in-front ∙ lowest-earlier (headerRules (i .header)) (elementRules i ++ room) (omega arith) in
       start-refused n _ (sheetOf i) buffer answered (e ∙ sym number) some
 
-  -- the fixed fields pass, and what is behind them decides
-  pub encode-tested : {answer : Written} {after : List ℕ} → lowest (headerRules (i .header)) ≡ 0
-      → Leaves answer after (writeTested i buffer) → Leaves answer after (encode i buffer)
-  unfolding encode writeTested
-  encode-tested passed leaves =
-      let number = in-front ∙ lowest-later-zero (headerRules (i .header)) (testedRules i buffer) (header-positive (i .header)) passed in
-      rw number leaves
+  module _ (fields : lowest (headerRules (i .header)) ≡ 0) where
+    -- where they are not, the entries, the statement and the room decide
+    behind-fields : lowest (encodeRules i buffer) ≡ lowest (elementRules i ++ room)
+    behind-fields = in-front ∙ lowest-later-zero (headerRules (i .header)) _ (header-positive (i .header)) fields
+
+    -- an entry or a statement value is no group element
+    pub encode-elements : {n : ℕ} {answer : Written} → answer ≡ refusedWith n → n ≡ lowest (elementRules i) → 0 < n
+        → Leaves answer buffer (encode i buffer)
+    unfolding encode
+    encode-elements {n} answered e some =
+        let number = behind-fields ∙ lowest-earlier (elementRules i) room (omega arith) in
+        start-refused n _ (sheetOf i) buffer answered (e ∙ sym number) some
+
+    module _ (elements : lowest (elementRules i) ≡ 0) where
+      -- where all are group elements, the room decides
+      behind-elements : lowest (encodeRules i buffer) ≡ lowest room
+      behind-elements = behind-fields ∙ lowest-later-zero (elementRules i) room (element-positive i) elements
+
+      -- the buffer is too short
+      pub encode-short : {answer : Written} → answer ≡ refusedWith 22 → length buffer < sheetLength (i .header)
+          → Leaves answer buffer (encode i buffer)
+      unfolding encode short
+      encode-short answered less =
+          let number = behind-elements ∙ stop 22 [] (lt-ltb _ _ less) in
+          start-refused 22 _ (sheetOf i) buffer answered (sym number) (omega arith)
+
+      -- the sheet is written
+      pub encode-written : {used : ℕ} {after : List ℕ} → used ≡ sheetLength (i .header) → used ≤ length buffer
+          → after ≡ sets buffer 0 (sheetOf i) → Leaves (record { refusal = 0; length = used }) after (encode i buffer)
+      unfolding encode
+      encode-written size fits stored =
+          let clear = short-passes buffer (sheetLength (i .header)) .1 (omega arith) in
+          let number = behind-elements ∙ lowest-clear room (clear, tt) in
+          start-stored _ (sheetOf i) buffer number (size ∙ sym (length-sheetOf i)) stored
 
 -- ---- the sheet maker
 
@@ -122,7 +115,7 @@ module _ (number modulus order challenges : ℕ) (values statement buffer : List
   pub maker-written : {kind : ℕ} {p : Pattern} {entries : List (List ℕ)} {eight after : List ℕ}
       → 1 ≤ number → number ≤ 6 → p ≡ patternOf number → length values ≡ p .values → length statement ≡ p .rows
       → kind ≡ cond (eqb number 6) 2 1 → entries ≡ cond (eqb number 6) zeros64 (patternEntries p values) → eight ≡ pad8 0 statement
-      → Leaves answer after (encode (valuesOf (record {
+      → Leaves answer after (encode (instanceWith (record {
         kind = kind;
         modulus = modulus;
         order = order;

@@ -1,5 +1,4 @@
 -- Laws of the two sheet writers.
-pub mod Stored
 pub mod Parts
 pub mod Table
 pub mod Answers

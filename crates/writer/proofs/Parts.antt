@@ -1,28 +1,28 @@
 -- The parts of a sheet: rows of entries one behind the other, and what stands behind what.
 -- Assumes nothing.
-use Prim.Native.Nat.{ℕ, suc, _+_, _*_, _≤_, _<_}
+use Prim.Native.Nat.{ℕ, _+_, _*_}
 use mathlib.Core.Path.{_≡_, refl}
 use mathlib.Core.Logic.{_≢_}
 use mathlib.Core.List.{List, [], _∷_, _++_, append-nil, flatten}
-use native.Mathlib.Nat.{mul-comm, mul-le-mul-right, suc-mul}
 use native.Mathlib.Numerals.{add-one}
 use native.Mathlib.Omega.{arith}
-use lib.ListN.{length, getD, length-append}
+use lib.ListN.{getD}
 use lib.Seq.{sets}
 use Rattle.types.specs.declared.Header.{Header}
 use Rattle.encoding.specs.Bytes.{bytesOfEach}
-use Rattle.encoding.proofs.Bytes.{bytesOfEach-append, length-bytesOf}
+use Rattle.encoding.specs.Placed.{Placed}
+use Rattle.encoding.proofs.Bytes.{bytesOfEach-append}
+use Rattle.encoding.proofs.Placed.{placed-words}
 use Rattle.lists.specs.Places.{tabulate, places}
 use Rattle.lists.proofs.Places.{length-places, tabulate-suc}
 use Rattle.lists.proofs.Rows.{flatten-append}
 use Rattle.sigma.specs.Instance.{Instance, entry}
 use Rattle.sigma.proofs.ByKind.{by-kind, exponent-kind, root-kind}
-use Rattle.formats.specs.Encode.{sheetOf, storedEntries}
+use Rattle.formats.specs.Encode.{headerBytes, sheetOf, storedEntries}
 use Rattle.formats.specs.Sheet.{entryCount}
 use Rattle.formats.proofs.Entries.{length-storedEntries, storedEntries-exponent, storedEntries-root}
-use Rattle.formats.proofs.Loads.{length-sheetMark}
-use Rattle.writer.specs.Parts.{entriesBytes, headerBytes, rowsBytes}
-use Rattle.writer.proofs.Stored.{Stored, words}
+use Rattle.formats.proofs.Writing.{length-headerBytes}
+use Rattle.writer.specs.Parts.{entriesBytes, rowsBytes}
 
 -- ---- rows
 
@@ -34,11 +34,6 @@ rowsBytes-next columns entries i =
     let row : ℕ → List ℕ = λ r. places columns (getD entries r []) in
     rw (add-one i, tabulate-suc i row, flatten-append (tabulate i row) (row i ∷ []), append-nil (row i))
     (bytesOfEach-append 4 (flatten (tabulate i row)) (row i))
-
--- a row that is left lies within the entries
-pub row-within : (columns i rows : ℕ) → i < rows → columns * i + columns ≤ rows * columns
-row-within columns i rows less =
-    omega (arith, mul-le-mul-right {m = suc i} {n = rows} columns less, suc-mul i columns, mul-comm i columns)
 
 -- ---- entries
 
@@ -62,20 +57,15 @@ entriesBytes-stored i =
 
 -- ---- the sheet
 
--- the fixed fields are 20 bytes
-length-headerBytes : (h : Header) → length (headerBytes h) ≡ 20
-unfolding headerBytes
-length-headerBytes h = simp (length-append, length-bytesOf, length-sheetMark)
-
 -- the fixed fields, the entries and the statement, stored one behind the other, are the sheet stored
 pub sheet-stored : (i : Instance) (l : List ℕ)
     → sets (sets (sets l 0 (headerBytes (i .header))) 20 (entriesBytes (i .header) (i .entries))) (20 + 4 * entryCount (i .header))
     (bytesOfEach 4 (places (i .header .rows) (i .statement)))
     ≡ sets l 0 (sheetOf i)
-unfolding sheetOf headerBytes
+unfolding sheetOf
 sheet-stored i l =
     let h = i .header in
-    let fixed : Stored l 0 20 (headerBytes h) (sets l 0 (headerBytes h)) =
-    record { same = refl; end = omega (arith, length-headerBytes h) } in
-    let entries = words fixed (entryCount h) (storedEntries i) refl (length-storedEntries i) in
-    rw (entriesBytes-stored i) (words entries (h .rows) (places (h .rows) (i .statement)) refl (length-places _ _) .same)
+    let fixed : Placed l 0 (headerBytes h) (sets l 0 (headerBytes h)) 20 =
+    record { stored = refl; behind = omega (arith, length-headerBytes h) } in
+    let entries = placed-words fixed (entryCount h) (storedEntries i) refl (length-storedEntries i) in
+    rw (entriesBytes-stored i) (placed-words entries (h .rows) (places (h .rows) (i .statement)) refl (length-places _ _) .stored)

@@ -2,4 +2,3 @@
 pub mod Parts
 pub mod Place
 pub mod Rows
-pub mod Tested

@@ -16,11 +16,10 @@ use instance::header_refusal;
 use instance::sheet_length;
 use types::Header;
 use types::Written;
-ghost use Prim.Native.Nat.{_≤_, _<_};
 ghost use mathlib.Core.Path.{_≡_};
+ghost use Rattle.sigma.specs.Instance.{instanceWith};
 ghost use Rattle.formats.specs.Encode.{encode};
 ghost use Rattle.formats.specs.Pattern.{fromPattern};
-ghost use Rattle.writer.specs.Tested.{valuesOf, writeTested};
 
 // What a refused writer answers: the number, and length 0.
 fn refused(number: u32) -> Written
@@ -32,18 +31,19 @@ fn refused(number: u32) -> Written
     }
 }
 
-// Writes the sheet of values whose fixed fields have passed their tests, unless an entry (10) or a statement value (11) is
-// no group element or the buffer is shorter than the sheet (22).
-fn tested(h: Header, entries: [[u32; 8]; 8], statement: [u32; 8], buffer: &mut [u8]) -> Written
-    requires modulus { ⌜ 0 < h .modulus ⌝ }
-    requires rows { ⌜ h .rows ≤ 8 ⌝ }
-    requires columns { ⌜ h .columns ≤ 8 ⌝ }
-    ensures answer { λ r. ⌜ r ≡ writeTested (valuesOf h entries statement) (now (buffer .entry)) .answer ⌝ }
-    ensures left { λ _. ⌜ now (buffer .exit) ≡ writeTested (valuesOf h entries statement) (now (buffer .entry)) .buffer ⌝ }
+// The second writer: writes the sheet of any values and answers its length, or the number that they are refused with, 4 to
+// 8, 10, 11 or 22. In kind 2 no entry is read.
+pub fn encode(h: Header, entries: [[u32; 8]; 8], statement: [u32; 8], buffer: &mut [u8]) -> Written
+    ensures answer { λ r. ⌜ r ≡ encode (instanceWith h entries statement) (now (buffer .entry)) .answer ⌝ }
+    ensures left { λ _. ⌜ now (buffer .exit) ≡ encode (instanceWith h entries statement) (now (buffer .entry)) .buffer ⌝ }
 {
-    let refusal = element_refusal(h, entries, statement);
-    if refusal > 0 {
-        return refused(refusal);
+    let fields = header_refusal(h);
+    if fields > 0 {
+        return refused(fields);
+    }
+    let elements = element_refusal(h, entries, statement);
+    if elements > 0 {
+        return refused(elements);
     }
     let length = sheet_length(h);
     if buffer.len() < length {
@@ -51,19 +51,6 @@ fn tested(h: Header, entries: [[u32; 8]; 8], statement: [u32; 8], buffer: &mut [
     }
     write_sheet(buffer, h, entries, statement);
     Written { refusal: 0, length }
-}
-
-// The second writer: writes the sheet of any values and answers its length, or the number that they are refused with, 4 to
-// 8, 10, 11 or 22. In kind 2 no entry is read.
-pub fn encode(h: Header, entries: [[u32; 8]; 8], statement: [u32; 8], buffer: &mut [u8]) -> Written
-    ensures answer { λ r. ⌜ r ≡ encode (valuesOf h entries statement) (now (buffer .entry)) .answer ⌝ }
-    ensures left { λ _. ⌜ now (buffer .exit) ≡ encode (valuesOf h entries statement) (now (buffer .entry)) .buffer ⌝ }
-{
-    let number = header_refusal(h);
-    if number > 0 {
-        return refused(number);
-    }
-    tested(h, entries, statement, buffer)
 }
 
 // The sheet maker: writes the sheet of the pattern with this number over the public values and the statement and answers

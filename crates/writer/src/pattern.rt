@@ -12,7 +12,7 @@ ghost use Rattle.writer.specs.Place.{placeOf};
 ghost use Rattle.writer.specs.Rows.{patternRow, Spells};
 
 // The patterns 1 to 6: rows, columns, how many public values, and the digits, row i, column j at 3 i + j.
-pub const PATTERNS: [Pattern; 6] = [
+const PATTERNS: [Pattern; 6] = [
     Pattern {
         rows: 1,
         columns: 1,

@@ -10,10 +10,10 @@ ghost use Prim.Native.Nat.{_+_, _*_, _≤_};
 ghost use mathlib.Core.Path.{_≡_};
 ghost use lib.ListN.{length};
 ghost use lib.Seq.{sets};
-ghost use Rattle.formats.specs.Encode.{sheetOf};
+ghost use Rattle.sigma.specs.Instance.{instanceWith};
+ghost use Rattle.formats.specs.Encode.{headerBytes, sheetOf};
 ghost use Rattle.formats.specs.Sheet.{entryCount, sheetLength};
-ghost use Rattle.writer.specs.Parts.{headerBytes, entriesBytes};
-ghost use Rattle.writer.specs.Tested.{valuesOf};
+ghost use Rattle.writer.specs.Parts.{entriesBytes};
 
 // Stores the fixed fields of a sheet in the first 20 bytes of the buffer, and changes no other byte.
 fn write_header(buffer: &mut [u8], h: Header)
@@ -55,7 +55,7 @@ fn write_entries(buffer: &mut [u8], h: Header, entries: [[u32; 8]; 8]) -> usize
 pub fn write_sheet(buffer: &mut [u8], h: Header, entries: [[u32; 8]; 8], statement: [u32; 8])
     requires { ⌜ (h .rows ≤ 8) × (h .columns ≤ 8) ⌝ }
     requires { ⌜ sheetLength h ≤ length (now buffer) ⌝ }
-    ensures { λ _. ⌜ now (buffer .exit) ≡ sets (now (buffer .entry)) 0 (sheetOf (valuesOf h entries statement)) ⌝ }
+    ensures { λ _. ⌜ now (buffer .exit) ≡ sets (now (buffer .entry)) 0 (sheetOf (instanceWith h entries statement)) ⌝ }
 {
     write_header(buffer, h);
     let end = write_entries(buffer, h, entries);

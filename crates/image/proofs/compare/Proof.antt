@@ -1,7 +1,7 @@
 -- `image::compare` meets its contract: the first difference decides.
 -- Assumes nothing.
 use borrow.Author.Needs.{needs}
-use Rattle.image.proofs.FirstDifference.{compare-row, compare-none}
+use Rattle.image.proofs.TwoSides.{compare-row, compare-none}
 use Rattle.image.proofs.compare.Statement.{statement}
 use Rattle.image.proofs.compare.Tie as tie
 

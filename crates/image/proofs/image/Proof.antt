@@ -5,8 +5,7 @@ use Prim.Native.Nat.{_-_}
 use native.Mathlib.Omega.{arith}
 use Rattle.lists.proofs.Filling.{Filled, filled-start, filled-turn, filled-eight}
 use Rattle.sigma.specs.Image.{rowImage, image}
-use Rattle.sigma.specs.Instance.{entry}
-use Rattle.image.specs.Values.{instanceWith}
+use Rattle.sigma.specs.Instance.{instanceWith, entry}
 use Rattle.image.proofs.image.Statement.{statement}
 use Rattle.image.proofs.image.Tie as tie
 

@@ -1,7 +1,7 @@
 -- `image::verdict` meets its contract: comparing the two sides in eight places is comparing the values that are read.
 -- Assumes nothing.
 use borrow.Author.Needs.{needs}
-use Rattle.image.specs.Values.{instanceWith}
+use Rattle.sigma.specs.Instance.{instanceWith}
 use Rattle.image.proofs.Unread.{verdict-compared}
 use Rattle.image.proofs.verdict.Statement.{statement}
 use Rattle.image.proofs.verdict.Tie as tie

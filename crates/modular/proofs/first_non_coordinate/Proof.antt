@@ -1,23 +1,28 @@
 -- `modular::first_non_coordinate` meets its contract. The invariant: what is left of the search gives what the whole search gives.
 -- The measure: how many places are left. Assumes nothing.
-use mathlib.Core.Path.{_≡_, sym, _∙_}
+use mathlib.Core.Path.{_≡_, sym, ap, _∙_}
+use mathlib.Core.Bool.{not}
 use Prim.Native.Nat.{_-_, _≤_}
 use native.Mathlib.Omega.{arith}
+use lib.ListN.{getD}
 use borrow.Author.Tests.{not-true, not-false}
+use Rattle.numbers.specs.Search.{find}
+use Rattle.numbers.proofs.Search.{find-to-start, find-to-end, find-to-here, find-to-on}
 use Rattle.sigma.specs.Element.{isCoordinate}
 use Rattle.modular.specs.FirstFailing.{firstFailing}
-use Rattle.modular.proofs.FirstFailing.{failingFrom, failing-start, failing-on, failing-here, failing-end}
 use Rattle.modular.proofs.first_non_coordinate.Statement.{statement}
 use Rattle.modular.proofs.first_non_coordinate.Tie as tie
 
 abbrev Inv-loop : tie.InvT-loop
-Inv-loop h n values i₀ i = (i ≤ n) × (failingFrom (isCoordinate h) n values i ≡ firstFailing (isCoordinate h) n values)
+Inv-loop h n values i₀ i =
+    (i ≤ n) × (find (λ j. not (isCoordinate h (getD values j 0))) i (n - i) ≡ firstFailing (isCoordinate h) n values)
 
 abbrev μ-loop : tie.MeasureT-loop
 μ-loop h n values i₀ i = n - i
 
 loop-holds : tie.Need-loop-holds Inv-loop μ-loop
-loop-holds c = (omega arith, failing-start _ _ _)
+unfolding firstFailing
+loop-holds c = (omega arith, find-to-start _ _)
 
 mul-is-coordinate : tie.Need-mul-is-coordinate Inv-loop μ-loop
 mul-is-coordinate c = omega arith
@@ -32,7 +37,7 @@ returns : tie.Need-returns Inv-loop μ-loop
 returns c =
     let at-loop = c .before .before .before in
     let fails = sym (c .before .is-coordinate .ensures) ∙ not-true _ (c .if1 .taken) in
-    (failing-here _ _ _ _ (c .before .before .loop-test .taken) fails (at-loop .loop .inv .1), at-loop .loop .inv .0)
+    (sym (find-to-here _ _ _ (c .before .before .loop-test .taken) (ap not fails)) ∙ at-loop .loop .inv .1, at-loop .loop .inv .0)
 
 add-i : tie.Need-add-i Inv-loop μ-loop
 add-i c = omega arith
@@ -43,10 +48,10 @@ loop-less c = omega arith
 loop-again : tie.Need-loop-again Inv-loop μ-loop
 loop-again c =
     let passes = sym (c .before .is-coordinate .ensures) ∙ not-false _ (c .if1 .left) in
-    (omega arith, failing-on _ _ _ _ (c .before .before .loop-test .taken) passes ∙ c .before .before .before .loop .inv .1)
+    (omega arith, find-to-on _ _ _ (c .before .before .loop-test .taken) (ap not passes) ∙ c .before .before .before .loop .inv .1)
 
 returns-2 : tie.Need-returns-2 Inv-loop μ-loop
-returns-2 c = let (within, kept) = c .before .loop .inv in (failing-end _ _ _ _ (c .loop-test .left) kept, within)
+returns-2 c = let (within, kept) = c .before .loop .inv in (sym (find-to-end _ _ _ (c .loop-test .left)) ∙ kept, within)
 
 pub first-non-coordinate-spec : {M : Type 1} → statement M
 first-non-coordinate-spec =

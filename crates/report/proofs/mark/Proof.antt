@@ -2,9 +2,9 @@
 -- Assumes nothing.
 use native.Mathlib.Omega.{arith}
 use borrow.Author.Needs.{needs}
+use Rattle.encoding.proofs.Placed.{placed-behind}
 use Rattle.encoding.specs.Text.{ascii}
 use Rattle.instance.proofs.Answers.{answer-header, answer-few, answer-valid}
-use Rattle.text.proofs.Laws.{placed-behind}
 use Rattle.report.proofs.WholeText.{file-reads, file-text, rounds-fit, rounds-text, sheet-text, text-placed}
 use Rattle.report.proofs.mark.Statement.{statement}
 use Rattle.report.proofs.mark.Tie as tie

@@ -3,7 +3,7 @@
 use native.Mathlib.Omega.{arith}
 use borrow.Author.Needs.{needs}
 use Rattle.encoding.specs.Text.{ascii}
-use Rattle.text.proofs.Laws.{placed-behind}
+use Rattle.encoding.proofs.Placed.{placed-behind}
 use Rattle.text.proofs.write_numbered.Statement.{statement}
 use Rattle.text.proofs.write_numbered.Tie as tie
 

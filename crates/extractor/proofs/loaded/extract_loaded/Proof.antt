@@ -4,10 +4,9 @@ use mathlib.Core.Path.{_≡_, sym, _∙_}
 use native.Mathlib.Omega.{arith}
 use borrow.Author.Needs.{needs}
 use Rattle.rules.specs.Rule.{lowest}
-use Rattle.sigma.specs.Instance.{Instance}
+use Rattle.sigma.specs.Instance.{Instance, instanceWith}
 use Rattle.sigma.specs.Meaning.{Extracts}
-use Rattle.image.specs.Values.{instanceWith}
-use Rattle.extractor.specs.Rules.{pairRules}
+use Rattle.extractor.specs.Rules.{rulesOfPair}
 use Rattle.extractor.proofs.Extracting.{not-accepted, pair-refused, first-rejected, second-rejected, both-accepted}
 use Rattle.extractor.proofs.Extracting.{swapped-rounds, witness-fits, witness-given, witness-swapped}
 use Rattle.extractor.proofs.loaded.extract_loaded.Statement.{statement}
@@ -19,7 +18,7 @@ inst start = instanceWith (start .args .h) (start .args .entries) (start .args .
 
 -- no rule before judging applies
 passed : (c : tie.Else1)
-    → let start = c .before .before in 0 ≡ lowest (pairRules (inst start) (start .args .first) (start .args .second))
+    → let start = c .before .before in 0 ≡ lowest (rulesOfPair (inst start) (start .args .first) (start .args .second))
 passed c =
     let start = c .before .before in
     sym (c .if1 .left) ∙ c .before .pair-refusal .ensures (start .args .entries) (start .args .statement)

@@ -15,9 +15,10 @@ use Rattle.sigma.specs.Round.{badCommitment, badChallenge, badCoordinates}
 use Rattle.sigma.proofs.Calculus.{both-fail}
 use Rattle.sigma.proofs.Passed.{challenge-passes}
 use Rattle.sigma.proofs.Tests.{says-badChallenge}
-use Rattle.image.specs.Values.{instanceWith}
+use Rattle.sigma.specs.Extractor.{pairRules}
+use Rattle.sigma.specs.Instance.{instanceWith}
 use Rattle.image.proofs.Tested.{commitment-bad, commitment-good, coordinates-bad, coordinates-good, difference-tested}
-use Rattle.extractor.specs.Rules.{pairRules}
+use Rattle.extractor.specs.Rules.{rulesOfPair}
 use Rattle.extractor.proofs.loaded.pair_refusal.Statement.{statement}
 use Rattle.extractor.proofs.loaded.pair_refusal.Tie as tie
 
@@ -25,7 +26,7 @@ use Rattle.extractor.proofs.loaded.pair_refusal.Tie as tie
 abbrev Rest : ℕ → tie.Start → Type 0
 Rest k start =
     (entries : List (List ℕ)) (statement : List ℕ)
-    → let rules = pairRules (instanceWith (start .args .h) entries statement) (start .args .first) (start .args .second) in
+    → let rules = rulesOfPair (instanceWith (start .args .h) entries statement) (start .args .first) (start .args .second) in
     lowest rules ≡ lowest (drop k rules)
 
 -- the start, seen from behind the commitments, the challenges, the responses and the comparison of the commitments

@@ -4,8 +4,8 @@ use Prim.Native.Nat.{_+_, _-_, _*_, _≤_}
 use native.Mathlib.Omega.{arith}
 use Rattle.lists.specs.Places.{zeros8}
 use Rattle.lists.proofs.Filling.{Filled, filled-start, filled-turn, filled-items}
+use Rattle.lists.proofs.Rows.{row-within}
 use Rattle.instance.specs.Rows.{rowAt, rowsAt}
-use Rattle.instance.proofs.SheetRows.{row-within}
 use Rattle.instance.proofs.elements.read_rows.Statement.{statement}
 use Rattle.instance.proofs.elements.read_rows.Tie as tie
 

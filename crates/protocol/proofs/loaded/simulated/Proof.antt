@@ -3,9 +3,8 @@
 use Prim.Native.Nat.{_-_}
 use native.Mathlib.Omega.{arith}
 use Rattle.lists.proofs.Filling.{Filled, filled-start, filled-turn, filled-eight}
-use Rattle.sigma.specs.Instance.{statementAt}
+use Rattle.sigma.specs.Instance.{instanceWith, statementAt}
 use Rattle.sigma.proofs.Valid.{valid-modulus, valid-order, valid-challenge}
-use Rattle.image.specs.Values.{instanceWith}
 use Rattle.protocol.proofs.Simulating.{simulatedRow, simulated-rows}
 use Rattle.protocol.proofs.loaded.simulated.Statement.{statement}
 use Rattle.protocol.proofs.loaded.simulated.Tie as tie

@@ -15,7 +15,7 @@ use Rattle.sigma.proofs.Calculus.{both-fail}
 use Rattle.sigma.proofs.Passed.{challenge-passes}
 use Rattle.sigma.proofs.Tests.{says-badChallenge}
 use Rattle.runs.specs.Prover.{isCommitted, respondRules}
-use Rattle.image.specs.Values.{instanceWith}
+use Rattle.sigma.specs.Instance.{instanceWith}
 use Rattle.image.proofs.Tested.{coordinates-bad, coordinates-good, witness-tested}
 use Rattle.prover.proofs.loaded.respond_refusal.Statement.{statement}
 use Rattle.prover.proofs.loaded.respond_refusal.Tie as tie

@@ -3,10 +3,10 @@
 use native.Mathlib.Omega.{arith}
 use borrow.Author.Needs.{needs}
 use lib.ListN.{length-append}
+use Rattle.encoding.proofs.Placed.{placed-behind}
 use Rattle.encoding.specs.Text.{ascii}
 use Rattle.encoding.proofs.Text.{decimal-length}
 use Rattle.runs.specs.Marker.{newline, wordLine}
-use Rattle.text.proofs.Laws.{placed-behind}
 use Rattle.report.proofs.lines.write_line.Statement.{statement}
 use Rattle.report.proofs.lines.write_line.Tie as tie
 

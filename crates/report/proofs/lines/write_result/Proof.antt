@@ -3,8 +3,7 @@
 use native.Mathlib.Omega.{arith}
 use borrow.Author.Needs.{needs}
 use Rattle.encoding.specs.Text.{ascii}
-use Rattle.runs.specs.Marker.{newline}
-use Rattle.report.specs.Lines.{resultLine}
+use Rattle.runs.specs.Marker.{newline, resultLine}
 use Rattle.report.proofs.lines.write_result.Statement.{statement}
 use Rattle.report.proofs.lines.write_result.Tie as tie
 

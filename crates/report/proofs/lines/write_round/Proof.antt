@@ -2,10 +2,9 @@
 -- Assumes nothing.
 use native.Mathlib.Omega.{arith}
 use borrow.Author.Needs.{needs}
+use Rattle.encoding.proofs.Placed.{placed-behind}
 use Rattle.encoding.specs.Text.{ascii}
-use Rattle.runs.specs.Marker.{newline}
-use Rattle.text.proofs.Laws.{placed-behind}
-use Rattle.report.specs.Lines.{verdictLine}
+use Rattle.runs.specs.Marker.{newline, verdictLine}
 use Rattle.report.proofs.lines.write_round.Statement.{statement}
 use Rattle.report.proofs.lines.write_round.Tie as tie
 

@@ -5,8 +5,8 @@ use Prim.Native.Nat.{_≤_, _-_}
 use mathlib.Core.Path.{_≡_, refl}
 use native.Mathlib.Omega.{arith}
 use lib.ListN.{length}
-use Rattle.image.specs.Values.{instanceWith}
-use Rattle.text.specs.Placed.{Placed}
+use Rattle.encoding.specs.Placed.{Placed}
+use Rattle.sigma.specs.Instance.{instanceWith}
 use Rattle.report.specs.Lines.{failsIn, linesIn}
 use Rattle.report.proofs.LineByLine.{none-placed, none-fails, line-placed, fails-next, line-fits, result-placed, result-fits}
 use Rattle.report.proofs.rounds.write_rounds.Statement.{statement}

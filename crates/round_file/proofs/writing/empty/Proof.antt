@@ -8,7 +8,7 @@ use Rattle.round_file.proofs.writing.empty.Statement.{statement}
 use Rattle.round_file.proofs.writing.empty.Tie as tie
 
 returns : tie.Need-returns
-returns c = empty-none _ (c .if1 .taken)
+returns c = empty-none _ (omega (arith, c .if1 .taken))
 
 write-mark-requires : tie.Need-write-mark-requires
 write-mark-requires c κs = omega arith

@@ -16,7 +16,7 @@ use Rattle.sigma.proofs.Passed.{challenge-passes}
 use Rattle.sigma.proofs.Tests.{says-badChallenge}
 use Rattle.runs.specs.Verifier.{isAsked, unfitCommitment, takeResponseRules}
 use Rattle.runs.proofs.Tests.{says-asked}
-use Rattle.image.specs.Values.{instanceWith}
+use Rattle.sigma.specs.Instance.{instanceWith}
 use Rattle.image.proofs.Tested.{coordinates-bad, coordinates-good}
 use Rattle.verifier.proofs.States.{not-asked}
 use Rattle.verifier.proofs.loaded.response_refusal.Statement.{statement}

@@ -9,17 +9,19 @@ use lib.ListN.{length}
 use mathlib.Core.List.{flatten}
 use Rattle.lists.specs.Places.{itemsAt, tabulate}
 use Rattle.lists.proofs.Places.{length-places}
+use Rattle.lists.proofs.Rows.{row-within}
 use Rattle.encoding.specs.Bytes.{bytesOfEach}
+use Rattle.encoding.specs.Placed.{Placed}
+use Rattle.encoding.proofs.Placed.{placed-words}
 use Rattle.formats.proofs.Entries.{entryCount-exponent, entryCount-root}
 use Rattle.writer.specs.Parts.{rowsBytes}
-use Rattle.writer.proofs.Parts.{row-within, rowsBytes-next, entriesBytes-exponent, entriesBytes-root}
-use Rattle.writer.proofs.Stored.{Stored, words}
+use Rattle.writer.proofs.Parts.{rowsBytes-next, entriesBytes-exponent, entriesBytes-root}
 use Rattle.writer.proofs.sheet.write_entries.Statement.{statement}
 use Rattle.writer.proofs.sheet.write_entries.Tie as tie
 
 abbrev Inv-loop : tie.InvT-loop
 Inv-loop buffer₀ entries at₀ rows columns i₀ buffer at i =
-    Stored buffer₀ 20 at (rowsBytes columns entries i) buffer × (at ≡ 20 + 4 * (columns * i)) × (i ≤ rows)
+    Placed buffer₀ 20 (rowsBytes columns entries i) buffer at × (at ≡ 20 + 4 * (columns * i)) × (i ≤ rows)
     × (length buffer ≡ length buffer₀)
 
 abbrev μ-loop : tie.MeasureT-loop
@@ -36,6 +38,7 @@ room c =
     omega (
       arith,
       row-within (h .columns) (c .before .loop .i) (h .rows) (c .loop-test .taken),
+      mul-comm (h .rows) (h .columns),
       entryCount-exponent h (chosen .if1 .left),
       c .before .loop .inv,
       start .pre,
@@ -54,7 +57,7 @@ cast-columns c = omega arith
 
 loop-holds : tie.Need-loop-holds Inv-loop μ-loop
 unfolding rowsBytes flatten tabulate itemsAt bytesOfEach
-loop-holds c = (record { same = refl; end = refl }, omega arith, omega arith, refl)
+loop-holds c = (record { stored = refl; behind = refl }, omega arith, omega arith, refl)
 
 mul-write-words : tie.Need-mul-write-words Inv-loop μ-loop
 mul-write-words c = omega arith
@@ -80,7 +83,7 @@ loop-less c = omega arith
 loop-again : tie.Need-loop-again Inv-loop μ-loop
 loop-again c =
     let at-loop = c .before .before .before .before .before .before in
-    let stored = words (at-loop .loop .inv .0) _ _ (c .before .before .write-words .ensures) (length-places _ _) in
+    let stored = placed-words (at-loop .loop .inv .0) _ _ (c .before .before .write-words .ensures) (length-places _ _) in
     (rw rowsBytes-next stored, omega arith, omega arith, omega arith)
 
 same-length : tie.Need-same-length Inv-loop μ-loop
@@ -92,7 +95,7 @@ returns-2 c =
     let chosen = at-loop .before .before .before in
     let h = chosen .before .before .before .args .h in
     let whole : at-loop .loop .i ≡ h .rows = omega arith in
-    let stored = rw (whole, ← entriesBytes-exponent h _ (chosen .if1 .left)) at (at-loop .loop .inv .0 .same) in
+    let stored = rw (whole, ← entriesBytes-exponent h _ (chosen .if1 .left)) at (at-loop .loop .inv .0 .stored) in
     let end = rw whole at (at-loop .loop .inv .1) in
     (omega (arith, entryCount-exponent h (chosen .if1 .left), end, mul-comm (h .rows) (h .columns)), stored)
 

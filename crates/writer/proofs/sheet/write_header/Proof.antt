@@ -2,9 +2,9 @@
 -- Assumes nothing.
 use borrow.Author.Needs.{needs}
 use Rattle.encoding.specs.Text.{ascii}
+use Rattle.encoding.proofs.Placed.{placed-stored, placed-number}
+use Rattle.formats.specs.Encode.{headerBytes}
 use Rattle.formats.specs.Sheet.{sheetMark}
-use Rattle.writer.specs.Parts.{headerBytes}
-use Rattle.writer.proofs.Stored.{first, field}
 use Rattle.writer.proofs.sheet.write_header.Statement.{statement}
 use Rattle.writer.proofs.sheet.write_header.Tie as tie
 
@@ -46,14 +46,14 @@ returns c =
     let kind = modulus .before .before .before .before in
     let version = kind .before .before .before .before in
     let mark = version .before .before .before .before in
-    let start = first (mark .before .before .before .args .buffer .now) 0 sheetMark (mark .write-mark .ensures) in
-    let versioned = field start 2 1 (version .write-u16 .ensures) in
-    let kinded = field versioned 1 _ (kind .write-u8 .ensures) in
-    let m = field kinded 4 _ (modulus .write-u32 .ensures) in
-    let l = field m 4 _ (order .write-u322 .ensures) in
-    let k = field l 4 _ (challenges .write-u323 .ensures) in
-    let s = field k 1 _ (rows .write-u82 .ensures) in
-    field s 1 _ (columns .write-u83 .ensures) .same
+    let start = placed-stored (mark .before .before .before .args .buffer .now) 0 sheetMark (mark .write-mark .ensures) in
+    let versioned = placed-number start 2 1 (version .write-u16 .ensures) in
+    let kinded = placed-number versioned 1 _ (kind .write-u8 .ensures) in
+    let m = placed-number kinded 4 _ (modulus .write-u32 .ensures) in
+    let l = placed-number m 4 _ (order .write-u322 .ensures) in
+    let k = placed-number l 4 _ (challenges .write-u323 .ensures) in
+    let s = placed-number k 1 _ (rows .write-u82 .ensures) in
+    placed-number s 1 _ (columns .write-u83 .ensures) .stored
 
 pub write-header-spec : {M : Type 1} → statement M
 write-header-spec =

@@ -1,6 +1,7 @@
 -- `writer::sheet::write_sheet` meets its contract: the fixed fields, the entries and the statement stand one behind the other.
 -- Assumes nothing.
 use native.Mathlib.Omega.{arith}
+use Rattle.sigma.specs.Instance.{instanceWith}
 use Rattle.formats.specs.Sheet.{sheetLength}
 use Rattle.writer.proofs.Parts.{sheet-stored}
 use Rattle.writer.proofs.sheet.write_sheet.Statement.{statement}
@@ -31,7 +32,7 @@ returns c =
     let header = entries .before .before .before .before in
     let args = header .before .before .before .args in
     rw (words .write-words .ensures, entries .write-entries .ensures .1, entries .write-entries .ensures .0, header .write-header .ensures)
-    (sheet-stored (record { header = args .h; entries = args .entries; statement = args .statement }) (args .buffer .now))
+    (sheet-stored (instanceWith (args .h) (args .entries) (args .statement)) (args .buffer .now))
 
 pub write-sheet-spec : {M : Type 1} → statement M
 write-sheet-spec =

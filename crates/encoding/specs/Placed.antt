@@ -1,4 +1,4 @@
--- What a writer of text ensures of the slice that it is lent and of its answer.
+-- Bytes placed in a slice: what is stored, and where it ends.
 -- Assumes nothing.
 use Prim.Native.Nat.{ℕ, _+_}
 use mathlib.Core.Path.{_≡_}

@@ -1,2 +1,0 @@
--- What the writers of text ensure.
-pub mod Placed
