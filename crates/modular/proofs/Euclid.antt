@@ -1,7 +1,7 @@
 -- Euclid's algorithm on m and v, with a factor of v kept for each of the two numbers, ends at the inverse of v modulo m, up to
 -- its sign.
 -- Assumes nothing.
-use mathlib.Core.Path.{_≡_, refl, sym, ap, _∙_}
+use mathlib.Core.Path.{_≡_, sym, ap, _∙_}
 use mathlib.Core.Logic.{_≢_, _⊎_, inl, inr, ⊎-elim}
 use Prim.Native.Nat.{ℕ, zero, suc, _+_, _-_, _*_, _/_, _%_, _≤_, _<_}
 use native.Mathlib.Nat.{mod-add-div, mod-eq-of-lt, zero-mod, mul-one, mul-comm}
