@@ -1,4 +1,4 @@
--- 01's calculator pages.
+-- 01's calculator pages, and the marker's example.
 pub mod Sheets
 pub mod Pages
 pub mod MarkerExample

@@ -1,4 +1,4 @@
-// Extracting a witness from two rounds (01, "A round"). The functions on loaded values are for callers that have loaded the
+// Extracting a witness from two rounds (01, "A round"). The function on loaded values is for callers that have loaded the
 // sheet.
 mod calls; // calls.rt: the call on a sheet's bytes
 mod loaded; // loaded.rt: extracting on loaded values

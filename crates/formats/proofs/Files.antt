@@ -142,7 +142,7 @@ module _ (s f : List ℕ) where
           λ (l, r, b). lowest-clear rules (parts .1 (load-clear s .1 l, (passes .1 r, (below .1 b, tt)))),
         )
 
-    -- else it gives the values that stand in the record
+    -- reading then gives the values that stand in the record
     pub fetch-given : checkRound s f k ≡ 0
         → fetchRound s f k
         ≡ record { refusal = 0; round = roundAt challengeWidth (headerOf s) f (recordStart challengeWidth (headerOf s) k) }

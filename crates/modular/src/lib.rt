@@ -1,4 +1,4 @@
-// Arithmetic modulo a 32-bit number, with products and sums in 64 bits, and the tests of 01 that need it.
+// Arithmetic modulo a 32-bit number, with products in 64 bits, and the tests of 01 that need it.
 use types::Header;
 ghost use mathlib.Core.Path.{_≡_};
 ghost use Prim.Native.Nat.{_+_, _-_, _*_, _%_, _^_, _≤_, _<_};

@@ -39,5 +39,3 @@ takeChallenge-positive inst v c = tt
 pub takeResponse-positive : (inst : Instance) (v : Verifier) (r : List ℕ) → T (positive (takeResponseRules inst v r))
 unfolding takeResponseRules
 takeResponse-positive inst v r = tt
-
--- ---- their order

@@ -1,5 +1,5 @@
 -- Demand 2's protocol half (00) in the words of 01 ("A round", "Sessions"): Peggy's commitments and responses, Vic's verdicts,
--- and the order of steps. The part of demand 2 on files that read back stands with the formats.
+-- and the order of steps. The parts of demand 2 on files that read back and on the marker stand in crates/demands.
 -- Assumes nothing.
 use Prim.Native.Nat.{ℕ, suc, _+_, _*_, _%_, _^_, _<_, _≤_}
 use mathlib.Core.Path.{_≡_}

@@ -1,4 +1,4 @@
-// Pages A to J of 01, each on the sheet that the sheet maker makes for it. The printed values are those of the table in
+// Pages A to J of 01, each but I on the sheet that the sheet maker makes for it. The printed values are those of the table in
 // crates/examples/specs/Pages.antt.
 use extractor::extract;
 use instance::load;

@@ -1,5 +1,5 @@
--- Which states an arm of a match takes: a session with the tag of another state does not have the one that the call asks for. The
--- code tells a state by a number, its place in 01's sentence from 0.
+-- Which states a `let .. else` turns back: a session with the tag of another state does not have the one that the call asks
+-- for. The code tells a state by a number, its place in 01's sentence from 0.
 -- Assumes nothing.
 use mathlib.Core.Path.{_≡_}
 use mathlib.Core.Bool.{true, not}

@@ -1,4 +1,4 @@
--- `verifier::calls::take_commitment` meets its contract: a refused sheet's number is the answer, else its values are loaded.
+-- `verifier::calls::take_commitment` meets its contract: a refused sheet's number is the answer, else the fixed fields are loaded.
 -- Assumes nothing.
 use mathlib.Core.Path.{refl, sym}
 use native.Mathlib.Omega.{arith}
