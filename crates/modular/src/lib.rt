@@ -5,7 +5,7 @@ ghost use Prim.Native.Nat.{_+_, _-_, _*_, _%_, _^_, _≤_, _<_};
 ghost use Rattle.numbers.specs.Gcd.{gcd};
 ghost use Rattle.numbers.specs.Inverse.{inverse};
 ghost use Rattle.sigma.specs.Element.{isElement, isCoordinate};
-ghost use Rattle.modular.specs.Divisor.{divisorOf};
+ghost use Rattle.modular.specs.Divisor.{divisorOf, divisorOutcome};
 ghost use Rattle.modular.specs.FirstFailing.{firstFailing};
 
 // The product of a and b modulo m.
@@ -96,7 +96,7 @@ pub enum Divisor {
 
 // The first d with 2 ≤ d < challenges that divides order, or nothing where there is none.
 pub fn first_divisor(order: u32, challenges: u32) -> Divisor
-    ensures { λ r. ⌜ r ≡ divisorOf order challenges ⌝ }
+    ensures { λ r. ⌜ divisorOutcome r ≡ divisorOutcome (divisorOf order challenges) ⌝ }
 {
     let mut d: u32 = 2;
     loop {

@@ -8,7 +8,7 @@ ghost use lib.ListN.{length};
 ghost use Rattle.lists.specs.Places.{pad8};
 ghost use Rattle.formats.specs.Pattern.{entryOf, patternEntries, patternOf};
 ghost use Rattle.formats.specs.Sheet.{zeros64};
-ghost use Rattle.writer.specs.Place.{placeOf};
+ghost use Rattle.writer.specs.Place.{placeOf, placeOutcome};
 ghost use Rattle.writer.specs.Rows.{patternRow, Spells};
 
 // The patterns 1 to 6: rows, columns, how many public values, and the digits, row i, column j at 3 i + j.
@@ -59,7 +59,7 @@ pub enum Place {
 
 // The place in the table of the pattern with this number, or nothing for a number outside 1 to 6.
 pub fn place_of(number: u32) -> Place
-    ensures { λ r. ⌜ r ≡ placeOf number ⌝ }
+    ensures { λ r. ⌜ placeOutcome r ≡ placeOutcome (placeOf number) ⌝ }
 {
     match number {
         1 => Place::At(0),

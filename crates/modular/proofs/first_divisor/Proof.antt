@@ -1,12 +1,13 @@
 -- `modular::first_divisor` meets its contract. The invariant: what is left of the search gives what the whole search gives.
 -- The measure: how many numbers are left. Assumes nothing.
-use mathlib.Core.Path.{_≡_, refl, _∙_}
+use mathlib.Core.Path.{_≡_, refl, ap, _∙_}
 use Prim.Native.Nat.{_-_, _≤_}
 use native.Mathlib.Omega.{arith}
 use borrow.Author.Tests.{ne-eqb}
 use Rattle.numbers.specs.Search.{find}
 use Rattle.numbers.proofs.Search.{find-to-on}
 use Rattle.sigma.specs.Admission.{firstDivisor}
+use Rattle.modular.specs.Divisor.{divisorOutcome}
 use Rattle.modular.proofs.FirstDivisor.{divides, divisor-found, divisor-nothing}
 use Rattle.modular.proofs.first_divisor.Statement.{statement}
 use Rattle.modular.proofs.first_divisor.Tie as tie
@@ -34,10 +35,10 @@ loop-again : tie.Need-loop-again Inv-loop μ-loop
 loop-again c = (omega arith, find-to-on _ _ _ (c .before .if1 .left) (ne-eqb _ 0 (c .if2 .left)) ∙ c .before .before .loop .inv .1)
 
 returns : tie.Need-returns Inv-loop μ-loop
-returns c = divisor-nothing _ _ _ (c .if1 .taken) (c .before .loop .inv .1)
+returns c = ap divisorOutcome (divisor-nothing _ _ _ (c .if1 .taken) (c .before .loop .inv .1))
 
 returns-2 : tie.Need-returns-2 Inv-loop μ-loop
-returns-2 c = divisor-found _ _ _ (c .before .if1 .left) (c .if2 .taken) (c .before .before .loop .inv .1)
+returns-2 c = ap divisorOutcome (divisor-found _ _ _ (c .before .if1 .left) (c .if2 .taken) (c .before .before .loop .inv .1))
 
 pub first-divisor-spec : {M : Type 1} → statement M
 first-divisor-spec =

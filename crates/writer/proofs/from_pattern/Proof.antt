@@ -7,7 +7,7 @@ use native.Mathlib.Omega.{arith}
 use Rattle.formats.specs.Pattern.{patternOf}
 use Rattle.writer.specs.Rows.{Spells}
 use Rattle.writer.proofs.Answers.{maker-refused, maker-written}
-use Rattle.writer.proofs.Table.{pattern-spells, placeOf-found, placeOf-nothing}
+use Rattle.writer.proofs.Table.{pattern-spells, placeOf-found, placeOf-nothing, placeOutcome-injective}
 use borrow.Author.Needs.{needs}
 use Rattle.writer.proofs.from_pattern.Statement.{statement}
 use Rattle.writer.proofs.from_pattern.Tie as tie
@@ -16,7 +16,7 @@ use Rattle.writer.proofs.from_pattern.Tie as tie
 found : (c : tie.After-known-told)
     → (c .before .k .given .0 .0 < 6)
     × (c .before .before .before .before .before .before .before .args .number ≡ c .before .k .given .0 .0 + 1)
-found c = placeOf-found _ _ .0 (sym (c .before .before .before .place-of .ensures) ∙ c .before .k .given .1)
+found c = placeOf-found _ _ .0 (sym (placeOutcome-injective _ _ (c .before .before .before .place-of .ensures)) ∙ c .before .k .given .1)
 
 -- the pattern is the number's
 patterned : (c : tie.After-pattern-at)
@@ -46,7 +46,8 @@ refused-requires c κs = search needs
 
 returns : tie.Need-returns
 returns c =
-    let missing = placeOf-nothing _ .0 (sym (c .before .before .before .place-of .ensures) ∙ c .before .enum-told .given .1) in
+    let told = placeOutcome-injective _ _ (c .before .before .before .place-of .ensures) in
+    let missing = placeOf-nothing _ .0 (sym told ∙ c .before .enum-told .given .1) in
     maker-refused _ _ _ _ _ _ _ (c .refused .ensures) (⊎-elim (λ low. inl low) (λ high. inr (inl high)) missing)
 
 pattern-at-requires : tie.Need-pattern-at-requires

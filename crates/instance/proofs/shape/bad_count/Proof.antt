@@ -5,6 +5,7 @@ use native.Mathlib.Omega.{arith}
 use borrow.Author.Needs.{needs}
 use borrow.Author.Tests.{lt-ltb, le-ltb}
 use Rattle.sigma.specs.Admission.{badCount}
+use Rattle.modular.proofs.FirstDivisor.{divisorOutcome-injective}
 use Rattle.instance.proofs.FixedFields.{count-divided, count-undivided}
 use Rattle.instance.proofs.shape.bad_count.Statement.{statement}
 use Rattle.instance.proofs.shape.bad_count.Tie as tie
@@ -31,12 +32,12 @@ enum-told-2 c = search needs
 returns-3 : tie.Need-returns-3
 returns-3 c =
     let searched = c .before .before in
-    count-divided _ (omega arith) (omega arith) (sym (searched .first-divisor .ensures) ∙ c .enum-told .given .1)
+    count-divided _ (omega arith) (omega arith) (sym (divisorOutcome-injective _ _ (searched .first-divisor .ensures)) ∙ c .enum-told .given .1)
 
 returns-4 : tie.Need-returns-4
 returns-4 c =
     let searched = c .before .before in
-    count-undivided _ (omega arith) (omega arith) (sym (searched .first-divisor .ensures) ∙ c .enum-told2 .given .1)
+    count-undivided _ (omega arith) (omega arith) (sym (divisorOutcome-injective _ _ (searched .first-divisor .ensures)) ∙ c .enum-told2 .given .1)
 
 pub bad-count-spec : {M : Type 1} → statement M
 bad-count-spec =

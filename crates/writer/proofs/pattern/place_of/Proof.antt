@@ -1,7 +1,7 @@
 -- `writer::pattern::place_of` meets its contract: each number from 1 to 6 has the place before it, and no other has one.
 -- Assumes nothing.
-use mathlib.Core.Path.{sym}
-use Rattle.writer.specs.Place.{placeOf}
+use mathlib.Core.Path.{sym, ap}
+use Rattle.writer.specs.Place.{placeOf, placeOutcome}
 use Rattle.writer.proofs.Table.{outside, placeOf-nothing}
 use Rattle.writer.proofs.pattern.place_of.Statement.{statement}
 use Rattle.writer.proofs.pattern.place_of.Tie as tie
@@ -38,7 +38,7 @@ returns-8 : tie.Need-returns-8
 returns-8 c =
     let rest = c .match .rest .0 in
     let others = outside _ (rest .0 .0 .0 .0 .0 .1) (rest .0 .0 .0 .0 .1) (rest .0 .0 .0 .1) (rest .0 .0 .1) (rest .0 .1) (rest .1) in
-    sym (placeOf-nothing _ .1 others)
+    ap placeOutcome (sym (placeOf-nothing _ .1 others))
 
 pub place-of-spec : {M : Type 1} → statement M
 place-of-spec =
