@@ -23,7 +23,7 @@ pub use writers::{WriterCase, Writing};
 /// A case. As text it has the name of its call and every input.
 pub trait Case: fmt::Debug + fmt::Display {
     /// The outcome in this library.
-    fn run(&self, library: &dyn Library) -> Outcome;
+    fn run(&self, library: Library) -> Outcome;
 
     /// The number that each call gave, 0 for no refusal, where this is the
     /// judge's outcome.

@@ -187,8 +187,7 @@ pub fn damaged(random: &mut Random, mut bytes: Vec<u8>) -> Vec<u8> {
 #[cfg(test)]
 mod tests {
     use super::*;
-    use crate::judged::Judge;
-    use crate::library::Library;
+    use crate::library::Library::Judge;
 
     #[test]
     fn refused_sheets_have_the_number_they_were_made_for() {

@@ -17,7 +17,7 @@ use crate::sheets::Sheet;
 
 /// Tries demand 3 on every small sheet and answers the line to print. An error
 /// says where it fails.
-pub fn check(library: &dyn Library) -> Result<String, String> {
+pub fn check(library: Library) -> Result<String, String> {
     let (mut sheets, mut calls) = (0, 0);
     for sheet in sheets::small() {
         let small = Small::new(library, sheet);
@@ -50,8 +50,8 @@ fn choices(values: &[u32], count: usize) -> Vec<Places> {
 
 /// A small sheet with all its nonces, which are also its responses, and all its
 /// witnesses.
-struct Small<'a> {
-    library: &'a dyn Library,
+struct Small {
+    library: Library,
     calls: Cell<u64>,
     bytes: Vec<u8>,
     sheet: Sheet,
@@ -59,8 +59,8 @@ struct Small<'a> {
     witnesses: Vec<Places>,
 }
 
-impl<'a> Small<'a> {
-    fn new(library: &'a dyn Library, sheet: Sheet) -> Small<'a> {
+impl Small {
+    fn new(library: Library, sheet: Sheet) -> Small {
         let header = sheet.header;
         let group = Group::new(header.kind, header.modulus, header.order);
         let slots: Vec<u32> = match header.kind {
@@ -126,7 +126,7 @@ impl<'a> Small<'a> {
                     response: *response,
                 };
                 self.count(1);
-                if self.library.judge(&self.bytes, round).accepted == 1 {
+                if self.library.judge(&self.bytes, &round).accepted == 1 {
                     accepted.push(round);
                 }
             }
@@ -173,8 +173,8 @@ impl<'a> Small<'a> {
             let later = |second: &&Round| second.challenge > first.challenge;
             for second in rounds.iter().filter(later) {
                 self.count(2);
-                let one = self.library.extract(&self.bytes, *first, *second);
-                let two = self.library.extract(&self.bytes, *second, *first);
+                let one = self.library.extract(&self.bytes, first, second);
+                let two = self.library.extract(&self.bytes, second, first);
                 if one != two || one.refusal != 0 || !self.witnesses.contains(&one.values) {
                     return Err(format!(
                         "{first:?} and {second:?}: {one:?}, swapped {two:?}"
@@ -211,12 +211,12 @@ fn meets_each_once(
 #[cfg(test)]
 mod tests {
     use super::*;
-    use crate::faults::{Fault, Faulty};
-    use crate::judged::Judge;
+    use crate::faults::Fault;
+    use crate::library::Library::{Faulty, Judge};
 
     #[test]
     fn the_judge_meets_demand_three() {
-        assert_eq!(check(&Judge).map(|_| ()), Ok(()));
+        assert_eq!(check(Judge).map(|_| ()), Ok(()));
     }
 
     #[test]
@@ -238,7 +238,7 @@ mod tests {
             Fault::CommitOneNonce,
             Fault::RespondModM,
         ] {
-            assert!(check(&Faulty(fault)).is_err(), "{fault:?}");
+            assert!(check(Faulty(fault)).is_err(), "{fault:?}");
         }
     }
 
@@ -247,7 +247,7 @@ mod tests {
         let mut counts = HashSet::new();
         for sheet in sheets::small() {
             let kind = sheet.header.kind;
-            let small = Small::new(&Judge, sheet);
+            let small = Small::new(Judge, sheet);
             assert_eq!(Judge.load(&small.bytes).refusal, 0);
             counts.insert((kind, small.witnesses.len().min(2)));
         }

@@ -127,8 +127,7 @@ pub fn round_number(random: &mut Random, record: usize, file: &[u8]) -> usize {
 #[cfg(test)]
 mod tests {
     use super::*;
-    use crate::judged::Judge;
-    use crate::library::Library;
+    use crate::library::Library::Judge;
     use crate::sheets::{record_length, Sheet};
 
     #[test]

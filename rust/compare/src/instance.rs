@@ -146,8 +146,7 @@ impl Instance {
 #[cfg(test)]
 mod tests {
     use super::*;
-    use crate::judged::Judge;
-    use crate::library::Library;
+    use crate::library::Library::Judge;
 
     fn any(random: &mut Random) -> Instance {
         let group = Group::any(random);
@@ -161,9 +160,9 @@ mod tests {
             let instance = any(&mut random);
             let mut round = instance.accepted(&mut random);
             let sheet = instance.sheet.bytes();
-            assert_eq!(Judge.judge(&sheet, round).accepted, 1);
+            assert_eq!(Judge.judge(&sheet, &round).accepted, 1);
             instance.shift(&mut random, &mut round.response);
-            assert_eq!(Judge.judge(&sheet, round).accepted, 1);
+            assert_eq!(Judge.judge(&sheet, &round).accepted, 1);
         }
     }
 

@@ -1,4 +1,7 @@
-//! The calls of the library.
+//! The libraries that are compared, and their calls.
+
+use crate::faults::{self, Fault};
+use crate::{judged, proved};
 
 pub use dimkhoros_sys::{
     phases, Computed, Counted, Fetched, Header, Judgement, Loaded, Part, Places, ProverAnswer,
@@ -15,85 +18,66 @@ pub struct Plan {
     pub challenges: u32,
 }
 
-/// One method for each call.
-///
-/// Entries are 64 numbers: row i, column j at place 8 i + j.
-pub trait Library {
-    fn load(&self, sheet: &[u8]) -> Loaded;
+/// A library that answers the calls.
+#[derive(Clone, Copy, Debug, PartialEq, Eq)]
+pub enum Library {
+    Proved,
+    Judge,
+    /// The judge with a planted fault.
+    Faulty(Fault),
+}
 
-    fn entries(&self, sheet: &[u8], entries: &mut [u32; 64]) -> u32;
+/// Makes a method for each call, which goes to the function of its name in the
+/// library's module.
+macro_rules! calls {
+    ($($name:ident($($argument:ident: $type:ty),*) -> $answer:ty;)*) => {
+        #[allow(clippy::wrong_self_convention, reason = "from_pattern is the name of a call")]
+        impl Library {
+            $(pub fn $name(self, $($argument: $type),*) -> $answer {
+                match self {
+                    Library::Proved => proved::$name($($argument),*),
+                    Library::Judge => judged::$name($($argument),*),
+                    Library::Faulty(fault) => faults::$name(fault, $($argument),*),
+                }
+            })*
+        }
+    };
+}
 
-    fn encode(
-        &self,
-        header: Header,
-        entries: &[u32; 64],
-        statement: &Places,
-        buffer: &mut [u8],
-    ) -> Written;
+// Entries are 64 numbers: row i, column j at place 8 i + j. The marker's text
+// is put at the start of `text`, and its length is answered.
+calls! {
+    load(sheet: &[u8]) -> Loaded;
+    entries(sheet: &[u8], entries: &mut [u32; 64]) -> u32;
+    encode(header: Header, entries: &[u32; 64], statement: &Places, buffer: &mut [u8]) -> Written;
+    from_pattern(plan: Plan, values: &[u32], statement: &[u32], buffer: &mut [u8]) -> Written;
 
-    fn from_pattern(
-        &self,
-        plan: Plan,
-        values: &[u32],
-        statement: &[u32],
-        buffer: &mut [u8],
-    ) -> Written;
+    count(sheet: &[u8], file: &[u8]) -> Counted;
+    check(sheet: &[u8], file: &[u8], number: usize) -> u32;
+    part(sheet: &[u8], file: &[u8], number: usize) -> Part;
+    read(sheet: &[u8], file: &[u8], number: usize) -> Fetched;
+    empty(buffer: &mut [u8]) -> Written;
+    append(sheet: &[u8], buffer: &mut [u8], used: usize, round: &Round) -> Written;
 
-    fn count(&self, sheet: &[u8], file: &[u8]) -> Counted;
+    judge(sheet: &[u8], round: &Round) -> Judgement;
+    simulate(sheet: &[u8], challenge: u32, response: &Places) -> Computed;
+    extract(sheet: &[u8], first: &Round, second: &Round) -> Computed;
 
-    fn check(&self, sheet: &[u8], file: &[u8], number: usize) -> u32;
-
-    fn part(&self, sheet: &[u8], file: &[u8], number: usize) -> Part;
-
-    fn read(&self, sheet: &[u8], file: &[u8], number: usize) -> Fetched;
-
-    fn empty(&self, buffer: &mut [u8]) -> Written;
-
-    fn append(&self, sheet: &[u8], buffer: &mut [u8], used: usize, round: Round) -> Written;
-
-    fn judge(&self, sheet: &[u8], round: Round) -> Judgement;
-
-    fn simulate(&self, sheet: &[u8], challenge: u32, response: &Places) -> Computed;
-
-    fn extract(&self, sheet: &[u8], first: Round, second: Round) -> Computed;
-
-    fn prover_new(&self) -> ProverSession;
-
-    fn prover_commit(&self, sheet: &[u8], session: ProverSession, nonce: &Places) -> ProverAnswer;
-
-    fn prover_respond(
-        &self,
-        sheet: &[u8],
-        session: ProverSession,
-        challenge: u32,
-        witness: &Places,
+    prover_new() -> ProverSession;
+    prover_commit(sheet: &[u8], session: ProverSession, nonce: &Places) -> ProverAnswer;
+    prover_respond(
+        sheet: &[u8], session: ProverSession, challenge: u32, witness: &Places
     ) -> ProverAnswer;
+    prover_drop(session: ProverSession) -> ProverAnswer;
 
-    fn prover_drop(&self, session: ProverSession) -> ProverAnswer;
-
-    fn verifier_new(&self) -> VerifierSession;
-
-    fn verifier_commitment(
-        &self,
-        sheet: &[u8],
-        session: VerifierSession,
-        commitment: &Places,
+    verifier_new() -> VerifierSession;
+    verifier_commitment(
+        sheet: &[u8], session: VerifierSession, commitment: &Places
     ) -> VerifierAnswer;
-
-    fn verifier_challenge(
-        &self,
-        sheet: &[u8],
-        session: VerifierSession,
-        challenge: u32,
-    ) -> VerifierAnswer;
-
-    fn verifier_response(
-        &self,
-        sheet: &[u8],
-        session: VerifierSession,
-        response: &Places,
+    verifier_challenge(sheet: &[u8], session: VerifierSession, challenge: u32) -> VerifierAnswer;
+    verifier_response(
+        sheet: &[u8], session: VerifierSession, response: &Places
     ) -> VerifierJudgement;
 
-    /// Puts the marker's text at the start of `text` and answers its length.
-    fn mark(&self, sheet: &[u8], file: &[u8], text: &mut [u8; LONGEST_TEXT]) -> usize;
+    mark(sheet: &[u8], file: &[u8], text: &mut [u8; LONGEST_TEXT]) -> usize;
 }

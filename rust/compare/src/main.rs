@@ -38,24 +38,12 @@ mod tally;
 use std::path::Path;
 use std::process::ExitCode;
 
-use faults::Faulty;
-use judged::Judge;
 use library::Library;
-use options::{Options, Other, COUNT};
+use options::{Options, COUNT};
 use program::PROGRAM;
-use proved::Proved;
 
 /// The fewest times that a full run must meet each number and verdict.
 const FEWEST: u64 = 50;
-
-/// The library to compare the judge with.
-fn library(other: Other) -> Box<dyn Library> {
-    match other {
-        Other::Proved => Box::new(Proved),
-        Other::Judge => Box::new(Judge),
-        Other::Faulty(fault) => Box::new(Faulty(fault)),
-    }
-}
 
 fn main() -> ExitCode {
     let options = match options::options(std::env::args().skip(1)) {
@@ -68,7 +56,7 @@ fn main() -> ExitCode {
     if let Some(folder) = &options.store {
         return store(folder);
     }
-    compare(&options, library(options.other).as_ref())
+    compare(&options)
 }
 
 /// Stores cases of the marker in the folder of the program that runs them.
@@ -80,10 +68,10 @@ fn store(folder: &Path) -> ExitCode {
     ExitCode::SUCCESS
 }
 
-/// Compares the library with the judge and prints what comes out.
-fn compare(options: &Options, library: &dyn Library) -> ExitCode {
+/// Compares the other library with the judge and prints what comes out.
+fn compare(options: &Options) -> ExitCode {
     println!("seed {}, {} cases", options.seed, options.count);
-    match stages(options, library) {
+    match stages(options) {
         Ok(()) => {
             println!("no difference");
             ExitCode::SUCCESS
@@ -96,18 +84,18 @@ fn compare(options: &Options, library: &dyn Library) -> ExitCode {
 }
 
 /// Prints what comes out of each stage. An error is the text of one that fails.
-fn stages(options: &Options, library: &dyn Library) -> Result<(), String> {
-    if options.other == Other::Proved {
+fn stages(options: &Options) -> Result<(), String> {
+    if options.other == Library::Proved {
         println!("{}", program::check(options.seed, Path::new(PROGRAM))?);
     }
-    let tally = run::run(options.seed, options.count, library)
+    let tally = run::run(options.seed, options.count, options.other)
         .map_err(|difference| difference.to_string())?;
     println!("{tally}");
     let lacks = tally.lacks(FEWEST);
     if options.count >= COUNT && !lacks.is_empty() {
         return Err(lacks.join("\n"));
     }
-    println!("{}", page_k::check(library)?);
-    println!("{}", demand_three::check(library)?);
+    println!("{}", page_k::check(options.other)?);
+    println!("{}", demand_three::check(options.other)?);
     Ok(())
 }

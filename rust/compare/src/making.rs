@@ -62,7 +62,7 @@ pub fn case(seed: u64, number: u64) -> Box<dyn Case> {
 mod tests {
     use super::*;
     use crate::calls::CALL_COUNT;
-    use crate::judged::Judge;
+    use crate::library::Library::Judge;
 
     #[test]
     fn equal_seeds_give_equal_cases() {
@@ -78,7 +78,7 @@ mod tests {
     fn every_call_is_made() {
         let mut met = [0; CALL_COUNT];
         for number in 0..4000 {
-            for (call, _) in case(1, number).run(&Judge).answers {
+            for (call, _) in case(1, number).run(Judge).answers {
                 met[call as usize] += 1;
             }
         }

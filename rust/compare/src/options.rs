@@ -3,6 +3,7 @@
 use std::path::PathBuf;
 
 use crate::faults::{Fault, FAULTS};
+use crate::library::Library;
 
 /// The seed of a run that names none.
 pub const SEED: u64 = 1;
@@ -10,20 +11,13 @@ pub const SEED: u64 = 1;
 /// How many cases a run has that names no count.
 pub const COUNT: u64 = 250_000;
 
-/// What the judge is compared with.
-#[derive(Clone, Copy, Debug, PartialEq, Eq)]
-pub enum Other {
-    Proved,
-    Judge,
-    Faulty(Fault),
-}
-
 /// What a run is to do.
 #[derive(Debug, PartialEq, Eq)]
 pub struct Options {
     pub seed: u64,
     pub count: u64,
-    pub other: Other,
+    /// What the judge is compared with.
+    pub other: Library,
     /// The folder to store cases of the marker in, in place of a comparison.
     pub store: Option<PathBuf>,
 }
@@ -36,15 +30,15 @@ pub fn options(mut words: impl Iterator<Item = String>) -> Result<Options, Strin
     let mut options = Options {
         seed: SEED,
         count: COUNT,
-        other: Other::Proved,
+        other: Library::Proved,
         store: None,
     };
     while let Some(word) = words.next() {
         match word.as_str() {
             "--seed" => options.seed = number(words.next())?,
             "--count" => options.count = number(words.next())?,
-            "--self" => options.other = Other::Judge,
-            "--fault" => options.other = Other::Faulty(fault(words.next())?),
+            "--self" => options.other = Library::Judge,
+            "--fault" => options.other = Library::Faulty(fault(words.next())?),
             "--store" => options.store = Some(folder(words.next())?),
             _ => return Err(USAGE.to_string()),
         }
@@ -86,15 +80,15 @@ mod tests {
     fn words_are_read() {
         let plain = read("").unwrap();
         assert_eq!((plain.seed, plain.count), (SEED, COUNT));
-        assert_eq!((plain.other, plain.store), (Other::Proved, None));
+        assert_eq!((plain.other, plain.store), (Library::Proved, None));
         let named = read("--seed 9 --count 10 --self").unwrap();
         assert_eq!((named.seed, named.count), (9, 10));
-        assert_eq!(named.other, Other::Judge);
+        assert_eq!(named.other, Library::Judge);
         let stored = read("--store folder").unwrap();
         assert_eq!(stored.store, Some(PathBuf::from("folder")));
         let name = FAULTS[0].name;
         let faulty = read(&format!("--fault {name}")).unwrap();
-        assert_eq!(faulty.other, Other::Faulty(FAULTS[0].fault));
+        assert_eq!(faulty.other, Library::Faulty(FAULTS[0].fault));
     }
 
     #[test]

@@ -1,8 +1,7 @@
 //! Page K of 01: eight rows load and nine do not, 512 rounds are read and 513
 //! are not.
 
-use crate::judged::Judge;
-use crate::library::Library;
+use crate::library::Library::{self, Judge};
 
 /// Page A's m, q and K with so many rows of one column, where every entry and
 /// every statement value is 1.
@@ -29,7 +28,7 @@ fn file(count: u16) -> Vec<u8> {
 }
 
 /// The numbers of eight and of nine rows, of 512 and of 513 rounds.
-fn numbers(library: &dyn Library) -> [u32; 4] {
+fn numbers(library: Library) -> [u32; 4] {
     let one = sheet(1);
     [
         library.load(&sheet(8)).refusal,
@@ -41,8 +40,8 @@ fn numbers(library: &dyn Library) -> [u32; 4] {
 
 /// Runs the page in both libraries and answers the line to print. An error says
 /// what differs.
-pub fn check(library: &dyn Library) -> Result<String, String> {
-    let (judged, other) = (numbers(&Judge), numbers(library));
+pub fn check(library: Library) -> Result<String, String> {
+    let (judged, other) = (numbers(Judge), numbers(library));
     if judged != other {
         return Err(format!(
             "page K: the judge gives {judged:?}, the library {other:?}"
@@ -57,15 +56,16 @@ pub fn check(library: &dyn Library) -> Result<String, String> {
 #[cfg(test)]
 mod tests {
     use super::*;
-    use crate::faults::{Fault, Faulty};
+    use crate::faults::Fault;
+    use crate::library::Library::Faulty;
 
     #[test]
     fn the_judge_gives_what_the_page_says() {
-        assert_eq!(numbers(&Judge), [0, 7, 0, 12]);
+        assert_eq!(numbers(Judge), [0, 7, 0, 12]);
     }
 
     #[test]
     fn a_library_that_reads_513_rounds_is_found() {
-        assert!(check(&Faulty(Fault::ManyRounds)).is_err());
+        assert!(check(Faulty(Fault::ManyRounds)).is_err());
     }
 }

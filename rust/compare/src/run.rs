@@ -3,8 +3,7 @@
 use std::fmt;
 
 use crate::cases::Case;
-use crate::judged::Judge;
-use crate::library::Library;
+use crate::library::Library::{self, Judge};
 use crate::making;
 use crate::outcome::Outcome;
 use crate::tally::Tally;
@@ -19,11 +18,11 @@ pub struct Difference {
 }
 
 /// Compares so many cases of this seed. Ends at the first difference.
-pub fn run(seed: u64, count: u64, other: &dyn Library) -> Result<Tally, Box<Difference>> {
+pub fn run(seed: u64, count: u64, other: Library) -> Result<Tally, Box<Difference>> {
     let mut tally = Tally::default();
     for number in 0..count {
         let case = making::case(seed, number);
-        let judged = case.run(&Judge);
+        let judged = case.run(Judge);
         let answered = case.run(other);
         if judged != answered {
             return Err(Box::new(Difference {

@@ -182,8 +182,7 @@ mod tests {
 
     use super::*;
     use crate::arithmetic::least_divisor;
-    use crate::judged::Judge;
-    use crate::library::Library;
+    use crate::library::Library::Judge;
 
     #[test]
     fn made_sheets_load_as_the_values_they_were_made_of() {

@@ -4,8 +4,7 @@ use std::fmt;
 
 use crate::calls::Call;
 use crate::cases::Case;
-use crate::judged::Judge;
-use crate::library::Library;
+use crate::library::Library::{self, Judge};
 use crate::outcome::{Answer, Outcome};
 use crate::printing::hex;
 
@@ -39,7 +38,7 @@ impl FileCase {
 }
 
 impl Case for FileCase {
-    fn run(&self, library: &dyn Library) -> Outcome {
+    fn run(&self, library: Library) -> Outcome {
         let (sheet, file, number) = (&self.sheet, &self.file, self.number);
         let answer = match self.call {
             FileCall::Count => Answer::Counted(library.count(sheet, file)),

@@ -18,7 +18,7 @@ pub struct MarkCase {
 }
 
 impl Case for MarkCase {
-    fn run(&self, library: &dyn Library) -> Outcome {
+    fn run(&self, library: Library) -> Outcome {
         let mut lent = self.lent.clone();
         let Some(text) = lent.buffer().first_chunk_mut::<LONGEST_TEXT>() else {
             panic!("a marker case lends fewer than {LONGEST_TEXT} bytes");

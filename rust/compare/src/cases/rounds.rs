@@ -34,16 +34,16 @@ impl RoundCase {
 }
 
 impl Case for RoundCase {
-    fn run(&self, library: &dyn Library) -> Outcome {
+    fn run(&self, library: Library) -> Outcome {
         let sheet = &self.sheet;
         let answer = match &self.call {
-            RoundCall::Judge(round) => Answer::Judged(library.judge(sheet, *round)),
+            RoundCall::Judge(round) => Answer::Judged(library.judge(sheet, round)),
             RoundCall::Simulate {
                 challenge,
                 response,
             } => Answer::Computed(library.simulate(sheet, *challenge, response)),
             RoundCall::Extract { first, second } => {
-                Answer::Computed(library.extract(sheet, *first, *second))
+                Answer::Computed(library.extract(sheet, first, second))
             }
         };
         Outcome::of(self.call(), answer)

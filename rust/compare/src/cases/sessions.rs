@@ -78,7 +78,7 @@ impl Step {
     }
 
     /// Makes the call. The session becomes the one that is handed back.
-    fn take(&self, library: &dyn Library, sheet: &[u8], sessions: &mut Sessions) -> Answer {
+    fn take(&self, library: Library, sheet: &[u8], sessions: &mut Sessions) -> Answer {
         let Sessions { prover, verifier } = *sessions;
         let answer = match self {
             Step::Commit { nonce } => Answer::Prover(library.prover_commit(sheet, prover, nonce)),
@@ -107,7 +107,7 @@ impl Step {
 }
 
 impl Case for SessionCase {
-    fn run(&self, library: &dyn Library) -> Outcome {
+    fn run(&self, library: Library) -> Outcome {
         let mut answers = Vec::new();
         let mut sessions = self.made.unwrap_or_else(|| {
             let (prover, verifier) = (library.prover_new(), library.verifier_new());

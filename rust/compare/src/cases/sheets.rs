@@ -22,7 +22,7 @@ pub enum SheetCase {
 }
 
 impl Case for SheetCase {
-    fn run(&self, library: &dyn Library) -> Outcome {
+    fn run(&self, library: Library) -> Outcome {
         match self {
             SheetCase::Load { sheet } => {
                 Outcome::of(Call::Load, Answer::Loaded(library.load(sheet)))

@@ -46,7 +46,7 @@ impl Writing {
         }
     }
 
-    fn write(&self, library: &dyn Library, buffer: &mut [u8]) -> Written {
+    fn write(&self, library: Library, buffer: &mut [u8]) -> Written {
         match self {
             Writing::Encode { sheet } => {
                 library.encode(sheet.header, &sheet.entries, &sheet.statement, buffer)
@@ -57,13 +57,13 @@ impl Writing {
                 statement,
             } => library.from_pattern(*plan, values, statement, buffer),
             Writing::Empty => library.empty(buffer),
-            Writing::Append { sheet, used, round } => library.append(sheet, buffer, *used, *round),
+            Writing::Append { sheet, used, round } => library.append(sheet, buffer, *used, round),
         }
     }
 }
 
 impl Case for WriterCase {
-    fn run(&self, library: &dyn Library) -> Outcome {
+    fn run(&self, library: Library) -> Outcome {
         let mut lent = self.lent.clone();
         let written = self.writing.write(library, lent.buffer());
         Outcome::with_memory(self.writing.call(), Answer::Written(written), lent.memory)

@@ -2,8 +2,8 @@
 
 use crate::arithmetic::{gcd, inverse, multiply, power};
 use crate::faults::Fault;
-use crate::judged::Judge;
-use crate::library::{Computed, Header, Library, Places, Round};
+use crate::library::Library::Judge;
+use crate::library::{Computed, Header, Places, Round};
 
 /// A refusal with this number.
 fn refused(refusal: u32) -> Computed {
@@ -13,7 +13,7 @@ fn refused(refusal: u32) -> Computed {
     }
 }
 
-pub fn extract(fault: Fault, sheet: &[u8], first: Round, second: Round) -> Computed {
+pub fn extract(fault: Fault, sheet: &[u8], first: &Round, second: &Round) -> Computed {
     let right = Judge.extract(sheet, first, second);
     match right.refusal {
         0 => witness(fault, &Judge.load(sheet).header, first, second, right),
@@ -26,8 +26,8 @@ pub fn extract(fault: Fault, sheet: &[u8], first: Round, second: Round) -> Compu
 fn witness(
     fault: Fault,
     header: &Header,
-    first: Round,
-    second: Round,
+    first: &Round,
+    second: &Round,
     mut right: Computed,
 ) -> Computed {
     let columns = header.columns as usize;
@@ -65,7 +65,12 @@ fn difference(one: u32, other: u32, m: u32) -> u32 {
 }
 
 /// The factor times the difference of the responses, in kind 1.
-fn combine_exponents(fault: Fault, header: &Header, first: Round, second: Round) -> Option<Places> {
+fn combine_exponents(
+    fault: Fault,
+    header: &Header,
+    first: &Round,
+    second: &Round,
+) -> Option<Places> {
     let Header { modulus, order, .. } = *header;
     let (c, other) = (first.challenge, second.challenge);
     let (reduced_mod, inverted, inverted_mod) = match fault {
@@ -88,7 +93,7 @@ fn combine_exponents(fault: Fault, header: &Header, first: Round, second: Round)
 }
 
 /// The quotient of the responses to the power b without z^a, in kind 2.
-fn combine_roots(fault: Fault, header: &Header, first: Round, second: Round) -> Option<Places> {
+fn combine_roots(fault: Fault, header: &Header, first: &Round, second: &Round) -> Option<Places> {
     let Header { modulus, order, .. } = *header;
     if fault != Fault::ExtractWithoutStatement {
         return None;
@@ -105,7 +110,7 @@ fn combine_roots(fault: Fault, header: &Header, first: Round, second: Round) -> 
 }
 
 /// The number of two rounds of which one is refused, or both.
-fn number(fault: Fault, sheet: &[u8], first: Round, second: Round, right: Computed) -> Computed {
+fn number(fault: Fault, sheet: &[u8], first: &Round, second: &Round, right: Computed) -> Computed {
     let verdicts = [first, second].map(|round| Judge.judge(sheet, round));
     match (fault, right.refusal) {
         (Fault::ExtractFirstRound, 14..=16) if verdicts[0].refusal != 0 => {

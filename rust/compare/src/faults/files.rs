@@ -1,8 +1,8 @@
 //! Faults of the calls that read a round file.
 
 use crate::faults::Fault;
-use crate::judged::Judge;
-use crate::library::{Counted, Fetched, Library, Part};
+use crate::library::Library::Judge;
+use crate::library::{Counted, Fetched, Part};
 use crate::sheets::record_length;
 
 pub fn count(fault: Fault, sheet: &[u8], file: &[u8]) -> Counted {

@@ -1,8 +1,8 @@
 //! Faults of the marker.
 
 use crate::faults::Fault;
-use crate::judged::Judge;
-use crate::library::{Library, LONGEST_TEXT};
+use crate::library::Library::Judge;
+use crate::library::LONGEST_TEXT;
 
 pub fn mark(fault: Fault, sheet: &[u8], file: &[u8], text: &mut [u8; LONGEST_TEXT]) -> usize {
     let mut whole = [0; LONGEST_TEXT];

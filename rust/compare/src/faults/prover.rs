@@ -3,9 +3,9 @@
 use crate::arithmetic::multiply;
 use crate::faults::rounds::{bad_beyond, slot_bound};
 use crate::faults::Fault;
-use crate::judged::Judge;
 use crate::library::phases::prover::{ANSWERED, COMMITTED, DROPPED, NEW};
-use crate::library::{Header, Library, Places, ProverAnswer, ProverSession};
+use crate::library::Library::Judge;
+use crate::library::{Header, Places, ProverAnswer, ProverSession};
 
 /// A refusal with this number, which hands the session back.
 fn refused(refusal: u32, session: ProverSession) -> ProverAnswer {
@@ -16,7 +16,7 @@ fn refused(refusal: u32, session: ProverSession) -> ProverAnswer {
     }
 }
 
-pub fn new(fault: Fault) -> ProverSession {
+pub fn prover_new(fault: Fault) -> ProverSession {
     let mut right = Judge.prover_new();
     match fault {
         Fault::ProverNewCommitted => right.phase = COMMITTED,
@@ -52,7 +52,12 @@ fn with_phase(
     answer
 }
 
-pub fn commit(fault: Fault, sheet: &[u8], session: ProverSession, nonce: &Places) -> ProverAnswer {
+pub fn prover_commit(
+    fault: Fault,
+    sheet: &[u8],
+    session: ProverSession,
+    nonce: &Places,
+) -> ProverAnswer {
     with_phase(fault, session, |session| {
         committed(fault, sheet, session, nonce)
     })
@@ -90,7 +95,7 @@ fn committed(fault: Fault, sheet: &[u8], session: ProverSession, nonce: &Places)
     }
 }
 
-pub fn respond(
+pub fn prover_respond(
     fault: Fault,
     sheet: &[u8],
     session: ProverSession,
@@ -221,7 +226,7 @@ fn respond_unfit(
     answer
 }
 
-pub fn give_up(fault: Fault, session: ProverSession) -> ProverAnswer {
+pub fn prover_drop(fault: Fault, session: ProverSession) -> ProverAnswer {
     with_phase(fault, session, |session| dropped(fault, session))
 }
 

@@ -5,8 +5,8 @@ use crate::faults::sheets::{
     one_in_range, restated, right_for_prime, with_word, word, CHALLENGES, MODULUS,
 };
 use crate::faults::Fault;
-use crate::judged::Judge;
-use crate::library::{Computed, Header, Judgement, Library, Places, Round};
+use crate::library::Library::Judge;
+use crate::library::{Computed, Header, Judgement, Places, Round};
 
 /// An accepted round.
 pub const ACCEPTED: Judgement = Judgement {
@@ -45,7 +45,7 @@ pub fn slot_bound(header: &Header) -> u32 {
     }
 }
 
-pub fn judge(fault: Fault, sheet: &[u8], round: Round) -> Judgement {
+pub fn judge(fault: Fault, sheet: &[u8], round: &Round) -> Judgement {
     let right = Judge.judge(sheet, round);
     match right.refusal {
         0 => verdict(fault, sheet, round, right),
@@ -55,7 +55,7 @@ pub fn judge(fault: Fault, sheet: &[u8], round: Round) -> Judgement {
 }
 
 /// The verdict on a round that is not refused.
-fn verdict(fault: Fault, sheet: &[u8], round: Round, right: Judgement) -> Judgement {
+fn verdict(fault: Fault, sheet: &[u8], round: &Round, right: Judgement) -> Judgement {
     let header = Judge.load(sheet).header;
     match fault {
         Fault::JudgeRowZero if right.row > 0 => ACCEPTED,
@@ -80,7 +80,7 @@ fn verdict(fault: Fault, sheet: &[u8], round: Round, right: Judgement) -> Judgem
 }
 
 /// The rows of a round that differ, where its challenge and response pass.
-fn differing(sheet: &[u8], round: Round) -> Vec<u32> {
+fn differing(sheet: &[u8], round: &Round) -> Vec<u32> {
     let rows = Judge.load(sheet).header.rows;
     let simulated = Judge.simulate(sheet, round.challenge, &round.response);
     let differs = |row: &u32| simulated.values[*row as usize] != round.commitment[*row as usize];
@@ -89,7 +89,7 @@ fn differing(sheet: &[u8], round: Round) -> Vec<u32> {
 
 /// The verdict on a round with a commitment value that is in range but is no
 /// group element, so that its row differs.
-fn range_only(sheet: &[u8], round: Round) -> Judgement {
+fn range_only(sheet: &[u8], round: &Round) -> Judgement {
     let simulated = Judge.simulate(sheet, round.challenge, &round.response);
     match simulated.refusal {
         0 => rejected(differing(sheet, round)[0]),
@@ -98,7 +98,7 @@ fn range_only(sheet: &[u8], round: Round) -> Judgement {
 }
 
 /// Judging where the sheet is refused.
-fn judge_bad_sheet(fault: Fault, sheet: &[u8], round: Round, right: Judgement) -> Judgement {
+fn judge_bad_sheet(fault: Fault, sheet: &[u8], round: &Round, right: Judgement) -> Judgement {
     match (fault, right.refusal) {
         (Fault::JudgeSheetLast, 10 | 11) if round.challenge >= word(sheet, CHALLENGES) => {
             refused(15)
@@ -115,28 +115,29 @@ fn judge_bad_sheet(fault: Fault, sheet: &[u8], round: Round, right: Judgement) -
 }
 
 /// Judging where the round is refused.
-fn judge_bad_round(fault: Fault, sheet: &[u8], mut round: Round, right: Judgement) -> Judgement {
+fn judge_bad_round(fault: Fault, sheet: &[u8], round: &Round, right: Judgement) -> Judgement {
     let header = Judge.load(sheet).header;
+    let mut changed = *round;
     let mut used = round.commitment.iter().take(header.rows as usize);
     match (fault, right.refusal) {
         (Fault::JudgeRangeOnly, 14) if used.all(|t| (1..header.modulus).contains(t)) => {
             range_only(sheet, round)
         }
         (Fault::JudgeCongruent, 14) => {
-            round.commitment = round.commitment.map(|t| t % header.modulus);
-            Judge.judge(sheet, round)
+            changed.commitment = round.commitment.map(|t| t % header.modulus);
+            Judge.judge(sheet, &changed)
         }
         (Fault::JudgeSlotReduced, 16) => {
-            round.response = round.response.map(|r| r % slot_bound(&header));
-            Judge.judge(sheet, round)
+            changed.response = round.response.map(|r| r % slot_bound(&header));
+            Judge.judge(sheet, &changed)
         }
         (Fault::JudgeChallengeAtCount, 15) if round.challenge == header.challenges => {
-            round.challenge -= 1;
-            Judge.judge(sheet, round)
+            changed.challenge -= 1;
+            Judge.judge(sheet, &changed)
         }
         (Fault::JudgeChallengeCut, 15) => {
-            round.challenge &= 0xffff;
-            Judge.judge(sheet, round)
+            changed.challenge &= 0xffff;
+            Judge.judge(sheet, &changed)
         }
         (Fault::JudgeResponseFirst, 14 | 15) => {
             match Judge.simulate(sheet, 0, &round.response).refusal {

@@ -1,8 +1,8 @@
 //! Faults of the two calls that read a sheet.
 
 use crate::faults::Fault;
-use crate::judged::Judge;
-use crate::library::{Library, Loaded};
+use crate::library::Library::Judge;
+use crate::library::Loaded;
 
 /// Where the modulus, the order and the challenge count stand.
 pub const MODULUS: usize = 6;

@@ -2,11 +2,11 @@
 
 use crate::faults::rounds::{bad_beyond, refused, rejected, ACCEPTED};
 use crate::faults::Fault;
-use crate::judged::Judge;
 use crate::library::phases::verifier::{ASKED, HOLDING, JUDGED, WAITING};
-use crate::library::{Library, Places, VerifierAnswer, VerifierJudgement, VerifierSession};
+use crate::library::Library::Judge;
+use crate::library::{Places, VerifierAnswer, VerifierJudgement, VerifierSession};
 
-pub fn new(fault: Fault) -> VerifierSession {
+pub fn verifier_new(fault: Fault) -> VerifierSession {
     let mut right = Judge.verifier_new();
     match fault {
         Fault::VerifierNewHolding => right.phase = HOLDING,
@@ -59,7 +59,7 @@ fn unfit(session: VerifierSession) -> VerifierAnswer {
     }
 }
 
-pub fn commitment(
+pub fn verifier_commitment(
     fault: Fault,
     sheet: &[u8],
     session: VerifierSession,
@@ -94,7 +94,7 @@ fn held(
     right
 }
 
-pub fn challenge(
+pub fn verifier_challenge(
     fault: Fault,
     sheet: &[u8],
     session: VerifierSession,
@@ -148,7 +148,7 @@ fn asked_with(
     answer
 }
 
-pub fn response(
+pub fn verifier_response(
     fault: Fault,
     sheet: &[u8],
     session: VerifierSession,

@@ -1,8 +1,8 @@
 //! Faults of the calls that write into a lent buffer.
 
 use crate::faults::Fault;
-use crate::judged::Judge;
-use crate::library::{Header, Library, Plan, Round, Written};
+use crate::library::Library::Judge;
+use crate::library::{Header, Plan, Round, Written};
 use crate::sheets::record_length;
 
 /// A refusal with this number.
@@ -113,7 +113,13 @@ pub fn empty(fault: Fault, buffer: &mut [u8]) -> Written {
     Judge.empty(buffer)
 }
 
-pub fn append(fault: Fault, sheet: &[u8], buffer: &mut [u8], used: usize, round: Round) -> Written {
+pub fn append(
+    fault: Fault,
+    sheet: &[u8],
+    buffer: &mut [u8],
+    used: usize,
+    round: &Round,
+) -> Written {
     let before = buffer.to_vec();
     if fault == Fault::UsedCut {
         return Judge.append(sheet, buffer, used & 0xffff_ffff, round);
@@ -121,7 +127,7 @@ pub fn append(fault: Fault, sheet: &[u8], buffer: &mut [u8], used: usize, round:
     let right = Judge.append(sheet, buffer, used, round);
     let header = Judge.load(sheet).header;
     match (fault, right.refusal) {
-        (_, 12) => append_unfit(fault, sheet, buffer, used, round),
+        (_, 12) => append_unfit(fault, sheet, buffer, used, &record(sheet, round)),
         (Fault::CountCarry, 0) => {
             buffer[5] = before[5];
             right
@@ -142,30 +148,34 @@ pub fn append(fault: Fault, sheet: &[u8], buffer: &mut [u8], used: usize, round:
     }
 }
 
-/// Appending where the bytes in use are refused.
+/// The bytes of a round, as it stands in a file.
+fn record(sheet: &[u8], round: &Round) -> Vec<u8> {
+    let mut file = vec![0; 7 + record_length(&Judge.load(sheet).header)];
+    Judge.empty(&mut file);
+    Judge.append(sheet, &mut file, 7, round);
+    file.split_off(7)
+}
+
+/// Appending this record where the bytes in use are refused.
 fn append_unfit(
     fault: Fault,
     sheet: &[u8],
     buffer: &mut [u8],
     used: usize,
-    round: Round,
+    record: &[u8],
 ) -> Written {
-    let record = record_length(&Judge.load(sheet).header);
     let Some(file) = buffer.get(..used) else {
         return refused(if fault == Fault::UsedBeyond { 22 } else { 12 });
     };
     let counted = Judge.count(sheet, file);
-    let short = buffer.len() < used + record;
+    let length = used + record.len();
+    let short = buffer.len() < length;
     match (fault, counted.refusal) {
         (Fault::FullFileShort, 0) | (Fault::FileUntested, 12) if short => refused(22),
         (Fault::FileUntested, 12) => {
             let count = u16::from_be_bytes([buffer[5], buffer[6]]).wrapping_add(1);
             buffer[5..7].copy_from_slice(&count.to_be_bytes());
-            let mut fresh = vec![0; 7 + record];
-            Judge.empty(&mut fresh);
-            Judge.append(sheet, &mut fresh, 7, round);
-            let length = used + record;
-            buffer[used..length].copy_from_slice(&fresh[7..]);
+            buffer[used..length].copy_from_slice(record);
             Written { refusal: 0, length }
         }
         _ => refused(12),

@@ -51,7 +51,7 @@ pub fn written(result: Result<usize, u32>) -> Written {
 }
 
 /// A round for the judge.
-pub fn round(round: Round) -> judge::Round {
+pub fn round(round: &Round) -> judge::Round {
     judge::Round {
         commitment: round.commitment,
         challenge: round.challenge,

@@ -88,7 +88,7 @@ fn other(random: &mut Random, instance: &Instance) -> Round {
 #[cfg(test)]
 mod tests {
     use super::*;
-    use crate::judged::Judge;
+    use crate::library::Library::Judge;
 
     #[test]
     fn every_line_of_a_marker_is_met() {
@@ -106,7 +106,7 @@ mod tests {
         ];
         let mut met = [0; 10];
         for seed in 0..1500 {
-            let outcome = mark(&mut Random::new(seed)).run(&Judge);
+            let outcome = mark(&mut Random::new(seed)).run(Judge);
             let text = String::from_utf8_lossy(&outcome.memory).into_owned();
             for (times, line) in met.iter_mut().zip(lines) {
                 *times += u32::from(text.contains(line));
