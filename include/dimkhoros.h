@@ -103,7 +103,7 @@ extern "C" {
     REFUSAL(21, SESSION, "the session's state does not allow the call, or what it holds does not fit this sheet") \
     REFUSAL(22, BUFFER, "the buffer is too short for the result")
 
-/* The refusals by name: DIMKHOROS_REFUSED_PATTERN is 1, and so on to DIMKHOROS_REFUSED_BUFFER, which is 22. */
+/* The refusals by name: DIMKHOROS_REFUSED_PATTERN is 1, and so on through the list. */
 enum {
 #define DIMKHOROS_REFUSAL(number, name, sentence) DIMKHOROS_REFUSED_##name = number,
     DIMKHOROS_REFUSALS(DIMKHOROS_REFUSAL)

@@ -48,7 +48,7 @@ const fn entry(call: Call, name: &'static str, loads: bool, others: &'static [u3
 /// The calls in the order of their enum. A marker's text gives the number of
 /// the first refused round where it has one.
 #[rustfmt::skip]
-const CALLS: [Entry; 22] = [
+const CALLS: &[Entry] = &[
     entry(Call::Load, "load", true, &[]),
     entry(Call::Entries, "entries", true, &[]),
     entry(Call::Encode, "encode", false, &[4, 5, 6, 7, 8, 10, 11, 22]),
@@ -78,6 +78,33 @@ pub const CALL_COUNT: usize = CALLS.len();
 
 /// The numbers that the loading of a sheet can give.
 pub const SHEET_NUMBERS: [u32; 10] = [2, 3, 4, 5, 6, 7, 8, 9, 10, 11];
+
+/// The highest number that a call can give.
+pub const LAST: u32 = {
+    let mut last = highest(&SHEET_NUMBERS);
+    let mut place = 0;
+    while place < CALL_COUNT {
+        let other = highest(CALLS[place].others);
+        if other > last {
+            last = other;
+        }
+        place += 1;
+    }
+    last
+};
+
+/// The highest of these numbers, 0 where there is none.
+const fn highest(numbers: &[u32]) -> u32 {
+    let mut highest = 0;
+    let mut place = 0;
+    while place < numbers.len() {
+        if numbers[place] > highest {
+            highest = numbers[place];
+        }
+        place += 1;
+    }
+    highest
+}
 
 impl Call {
     /// All calls.

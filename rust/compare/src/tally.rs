@@ -2,13 +2,10 @@
 
 use std::fmt;
 
-use crate::calls::{Call, CALL_COUNT};
+use crate::calls::{Call, CALL_COUNT, LAST};
 use crate::cases::Case;
 use crate::library::Judgement;
 use crate::outcome::Outcome;
-
-/// The highest number of 01.
-const LAST: u32 = 22;
 
 /// The verdicts: accepted, and rejected in each of eight rows.
 const VERDICTS: [&str; 9] = [

@@ -27,7 +27,7 @@ macro_rules! refusals {
         }
 
         /// Every refusal with its sentence, that of number k at place k - 1.
-        const TABLE: [(Refusal, &str); 22] = [$((Refusal::$name, $sentence)),*];
+        const TABLE: [(Refusal, &str); [$($number),*].len()] = [$((Refusal::$name, $sentence)),*];
     };
 }
 
@@ -57,7 +57,7 @@ refusals! {
 }
 
 impl Refusal {
-    /// The refusal's number, 1 to 22.
+    /// The refusal's number, from 1 on.
     ///
     /// ```
     /// assert_eq!(dimkhoros::Refusal::Session.number(), 21);

@@ -8,7 +8,7 @@ static void print_refusals(void) {
 #define REFUSAL(number, name, sentence) printf("%d %s %s\n", DIMKHOROS_REFUSED_##name, #name, dimkhoros_sentence(number));
     DIMKHOROS_REFUSALS(REFUSAL)
 #undef REFUSAL
-    printf("%s\n%s\n", dimkhoros_sentence(0), dimkhoros_sentence(23));
+    printf("%s\n%s\n", dimkhoros_sentence(0), dimkhoros_sentence(UINT32_MAX));
 }
 
 int main(void) {

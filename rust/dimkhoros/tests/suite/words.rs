@@ -20,9 +20,9 @@ fn c_name(name: impl Debug) -> String {
 #[test]
 fn refusals_and_patterns_are_the_same_in_c() {
     let mut text = String::new();
-    for number in 1..=22 {
-        let refusal = Refusal::from_number(number).unwrap();
-        writeln!(text, "{number} {} {}", c_name(refusal), refusal.sentence()).unwrap();
+    for refusal in (1..).map_while(Refusal::from_number) {
+        let name = c_name(refusal);
+        writeln!(text, "{} {name} {}", refusal.number(), refusal.sentence()).unwrap();
     }
     text += "nothing is refused\nno refusal has this number\n";
     use Pattern::*;
@@ -31,5 +31,5 @@ fn refusals_and_patterns_are_the_same_in_c() {
     }
     assert_eq!(text, cc::run("words.c"));
     assert_eq!(Refusal::from_number(0), None);
-    assert_eq!(Refusal::from_number(23), None);
+    assert_eq!(Refusal::from_number(u32::MAX), None);
 }
