@@ -44,7 +44,7 @@ fn the_pieces_of_the_readme_run() {
     let mut command = Command::new(cargo);
     command.args(["run", "--offline", "--quiet"]).current_dir(&folder);
     let printed = cc::succeed(&mut command);
-    let expected = "8 refusal 8: the challenge count has to be 2 to 65536, and no smaller number from 2 on may divide the \
-                    order or exponent\nsend 9\nsend 4\n";
+    let expected = "8 the challenge count has to be 2 to 65536, and no smaller number from 2 on may divide the order or \
+                    exponent\nsend 9\nsend 4\n";
     assert_eq!(printed, expected);
 }
