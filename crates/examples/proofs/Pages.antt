@@ -1,7 +1,7 @@
--- Every starred page and the marker's example hold of the definitions, by computation.
+-- Every starred page and every bound of a refusal hold of the definitions, by computation.
 -- Assumes nothing.
-use mathlib.Core.Path.{_≡_, refl}
-use mathlib.Core.List.{[], _∷_, map, flatten}
+use mathlib.Core.Path.{refl}
+use mathlib.Core.List.{flatten}
 use Rattle.numbers.specs.Gcd.{euclid, gcd}
 use Rattle.numbers.specs.Integer.{residue, quotient, power, bezoutRight, bezoutLeft}
 use Rattle.numbers.specs.Inverse.{inverse}
@@ -53,8 +53,9 @@ use Rattle.sigma.specs.Round.{
   badWitness,
 }
 use Rattle.sigma.specs.Simulator.{simulated, simulateRules, simulateAfter}
-use Rattle.formats.specs.Encode.{headerBytes, storedEntries, sheetOf}
-use Rattle.formats.specs.Load.{badStart, badVersion, badLength, shapeRules, loadRules, loadRefusal}
+use Rattle.formats.specs.Append.{emptyFile, badInUse, appendRules, appended, appendAfter, append}
+use Rattle.formats.specs.Encode.{headerBytes, storedEntries, sheetOf, encodeRules, encode}
+use Rattle.formats.specs.Load.{badStart, badVersion, badLength, shapeRules, loadRules, loadRefusal, noHeader, load, loadEntries}
 use Rattle.formats.specs.Pattern.{
   patterns,
   patternOf,
@@ -76,6 +77,7 @@ use Rattle.formats.specs.RoundCalls.{
   checkAfter,
   fetchAfter,
   countRounds,
+  checkRound,
   fetchRound,
 }
 use Rattle.formats.specs.RoundFile.{
@@ -85,8 +87,10 @@ use Rattle.formats.specs.RoundFile.{
   challengeWidth,
   recordLength,
   recordStart,
+  recordBytes,
   roundAt,
   badFile,
+  noRounds,
 }
 use Rattle.formats.specs.Sheet.{
   sheetMark,
@@ -125,6 +129,8 @@ use Rattle.runs.specs.Prover.{
   respondAfter,
   commit,
   respond,
+  dropRules,
+  dropSession,
 }
 use Rattle.runs.specs.Verifier.{
   isWaiting,
@@ -143,8 +149,40 @@ use Rattle.runs.specs.Verifier.{
   takeChallenge,
   takeResponse,
 }
-use Rattle.examples.specs.MarkerExample.{exampleFile, exampleText}
-use Rattle.examples.specs.Pages.{Page, array, smallRound, run, bothWays, judgedNumber, pages}
+use Rattle.examples.specs.Corners.{
+  unitSheet,
+  onesSheet,
+  manyChallenges,
+  changed,
+  rootBytes,
+  making,
+  makingIn,
+  encodingIn,
+  zerosFile,
+  noBytes,
+  counting,
+  appending,
+  startingIn,
+  extracting,
+  simulating,
+  peggy,
+  held,
+  committing,
+  responding,
+  dropping,
+  vic,
+  hearing,
+  asking,
+  telling,
+  sheetCorners,
+  fileCorners,
+  roundCorners,
+  sessionCorners,
+  corners,
+  EveryCorner,
+}
+use Rattle.examples.specs.MarkerExample.{exampleFile, exampleText, noRoundsText, refusedSheetText, refusedFileText}
+use Rattle.examples.specs.Pages.{array, smallRound, run, bothWays, judgedNumber, pages, EveryPage}
 use Rattle.examples.specs.Sheets.{
   smallSheet,
   schnorrSheet,
@@ -155,11 +193,8 @@ use Rattle.examples.specs.Sheets.{
   rootSheet,
 }
 
--- the table has every page, and what the definitions give is what 01 prints
-pub every-page :
-    (map (λ (page : Page). page .letter) pages
-    ≡ "A" ∷ "B" ∷ "C" ∷ "D" ∷ "E" ∷ "F" ∷ "G" ∷ "H" ∷ "I" ∷ "J" ∷ "marker" ∷ [])
-    × (map (λ (page : Page). page .given) pages ≡ map (λ (page : Page). page .printed) pages)
+-- both tables hold
+pub worked-examples : EveryPage × EveryCorner
 unfolding euclid gcd residue quotient power bezoutRight bezoutLeft inverse product find any itemsAt tabulate places
     pad8 zeros8 unlessRefused lowest numberAt bytesOf bytesOfEach ascii digits decimal firstDivisor badKind badModulus
     badOrder badSize badCount badEntries badStatement headerRules elementRules outcome isAccepted judged eightPlaces
@@ -176,5 +211,12 @@ unfolding euclid gcd residue quotient power bezoutRight bezoutLeft inverse produ
     isWaiting isHolding isAsked newVerifier verifierStep unfitCommitment takeCommitmentRules takeCommitmentAfter
     takeChallengeRules takeChallengeAfter takeResponseRules takeResponseAfter takeCommitment takeChallenge
     takeResponse jointRun exampleFile exampleText array smallRound run bothWays judgedNumber pages smallSheet
-    schnorrSheet madeSheet okamotoSheet diffieHellmanSheet productSheet rootSheet flatten
-every-page = (refl, refl)
+    schnorrSheet madeSheet okamotoSheet diffieHellmanSheet productSheet rootSheet flatten noRoundsText refusedSheetText
+    refusedFileText unitSheet onesSheet manyChallenges changed rootBytes making makingIn encodingIn zerosFile noBytes
+    counting appending startingIn extracting simulating peggy held committing responding dropping vic hearing asking
+    telling sheetCorners fileCorners roundCorners sessionCorners corners noRounds badInUse appendRules recordBytes
+    appended appendAfter append emptyFile noHeader load loadEntries encodeRules encode dropRules dropSession checkRound
+worked-examples = (
+  record { letters = refl; holds = refl },
+  record { numbered = refl; inside = refl; outside = refl },
+)

@@ -2,3 +2,4 @@
 pub mod Sheets
 pub mod Pages
 pub mod MarkerExample
+pub mod Corners

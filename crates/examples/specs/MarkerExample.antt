@@ -1,16 +1,37 @@
--- The round file of 01's marker example, and the text that the marker prints for it.
+-- The round file of 01's marker example, and the texts that the marker prints, byte by byte.
 -- Assumes nothing.
 use Prim.Native.Nat.{ℕ}
-use mathlib.Core.List.{List, [], _∷_, _++_}
-use Rattle.encoding.specs.Bytes.{bytesOfEach}
-use Rattle.encoding.specs.Text.{ascii}
+use mathlib.Core.List.{List, [], _∷_}
 
 -- the rounds (9,3,4), (9,1,1), (9,1,2) and (5,0,0)
 unfoldable pub exampleFile : List ℕ
 exampleFile =
-    0x52 ∷ 0x4E ∷ 0x44 ∷ 0 ∷ 1 ∷ 0 ∷ 4 ∷ [] ++
-    bytesOfEach 4 (9 ∷ 3 ∷ 4 ∷ 9 ∷ 1 ∷ 1 ∷ 9 ∷ 1 ∷ 2 ∷ 5 ∷ 0 ∷ 0 ∷ [])
+    0x52 ∷ 0x4E ∷ 0x44 ∷ 0 ∷ 1 ∷ 0 ∷ 4 ∷
+    0 ∷ 0 ∷ 0 ∷ 9 ∷ 0 ∷ 0 ∷ 0 ∷ 3 ∷ 0 ∷ 0 ∷ 0 ∷ 4 ∷
+    0 ∷ 0 ∷ 0 ∷ 9 ∷ 0 ∷ 0 ∷ 0 ∷ 1 ∷ 0 ∷ 0 ∷ 0 ∷ 1 ∷
+    0 ∷ 0 ∷ 0 ∷ 9 ∷ 0 ∷ 0 ∷ 0 ∷ 1 ∷ 0 ∷ 0 ∷ 0 ∷ 2 ∷
+    0 ∷ 0 ∷ 0 ∷ 5 ∷ 0 ∷ 0 ∷ 0 ∷ 0 ∷ 0 ∷ 0 ∷ 0 ∷ 0 ∷ []
 
--- 01's six lines
+-- 01's six lines: rounds 4, 0 accepted, 1 accepted, 2 rejected 0, 3 refused 14, fail
 unfoldable pub exampleText : List ℕ
-exampleText = ascii "rounds 4\n0 accepted\n1 accepted\n2 rejected 0\n3 refused 14\nfail\n"
+exampleText =
+    0x72 ∷ 0x6F ∷ 0x75 ∷ 0x6E ∷ 0x64 ∷ 0x73 ∷ 0x20 ∷ 0x34 ∷ 0x0A ∷
+    0x30 ∷ 0x20 ∷ 0x61 ∷ 0x63 ∷ 0x63 ∷ 0x65 ∷ 0x70 ∷ 0x74 ∷ 0x65 ∷ 0x64 ∷ 0x0A ∷
+    0x31 ∷ 0x20 ∷ 0x61 ∷ 0x63 ∷ 0x63 ∷ 0x65 ∷ 0x70 ∷ 0x74 ∷ 0x65 ∷ 0x64 ∷ 0x0A ∷
+    0x32 ∷ 0x20 ∷ 0x72 ∷ 0x65 ∷ 0x6A ∷ 0x65 ∷ 0x63 ∷ 0x74 ∷ 0x65 ∷ 0x64 ∷ 0x20 ∷ 0x30 ∷ 0x0A ∷
+    0x33 ∷ 0x20 ∷ 0x72 ∷ 0x65 ∷ 0x66 ∷ 0x75 ∷ 0x73 ∷ 0x65 ∷ 0x64 ∷ 0x20 ∷ 0x31 ∷ 0x34 ∷ 0x0A ∷
+    0x66 ∷ 0x61 ∷ 0x69 ∷ 0x6C ∷ 0x0A ∷ []
+
+-- the text on a file of no rounds: rounds 0, pass
+unfoldable pub noRoundsText : List ℕ
+noRoundsText =
+    0x72 ∷ 0x6F ∷ 0x75 ∷ 0x6E ∷ 0x64 ∷ 0x73 ∷ 0x20 ∷ 0x30 ∷ 0x0A ∷
+    0x70 ∷ 0x61 ∷ 0x73 ∷ 0x73 ∷ 0x0A ∷ []
+
+-- the text on a sheet of no bytes: sheet 2
+unfoldable pub refusedSheetText : List ℕ
+refusedSheetText = 0x73 ∷ 0x68 ∷ 0x65 ∷ 0x65 ∷ 0x74 ∷ 0x20 ∷ 0x32 ∷ 0x0A ∷ []
+
+-- the text on a file of no bytes: file 12
+unfoldable pub refusedFileText : List ℕ
+refusedFileText = 0x66 ∷ 0x69 ∷ 0x6C ∷ 0x65 ∷ 0x20 ∷ 0x31 ∷ 0x32 ∷ 0x0A ∷ []

@@ -1,12 +1,13 @@
--- The starred pages and the marker's example as one table: what the definitions give beside what 01 prints.
+-- The starred pages and texts of the marker as one table: what the definitions give beside what 01 prints.
 -- Assumes nothing.
 use Prim.Native.Nat.{ℕ}
 use Prim.Native.String.{String}
-use mathlib.Core.List.{List, [], _∷_, _++_}
+use mathlib.Core.Path.{_≡_}
+use mathlib.Core.List.{List, [], _∷_, _++_, map}
 use lib.ListN.{replicate, take}
 use Rattle.types.specs.declared.Round.{Round}
 use Rattle.lists.specs.Places.{places}
-use Rattle.examples.specs.MarkerExample.{exampleFile, exampleText}
+use Rattle.examples.specs.MarkerExample.{exampleFile, exampleText, noRoundsText, refusedSheetText, refusedFileText}
 use Rattle.examples.specs.Sheets.{
   smallSheet,
   schnorrSheet,
@@ -55,7 +56,7 @@ bothWays sheet first second =
 unfoldable pub judgedNumber : List ℕ → Round → ℕ
 judgedNumber sheet round = outcome (judgeRound sheet round) .number
 
--- the starred pages, A to J, and the marker's example
+-- the starred pages, A to J, and texts of the marker
 unfoldable pub pages : List Page
 pages =
     record { letter = "A"; given = run schnorrSheet (7 ∷ []) (5 ∷ []) 3; printed = 9 ∷ 4 ∷ 1 ∷ [] } ∷
@@ -96,4 +97,18 @@ pages =
           judgedNumber schnorrSheet (smallRound 9 0 11) ∷ [];
       printed = 14 ∷ 0 ∷ 16 ∷ [];
     } ∷
-    record { letter = "marker"; given = markerText schnorrSheet exampleFile; printed = exampleText } ∷ []
+    record { letter = "marker"; given = markerText schnorrSheet exampleFile; printed = exampleText } ∷
+    record {
+      letter = "no rounds";
+      given = markerText schnorrSheet (take 5 exampleFile ++ 0 ∷ 0 ∷ []);
+      printed = noRoundsText;
+    } ∷
+    record { letter = "no sheet"; given = markerText [] exampleFile; printed = refusedSheetText } ∷
+    record { letter = "no file"; given = markerText schnorrSheet []; printed = refusedFileText } ∷ []
+
+-- the table has every page, and what the definitions give is what 01 prints
+pub record EveryPage : Type 0 where
+  pub letters :
+      map (λ (page : Page). page .letter) pages
+      ≡ "A" ∷ "B" ∷ "C" ∷ "D" ∷ "E" ∷ "F" ∷ "G" ∷ "H" ∷ "I" ∷ "J" ∷ "marker" ∷ "no rounds" ∷ "no sheet" ∷ "no file" ∷ []
+  pub holds : map (λ (page : Page). page .given) pages ≡ map (λ (page : Page). page .printed) pages
