@@ -12,7 +12,7 @@ use Rattle.numbers.specs.Integer.{residue, power}
 use Rattle.numbers.specs.Inverse.{inverse}
 use Rattle.numbers.specs.Product.{product}
 use Rattle.rules.proofs.Says.{says-false, says-decides}
-use Rattle.sigma.specs.Instance.{Instance, isExponent, entry, statementAt}
+use Rattle.sigma.specs.Instance.{Instance, Table, isExponent, entry, statementAt}
 use Rattle.sigma.specs.Image.{rowImage}
 use Rattle.sigma.specs.Round.{responseCoordinate}
 use Rattle.sigma.specs.Extractor.{combine, divide, raise, baseCoordinate}
@@ -53,13 +53,14 @@ module _ (h : Header) (e : h .kind ≡ 1) where
   unfolding raise
   raise-exponent x k = rw (exponent-kind h e)
 
-module _ (i : Instance) (e : i .header .kind ≡ 1) where
+module _ (table : Table) (e : table .header .kind ≡ 1) where
   -- a row of [x] is the product of the entries' powers
-  pub rowImage-exponent : (x : List ℕ) (r : ℕ)
-      → rowImage i x r ≡ product (i .header .columns) (λ c. entry i r c ^ getD x c 0) % i .header .modulus
+  pub rowImage-exponent : (x : List ℕ) (i : ℕ)
+      → rowImage table x i ≡ product (table .header .columns) (λ j. entry table i j ^ getD x j 0) % table .header .modulus
   unfolding rowImage
-  rowImage-exponent x r = rw (exponent-kind (i .header) e)
+  rowImage-exponent x i = rw (exponent-kind (table .header) e)
 
+module _ (i : Instance) (e : i .header .kind ≡ 1) where
   -- u is all zeros
   pub baseCoordinate-exponent : (j : ℕ) → baseCoordinate i j ≡ 0
   unfolding baseCoordinate
@@ -88,12 +89,13 @@ module _ (h : Header) (e : h .kind ≢ 1) where
   unfolding raise
   raise-root x k = rw (root-kind h e)
 
-module _ (i : Instance) (e : i .header .kind ≢ 1) where
+module _ (table : Table) (e : table .header .kind ≢ 1) where
   -- a row of [x] is the slot's power
-  pub rowImage-root : (x : List ℕ) (r : ℕ) → rowImage i x r ≡ getD x r 0 ^ i .header .order % i .header .modulus
+  pub rowImage-root : (x : List ℕ) (i : ℕ) → rowImage table x i ≡ getD x i 0 ^ table .header .order % table .header .modulus
   unfolding rowImage
-  rowImage-root x r = rw (root-kind (i .header) e)
+  rowImage-root x i = rw (root-kind (table .header) e)
 
+module _ (i : Instance) (e : i .header .kind ≢ 1) where
   -- u is the statement
   pub baseCoordinate-root : (j : ℕ) → baseCoordinate i j ≡ statementAt i j
   unfolding baseCoordinate
