@@ -10,7 +10,7 @@ use lib.IntN.{ℤ, pos, _-ℤ_, *ℤ-zero}
 use lib.ListN.{getD}
 use lib.Seq.{ext-getD}
 use Rattle.lists.specs.Places.{tabulate}
-use Rattle.lists.proofs.Each.{each-from, each-length}
+use Rattle.lists.proofs.Each.{each-from, each-at, each-length}
 use Rattle.lists.proofs.Places.{length-tabulate, getD-tabulate}
 use Rattle.groups.specs.Group.{power as groupPower, quotient}
 use Rattle.groups.specs.Round.{Accepts, Bezout, witnessFormula}
@@ -21,18 +21,21 @@ use Rattle.numbers.proofs.Integer.{residue-pos}
 use Rattle.numbers.proofs.Product.{product-agree, product-one}
 use Rattle.sigma.specs.Instance.{Instance, tableOf, entry, statementAt}
 use Rattle.sigma.specs.Element.{Coordinate}
-use Rattle.sigma.specs.Extractor.{raise, baseCoordinate, formula}
+use Rattle.sigma.specs.Extractor.{formula}
 use Rattle.sigma.specs.Image.{rowImage}
 use Rattle.sigma.specs.Knowledge.{Witness}
 use Rattle.sigma.specs.Valid.{Valid}
-use Rattle.sigma.proofs.ByKind.{by-kind, raise-exponent, raise-root, baseCoordinate-exponent, baseCoordinate-root}
-use Rattle.sigma.proofs.ByKind.{rowImage-exponent, rowImage-root}
-use Rattle.sigma.proofs.CoordinateGroup.{coordinate-exponent, coordinate-root}
-use Rattle.sigma.proofs.Formula.{length-formula, formula-at}
+use Rattle.sigma.proofs.ByKind.{by-kind, rowImage-exponent, rowImage-root}
+use Rattle.sigma.proofs.CoordinateGroup.{raise, raise-exponent, raise-root, coordinate-exponent, coordinate-root}
+use Rattle.sigma.proofs.Formula.{baseSlot, baseSlot-exponent, baseSlot-root, slot-combined, length-formula, formula-at}
 use Rattle.sigma.proofs.Homomorphism.{Domain, Codomain, coordinatesOf, elementsOf, domainGroup, codomainGroup}
 use Rattle.sigma.proofs.Homomorphism.{imageOf, imageOf-at, homomorphism, row-column}
 use Rattle.sigma.proofs.Maurer.{statementVector, statementVector-at, product-slot, power-slot, power-row, quotient-slot}
 use Rattle.sigma.proofs.Valid.{valid-modulus, valid-order, valid-kind}
+
+-- slot j of u
+abbrev pub baseCoordinate : Instance → ℕ → ℕ
+baseCoordinate inst j = baseSlot (inst .header) (statementAt inst j)
 
 module _ {inst : Instance} (v : Valid inst) where
   -- a column's index is a row's in kind 2
@@ -42,8 +45,8 @@ module _ {inst : Instance} (v : Valid inst) where
   -- each slot of u is a coordinate
   base-in : (j : ℕ) → j < inst .header .columns → Coordinate (inst .header) (baseCoordinate inst j)
   base-in j h =
-      by-kind (inst .header) (λ e. rw (baseCoordinate-exponent inst e j) (coordinate-exponent (inst .header) e 0 (valid-order (v .table))))
-      (λ n. rw (baseCoordinate-root inst n j) (coordinate-root (inst .header) n _ (v .statement j (column-row n j h))))
+      by-kind (inst .header) (λ e. rw (baseSlot-exponent (inst .header) e _) (coordinate-exponent (inst .header) e 0 (valid-order (v .table))))
+      (λ n. rw (baseSlot-root (inst .header) n _) (coordinate-root (inst .header) n _ (v .statement j (column-row n j h))))
 
   -- u as n coordinates
   pub baseOf : Domain (tableOf inst)
@@ -64,12 +67,12 @@ module _ {inst : Instance} (v : Valid inst) where
       by-kind (inst .header) (λ e.
       let n = inst .header .columns in
       let ones : (j : ℕ) → j < n → entry (tableOf inst) i j ^ getD (baseOf .0) j 0 ≡ 1 = λ j b.
-      rw (baseOf-at j b, baseCoordinate-exponent inst e j) (pow-zero (entry (tableOf inst) i j)) in
+      rw (baseOf-at j b, baseSlot-exponent (inst .header) e _) (pow-zero (entry (tableOf inst) i j)) in
       rowImage-exponent (tableOf inst) e (baseOf .0) i
       ∙ ap (λ (k : ℕ). k % inst .header .modulus) (product-agree n _ (λ j. 1) ones ∙ product-one n)
       ∙ mod-eq-of-lt (valid-modulus (v .table)) ∙ sym (v .statement i h .ordered e))
       (λ n. rowImage-root (tableOf inst) n (baseOf .0) i
-      ∙ rw (baseOf-at i (row-column (v .table) n i h), baseCoordinate-root inst n i))
+      ∙ rw (baseOf-at i (row-column (v .table) n i h), baseSlot-root (inst .header) n _))
 
   -- [u] = z^ℓ
   pub base-image : homomorphism (v .table) .map baseOf ≡ groupPower (codomainGroup (v .table)) (statementVector v) (pos (inst .header .order))
@@ -94,6 +97,7 @@ module _ {inst : Instance} (v : Valid inst) where
         baseOf-at j h,
         power-slot (v .table) (quotient G r r′) b j h,
         quotient-slot (v .table) r r′ j h,
+        slot-combined (inst .header) (statementAt inst j) a b (getD (r .0) j 0) (getD (r′ .0) j 0) (each-at _ _ (r′ .0) (r′ .1) j h),
         formula-at inst a b (r .0) (r′ .0) j h,
       ))
 
@@ -104,7 +108,7 @@ module _ {inst : Instance} (v : Valid inst) where
       let q = inst .header .order in
       raise-exponent (inst .header) e y (pos q) ∙ residue-pos q (q * y) ∙ mul-mod-right q y
       ∙ sym (raise-exponent (inst .header) e (baseCoordinate inst j) k
-      ∙ rw (baseCoordinate-exponent inst e j, *ℤ-zero k) (residue-pos q 0 ∙ zero-mod q))
+      ∙ rw (baseSlot-exponent (inst .header) e _, *ℤ-zero k) (residue-pos q 0 ∙ zero-mod q))
 
   module _ (t : Codomain (tableOf inst)) (c c′ : ℕ) (r r′ : Domain (tableOf inst))
       (first : Accepts (homomorphism (v .table)) (statementVector v) t c r) (second : Accepts (homomorphism (v .table)) (statementVector v) t c′ r′) where
@@ -121,7 +125,7 @@ module _ {inst : Instance} (v : Valid inst) where
         raise-root (inst .header) n _ (pos (inst .header .order)) ∙ power-pos _ _ _ ∙ sym (rowImage-root (tableOf inst) n (y .0) j)
         ∙ sym (imageOf-at (v .table) y j row) ∙ carried ∙ power-row (v .table) (statementVector v) (pos c -ℤ pos c′) j row
         ∙ sym (raise-root (inst .header) n (baseCoordinate inst j) (pos c -ℤ pos c′)
-        ∙ rw (baseCoordinate-root inst n j, statementVector-at v j row))
+        ∙ rw (baseSlot-root (inst .header) n _, statementVector-at v j row))
 
     -- (r/r′)^ℓ = u^(c − c′)
     pub matching : groupPower (domainGroup (v .table)) (quotient (domainGroup (v .table)) r r′) (pos (inst .header .order))

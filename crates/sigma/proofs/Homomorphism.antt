@@ -22,8 +22,7 @@ use Rattle.numbers.proofs.Exponent.{power-pos, power-coprime}
 use Rattle.numbers.proofs.Powers.{pow-mul, mul-pow, one-pow, cong-pow-mod}
 use Rattle.numbers.proofs.Product.{product-cong, product-mul, product-pow, product-one}
 use Rattle.sigma.specs.Instance.{Table, entry}
-use Rattle.sigma.specs.Element.{Element, Coordinate}
-use Rattle.sigma.specs.Extractor.{combine}
+use Rattle.sigma.specs.Element.{Element, Coordinate, combine}
 use Rattle.sigma.specs.Image.{rowImage, image}
 use Rattle.sigma.specs.Valid.{ValidTable}
 use Rattle.sigma.proofs.ByKind.{by-kind, combine-exponent, combine-root, rowImage-exponent, rowImage-root}

@@ -17,13 +17,13 @@ use Rattle.numbers.specs.Integer.{power}
 use Rattle.numbers.proofs.Congruence.{mod-mul-right}
 use Rattle.numbers.proofs.Exponent.{power-pos}
 use Rattle.sigma.specs.Instance.{Instance, Table, tableOf, statementAt}
-use Rattle.sigma.specs.Extractor.{combine, divide, raise}
+use Rattle.sigma.specs.Element.{combine}
 use Rattle.sigma.specs.Meaning.{Holds}
 use Rattle.sigma.specs.Reads.{roundOf}
 use Rattle.sigma.specs.Round.{response}
 use Rattle.sigma.specs.Simulator.{simulated}
 use Rattle.sigma.specs.Valid.{Valid, ValidTable}
-use Rattle.sigma.proofs.CoordinateGroup.{coordinateGroup, coordinate-power, divide-combine, response-combine}
+use Rattle.sigma.proofs.CoordinateGroup.{opposite, raise, coordinateGroup, coordinate-power, response-combine}
 use Rattle.sigma.proofs.ElementGroup.{elementGroup, element-power}
 use Rattle.sigma.proofs.Homomorphism.{Domain, Codomain, coordinatesOf, elementsOf, domainGroup, codomainGroup}
 use Rattle.sigma.proofs.Homomorphism.{elementsFrom, imageOf-at, homomorphism}
@@ -55,11 +55,9 @@ module _ {table : Table} (v : ValidTable table) where
 
   -- slot j of a quotient
   pub quotient-slot : (x y : Domain table) (j : ℕ) → j < table .header .columns
-      → getD ((quotient (domainGroup v) x y) .0) j 0 ≡ divide (table .header) (getD (x .0) j 0) (getD (y .0) j 0)
+      → getD ((quotient (domainGroup v) x y) .0) j 0 ≡ combine (table .header) (getD (x .0) j 0) (opposite (table .header) (getD (y .0) j 0))
   unfolding coordinatesOf coordinateGroup
-  quotient-slot x y j h =
-      value-of-quotient (coordinatesOf v) (table .header .columns) x y j h
-      ∙ sym (divide-combine (table .header) (getD (x .0) j 0) (getD (y .0) j 0))
+  quotient-slot = value-of-quotient (coordinatesOf v) (table .header .columns)
 
   -- the product of a group element and a power, in one row
   side-at : (t w : ℕ) (k : ℤ)
