@@ -28,10 +28,6 @@ use Rattle.sigma.specs.Answer.{outcome, isAccepted, judged, eightPlaces, comput
 use Rattle.sigma.specs.Comparison.{firstDifference, differ, compareSides}
 use Rattle.sigma.specs.Element.{isElement, someNonElement, isCoordinate}
 use Rattle.sigma.specs.Extractor.{
-  combine,
-  divide,
-  raise,
-  baseCoordinate,
   slotFormula,
   formula,
   extracted,
@@ -198,8 +194,7 @@ pub worked-examples : EveryPage × EveryCorner
 unfolding euclid gcd residue quotient power bezoutRight bezoutLeft inverse product find any itemsAt tabulate places
     pad8 zeros8 unlessRefused lowest numberAt bytesOf bytesOfEach ascii digits decimal firstDivisor badKind badModulus
     badOrder badSize badCount badEntries badStatement headerRules elementRules outcome isAccepted judged eightPlaces
-    computed firstDifference differ compareSides isElement someNonElement isCoordinate combine divide raise
-    baseCoordinate slotFormula formula extracted pairRules extractRules extractAfter rowImage image isExponent entry statementAt judgeRules
+    computed firstDifference differ compareSides isElement someNonElement isCoordinate slotFormula formula extracted pairRules extractRules extractAfter rowImage image isExponent entry statementAt judgeRules
     judgeAfter responseCoordinate response expectedImage verdict badCommitment badChallenge badCoordinates badWitness
     simulated simulateRules simulateAfter headerBytes storedEntries sheetOf badStart badVersion badLength shapeRules loadRules
     loadRefusal patterns patternOf entryOf patternEntries madeHeader made badPattern badValues makeRules fromPattern

@@ -122,12 +122,12 @@ module _ {inst : Instance} (v : Valid inst) (first second : Round) (x : Extracts
   witness-fits =
       let below = x .first-fits .challenge in
       record {
-        modulus = valid-modulus v;
-        order = v .order;
-        columns = v .few-columns;
-        below = omega (arith, valid-challenge v _ below);
-        coprime = coprime-below (inst .header .challenges) _ (v .no-divisor) _ (omega arith) (omega arith);
-        base = λ other j inside. v .statement j (omega (arith, v .square (valid-kind v other)));
+        modulus = valid-modulus (v .table);
+        order = v .table .order;
+        columns = v .table .few-columns;
+        below = omega (arith, valid-challenge (v .table) _ below);
+        coprime = coprime-below (inst .header .challenges) _ (v .table .no-divisor) _ (omega arith) (omega arith);
+        base = λ other j inside. v .statement j (omega (arith, v .table .square (valid-kind (v .table) other)));
         dividends = x .first-fits .response;
         divisors = x .second-fits .response;
       }
@@ -150,7 +150,7 @@ module _ {inst : Instance} (v : Valid inst) (first second : Round) (x : Extracts
         let e = extraction v first second pair in
         let delta = first .challenge - second .challenge in
         let coprime = witness-fits .coprime in
-        let fit = coefficients-fit (inst .header .order) delta (v .order) coprime (first .challenge) (second .challenge) (omega arith) in
+        let fit = coefficients-fit (inst .header .order) delta (v .table .order) coprime (first .challenge) (second .challenge) (omega arith) in
         rw is-values (ap (λ (y : List ℕ). record { refusal = 0; values = pad8 0 y }) (e .any-integers _ _ fit) ∙ sym (e .answer))
 
     -- and the answer with the rounds swapped

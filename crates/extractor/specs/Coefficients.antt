@@ -1,27 +1,19 @@
--- The extractor's formula slot by slot, with natural numbers for its two integers (01, "A round"): where the first challenge is
--- the larger by delta, ℓ · (−a) + delta · b = 1.
+-- Natural numbers for the two integers of the extractor's formula (01, "A round"), where the first challenge is the larger by
+-- delta and ℓ · (−a) + delta · b = 1, and what the formula's powers and quotients ask for.
 -- Assumes nothing.
 use Prim.Native.Nat.{ℕ, _*_, _/_, _≤_, _<_}
 use mathlib.Core.Path.{_≡_}
 use mathlib.Core.Logic.{_≢_}
-use mathlib.Core.Bool.{cond}
 use mathlib.Core.List.{List}
-use lib.IntN.{pos, negℤ}
 use lib.ListN.{getD}
 use Rattle.types.specs.declared.Header.{Header}
 use Rattle.numbers.specs.Gcd.{gcd}
 use Rattle.numbers.specs.Inverse.{inverse}
 use Rattle.sigma.specs.Element.{Element, Coordinate}
-use Rattle.sigma.specs.Extractor.{slotFormula}
-use Rattle.sigma.specs.Instance.{isExponent}
 
 -- a, how often ℓ goes into delta · b, where b inverts delta modulo ℓ
 unfoldable pub leftCoefficient : ℕ → ℕ → ℕ
 leftCoefficient order delta = delta * inverse order delta / order
-
--- a slot of u^(−a) · (r/s)^b, where u is 0 in kind 1 and z in kind 2
-unfoldable pub witnessSlot : Header → ℕ → ℕ → ℕ → ℕ → ℕ → ℕ
-witnessSlot h z a b r s = slotFormula h (cond (isExponent h) 0 z) (negℤ (pos a)) (pos b) r s
 
 -- what a slot's powers and quotient ask for
 pub record SlotFits (h : Header) (z a r s : ℕ) : Type 0 where

@@ -19,10 +19,10 @@ ghost use lib.IntN.{pos, negℤ};
 ghost use Rattle.lists.specs.Places.{pad8, zeros8};
 ghost use Rattle.numbers.specs.Inverse.{inverse};
 ghost use Rattle.rules.specs.Rule.{lowest};
-ghost use Rattle.sigma.specs.Extractor.{formula, extract};
+ghost use Rattle.sigma.specs.Extractor.{slotFormula, formula, extract};
 ghost use Rattle.sigma.specs.Valid.{Valid};
 ghost use Rattle.sigma.specs.Instance.{instanceWith};
-ghost use Rattle.extractor.specs.Coefficients.{witnessSlot, leftCoefficient, SlotFits, WitnessFits};
+ghost use Rattle.extractor.specs.Coefficients.{leftCoefficient, SlotFits, WitnessFits};
 ghost use Rattle.extractor.specs.Rules.{rulesOfPair};
 
 // The number of 14 to 16, 18 and 19 that two rounds are refused with, or 0. Each of 14 to 16 is asked of both rounds before
@@ -78,7 +78,7 @@ pub fn refused(number: u32) -> Computed
 // A slot of the formula with the exponents -a and b: in kind 1 b (r - s) mod q, in kind 2 z^(-a) (r/s)^b mod m.
 fn witness_slot(h: Header, z: u32, a: u32, b: u32, r: u32, s: u32) -> u32
     requires { ⌜ SlotFits h z a r s ⌝ }
-    ensures { λ x. ⌜ x ≡ witnessSlot h z a b r s ⌝ }
+    ensures { λ x. ⌜ x ≡ slotFormula h z (negℤ (pos a)) (pos b) r s ⌝ }
 {
     if h.kind == 1 {
         return mul_mod(b, sub_mod(r, s, h.order), h.order);

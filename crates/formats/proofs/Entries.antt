@@ -15,7 +15,7 @@ use Rattle.lists.specs.Places.{tabulate}
 use Rattle.lists.proofs.Places.{length-tabulate, getD-tabulate}
 use Rattle.lists.proofs.Rows.{length-flatten, getD-flatten}
 use Rattle.rules.proofs.Says.{says-decides}
-use Rattle.sigma.specs.Instance.{Instance, entry}
+use Rattle.sigma.specs.Instance.{Instance, tableOf, entry}
 use Rattle.sigma.specs.Valid.{Valid}
 use Rattle.sigma.proofs.ByKind.{exponent-kind, root-kind}
 use Rattle.sigma.proofs.Tests.{says-exponent}
@@ -36,7 +36,7 @@ entryCount-root h n = rw (root-kind h n)
 
 -- a row of entries
 abbrev pub entryRow : Instance → ℕ → List ℕ
-entryRow i r = tabulate (i .header .columns) (entry i r)
+entryRow i r = tabulate (i .header .columns) (entry (tableOf i) r)
 
 module _ (i : Instance) where
   -- kind 1 stores its rows one behind the other
@@ -60,7 +60,7 @@ module _ (i : Instance) where
       → length (getD (tabulate (i .header .rows) (entryRow i)) r []) ≡ i .header .columns
   row-length r b =
       ap length (row-at r (omega (arith, length-tabulate (i .header .rows) (entryRow i))))
-      ∙ length-tabulate (i .header .columns) (entry i r)
+      ∙ length-tabulate (i .header .columns) (entry (tableOf i) r)
 
   -- as many entries are stored as the header says
   pub length-storedEntries : length (storedEntries i) ≡ entryCount (i .header)
@@ -75,11 +75,11 @@ module _ (i : Instance) where
 
   -- the entry in row r and column c stands r rows and c entries behind the start
   pub storedEntries-at : i .header .kind ≡ 1 → (r c : ℕ) → r < i .header .rows → c < i .header .columns
-      → getD (storedEntries i) (i .header .columns * r + c) 0 ≡ entry i r c
+      → getD (storedEntries i) (i .header .columns * r + c) 0 ≡ entry (tableOf i) r c
   storedEntries-at e r c a b =
       rw (storedEntries-exponent e)
       (getD-flatten (i .header .columns) _ row-length r c 0 (omega (arith, length-tabulate (i .header .rows) (entryRow i))) b
-      ∙ ap (λ (row : List ℕ). getD row c 0) (row-at r a) ∙ getD-tabulate (i .header .columns) (entry i r) c 0 b)
+      ∙ ap (λ (row : List ℕ). getD row c 0) (row-at r a) ∙ getD-tabulate (i .header .columns) (entry (tableOf i) r) c 0 b)
 
   -- where the modulus fits 32 bits, so does every entry that is stored
   pub below-storedEntries : Valid i → i .header .modulus < 2 ^ 32 → AllBelow (2 ^ 32) (storedEntries i)
@@ -92,7 +92,7 @@ module _ (i : Instance) where
           → AllBelow (2 ^ 32) (getD (tabulate (i .header .rows) (entryRow i)) r [])
       row e r (yes a) =
           rw (row-at r a)
-          (below-tabulate (2 ^ 32) (i .header .columns) (entry i r) (omega arith) (λ c b. omega (arith, v .entries e r c a b .below)))
+          (below-tabulate (2 ^ 32) (i .header .columns) (entry (tableOf i) r) (omega arith) (λ c b. omega (arith, v .table .entries e r c a b .below)))
       row e r (no a) =
           let count = length-tabulate (i .header .rows) (entryRow i) in
           let beyond : length (tabulate (i .header .rows) (entryRow i)) ≤ r = omega arith in

@@ -118,7 +118,7 @@ module _ (s : List ℕ) where
   -- it has at most eight rows and columns
   pub loads-few : Loads s → (headerOf s .rows ≤ 8) × (headerOf s .columns ≤ 8)
   unfolding instanceOf
-  loads-few l = (l .valid .few-rows, l .valid .few-columns)
+  loads-few l = (l .valid .table .few-rows, l .valid .table .few-columns)
 
   -- loading answers the fixed fields and the statement
   pub load-given : loadRefusal s ≡ 0

@@ -14,7 +14,7 @@ use Rattle.numbers.specs.Search.{any, find}
 use Rattle.rules.specs.Rule.{lowest}
 use Rattle.rules.proofs.Says.{says-equal}
 use Rattle.sigma.specs.Admission.{badEntries, badKind, badModulus, badSize, elementRules, headerRules}
-use Rattle.sigma.specs.Instance.{Instance, entry}
+use Rattle.sigma.specs.Instance.{Instance, tableOf, entry}
 use Rattle.sigma.proofs.Calculus.{all-pass, says-any}
 use Rattle.sigma.proofs.Passed.{entries-pass, kind-passes, modulus-passes, size-passes}
 use Rattle.formats.specs.Encode.{encode, encodeRules, sheetOf}
@@ -89,7 +89,7 @@ module _ (number modulus order challenges : ℕ) (values statement : List ℕ) (
 
   -- a value's position stands among the digits of a sheet of kind 1
   value-used : (j : ℕ) → j < length values → (inst .header .kind ≡ 1)
-      × ((r : ℕ) × (r < inst .header .rows) × ((c : ℕ) × (c < inst .header .columns) × (entry inst r c ≡ getD values j 0)))
+      × ((r : ℕ) × (r < inst .header .rows) × ((c : ℕ) × (c < inst .header .columns) × (entry (tableOf inst) r c ≡ getD values j 0)))
   unfolding made madeHeader patternOf patterns
   value-used j within =
       let other : number ≢ 6 = λ (e : number ≡ 6). omega (arith, right .2, ap (λ (n : ℕ). patternOf n .values) e) in

@@ -17,7 +17,7 @@ use Rattle.rules.specs.Rule.{lowest}
 use Rattle.rules.proofs.Lowest.{clear-lowest, lowest-clear}
 use Rattle.rules.proofs.Says.{says-equal}
 use Rattle.sigma.specs.Element.{Element, someNonElement}
-use Rattle.sigma.specs.Instance.{Instance, entry, statementAt}
+use Rattle.sigma.specs.Instance.{Instance, tableOf, entry, statementAt}
 use Rattle.sigma.specs.Valid.{Valid}
 use Rattle.sigma.proofs.Calculus.{says-passes, both-fail, all-pass}
 use Rattle.sigma.proofs.ByKind.{exponent-kind, root-kind}
@@ -116,20 +116,22 @@ module _ (number modulus order challenges : ℕ) (values statement : List ℕ) w
   made-valid (low, high, counted, rowed) large long (some, few, none) elements stated =
       let (a, b, c, d) = pattern-size number low high in
       record {
-        kind = made-kind;
-        modulus = large;
-        order = long;
-        some-row = a;
-        few-rows = b;
-        some-column = c;
-        few-columns = d;
-        square = made-square;
-        some-challenges = some;
-        few-challenges = few;
-        no-divisor = none;
-        entries = λ k r c e f.
-            rw (made-entry number modulus order challenges values statement (made-other k) r c e f)
-            (entryOf-element (inst .header) values _ large elements (omega (arith, pattern-digits number low high r c e f)));
+        table = record {
+          kind = made-kind;
+          modulus = large;
+          order = long;
+          some-row = a;
+          few-rows = b;
+          some-column = c;
+          few-columns = d;
+          square = made-square;
+          some-challenges = some;
+          few-challenges = few;
+          no-divisor = none;
+          entries = λ k r c e f.
+              rw (made-entry number modulus order challenges values statement (made-other k) r c e f)
+              (entryOf-element (inst .header) values _ large elements (omega (arith, pattern-digits number low high r c e f)));
+        };
         statement = stated;
       }
 
@@ -172,11 +174,11 @@ module _ (number modulus order challenges : ℕ) (values statement : List ℕ) w
             ∙ lowest-clear rules (
               patterned .1 (k .low, k .high, k .values-count, k .statement-count),
               (
-                modulus-passes h .1 (v .modulus),
+                modulus-passes h .1 (v .table .modulus),
                 (
-                  order-passes h .1 (v .order),
+                  order-passes h .1 (v .table .order),
                   (
-                    count-passes h .1 (v .some-challenges, v .few-challenges, v .no-divisor),
+                    count-passes h .1 (v .table .some-challenges, v .table .few-challenges, v .table .no-divisor),
                     (elements .1 (k .values-elements), (statement-passes inst .1 (v .statement), (room .1 fits, tt))),
                   ),
                 ),
@@ -211,10 +213,10 @@ module _ (number modulus order challenges : ℕ) (values statement : List ℕ) w
         let one = made-exponent number modulus order challenges n in
         let p = patternOf number in
         let rows =
-        tabulate-agree (p .rows) (λ r. pad8 0 (tabulate (p .columns) (entry inst r)))
+        tabulate-agree (p .rows) (λ r. pad8 0 (tabulate (p .columns) (entry (tableOf inst) r)))
         (λ r. pad8 0 (tabulate (p .columns) (λ c. entryOf values (getD (p .digits) (3 * r + c) 0)))) (λ r a.
         ap (λ (row : List ℕ). pad8 0 row)
-        (tabulate-agree (p .columns) (entry inst r) (λ c. entryOf values (getD (p .digits) (3 * r + c) 0))
+        (tabulate-agree (p .columns) (entry (tableOf inst) r) (λ c. entryOf values (getD (p .digits) (3 * r + c) 0))
         (λ c b. made-entry number modulus order challenges values statement n r c a b))) in
         ap (λ (b : Bool). cond b (readRows inst) zeros64) (exponent-kind (inst .header) one)
         ∙ ap (λ (l : List (List ℕ)). pad8 zeros8 l) rows

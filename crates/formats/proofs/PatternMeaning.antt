@@ -24,7 +24,7 @@ use Rattle.numbers.proofs.Congruence.{
 use Rattle.numbers.proofs.Powers.{cong-pow-exponent, mul-pow, one-pow, pow-mul}
 use Rattle.sigma.specs.Element.{Element}
 use Rattle.sigma.specs.Image.{image, rowImage}
-use Rattle.sigma.specs.Instance.{entry, isExponent}
+use Rattle.sigma.specs.Instance.{tableOf, entry, isExponent}
 use Rattle.formats.specs.Pattern.{entryOf, made, madeHeader, patternEntries, patternOf, patterns, pedersen}
 
 -- a power of a power, the exponents in the other order
@@ -48,36 +48,36 @@ difference q n ε some =
 
 module _ (m q K : ℕ) (z : List ℕ) where
   -- 1, Schnorr: h^x
-  pub schnorr-image : (h x : ℕ) → image (made 1 m q K (h ∷ []) z) (x ∷ []) ≡ h ^ x % m ∷ []
+  pub schnorr-image : (h x : ℕ) → image (tableOf (made 1 m q K (h ∷ []) z)) (x ∷ []) ≡ h ^ x % m ∷ []
   unfolding image rowImage tabulate itemsAt pad8 product made madeHeader patternOf patterns patternEntries entry entryOf isExponent
   schnorr-image h x = simp one-mul
 
   -- 2, Okamoto: h1^x1 · h2^x2
   pub okamoto-image : (h1 h2 x1 x2 : ℕ)
-      → image (made 2 m q K (h1 ∷ h2 ∷ []) z) (x1 ∷ x2 ∷ []) ≡ h1 ^ x1 * h2 ^ x2 % m ∷ []
+      → image (tableOf (made 2 m q K (h1 ∷ h2 ∷ []) z)) (x1 ∷ x2 ∷ []) ≡ h1 ^ x1 * h2 ^ x2 % m ∷ []
   unfolding image rowImage tabulate itemsAt pad8 product made madeHeader patternOf patterns patternEntries entry entryOf isExponent
   okamoto-image h1 h2 x1 x2 = simp one-mul
 
   -- 3, equality: h1^x and h2^x
   pub equality-image : (h1 h2 x : ℕ)
-      → image (made 3 m q K (h1 ∷ h2 ∷ []) z) (x ∷ []) ≡ h1 ^ x % m ∷ h2 ^ x % m ∷ []
+      → image (tableOf (made 3 m q K (h1 ∷ h2 ∷ []) z)) (x ∷ []) ≡ h1 ^ x % m ∷ h2 ^ x % m ∷ []
   unfolding image rowImage tabulate itemsAt pad8 product made madeHeader patternOf patterns patternEntries entry entryOf isExponent
   equality-image h1 h2 x = simp one-mul
 
   -- 4, Diffie-Hellman: h^x and B^x
   pub diffie-hellman-image : (h B x : ℕ)
-      → image (made 4 m q K (h ∷ B ∷ []) z) (x ∷ []) ≡ h ^ x % m ∷ B ^ x % m ∷ []
+      → image (tableOf (made 4 m q K (h ∷ B ∷ []) z)) (x ∷ []) ≡ h ^ x % m ∷ B ^ x % m ∷ []
   unfolding image rowImage tabulate itemsAt pad8 product made madeHeader patternOf patterns patternEntries entry entryOf isExponent
   diffie-hellman-image h B x = simp one-mul
 
   -- 5, product: g^x1 · h^x2 and B^x1 · h^x3
   pub product-image : (g h B x1 x2 x3 : ℕ)
-      → image (made 5 m q K (g ∷ h ∷ B ∷ []) z) (x1 ∷ x2 ∷ x3 ∷ []) ≡ g ^ x1 * h ^ x2 % m ∷ B ^ x1 * h ^ x3 % m ∷ []
+      → image (tableOf (made 5 m q K (g ∷ h ∷ B ∷ []) z)) (x1 ∷ x2 ∷ x3 ∷ []) ≡ g ^ x1 * h ^ x2 % m ∷ B ^ x1 * h ^ x3 % m ∷ []
   unfolding image rowImage tabulate itemsAt pad8 product made madeHeader patternOf patterns patternEntries entry entryOf isExponent
   product-image g h B x1 x2 x3 = simp (one-mul, one-pow, mul-one)
 
   -- 6, root: x^e
-  pub root-image : (x : ℕ) → image (made 6 m q K [] z) (x ∷ []) ≡ x ^ q % m ∷ []
+  pub root-image : (x : ℕ) → image (tableOf (made 6 m q K [] z)) (x ∷ []) ≡ x ^ q % m ∷ []
   unfolding image rowImage tabulate itemsAt made madeHeader patternOf patterns isExponent
   root-image x = refl
 
@@ -85,7 +85,7 @@ module _ (m q K : ℕ) (z : List ℕ) where
 
   -- where B = h^b, the image of a is A = h^a and the shared key h^(ab)
   pub diffie-hellman-key : (h a b : ℕ)
-      → image (made 4 m q K (h ∷ h ^ b % m ∷ []) z) (a ∷ []) ≡ h ^ a % m ∷ h ^ (a * b) % m ∷ []
+      → image (tableOf (made 4 m q K (h ∷ h ^ b % m ∷ []) z)) (a ∷ []) ≡ h ^ a % m ∷ h ^ (a * b) % m ∷ []
   diffie-hellman-key h a b =
       diffie-hellman-image h (h ^ b % m) a
       ∙ ap (λ (k : ℕ). h ^ a % m ∷ k ∷ []) (mod-pow m (h ^ b) a ∙ ap (λ (k : ℕ). k % m) (power-of-power h b a))
@@ -94,7 +94,7 @@ module _ (m q K : ℕ) (z : List ℕ) where
 
   -- where B = C(b, β), the image of (a, α, δ) is C(a, α) and C(ab, aβ + δ)
   pub product-commitments : (g h b β a α δ : ℕ)
-      → image (made 5 m q K (g ∷ h ∷ pedersen m g h b β ∷ []) z) (a ∷ α ∷ δ ∷ [])
+      → image (tableOf (made 5 m q K (g ∷ h ∷ pedersen m g h b β ∷ []) z)) (a ∷ α ∷ δ ∷ [])
       ≡ pedersen m g h a α ∷ pedersen m g h (a * b) (a * β + δ) ∷ []
   unfolding pedersen
   product-commitments g h b β a α δ =
@@ -103,7 +103,7 @@ module _ (m q K : ℕ) (z : List ℕ) where
 
   -- where moreover h is a group element, the image of the witness (a, α, ε − aβ) is A = C(a, α) and E = C(ab, ε)
   pub product-witness : (g h b β a α ε : ℕ) → 1 ≤ q → Element (madeHeader 5 m q K) h
-      → image (made 5 m q K (g ∷ h ∷ pedersen m g h b β ∷ []) z) (a ∷ α ∷ (ε + (q - a * β % q)) % q ∷ [])
+      → image (tableOf (made 5 m q K (g ∷ h ∷ pedersen m g h b β ∷ []) z)) (a ∷ α ∷ (ε + (q - a * β % q)) % q ∷ [])
       ≡ pedersen m g h a α ∷ pedersen m g h (a * b) ε ∷ []
   unfolding pedersen madeHeader
   product-witness g h b β a α ε some element =

@@ -15,7 +15,7 @@ use Rattle.lists.proofs.Rows.{getD-table}
 use Rattle.numbers.specs.Search.{any, find}
 use Rattle.numbers.proofs.Search.{any-false}
 use Rattle.sigma.specs.Element.{Element}
-use Rattle.sigma.specs.Instance.{entry}
+use Rattle.sigma.specs.Instance.{tableOf, entry}
 use Rattle.sigma.proofs.ElementGroup.{element-one}
 use Rattle.formats.specs.Pattern.{patterns, patternOf, entryOf, patternEntries, madeHeader, made}
 
@@ -94,7 +94,7 @@ made-root number modulus order challenges e = rw (eq-eqb number 6 e)
 -- a sheet of kind 1 has the entries that the pattern's digits stand for
 pub made-entry : (number modulus order challenges : ℕ) (values statement : List ℕ) → number ≢ 6
     → (r c : ℕ) → r < patternOf number .rows → c < patternOf number .columns
-    → entry (made number modulus order challenges values statement) r c ≡ entryOf values (getD (patternOf number .digits) (3 * r + c) 0)
+    → entry (tableOf (made number modulus order challenges values statement)) r c ≡ entryOf values (getD (patternOf number .digits) (3 * r + c) 0)
 unfolding entry made patternEntries
 made-entry number modulus order challenges values statement other r c a b =
     let p = patternOf number in

@@ -14,7 +14,7 @@ use Rattle.lists.specs.Places.{itemsAt, pad8, places, tabulate, zeros8}
 use Rattle.lists.proofs.Places.{length-itemsAt, itemsAt-tabulate, tabulate-agree, places-pad8, places-whole}
 use Rattle.lists.proofs.Rows.{flatten-itemsAt, getD-table}
 use Rattle.rules.proofs.Says.{says-decides}
-use Rattle.sigma.specs.Instance.{entry}
+use Rattle.sigma.specs.Instance.{tableOf, entry}
 use Rattle.sigma.proofs.ByKind.{exponent-kind}
 use Rattle.sigma.proofs.Tests.{says-exponent}
 use Rattle.formats.specs.Encode.{headerBytes, storedEntries, sheetOf}
@@ -40,7 +40,7 @@ use Rattle.formats.proofs.Entries.{
 module _ (s : List ℕ) where
   -- the entry in row r and column c stands r rows and c entries behind the fixed fields
   pub entry-read : headerOf s .kind ≡ 1 → (r c : ℕ) → r < headerOf s .rows → c < headerOf s .columns
-      → entry (instanceOf s) r c ≡ numberAt 4 s (20 + 4 * headerOf s .columns * r + 4 * c)
+      → entry (tableOf (instanceOf s)) r c ≡ numberAt 4 s (20 + 4 * headerOf s .columns * r + 4 * c)
   unfolding entry instanceOf entriesOf
   entry-read e r c a b =
       let h = headerOf s in
@@ -62,7 +62,7 @@ module _ (s : List ℕ) where
         let f = numberAt 4 s in
         let rows =
         tabulate-agree (h .rows) (entryRow (instanceOf s)) (λ r. itemsAt f (20 + 4 * h .columns * r) 4 (h .columns)) (λ r a.
-        tabulate-agree (h .columns) (entry (instanceOf s) r) (λ c. f (20 + 4 * h .columns * r + 4 * c)) (λ c b. entry-read e r c a b)
+        tabulate-agree (h .columns) (entry (tableOf (instanceOf s)) r) (λ c. f (20 + 4 * h .columns * r + 4 * c)) (λ c b. entry-read e r c a b)
         ∙ sym (itemsAt-tabulate f (20 + 4 * h .columns * r) 4 (h .columns))) in
         storedEntries-exponent (instanceOf s) e
         ∙ ap flatten (rows ∙ sym (itemsAt-tabulate (λ at. itemsAt f at 4 (h .columns)) 20 (4 * h .columns) (h .rows)))

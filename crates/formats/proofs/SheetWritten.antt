@@ -17,7 +17,7 @@ use Rattle.encoding.proofs.Bounds.{below-places}
 use Rattle.lists.specs.Places.{itemsAt, pad8, places, zeros8}
 use Rattle.lists.proofs.Places.{length-places, tabulate-agree, itemsAt-tabulate, getD-itemsAt}
 use Rattle.rules.proofs.Says.{says-decides}
-use Rattle.sigma.specs.Instance.{Instance, isExponent, entry, statementAt}
+use Rattle.sigma.specs.Instance.{Instance, tableOf, isExponent, entry, statementAt}
 use Rattle.sigma.specs.Valid.{Valid}
 use Rattle.sigma.proofs.ByKind.{root-kind}
 use Rattle.sigma.proofs.Tests.{says-exponent}
@@ -63,7 +63,7 @@ module _ (i : Instance) where
       let e = bytesOfEach 4 (storedEntries i) ++ bytesOfEach 4 (places (h .rows) (i .statement)) in
       let q = bytesOf 1 (h .rows) ++ (bytesOf 1 (h .columns) ++ e) in
       let kind = number-behind 1 (h .kind) p (bytesOf 4 (h .modulus) ++ bytesOf 4 (h .order) ++ bytesOf 4 (h .challenges) ++ q) s 5
-      (simp append-assoc) (simp lengths) (⊎-elim (λ e. omega arith) (λ e. omega arith) (v .kind)) in
+      (simp append-assoc) (simp lengths) (⊎-elim (λ e. omega arith) (λ e. omega arith) (v .table .kind)) in
       let p′ = p ++ bytesOf 1 (h .kind) in
       let modulus = number-behind 4 (h .modulus) p′ (bytesOf 4 (h .order) ++ bytesOf 4 (h .challenges) ++ q) s 6
       (simp append-assoc) (simp lengths) small in
@@ -72,12 +72,12 @@ module _ (i : Instance) where
       (simp append-assoc) (simp lengths) short in
       let p‴ = p″ ++ bytesOf 4 (h .order) in
       let challenges = number-behind 4 (h .challenges) p‴ q s 14
-      (simp append-assoc) (simp lengths) (omega (arith, v .few-challenges)) in
+      (simp append-assoc) (simp lengths) (omega (arith, v .table .few-challenges)) in
       let r = p‴ ++ bytesOf 4 (h .challenges) in
       let rows = number-behind 1 (h .rows) r (bytesOf 1 (h .columns) ++ e) s 18
-      (simp append-assoc) (simp lengths) (omega (arith, v .few-rows)) in
+      (simp append-assoc) (simp lengths) (omega (arith, v .table .few-rows)) in
       let columns = number-behind 1 (h .columns) (r ++ bytesOf 1 (h .rows)) e s 19
-      (simp append-assoc) (simp lengths) (omega (arith, v .few-columns)) in
+      (simp append-assoc) (simp lengths) (omega (arith, v .table .few-columns)) in
       λ j. record {
         kind = kind j;
         modulus = modulus j;
@@ -97,7 +97,7 @@ module _ (i : Instance) where
 
     -- an entry, read
     entry-back : i .header .kind ≡ 1 → (r c : ℕ) → r < i .header .rows → c < i .header .columns
-        → numberAt 4 (sheetOf i) (20 + 4 * i .header .columns * r + 4 * c) ≡ entry i r c
+        → numberAt 4 (sheetOf i) (20 + 4 * i .header .columns * r + 4 * c) ≡ entry (tableOf i) r c
     entry-back e r c a b =
         let h = i .header in
         let f = numberAt 4 (sheetOf i) in
@@ -119,7 +119,7 @@ module _ (i : Instance) where
           ∙ tabulate-agree (h .rows) _ (λ r. pad8 0 (entryRow i r)) (λ r a.
           ap (λ (l : List ℕ). pad8 0 l)
           (itemsAt-tabulate f (20 + 4 * h .columns * r) 4 (h .columns)
-          ∙ tabulate-agree (h .columns) _ (entry i r) (λ c b. entry-back e r c a b))) in
+          ∙ tabulate-agree (h .columns) _ (entry (tableOf i) r) (λ c b. entry-back e r c a b))) in
           ap (λ (l : List (List ℕ)). cond (isExponent h) (pad8 zeros8 l) zeros64) rows
       | inr n ↦ rw (root-kind (i .header) n)
     ]

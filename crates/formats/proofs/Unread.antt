@@ -16,7 +16,7 @@ use Rattle.rules.specs.Rule.{Rule}
 use Rattle.rules.proofs.Says.{says-decides}
 use Rattle.sigma.specs.Admission.{badEntries, badStatement, elementRules}
 use Rattle.sigma.specs.Element.{Element, isElement, someNonElement}
-use Rattle.sigma.specs.Instance.{Instance, isExponent, entry, statementAt}
+use Rattle.sigma.specs.Instance.{Instance, tableOf, isExponent, entry, statementAt}
 use Rattle.sigma.specs.Reads.{Agree, SameRound}
 use Rattle.sigma.specs.Valid.{Valid}
 use Rattle.sigma.proofs.ByKind.{exponent-kind, root-kind}
@@ -50,8 +50,8 @@ module _ (h : Header) (es es′ : List (List ℕ)) (z z′ : List ℕ) where
     badEntries-same = elim (says-decides (says-exponent h)) [
       | inl e ↦
           let rows =
-          any-agree (h .rows) (λ r. any (h .columns) (λ c. not (isElement h (entry first r c))))
-          (λ r. any (h .columns) (λ c. not (isElement h (entry second r c))))
+          any-agree (h .rows) (λ r. any (h .columns) (λ c. not (isElement h (entry (tableOf first) r c))))
+          (λ r. any (h .columns) (λ c. not (isElement h (entry (tableOf second) r c))))
           (λ r a. any-agree (h .columns) _ _ (λ c b. ap (λ (v : ℕ). not (isElement h v)) (s .entries e r c a b))) in
           ap (λ (found : Bool). isExponent h && found) rows
       | inr n ↦ rw (root-kind h n)
@@ -68,8 +68,8 @@ module _ (h : Header) (es es′ : List (List ℕ)) (z z′ : List ℕ) where
     storedEntries-same = elim (says-decides (says-exponent h)) [
       | inl e ↦
           let rows =
-          tabulate-agree (h .rows) (λ r. tabulate (h .columns) (entry first r)) (λ r. tabulate (h .columns) (entry second r))
-          (λ r a. tabulate-agree (h .columns) (entry first r) (entry second r) (λ c b. s .entries e r c a b)) in
+          tabulate-agree (h .rows) (λ r. tabulate (h .columns) (entry (tableOf first) r)) (λ r. tabulate (h .columns) (entry (tableOf second) r))
+          (λ r a. tabulate-agree (h .columns) (entry (tableOf first) r) (entry (tableOf second) r) (λ c b. s .entries e r c a b)) in
           ap (λ (es : List (List ℕ)). cond (isExponent h) (flatten es) []) rows
       | inr n ↦ rw (root-kind h n)
     ]
@@ -78,18 +78,20 @@ module _ (h : Header) (es es′ : List (List ℕ)) (z z′ : List ℕ) where
     valid-same-header : Valid first → Valid second
     unfolding statementAt
     valid-same-header v = record {
-      kind = v .kind;
-      modulus = v .modulus;
-      order = v .order;
-      some-row = v .some-row;
-      few-rows = v .few-rows;
-      some-column = v .some-column;
-      few-columns = v .few-columns;
-      square = v .square;
-      some-challenges = v .some-challenges;
-      few-challenges = v .few-challenges;
-      no-divisor = v .no-divisor;
-      entries = λ e r c a b. subst (λ (x : ℕ). Element h x) (s .entries e r c a b) (v .entries e r c a b);
+      table = record {
+        kind = v .table .kind;
+        modulus = v .table .modulus;
+        order = v .table .order;
+        some-row = v .table .some-row;
+        few-rows = v .table .few-rows;
+        some-column = v .table .some-column;
+        few-columns = v .table .few-columns;
+        square = v .table .square;
+        some-challenges = v .table .some-challenges;
+        few-challenges = v .table .few-challenges;
+        no-divisor = v .table .no-divisor;
+        entries = λ e r c a b. subst (λ (x : ℕ). Element h x) (s .entries e r c a b) (v .table .entries e r c a b);
+      };
       statement = λ r a. subst (λ (x : ℕ). Element h x) (s .statement r a) (v .statement r a);
     }
 
@@ -138,9 +140,9 @@ valid-same {i} {i′} s v =
 module _ (i : Instance) where
   -- an entry of what is read
   read-entry : i .header .kind ≡ 1 → (r c : ℕ) → r < i .header .rows → c < i .header .columns
-      → entry (readInstance i) r c ≡ entry i r c
+      → entry (tableOf (readInstance i)) r c ≡ entry (tableOf i) r c
   unfolding readInstance entry
-  read-entry e r c a b = rw (exponent-kind (i .header) e) (getD-table (i .header .rows) (i .header .columns) (entry i) r c a b)
+  read-entry e r c a b = rw (exponent-kind (i .header) e) (getD-table (i .header .rows) (i .header .columns) (entry (tableOf i)) r c a b)
 
   -- what is read of an instance's values is the same
   pub read-same : SameInstance (readInstance i) i

@@ -8,7 +8,7 @@ use Rattle.encoding.specs.Bytes.{bytesOf, bytesOfEach}
 use Rattle.lists.specs.Places.{tabulate, places}
 use Rattle.rules.specs.Rule.{Rule, _when_, lowest}
 use Rattle.sigma.specs.Admission.{headerRules, elementRules}
-use Rattle.sigma.specs.Instance.{Instance, isExponent, entry}
+use Rattle.sigma.specs.Instance.{Instance, tableOf, isExponent, entry}
 use Rattle.formats.specs.Sheet.{sheetMark, sheetLength}
 use Rattle.formats.specs.Write.{Writing, short, writtenAtStart}
 
@@ -22,7 +22,7 @@ headerBytes h =
 unfoldable pub storedEntries : Instance → List ℕ
 storedEntries inst =
     cond (isExponent (inst .header))
-    (flatten (tabulate (inst .header .rows) (λ i. tabulate (inst .header .columns) (entry inst i)))) []
+    (flatten (tabulate (inst .header .rows) (λ i. tabulate (inst .header .columns) (entry (tableOf inst) i)))) []
 
 -- the sheet of an instance; entries and statement are read within rows and columns
 unfoldable pub sheetOf : Instance → List ℕ

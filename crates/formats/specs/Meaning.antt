@@ -11,7 +11,7 @@ use Rattle.types.specs.declared.Round.{Round}
 use Rattle.encoding.specs.Bytes.{numberAt}
 use Rattle.lists.specs.Places.{pad8, places, tabulate, zeros8}
 use Rattle.sigma.specs.Element.{Element}
-use Rattle.sigma.specs.Instance.{Instance, entry, isExponent}
+use Rattle.sigma.specs.Instance.{Instance, tableOf, entry, isExponent}
 use Rattle.sigma.specs.Reads.{Agree}
 use Rattle.sigma.specs.Valid.{Valid}
 use Rattle.formats.specs.Pattern.{made, madeHeader, patternOf}
@@ -43,12 +43,12 @@ pub record SameInstance (i i′ : Instance) : Type 0 where
   pub header : i .header ≡ i′ .header
   pub entries :
       i .header .kind ≡ 1 →
-      (r c : ℕ) → r < i .header .rows → c < i .header .columns → entry i r c ≡ entry i′ r c
+      (r c : ℕ) → r < i .header .rows → c < i .header .columns → entry (tableOf i) r c ≡ entry (tableOf i′) r c
   pub statement : Agree (i .header .rows) (i .statement) (i′ .statement)
 
 -- the rows that are read of a sheet's entries, with 0 in the places that are not
 abbrev pub readRows : Instance → List (List ℕ)
-readRows i = pad8 zeros8 (tabulate (i .header .rows) (λ r. pad8 0 (tabulate (i .header .columns) (entry i r))))
+readRows i = pad8 zeros8 (tabulate (i .header .rows) (λ r. pad8 0 (tabulate (i .header .columns) (entry (tableOf i) r))))
 
 -- what is read of a sheet's values, with 0 in the places that are not
 unfoldable pub readInstance : Instance → Instance

@@ -11,7 +11,7 @@ use Rattle.numbers.specs.Product.{product}
 use Rattle.numbers.proofs.Congruence.{mod-mul-both}
 use Rattle.numbers.proofs.Product.{product-zero, product-suc}
 use Rattle.sigma.specs.Image.{rowImage}
-use Rattle.sigma.specs.Instance.{instanceWith, entry}
+use Rattle.sigma.specs.Instance.{tableWith, entry}
 use Rattle.sigma.proofs.ByKind.{rowImage-exponent, rowImage-root}
 
 -- the product of the first j factors of row i, modulo m
@@ -33,12 +33,10 @@ module _ (h : Header) (entries : List (List ℕ)) (x : List ℕ) (i : ℕ) where
       rw (is-next, is-value, is-power, add-one j, product-suc j _) (mod-mul-both (h .modulus) _ _)
 
   -- all factors: the row of kind 1
-  pub row-exponent : (statement : List ℕ) → h .kind ≡ 1
-      → rowProduct h entries x i (h .columns) ≡ rowImage (instanceWith h entries statement) x i
+  pub row-exponent : h .kind ≡ 1 → rowProduct h entries x i (h .columns) ≡ rowImage (tableWith h entries) x i
   unfolding rowProduct entry
-  row-exponent statement kind = sym (rowImage-exponent (instanceWith h entries statement) kind x i)
+  row-exponent kind = sym (rowImage-exponent (tableWith h entries) kind x i)
 
   -- the row of kind 2
-  pub row-root : (statement : List ℕ) → h .kind ≢ 1
-      → getD x i 0 ^ h .order % h .modulus ≡ rowImage (instanceWith h entries statement) x i
-  row-root statement kind = sym (rowImage-root (instanceWith h entries statement) kind x i)
+  pub row-root : h .kind ≢ 1 → getD x i 0 ^ h .order % h .modulus ≡ rowImage (tableWith h entries) x i
+  row-root kind = sym (rowImage-root (tableWith h entries) kind x i)

@@ -16,7 +16,7 @@ use Rattle.modular.proofs.FirstFailing.{someNonElement-first, badCoordinates-fi
 use Rattle.sigma.specs.Comparison.{firstDifference, differ}
 use Rattle.sigma.specs.Element.{isElement, isCoordinate, someNonElement}
 use Rattle.sigma.specs.Image.{image}
-use Rattle.sigma.specs.Instance.{Instance}
+use Rattle.sigma.specs.Instance.{Instance, tableOf}
 use Rattle.sigma.specs.Round.{badCommitment, badCoordinates, badWitness}
 use Rattle.sigma.specs.Valid.{Valid}
 use Rattle.image.proofs.Unread.{image-places}
@@ -64,14 +64,14 @@ module _ (inst : Instance) (x : List ℕ) {i : ℕ}
   coordinates-good past = coordinates-tested ∙ le-ltb _ _ past
 
 -- 17: the search for a row in which the image, with zeros behind it, is not the statement ends before s
-pub witness-tested : (inst : Instance) → Valid inst → (x : List ℕ) {values : List ℕ} {i : ℕ} → values ≡ pad8 0 (image inst x)
+pub witness-tested : (inst : Instance) → Valid inst → (x : List ℕ) {values : List ℕ} {i : ℕ} → values ≡ pad8 0 (image (tableOf inst) x)
     → i ≡ firstDifference (inst .header .rows) values (inst .statement)
     → badWitness inst (places (inst .header .columns) x) ≡ ltb i (inst .header .rows)
 unfolding badWitness differ firstDifference
 witness-tested inst v x is-image is-first =
-    rw (is-first, is-image, image-places inst v x)
+    rw (is-first, is-image, image-places (tableOf inst) (v .table) x)
     (ap (λ (k : ℕ). ltb k (inst .header .rows))
-    (sym (find-agree _ _ 0 (inst .header .rows) (λ i h k. rw (getD-pad8 0 (image inst x) i)))))
+    (sym (find-agree _ _ 0 (inst .header .rows) (λ i h k. rw (getD-pad8 0 (image (tableOf inst) x) i)))))
 
 -- 18: the search for a place at which two commitments differ ends before n
 pub difference-tested : (n : ℕ) (xs ys : List ℕ) {i : ℕ} → i ≡ firstDifference n xs ys

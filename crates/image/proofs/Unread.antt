@@ -4,15 +4,16 @@
 use mathlib.Core.Path.{_≡_, ap, ap₂}
 use mathlib.Core.List.{List}
 use Prim.Native.Nat.{ℕ, _*_, _%_, _^_}
+use Rattle.types.specs.declared.Header.{Header}
 use Rattle.types.specs.declared.Verdict.{Verdict}
 use Rattle.lists.specs.Places.{places, pad8}
 use Rattle.lists.proofs.Places.{getD-pad8, getD-places, tabulate-agree}
 use Rattle.numbers.proofs.Search.{find-agree}
 use Rattle.sigma.specs.Comparison.{firstDifference, differ, compareSides}
 use Rattle.sigma.specs.Image.{image}
-use Rattle.sigma.specs.Instance.{Instance, statementAt}
+use Rattle.sigma.specs.Instance.{Instance, Table, tableOf, statementAt}
 use Rattle.sigma.specs.Round.{responseCoordinate, response, expectedImage, verdict}
-use Rattle.sigma.specs.Valid.{Valid}
+use Rattle.sigma.specs.Valid.{Valid, ValidTable}
 use Rattle.sigma.proofs.Unread.{rowImage-agree}
 
 -- zeros behind two lists do not change where they first differ
@@ -25,14 +26,22 @@ pub compare-pad8 : (n : ℕ) (xs ys : List ℕ) → compareSides n (pad8 0 xs) (
 unfolding compareSides differ
 compare-pad8 n xs ys = rw (difference-pad8 n xs ys)
 
-module _ (inst : Instance) where
-  -- the image reads n places, in a Valid instance
-  pub image-places : Valid inst → (x : List ℕ) → image inst (places (inst .header .columns) x) ≡ image inst x
-  unfolding image
-  image-places v x =
-      tabulate-agree (inst .header .rows) _ _
-      (λ i h. rowImage-agree v _ x (λ j l. getD-places (inst .header .columns) x j l) i h)
+-- the image reads n places, of a valid table
+pub image-places : (table : Table) → ValidTable table → (x : List ℕ) → image table (places (table .header .columns) x) ≡ image table x
+unfolding image
+image-places table v x =
+    tabulate-agree (table .header .rows) _ _
+    (λ i h. rowImage-agree v _ x (λ j l. getD-places (table .header .columns) x j l) i h)
 
+-- the response reads n places
+pub response-places : (h : Header) (k : List ℕ) (c : ℕ) (x : List ℕ)
+    → response h (places (h .columns) k) c (places (h .columns) x) ≡ response h k c x
+unfolding response
+response-places h k c x =
+    tabulate-agree (h .columns) _ _
+    (λ j l. ap₂ (λ (a b : ℕ). responseCoordinate h a c b) (getD-places (h .columns) k j l) (getD-places (h .columns) x j l))
+
+module _ (inst : Instance) where
   -- t · z^c reads s places
   pub expected-places : (t : List ℕ) (c : ℕ) → expectedImage inst (places (inst .header .rows) t) c ≡ expectedImage inst t c
   unfolding expectedImage
@@ -40,20 +49,10 @@ module _ (inst : Instance) where
       tabulate-agree (inst .header .rows) _ _
       (λ i h. ap (λ (k : ℕ). k * statementAt inst i ^ c % inst .header .modulus) (getD-places (inst .header .rows) t i h))
 
-  -- the response reads n places
-  pub response-places : (k : List ℕ) (c : ℕ) (x : List ℕ)
-      → response inst (places (inst .header .columns) k) c (places (inst .header .columns) x) ≡ response inst k c x
-  unfolding response
-  response-places k c x =
-      tabulate-agree (inst .header .columns) _ _
-      (λ j h.
-      ap₂ (λ (a b : ℕ). responseCoordinate (inst .header) a c b) (getD-places (inst .header .columns) k j h)
-      (getD-places (inst .header .columns) x j h))
-
   -- the verdict is what comparing the two sides in eight places gives
   pub verdict-compared : Valid inst → (t : List ℕ) (c : ℕ) (r : List ℕ) {left right : List ℕ} {answer : Verdict}
-      → left ≡ pad8 0 (image inst r) → right ≡ pad8 0 (expectedImage inst t c) → answer ≡ compareSides (inst .header .rows) left right
+      → left ≡ pad8 0 (image (tableOf inst) r) → right ≡ pad8 0 (expectedImage inst t c) → answer ≡ compareSides (inst .header .rows) left right
       → answer ≡ verdict inst (places (inst .header .rows) t) c (places (inst .header .columns) r)
   unfolding verdict
   verdict-compared v t c r is-left is-right is-answer =
-      rw (is-answer, is-left, is-right, image-places v r, expected-places t c) (compare-pad8 (inst .header .rows) _ _)
+      rw (is-answer, is-left, is-right, image-places (tableOf inst) (v .table) r, expected-places t c) (compare-pad8 (inst .header .rows) _ _)

@@ -16,12 +16,12 @@ ghost use Rattle.sigma.specs.Element.{Element};
 ghost use Rattle.sigma.specs.Image.{rowImage, image};
 ghost use Rattle.sigma.specs.Round.{responseCoordinate, response, expectedImage, verdict};
 ghost use Rattle.sigma.specs.Valid.{Valid};
-ghost use Rattle.sigma.specs.Instance.{instanceWith};
+ghost use Rattle.sigma.specs.Instance.{tableWith, instanceWith};
 
 // Row i of the image of x: in kind 1 the product over the columns of the entry by x's slot, in kind 2 slot i by the exponent.
 pub fn row_image(h: Header, entries: [[u32; 8]; 8], x: [u32; 8], i: usize) -> u32
     requires { ⌜ (0 < h .modulus) × (h .columns ≤ 8) × (i < 8) ⌝ }
-    ensures { λ r. ⌜ ((statement : List ℕ) → r ≡ rowImage (instanceWith h entries statement) x i) ⌝ }
+    ensures { λ r. ⌜ r ≡ rowImage (tableWith h entries) x i ⌝ }
 {
     if h.kind != 1 {
         return pow_mod(x[i], h.order, h.modulus);
@@ -37,7 +37,7 @@ pub fn row_image(h: Header, entries: [[u32; 8]; 8], x: [u32; 8], i: usize) -> u3
 // The image of x, a value for each row.
 pub fn image(h: Header, entries: [[u32; 8]; 8], x: [u32; 8]) -> [u32; 8]
     requires { ⌜ (0 < h .modulus) × (h .rows ≤ 8) × (h .columns ≤ 8) ⌝ }
-    ensures { λ r. ⌜ ((statement : List ℕ) → r ≡ pad8 0 (image (instanceWith h entries statement) x)) ⌝ }
+    ensures { λ r. ⌜ r ≡ pad8 0 (image (tableWith h entries) x) ⌝ }
 {
     let rows = h.rows as usize;
     let mut values = [0u32; 8];
@@ -134,7 +134,7 @@ fn response_coordinate(h: Header, k: u32, c: u32, x: u32) -> u32
 // The response to c, of nonce k and witness x, a value for each column.
 pub fn response(h: Header, k: [u32; 8], c: u32, x: [u32; 8]) -> [u32; 8]
     requires { ⌜ (0 < h .modulus) × (0 < h .order) × (h .columns ≤ 8) ⌝ }
-    ensures { λ r. ⌜ ((entries : List (List ℕ)) (statement : List ℕ) → r ≡ pad8 0 (response (instanceWith h entries statement) k c x)) ⌝ }
+    ensures { λ r. ⌜ r ≡ pad8 0 (response h k c x) ⌝ }
 {
     let columns = h.columns as usize;
     let mut values = [0u32; 8];

@@ -1,15 +1,15 @@
 -- Laws of residues of integers, and of the exact quotient.
 -- Assumes nothing.
-use mathlib.Core.Path.{_≡_, refl, sym, ap}
+use mathlib.Core.Path.{_≡_, refl, sym, ap, _∙_}
 use Prim.Native.Nat.{ℕ, suc, _+_, _-_, _*_, _/_, _%_, _<_}
-use native.Mathlib.Nat.{mod-lt, mod-add-div, zero-mod, zero-add}
+use native.Mathlib.Nat.{mod-lt, mod-eq-of-lt, mod-add-div, zero-mod, zero-add}
 use native.Mathlib.Omega.{arith}
-use lib.IntN.{ℤ, pos, negsuc, negℤ, _+ℤ_, _*ℤ_}
+use lib.IntN.{ℤ, pos, negsuc, negℤ, _+ℤ_, _-ℤ_, _*ℤ_}
 use Rattle.numbers.specs.Congruence.{Cong}
 use Rattle.numbers.specs.Integer.{residue, quotient}
 use Rattle.numbers.proofs.Congruence.{cong-refl, cong-sym, _then_, cong-of-equal, cong-mod, cong-below}
 use Rattle.numbers.proofs.Congruence.{cong-add, cong-add-multiple, cong-add-cancel, cong-mul}
-use Rattle.numbers.proofs.Difference.{Difference, pos-difference, neg-difference, pos-parts, negsuc-parts}
+use Rattle.numbers.proofs.Difference.{Difference, pos-difference, neg-difference, minus-difference, pos-parts, negsuc-parts}
 use Rattle.numbers.proofs.Difference.{difference, difference-same, difference-add, difference-mul}
 
 -- the residue of a natural number is its remainder
@@ -70,6 +70,20 @@ residue-mul m j k positive =
     let (c, d, q) = difference k in
     let product = product-serves m _ _ a b c d (residue-difference m positive p) (residue-difference m positive q) in
     residue-is m _ (mod-lt _ positive) (difference-mul p q) product
+
+-- the difference mod q, made of natural numbers
+pub residue-subtract : (q x y : ℕ) → y < q → residue q (pos x -ℤ pos y) ≡ (x + (q - y)) % q
+residue-subtract q x y h =
+    let whole : x + (q - y) + y ≡ x + q * 1 = omega arith in
+    residue-is q _ (mod-lt _ (omega arith)) (minus-difference x y)
+    (cong-add (cong-mod q _) (cong-refl q y) then cong-of-equal q whole then cong-add-multiple q x 1)
+
+-- a multiple of a residue
+pub residue-of-residue : (q : ℕ) (b k : ℤ) → 0 < q → residue q (b *ℤ pos (residue q k)) ≡ residue q (b *ℤ k)
+residue-of-residue q b k h =
+    residue-mul q b (pos (residue q k)) h
+    ∙ ap (λ (x : ℕ). residue q b * x % q) (residue-pos q _ ∙ mod-eq-of-lt (residue-below q k h))
+    ∙ sym (residue-mul q b k h)
 
 -- an integer whose residue is 0 is the modulus times the quotient
 pub quotient-exact : (m : ℕ) (k : ℤ) → 0 < m → residue m k ≡ 0 → pos m *ℤ quotient k m ≡ k

@@ -10,7 +10,7 @@ use Rattle.numbers.specs.Integer.{power}
 use Rattle.rules.specs.Rule.{lowest, Clear}
 use Rattle.rules.proofs.Lowest.{lowest-clear}
 use Rattle.sigma.specs.Image.{rowImage}
-use Rattle.sigma.specs.Instance.{Instance, statementAt}
+use Rattle.sigma.specs.Instance.{Instance, tableOf, statementAt}
 use Rattle.sigma.specs.Simulator.{simulated, simulateRules, simulateAfter, simulate}
 use Rattle.sigma.specs.Valid.{Valid}
 use Rattle.sigma.proofs.Answer.{computed-zero, computed-positive}
@@ -19,7 +19,7 @@ use Rattle.sigma.proofs.Unread.{rowImage-agree}
 -- row i of [r] · z^(−c)
 unfoldable pub simulatedRow : Instance → ℕ → List ℕ → ℕ → ℕ
 simulatedRow inst c r i =
-    rowImage inst r i * power (inst .header .modulus) (statementAt inst i) (negℤ (pos c)) % inst .header .modulus
+    rowImage (tableOf inst) r i * power (inst .header .modulus) (statementAt inst i) (negℤ (pos c)) % inst .header .modulus
 
 -- the simulated commitment is its rows; it reads n places of the response
 pub simulated-rows : (inst : Instance) → Valid inst → (c : ℕ) (r : List ℕ)
@@ -28,7 +28,7 @@ unfolding simulated simulatedRow
 simulated-rows inst v c r =
     tabulate-agree (inst .header .rows) _ _ (λ i h.
     ap (λ (k : ℕ). k * power (inst .header .modulus) (statementAt inst i) (negℤ (pos c)) % inst .header .modulus)
-    (rowImage-agree v _ r (λ j l. getD-places (inst .header .columns) r j l) i h))
+    (rowImage-agree (v .table) _ r (λ j l. getD-places (inst .header .columns) r j l) i h))
 
 module _ (inst : Instance) (c : ℕ) (r : List ℕ) where
   -- a number above 0 that the rules give is the whole answer

@@ -11,7 +11,7 @@ use Rattle.modular.specs.FirstFailing.{firstFailing}
 use Rattle.sigma.specs.Comparison.{firstDifference, differ}
 use Rattle.sigma.specs.Element.{isCoordinate}
 use Rattle.sigma.specs.Image.{image}
-use Rattle.sigma.specs.Instance.{Instance}
+use Rattle.sigma.specs.Instance.{Instance, tableOf}
 use Rattle.sigma.specs.Valid.{Valid}
 use Rattle.runs.specs.Prover.{unfitProver}
 use Rattle.image.proofs.Tested.{coordinates-good}
@@ -19,7 +19,7 @@ use Rattle.image.proofs.Unread.{image-places}
 
 pub unfit-commitment : (inst : Instance) → Valid inst → (p : Prover) {i j : ℕ} {values : List ℕ}
     → i ≡ firstFailing (isCoordinate (inst .header)) (inst .header .columns) (p .nonce) → inst .header .columns ≤ i
-    → values ≡ pad8 0 (image inst (p .nonce)) → j ≡ firstDifference 8 values (p .commitment) → ltb j 8 ≡ unfitProver inst p
+    → values ≡ pad8 0 (image (tableOf inst) (p .nonce)) → j ≡ firstDifference 8 values (p .commitment) → ltb j 8 ≡ unfitProver inst p
 unfolding unfitProver differ
 unfit-commitment inst v p searched slots is-image compared =
-    rw (coordinates-good inst (p .nonce) searched slots, image-places inst v (p .nonce), sym is-image, sym compared)
+    rw (coordinates-good inst (p .nonce) searched slots, image-places (tableOf inst) (v .table) (p .nonce), sym is-image, sym compared)

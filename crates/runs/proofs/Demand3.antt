@@ -16,7 +16,7 @@ use Rattle.formats.specs.Load.{loadRules, loadRefusal}
 use Rattle.formats.specs.Sheet.{instanceOf}
 use Rattle.formats.proofs.Loads.{loads-valid}
 use Rattle.sigma.specs.Image.{image}
-use Rattle.sigma.specs.Instance.{Instance}
+use Rattle.sigma.specs.Instance.{Instance, tableOf}
 use Rattle.sigma.specs.Knowledge.{AcceptedRound, Choice, Witness, honestOn, simulatedOn}
 use Rattle.sigma.specs.Knowledge.{MeetsEachOnce, AcceptedPair, Extraction}
 use Rattle.sigma.specs.Listed.{allChoices, ListsAccepted}
@@ -154,8 +154,8 @@ module _ (sheet : List ℕ) (loaded : loadRefusal sheet ≡ 0) where
       -- what Peggy gives for x, c and a nonce, in a run with Vic
       honest-run : (k : List ℕ) → Choice (instanceOf sheet) k
           → (jointRun sheet x c k .committed .refusal ≡ 0) × (jointRun sheet x c k .answered .refusal ≡ 0)
-          × (jointRun sheet x c k .committed .values ≡ pad8 0 (image (instanceOf sheet) k))
-          × (jointRun sheet x c k .answered .values ≡ pad8 0 (response (instanceOf sheet) k c x))
+          × (jointRun sheet x c k .committed .values ≡ pad8 0 (image (tableOf (instanceOf sheet)) k))
+          × (jointRun sheet x c k .answered .values ≡ pad8 0 (response (instanceOf sheet .header) k c x))
       honest-run k slots =
           let n = values .header .columns in
           let read = places-whole n x (each-length _ _ x (w .slots)) in
@@ -175,7 +175,7 @@ module _ (sheet : List ℕ) (loaded : loadRefusal sheet ≡ 0) where
 
       -- the honest round, in eight places
       honest-is : (k : List ℕ) → Choice (instanceOf sheet) k
-          → honestRound sheet x c k ≡ padded (image (instanceOf sheet) k) c (response (instanceOf sheet) k c x)
+          → honestRound sheet x c k ≡ padded (image (tableOf (instanceOf sheet)) k) c (response (instanceOf sheet .header) k c x)
       unfolding honestRound jointRun
       honest-is k slots = let (a, b, t, r) = honest-run k slots in λ i. roundOf (t i) c (r i)
 
@@ -184,7 +184,7 @@ module _ (sheet : List ℕ) (loaded : loadRefusal sheet ≡ 0) where
           MeetsEachOnce (instanceOf sheet .header) (Choice (instanceOf sheet)) (Accepts sheet) c (honestRound sheet x c)
       unfolding honestOn
       sheet-honest-rounds =
-          meets-padded c (honestRound sheet x c) (image values) (λ k. response values k c x) honest-is (honest-rounds valid x w c below)
+          meets-padded c (honestRound sheet x c) (image (tableOf values)) (λ k. response (values .header) k c x) honest-is (honest-rounds valid x w c below)
 
       -- listed over all nonces, they are the accepted rounds with challenge c, each once
       pub sheet-honest-list :
@@ -192,8 +192,8 @@ module _ (sheet : List ℕ) (loaded : loadRefusal sheet ≡ 0) where
           (map (honestRound sheet x c) (allChoices (instanceOf sheet)))
       unfolding honestOn
       sheet-honest-list =
-          lists-padded c (honestRound sheet x c) (image values) (λ k. response values k c x) honest-is (honest-rounds valid x w c below)
-          (λ k slots. (length-image values k, length-response values k c x))
+          lists-padded c (honestRound sheet x c) (image (tableOf values)) (λ k. response (values .header) k c x) honest-is (honest-rounds valid x w c below)
+          (λ k slots. (length-image (tableOf values) k, length-response (values .header) k c x))
 
   -- ---- the whole
 

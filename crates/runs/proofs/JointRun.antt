@@ -19,7 +19,7 @@ use Rattle.formats.specs.Load.{loadRules, loadRefusal}
 use Rattle.formats.specs.Sheet.{instanceOf}
 use Rattle.formats.proofs.Loads.{loads-valid}
 use Rattle.sigma.specs.Image.{image}
-use Rattle.sigma.specs.Instance.{Instance}
+use Rattle.sigma.specs.Instance.{Instance, tableOf}
 use Rattle.sigma.specs.Knowledge.{Choice, Witness, honestOn}
 use Rattle.sigma.specs.Meaning.{Coordinates, Elements, Fits}
 use Rattle.sigma.specs.Reads.{roundOf}
@@ -59,11 +59,11 @@ slots-read inst x = each-at _ _ (readOf inst x)
 
 -- the commitment to the nonce k
 abbrev pub commitmentOf : Instance → List ℕ → List ℕ
-commitmentOf inst k = image inst (readOf inst k)
+commitmentOf inst k = image (tableOf inst) (readOf inst k)
 
 -- the response to the challenge c, of the nonce k and the witness x
 abbrev pub responseOf : Instance → List ℕ → ℕ → List ℕ → List ℕ
-responseOf inst x c k = response inst (readOf inst k) c (readOf inst x)
+responseOf inst x c k = response (inst .header) (readOf inst k) c (readOf inst x)
 
 -- Peggy's session once she has committed to k
 abbrev pub proverCommitted : Instance → List ℕ → Prover
@@ -93,7 +93,7 @@ module _ (inst : Instance) (x k : List ℕ) (c : ℕ) where
       ≡ record { refusal = 0; session = verifierHolding Holding inst k 0 }
   unfolding newVerifier
   joint-commitment elements =
-      let t = places-held (inst .header .rows) (commitmentOf inst k) (length-image inst _) in
+      let t = places-held (inst .header .rows) (commitmentOf inst k) (length-image (tableOf inst) _) in
       rw t at
       (takeCommitmentAfter-given [] inst newVerifier (pad8 0 (commitmentOf inst k))
       (takeCommitmentAfter-runs [] inst newVerifier (pad8 0 (commitmentOf inst k)) tt .1
@@ -104,7 +104,7 @@ module _ (inst : Instance) (x k : List ℕ) (c : ℕ) where
       → takeChallengeAfter [] inst (verifierHolding Holding inst k 0) c
       ≡ record { refusal = 0; session = verifierHolding Asked inst k c }
   joint-challenge elements below =
-      let t = places-held (inst .header .rows) (commitmentOf inst k) (length-image inst _) in
+      let t = places-held (inst .header .rows) (commitmentOf inst k) (length-image (tableOf inst) _) in
       takeChallengeAfter-given [] inst (verifierHolding Holding inst k 0) c
       (takeChallengeAfter-runs [] inst (verifierHolding Holding inst k 0) c tt .1
       (lowest-clear [] tt, record { challenge = below; phase = refl; held = rw t elements }))
@@ -138,8 +138,8 @@ module _ (inst : Instance) (x k : List ℕ) (c : ℕ) where
       → takeResponseAfter [] inst (verifierHolding Asked inst k c) (pad8 0 (responseOf inst x c k))
       ≡ record { verdict = Accepted; session = verifierHolding Judged inst k c }
   joint-verdict fits accepted =
-      let t = places-held (inst .header .rows) (commitmentOf inst k) (length-image inst _) in
-      let r = places-held (inst .header .columns) (responseOf inst x c k) (length-response inst _ c _) in
+      let t = places-held (inst .header .rows) (commitmentOf inst k) (length-image (tableOf inst) _) in
+      let r = places-held (inst .header .columns) (responseOf inst x c k) (length-response (inst .header) _ c _) in
       rw (t, r, accepted) at
       (takeResponseAfter-given [] inst (verifierHolding Asked inst k c) (pad8 0 (responseOf inst x c k))
       (takeResponseAfter-runs [] inst (verifierHolding Asked inst k c) (pad8 0 (responseOf inst x c k)) tt .1 (

@@ -79,7 +79,7 @@ module _ (sheet f : List ℕ) where
     short k Accepted e = omega arith
     short k (Rejected row) e =
         let below = sheet-rejected sheet loaded (fetchRound sheet f k .round) row .0 e .1 .inside in
-        let few = loads-valid sheet loaded .few-rows in
+        let few = loads-valid sheet loaded .table .few-rows in
         simp length-append (omega (arith, decimal-length 0 row (omega arith)))
     short k (Refused number) e =
         let small : number < 100 = member-small number (14 ∷ 15 ∷ 16 ∷ []) tt (round-refusal sheet f loaded k number e) in

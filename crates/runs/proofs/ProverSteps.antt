@@ -16,7 +16,7 @@ use Rattle.rules.specs.Rule.{Rule, lowest, Clear, positive}
 use Rattle.rules.proofs.Says.{says-or}
 use Rattle.rules.proofs.Lowest.{lowest-zero, lowest-append-zero}
 use Rattle.sigma.specs.Image.{image}
-use Rattle.sigma.specs.Instance.{Instance}
+use Rattle.sigma.specs.Instance.{Instance, tableOf}
 use Rattle.sigma.specs.Meaning.{Coordinates}
 use Rattle.sigma.specs.Reads.{Agree}
 use Rattle.sigma.specs.Round.{badCoordinates, response}
@@ -46,7 +46,7 @@ commit-clear inst p k =
 -- what Peggy holds fits
 unfit-passes : (inst : Instance) (p : Prover) → (unfitProver inst p ≡ false)
     ↔ (Coordinates inst (places (inst .header .columns) (p .nonce))
-    × Agree 8 (pad8 0 (image inst (places (inst .header .columns) (p .nonce)))) (p .commitment))
+    × Agree 8 (pad8 0 (image (tableOf inst) (places (inst .header .columns) (p .nonce)))) (p .commitment))
 unfolding unfitProver
 unfit-passes inst p = Iff·trans (both-fail (badCoordinates inst _) _) (Iff·and (coordinates-pass inst _) (differ-false 8 _ (p .commitment)))
 
@@ -116,9 +116,9 @@ module _ (before : List Rule) (inst : Instance) (p : Prover) (nonce : List ℕ) 
             record {
               phase = Committed;
               nonce = pad8 0 (places (inst .header .columns) nonce);
-              commitment = pad8 0 (image inst (places (inst .header .columns) nonce));
+              commitment = pad8 0 (image (tableOf inst) (places (inst .header .columns) nonce));
             };
-        values = pad8 0 (image inst (places (inst .header .columns) nonce));
+        values = pad8 0 (image (tableOf inst) (places (inst .header .columns) nonce));
       }
   unfolding commitAfter
   commitAfter-given = proverStep-given _ p _ _
@@ -157,7 +157,7 @@ module _ (before : List Rule) (inst : Instance) (p : Prover) (c : ℕ) (witness 
         session = record { phase = Answered; nonce = zeros8; commitment = p .commitment };
         values =
             pad8 0
-            (response inst (places (inst .header .columns) (p .nonce)) c (places (inst .header .columns) witness));
+            (response (inst .header) (places (inst .header .columns) (p .nonce)) c (places (inst .header .columns) witness));
       }
   unfolding respondAfter
   respondAfter-given = proverStep-given _ p _ _

@@ -10,7 +10,7 @@ use Rattle.types.specs.declared.Verifier.{Verifier}
 use Rattle.types.specs.declared.VerifierPhase.the-variants.{Waiting, Holding, Asked}
 use Rattle.lists.specs.Places.{pad8, places}
 use Rattle.sigma.specs.Image.{image}
-use Rattle.sigma.specs.Instance.{Instance}
+use Rattle.sigma.specs.Instance.{Instance, tableOf}
 use Rattle.sigma.specs.Knowledge.{Witness}
 use Rattle.sigma.specs.Meaning.{Elements, Coordinates}
 use Rattle.sigma.specs.Reads.{Agree}
@@ -26,7 +26,7 @@ pub record Responds (inst : Instance) (p : Prover) (c : ℕ) (x : List ℕ) : Ty
   pub witness : Witness inst x
   pub phase : p .phase ≡ Committed
   pub nonce : Coordinates inst (places (inst .header .columns) (p .nonce))
-  pub commitment : Agree 8 (pad8 0 (image inst (places (inst .header .columns) (p .nonce)))) (p .commitment)
+  pub commitment : Agree 8 (pad8 0 (image (tableOf inst) (places (inst .header .columns) (p .nonce)))) (p .commitment)
 
 -- dropping
 abbrev pub Drops : Prover → Type 0

@@ -15,7 +15,7 @@ use Rattle.formats.specs.Sheet.{instanceOf}
 use Rattle.sigma.specs.Answer.{eightPlaces}
 use Rattle.sigma.specs.Comparison.{differ}
 use Rattle.sigma.specs.Image.{image}
-use Rattle.sigma.specs.Instance.{Instance}
+use Rattle.sigma.specs.Instance.{Instance, tableOf}
 use Rattle.sigma.specs.Round.{badChallenge, badCoordinates, badWitness, response}
 
 -- a state's place in 01's sentence, from 0
@@ -61,13 +61,13 @@ unfoldable pub commitAfter : List Rule → Instance → Prover → List ℕ → 
 commitAfter before inst p nonce =
     let k : List ℕ = places (inst .header .columns) nonce in
     proverStep (lowest (before ++ commitRules inst p k)) p
-    (record { phase = Committed; nonce = pad8 0 k; commitment = pad8 0 (image inst k) }) (image inst k)
+    (record { phase = Committed; nonce = pad8 0 k; commitment = pad8 0 (image (tableOf inst) k) }) (image (tableOf inst) k)
 
 -- the held nonce has a slot that is no domain slot, or its image, 0 beyond s, is not the held commitment in all eight places
 unfoldable pub unfitProver : Instance → Prover → Bool
 unfitProver inst p =
     let k : List ℕ = places (inst .header .columns) (p .nonce) in
-    badCoordinates inst k || differ 8 (pad8 0 (image inst k)) (p .commitment)
+    badCoordinates inst k || differ 8 (pad8 0 (image (tableOf inst) k)) (p .commitment)
 
 -- the rules of a challenge, a witness and the session
 unfoldable pub respondRules : Instance → Prover → ℕ → List ℕ → List Rule
@@ -83,7 +83,7 @@ respondAfter before inst p c witness =
     let x : List ℕ = places (inst .header .columns) witness in
     proverStep (lowest (before ++ respondRules inst p c x)) p
     (record { phase = Answered; nonce = zeros8; commitment = p .commitment })
-    (response inst (places (inst .header .columns) (p .nonce)) c x)
+    (response (inst .header) (places (inst .header .columns) (p .nonce)) c x)
 
 -- the rule of the state
 unfoldable pub dropRules : Prover → List Rule

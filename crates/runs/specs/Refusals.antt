@@ -10,7 +10,7 @@ use Rattle.types.specs.declared.VerifierPhase.the-variants.{Waiting, Holding, A
 use Rattle.lists.specs.Places.{pad8, places}
 use Rattle.rules.specs.Condition.{Condition, _if_}
 use Rattle.sigma.specs.Image.{image}
-use Rattle.sigma.specs.Instance.{Instance}
+use Rattle.sigma.specs.Instance.{Instance, tableOf}
 use Rattle.sigma.specs.Reads.{Differ}
 use Rattle.sigma.specs.Refusals.{Refusal14, Refusal15, Refusal16, Refusal17}
 
@@ -18,7 +18,7 @@ use Rattle.sigma.specs.Refusals.{Refusal14, Refusal15, Refusal16, Refusal17}
 abbrev pub UnfitProver : Instance → Prover → Type 0
 UnfitProver inst p =
     Refusal16 inst (places (inst .header .columns) (p .nonce)) ⊎
-    Differ 8 (pad8 0 (image inst (places (inst .header .columns) (p .nonce)))) (p .commitment)
+    Differ 8 (pad8 0 (image (tableOf inst) (places (inst .header .columns) (p .nonce)))) (p .commitment)
 
 -- a held commitment value is no group element
 abbrev pub UnfitCommitment : Instance → Verifier → Type 0

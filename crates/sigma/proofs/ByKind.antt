@@ -1,21 +1,22 @@
 -- The two kinds: what the definitions that ask for the kind say in each.
 -- Assumes nothing.
-use Prim.Native.Nat.{ℕ, _+_, _-_, _*_, _%_, _^_}
+use Prim.Native.Nat.{ℕ, _+_, _*_, _%_, _^_}
 use mathlib.Core.Path.{_≡_}
 use mathlib.Core.Logic.{_≢_, ⊎-elim}
 use mathlib.Core.Bool.{true, false}
 use mathlib.Core.List.{List}
-use lib.IntN.{ℤ, pos, _*ℤ_}
+use lib.IntN.{ℤ, pos, _-ℤ_, _*ℤ_}
 use lib.ListN.{getD}
 use Rattle.types.specs.declared.Header.{Header}
 use Rattle.numbers.specs.Integer.{residue, power}
 use Rattle.numbers.specs.Inverse.{inverse}
 use Rattle.numbers.specs.Product.{product}
 use Rattle.rules.proofs.Says.{says-false, says-decides}
-use Rattle.sigma.specs.Instance.{Instance, isExponent, entry, statementAt}
+use Rattle.sigma.specs.Instance.{Table, isExponent, entry}
 use Rattle.sigma.specs.Image.{rowImage}
 use Rattle.sigma.specs.Round.{responseCoordinate}
-use Rattle.sigma.specs.Extractor.{combine, divide, raise, baseCoordinate}
+use Rattle.sigma.specs.Element.{combine}
+use Rattle.sigma.specs.Extractor.{slotFormula}
 use Rattle.sigma.proofs.Tests.{says-exponent}
 
 -- the test of the kind is true in kind 1
@@ -43,27 +44,18 @@ module _ (h : Header) (e : h .kind ≡ 1) where
   unfolding combine
   combine-exponent x y = rw (exponent-kind h e)
 
-  -- the domain's quotient is the difference mod q
-  pub divide-exponent : (x y : ℕ) → divide h x y ≡ (x + (h .order - y)) % h .order
-  unfolding divide
-  divide-exponent x y = rw (exponent-kind h e)
+  -- a slot of the extractor's formula is b(r − r′) mod q
+  pub slotFormula-exponent : (z : ℕ) (a b : ℤ) (r r′ : ℕ)
+      → slotFormula h z a b r r′ ≡ residue (h .order) (b *ℤ (pos r -ℤ pos r′))
+  unfolding slotFormula
+  slotFormula-exponent z a b r r′ = rw (exponent-kind h e)
 
-  -- the domain's power is the multiple mod q
-  pub raise-exponent : (x : ℕ) (k : ℤ) → raise h x k ≡ residue (h .order) (k *ℤ pos x)
-  unfolding raise
-  raise-exponent x k = rw (exponent-kind h e)
-
-module _ (i : Instance) (e : i .header .kind ≡ 1) where
+module _ (table : Table) (e : table .header .kind ≡ 1) where
   -- a row of [x] is the product of the entries' powers
-  pub rowImage-exponent : (x : List ℕ) (r : ℕ)
-      → rowImage i x r ≡ product (i .header .columns) (λ c. entry i r c ^ getD x c 0) % i .header .modulus
+  pub rowImage-exponent : (x : List ℕ) (i : ℕ)
+      → rowImage table x i ≡ product (table .header .columns) (λ j. entry table i j ^ getD x j 0) % table .header .modulus
   unfolding rowImage
-  rowImage-exponent x r = rw (exponent-kind (i .header) e)
-
-  -- u is all zeros
-  pub baseCoordinate-exponent : (j : ℕ) → baseCoordinate i j ≡ 0
-  unfolding baseCoordinate
-  baseCoordinate-exponent j = rw (exponent-kind (i .header) e)
+  rowImage-exponent x i = rw (exponent-kind (table .header) e)
 
 -- ---- kind 2
 
@@ -78,23 +70,15 @@ module _ (h : Header) (e : h .kind ≢ 1) where
   unfolding combine
   combine-root x y = rw (root-kind h e)
 
-  -- the domain's quotient is the product with the inverse mod m
-  pub divide-root : (x y : ℕ) → divide h x y ≡ x * inverse (h .modulus) y % h .modulus
-  unfolding divide
-  divide-root x y = rw (root-kind h e)
+  -- a slot of the extractor's formula is z^a · (r/r′)^b mod m
+  pub slotFormula-root : (z : ℕ) (a b : ℤ) (r r′ : ℕ)
+      → slotFormula h z a b r r′
+      ≡ power (h .modulus) z a * power (h .modulus) (r * inverse (h .modulus) r′ % h .modulus) b % h .modulus
+  unfolding slotFormula
+  slotFormula-root z a b r r′ = rw (root-kind h e)
 
-  -- the domain's power is the power mod m
-  pub raise-root : (x : ℕ) (k : ℤ) → raise h x k ≡ power (h .modulus) x k
-  unfolding raise
-  raise-root x k = rw (root-kind h e)
-
-module _ (i : Instance) (e : i .header .kind ≢ 1) where
+module _ (table : Table) (e : table .header .kind ≢ 1) where
   -- a row of [x] is the slot's power
-  pub rowImage-root : (x : List ℕ) (r : ℕ) → rowImage i x r ≡ getD x r 0 ^ i .header .order % i .header .modulus
+  pub rowImage-root : (x : List ℕ) (i : ℕ) → rowImage table x i ≡ getD x i 0 ^ table .header .order % table .header .modulus
   unfolding rowImage
-  rowImage-root x r = rw (root-kind (i .header) e)
-
-  -- u is the statement
-  pub baseCoordinate-root : (j : ℕ) → baseCoordinate i j ≡ statementAt i j
-  unfolding baseCoordinate
-  baseCoordinate-root j = rw (root-kind (i .header) e)
+  rowImage-root x i = rw (root-kind (table .header) e)

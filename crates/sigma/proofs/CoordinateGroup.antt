@@ -6,20 +6,19 @@ use mathlib.Core.Logic.{_≢_}
 use mathlib.Core.Bool.{cond}
 use native.Mathlib.Bridge.{le-prop}
 use native.Mathlib.Nat.{mod-lt, add-mod-mod}
-use lib.IntN.{ℤ, pos}
+use lib.IntN.{ℤ, pos, _*ℤ_}
 use Rattle.types.specs.declared.Header.{Header}
 use Rattle.groups.specs.Group.{powerWith}
 use Rattle.groups.specs.Vector.{NumberGroup, numberPower}
+use Rattle.numbers.specs.Integer.{residue, power}
 use Rattle.numbers.specs.Inverse.{inverse}
 use Rattle.numbers.proofs.Exponent.{power-pos}
 use Rattle.numbers.proofs.Integer.{residue-pos}
 use Rattle.numbers.proofs.Congruence.{mod-mul-right}
-use Rattle.sigma.specs.Element.{Element, Coordinate}
+use Rattle.sigma.specs.Element.{Element, Coordinate, combine}
 use Rattle.sigma.specs.Instance.{isExponent}
-use Rattle.sigma.specs.Extractor.{combine, divide, raise}
 use Rattle.sigma.specs.Round.{responseCoordinate}
 use Rattle.sigma.proofs.ByKind.{by-kind, exponent-kind, root-kind, combine-exponent, combine-root}
-use Rattle.sigma.proofs.ByKind.{raise-exponent, raise-root}
 use Rattle.sigma.proofs.ElementGroup.{element-proposition, element-product, element-one, element-inverse}
 use Rattle.sigma.proofs.ElementGroup.{elementGroup, element-power}
 use Rattle.sigma.proofs.ResidueGroup.{residueGroup, residue-power}
@@ -40,6 +39,10 @@ module _ (h : Header) where
   unfoldable pub opposite : ℕ → ℕ
   opposite x = cond (isExponent h) ((h .order - x) % h .order) (inverse (h .modulus) x)
 
+  -- the power of a coordinate, for an integer k: k·x mod q in kind 1, x^k mod m in kind 2
+  unfoldable pub raise : ℕ → ℤ → ℕ
+  raise x k = cond (isExponent h) (residue (h .order) (k *ℤ pos x)) (power (h .modulus) x k)
+
   -- in kind 1 the neutral coordinate is 0
   neutral-exponent : h .kind ≡ 1 → neutral ≡ 0
   unfolding neutral
@@ -51,14 +54,24 @@ module _ (h : Header) where
   neutral-root n = rw (root-kind h n)
 
   -- in kind 1 the opposite is q − x
-  opposite-exponent : h .kind ≡ 1 → (x : ℕ) → opposite x ≡ (h .order - x) % h .order
+  pub opposite-exponent : h .kind ≡ 1 → (x : ℕ) → opposite x ≡ (h .order - x) % h .order
   unfolding opposite
   opposite-exponent e x = rw (exponent-kind h e)
 
   -- in kind 2 it is the inverse modulo m
-  opposite-root : h .kind ≢ 1 → (x : ℕ) → opposite x ≡ inverse (h .modulus) x
+  pub opposite-root : h .kind ≢ 1 → (x : ℕ) → opposite x ≡ inverse (h .modulus) x
   unfolding opposite
   opposite-root n x = rw (root-kind h n)
+
+  -- in kind 1 the power is the multiple mod q
+  pub raise-exponent : h .kind ≡ 1 → (x : ℕ) (k : ℤ) → raise x k ≡ residue (h .order) (k *ℤ pos x)
+  unfolding raise
+  raise-exponent e x k = rw (exponent-kind h e)
+
+  -- in kind 2 it is the power mod m
+  pub raise-root : h .kind ≢ 1 → (x : ℕ) (k : ℤ) → raise x k ≡ power (h .modulus) x k
+  unfolding raise
+  raise-root n x k = rw (root-kind h n)
 
   -- a number below q is a coordinate in kind 1
   pub coordinate-exponent : h .kind ≡ 1 → (x : ℕ) → x < h .order → Coordinate h x
@@ -69,12 +82,6 @@ module _ (h : Header) where
   coordinate-root n x y = record { reduced = λ e. absurd (n e); element = λ n′. y }
 
 module _ (h : Header) where
-  -- a quotient is the product with the opposite
-  pub divide-combine : (x y : ℕ) → divide h x y ≡ combine h x (opposite h y)
-  unfolding divide combine opposite
-  divide-combine x y =
-      by-kind h (λ e. rw (exponent-kind h e) (sym (add-mod-mod x (h .order - y) (h .order)))) (λ n. rw (root-kind h n))
-
   -- a coordinate of the response combines the nonce with the witness's power
   pub response-combine : (k c x : ℕ) → responseCoordinate h k c x ≡ combine h k (raise h x (pos c))
   unfolding responseCoordinate combine raise

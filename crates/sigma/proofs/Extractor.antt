@@ -13,7 +13,7 @@ use Rattle.groups.specs.Round.{Accepts, Bezout}
 use Rattle.groups.specs.Vector.{same-vector}
 use Rattle.numbers.specs.Integer.{bezoutLeft, bezoutRight}
 use Rattle.numbers.proofs.Coprime.{bezout-challenges}
-use Rattle.sigma.specs.Instance.{Instance}
+use Rattle.sigma.specs.Instance.{Instance, tableOf}
 use Rattle.sigma.specs.Extractor.{extracted, extract}
 use Rattle.sigma.specs.Knowledge.{AcceptedRound, AcceptedPair, Extraction}
 use Rattle.sigma.specs.Meaning.{Extracts}
@@ -63,7 +63,7 @@ module _ {inst : Instance} (v : Valid inst) (first second : Round)
       (bezoutLeft (inst .header .order) (pos (first .challenge) -ℤ pos (second .challenge)))
       (bezoutRight (inst .header .order) (pos (first .challenge) -ℤ pos (second .challenge)))
   chosen =
-      bezout-challenges (inst .header .challenges) (inst .header .order) (v .no-divisor) (v .order) (first .challenge) (second .challenge)
+      bezout-challenges (inst .header .challenges) (inst .header .order) (v .table .no-divisor) (v .table .order) (first .challenge) (second .challenge)
       (runs .first-fits .challenge) (runs .second-fits .challenge) (p .challenges)
 
   -- the extractor runs
@@ -81,10 +81,10 @@ module _ {inst : Instance} (v : Valid inst) (first second : Round)
       let c′ = second .challenge in
       let one = roundFrom v first (runs v first second p .first-fits) in
       let two = roundFrom v second (runs v first second p .second-fits) in
-      let same : two .commitment ≡ one .commitment = same-vector (elementsOf v) (inst .header .rows) (two .commitment) (one .commitment)
+      let same : two .commitment ≡ one .commitment = same-vector (elementsOf (v .table)) (inst .header .rows) (two .commitment) (one .commitment)
       (places-agree (inst .header .rows) (second .commitment) (first .commitment) (λ i h. sym (p .commitments i h))) in
       let accepts = from-accepted v first (runs v first second p .first-fits) (p .first-accepted) in
-      let accepts′ = subst (λ (t : Codomain inst). Accepts (homomorphism v) (statementVector v) t c′ (two .response)) same
+      let accepts′ = subst (λ (t : Codomain (tableOf inst)). Accepts (homomorphism (v .table)) (statementVector v) t c′ (two .response)) same
       (from-accepted v second (runs v first second p .second-fits) (p .second-accepted)) in
       let delta : ℤ = pos c -ℤ pos c′ in
       let fit = chosen v first second p in

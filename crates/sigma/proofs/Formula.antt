@@ -1,38 +1,63 @@
--- The extractor's formula u^a · (r/r′)^b, slot by slot in each kind (01, "A round").
+-- The extractor's formula slot by slot, in each kind and in the domain: u^a · (r/r′)^b (01, "A round").
 -- Assumes nothing.
-use Prim.Native.Nat.{ℕ, _+_, _-_, _*_, _%_, _<_}
+use Prim.Native.Nat.{ℕ, _+_, _*_, _%_, _<_}
 use mathlib.Core.Path.{_≡_, sym, ap, ap₂, _∙_}
 use mathlib.Core.Logic.{_≢_}
+use mathlib.Core.Bool.{cond}
 use mathlib.Core.List.{List}
-use native.Mathlib.Nat.{mod-lt, mod-eq-of-lt, zero-mod, zero-add}
+use native.Mathlib.Nat.{mod-eq-of-lt, add-mod-mod, zero-mod, zero-add}
 use native.Mathlib.Omega.{arith}
 use lib.IntN.{ℤ, pos, _-ℤ_, _*ℤ_, *ℤ-zero}
 use lib.ListN.{length, getD}
+use Rattle.types.specs.declared.Header.{Header}
 use Rattle.lists.proofs.Places.{length-tabulate, getD-tabulate, tabulate-agree}
 use Rattle.numbers.specs.Integer.{residue, power}
 use Rattle.numbers.specs.Inverse.{inverse}
-use Rattle.numbers.proofs.Congruence.{_then_, cong-refl, cong-mod, cong-add, cong-of-equal, cong-add-multiple}
-use Rattle.numbers.proofs.Difference.{minus-difference}
-use Rattle.numbers.proofs.Integer.{residue-pos, residue-below, residue-is, residue-mul}
-use Rattle.sigma.specs.Instance.{Instance, statementAt}
+use Rattle.numbers.proofs.Integer.{residue-pos, residue-below, residue-subtract, residue-of-residue}
+use Rattle.sigma.specs.Element.{Coordinate, combine}
+use Rattle.sigma.specs.Instance.{Instance, isExponent, statementAt}
 use Rattle.sigma.specs.Reads.{Agree}
-use Rattle.sigma.specs.Extractor.{combine, divide, raise, baseCoordinate, slotFormula, formula}
-use Rattle.sigma.proofs.ByKind.{combine-exponent, divide-exponent, raise-exponent, baseCoordinate-exponent}
-use Rattle.sigma.proofs.ByKind.{combine-root, divide-root, raise-root, baseCoordinate-root}
+use Rattle.sigma.specs.Extractor.{slotFormula, formula}
+use Rattle.sigma.proofs.ByKind.{by-kind, exponent-kind, root-kind, combine-exponent, combine-root}
+use Rattle.sigma.proofs.ByKind.{slotFormula-exponent, slotFormula-root}
+use Rattle.sigma.proofs.CoordinateGroup.{opposite, raise, opposite-exponent, opposite-root, raise-exponent, raise-root}
 
--- the difference mod q, made of natural numbers
-pub residue-subtract : (q x y : ℕ) → y < q → residue q (pos x -ℤ pos y) ≡ (x + (q - y)) % q
-residue-subtract q x y h =
-    let whole : x + (q - y) + y ≡ x + q * 1 = omega arith in
-    residue-is q _ (mod-lt _ (omega arith)) (minus-difference x y)
-    (cong-add (cong-mod q _) (cong-refl q y) then cong-of-equal q whole then cong-add-multiple q x 1)
+module _ (h : Header) where
+  -- a slot of u, for the statement's value z: 0 in kind 1, z in kind 2
+  unfoldable pub baseSlot : ℕ → ℕ
+  baseSlot z = cond (isExponent h) 0 z
 
--- a multiple of a residue
-residue-of-residue : (q : ℕ) (b k : ℤ) → 0 < q → residue q (b *ℤ pos (residue q k)) ≡ residue q (b *ℤ k)
-residue-of-residue q b k h =
-    residue-mul q b (pos (residue q k)) h
-    ∙ ap (λ (x : ℕ). residue q b * x % q) (residue-pos q _ ∙ mod-eq-of-lt (residue-below q k h))
-    ∙ sym (residue-mul q b k h)
+  -- in kind 1 it is 0
+  pub baseSlot-exponent : h .kind ≡ 1 → (z : ℕ) → baseSlot z ≡ 0
+  unfolding baseSlot
+  baseSlot-exponent e z = rw (exponent-kind h e)
+
+  -- in kind 2 it is z
+  pub baseSlot-root : h .kind ≢ 1 → (z : ℕ) → baseSlot z ≡ z
+  unfolding baseSlot
+  baseSlot-root n z = rw (root-kind h n)
+
+module _ (h : Header) (z : ℕ) (a b : ℤ) (r r′ : ℕ) (slot : Coordinate h r′) where
+  -- in kind 1 the power of u is 0, and that of the quotient is the multiple of the difference
+  slot-exponent : h .kind ≡ 1
+      → combine h (raise h (baseSlot h z) a) (raise h (combine h r (opposite h r′)) b) ≡ slotFormula h z a b r r′
+  slot-exponent e =
+      let q = h .order in
+      let below : r′ < q = slot .reduced e in
+      let some : 0 < q = omega arith in
+      let base : raise h (baseSlot h z) a ≡ 0 =
+      raise-exponent h e (baseSlot h z) a ∙ rw (baseSlot-exponent h e z, *ℤ-zero a) (residue-pos q 0 ∙ zero-mod q) in
+      let difference : combine h r (opposite h r′) ≡ residue q (pos r -ℤ pos r′) =
+      combine-exponent h e r _ ∙ rw (opposite-exponent h e r′) (add-mod-mod r _ q ∙ sym (residue-subtract q r r′ below)) in
+      let quotient : raise h (combine h r (opposite h r′)) b ≡ residue q (b *ℤ (pos r -ℤ pos r′)) =
+      raise-exponent h e _ b ∙ ap (λ (d : ℕ). residue q (b *ℤ pos d)) difference ∙ residue-of-residue q b (pos r -ℤ pos r′) some in
+      combine-exponent h e _ _ ∙ ap₂ (λ (u v : ℕ). (u + v) % q) base quotient
+      ∙ rw zero-add (mod-eq-of-lt (residue-below q _ some)) ∙ sym (slotFormula-exponent h e z a b r r′)
+
+  -- a slot of the formula is u^a · (r/r′)^b in the domain
+  pub slot-combined : combine h (raise h (baseSlot h z) a) (raise h (combine h r (opposite h r′)) b) ≡ slotFormula h z a b r r′
+  slot-combined =
+      by-kind h slot-exponent (λ n. simp (combine-root h n, raise-root h n, opposite-root h n, baseSlot-root h n, slotFormula-root h n))
 
 module _ (i : Instance) (a b : ℤ) (r r′ : List ℕ) where
   -- the formula has a value for each column
@@ -42,9 +67,8 @@ module _ (i : Instance) (a b : ℤ) (r r′ : List ℕ) where
 
   -- slot j of the formula
   pub formula-at : (j : ℕ) → j < i .header .columns
-      → getD (formula i a b r r′) j 0
-      ≡ combine (i .header) (raise (i .header) (baseCoordinate i j) a) (raise (i .header) (divide (i .header) (getD r j 0) (getD r′ j 0)) b)
-  unfolding formula slotFormula
+      → getD (formula i a b r r′) j 0 ≡ slotFormula (i .header) (statementAt i j) a b (getD r j 0) (getD r′ j 0)
+  unfolding formula
   formula-at j h = getD-tabulate _ _ j 0 h
 
   -- the formula reads n places of the two responses
@@ -54,27 +78,13 @@ module _ (i : Instance) (a b : ℤ) (r r′ : List ℕ) where
   formula-agree s s′ same same′ = tabulate-agree (i .header .columns) _ _ (λ j h. rw (same j h, same′ j h))
 
   -- in kind 1 slot j is b(r − r′) mod q
-  pub formula-exponent : (j : ℕ) → i .header .kind ≡ 1 → j < i .header .columns → getD r′ j 0 < i .header .order
+  pub formula-exponent : (j : ℕ) → i .header .kind ≡ 1 → j < i .header .columns
       → getD (formula i a b r r′) j 0 ≡ residue (i .header .order) (b *ℤ (pos (getD r j 0) -ℤ pos (getD r′ j 0)))
-  formula-exponent j e h l =
-      let q = i .header .order in
-      let x = getD r j 0 in
-      let y = getD r′ j 0 in
-      let some : 0 < q = omega arith in
-      let base : raise (i .header) (baseCoordinate i j) a ≡ 0 =
-      raise-exponent (i .header) e (baseCoordinate i j) a ∙ rw (baseCoordinate-exponent i e j, *ℤ-zero a) (residue-pos q 0 ∙ zero-mod q) in
-      let quotient : raise (i .header) (divide (i .header) x y) b ≡ residue q (b *ℤ (pos x -ℤ pos y)) =
-      raise-exponent (i .header) e (divide (i .header) x y) b
-      ∙ ap (λ (d : ℕ). residue q (b *ℤ pos d)) (divide-exponent (i .header) e x y ∙ sym (residue-subtract q x y l))
-      ∙ residue-of-residue q b (pos x -ℤ pos y) some in
-      formula-at j h ∙ combine-exponent (i .header) e _ _
-      ∙ ap₂ (λ (u v : ℕ). (u + v) % q) base quotient ∙ rw zero-add (mod-eq-of-lt (residue-below q _ some))
+  formula-exponent j e h = formula-at j h ∙ slotFormula-exponent (i .header) e _ a b _ _
 
   -- in kind 2 slot j is z^a · (r/r′)^b mod m
   pub formula-root : (j : ℕ) → i .header .kind ≢ 1 → j < i .header .columns
       → getD (formula i a b r r′) j 0
       ≡ power (i .header .modulus) (statementAt i j) a
       * power (i .header .modulus) (getD r j 0 * inverse (i .header .modulus) (getD r′ j 0) % i .header .modulus) b % i .header .modulus
-  formula-root j n h =
-      formula-at j h
-      ∙ simp (combine-root (i .header) n, raise-root (i .header) n, divide-root (i .header) n, baseCoordinate-root i n)
+  formula-root j n h = formula-at j h ∙ slotFormula-root (i .header) n _ a b _ _

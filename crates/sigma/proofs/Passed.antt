@@ -10,7 +10,7 @@ use lib.ListN.{getD}
 use borrow.Author.Tests.{leb-false, lt-leb, ltb-false, le-ltb}
 use Rattle.types.specs.declared.Header.{Header}
 use Rattle.rules.proofs.Says.{says-equal, says-or, says-false}
-use Rattle.sigma.specs.Instance.{Instance, entry, statementAt}
+use Rattle.sigma.specs.Instance.{Instance, tableOf, entry, statementAt}
 use Rattle.sigma.specs.Element.{someNonElement, Element}
 use Rattle.sigma.specs.Image.{rowImage, image}
 use Rattle.sigma.specs.Admission.{badKind, badModulus, badOrder, badSize, badCount, badEntries, badStatement}
@@ -76,10 +76,10 @@ count-passes h =
 module _ (i : Instance) where
   -- not 10: in kind 1 every entry is a group element
   pub entries-pass : (badEntries i ≡ false)
-      ↔ (i .header .kind ≡ 1 → (r c : ℕ) → r < i .header .rows → c < i .header .columns → Element (i .header) (entry i r c))
+      ↔ (i .header .kind ≡ 1 → (r c : ℕ) → r < i .header .rows → c < i .header .columns → Element (i .header) (entry (tableOf i) r c))
   entries-pass =
       let fails = says-false (says-badEntries i) in (
-        λ e k r c hr hc. says-stable (says-element (i .header) (entry i r c)) (λ n. fails .0 e (k, (r, hr, (c, hc, n)))),
+        λ e k r c hr hc. says-stable (says-element (i .header) (entry (tableOf i) r c)) (λ n. fails .0 e (k, (r, hr, (c, hc, n)))),
         λ f. fails .1 (λ (k, (r, hr, (c, hc, n))). n (f k r c hr hc)),
       )
 
@@ -106,8 +106,8 @@ module _ (i : Instance) where
   coordinates-pass x = all-pass _ _ _ (λ j. says-coordinate (i .header) (getD x j 0))
 
   -- not 17: every row of the witness's image is the statement's value
-  pub witness-passes : (x : List ℕ) → (badWitness i x ≡ false) ↔ ((r : ℕ) → r < i .header .rows → rowImage i x r ≡ statementAt i r)
+  pub witness-passes : (x : List ℕ) → (badWitness i x ≡ false) ↔ ((r : ℕ) → r < i .header .rows → rowImage (tableOf i) x r ≡ statementAt i r)
   unfolding badWitness statementAt
   witness-passes x =
-      let agree = differ-false (i .header .rows) (image i x) (i .statement) in
-      (λ e r h. sym (image-at i x r h) ∙ agree .0 e r h, λ f. agree .1 (λ r h. image-at i x r h ∙ f r h))
+      let agree = differ-false (i .header .rows) (image (tableOf i) x) (i .statement) in
+      (λ e r h. sym (image-at (tableOf i) x r h) ∙ agree .0 e r h, λ f. agree .1 (λ r h. image-at (tableOf i) x r h ∙ f r h))

@@ -8,7 +8,7 @@ use Rattle.types.specs.declared.Verdict.the-variants.{Accepted}
 use Rattle.groups.specs.Round.{honestRound}
 use Rattle.groups.specs.Vector.{same-vector}
 use Rattle.groups.proofs.Simulation.{honest-rounds as group-honest-rounds}
-use Rattle.sigma.specs.Instance.{Instance}
+use Rattle.sigma.specs.Instance.{Instance, tableOf}
 use Rattle.sigma.specs.Judge.{judge}
 use Rattle.sigma.specs.Knowledge.{AcceptedRound, Choice, Witness, honestOn, MeetsEachOnce}
 use Rattle.sigma.specs.Valid.{Valid}
@@ -18,21 +18,21 @@ use Rattle.sigma.proofs.Transfer.{transfer}
 
 module _ {inst : Instance} (v : Valid inst) (x : List ℕ) (w : Witness inst x) where
   -- the homomorphism carries the witness to the statement
-  pub witness-image : homomorphism v .map (x, w .slots) ≡ statementVector v
+  pub witness-image : homomorphism (v .table) .map (x, w .slots) ≡ statementVector v
   unfolding homomorphism imageOf statementVector
-  witness-image = same-vector (elementsOf v) (inst .header .rows) _ _ (w .carried)
+  witness-image = same-vector (elementsOf (v .table)) (inst .header .rows) _ _ (w .carried)
 
   module _ (c : ℕ) (below : c < inst .header .challenges) where
     -- the honest rounds over all nonces are exactly the accepted rounds with challenge c, each met once
     pub honest-rounds : MeetsEachOnce (inst .header) (Choice inst) (AcceptedRound inst) c (honestOn inst x c)
     unfolding honestOn honestRound homomorphism imageOf
     honest-rounds =
-        let witness : Domain inst = (x, w .slots) in
-        transfer v c below (honestRound (homomorphism v) witness c)
-        (group-honest-rounds (homomorphism v) (statementVector v) c witness witness-image) (honestOn inst x c) (λ k. record {
+        let witness : Domain (tableOf inst) = (x, w .slots) in
+        transfer v c below (honestRound (homomorphism (v .table)) witness c)
+        (group-honest-rounds (homomorphism (v .table)) (statementVector v) c witness witness-image) (honestOn inst x c) (λ k. record {
           commitment = λ i h. refl;
           challenge = refl;
-          response = λ j h. sym (response-value v c witness k j h);
+          response = λ j h. sym (response-value (v .table) c witness k j h);
         })
 
     -- completeness: the honest round is accepted

@@ -23,7 +23,7 @@ module _ {inst : Instance} (v : Valid inst) (c : ℕ) (below : c < inst .header 
   pub simulated-rounds : MeetsEachOnce (inst .header) (Choice inst) (AcceptedRound inst) c (simulatedOn inst c)
   unfolding simulatedOn simulatedRound
   simulated-rounds =
-      transfer v c below (simulatedRound (homomorphism v) (statementVector v) c) (group-simulated-rounds (homomorphism v) (statementVector v) c)
+      transfer v c below (simulatedRound (homomorphism (v .table)) (statementVector v) c) (group-simulated-rounds (homomorphism (v .table)) (statementVector v) c)
       (simulatedOn inst c) (λ r. record {
         commitment = λ i h. sym (simulated-value v c r i h);
         challenge = refl;

@@ -17,7 +17,7 @@ use Rattle.numbers.specs.Search.{find}
 use Rattle.numbers.proofs.Search.{find-within, find-holds, find-first}
 use Rattle.rules.specs.Says.{Says}
 use Rattle.rules.proofs.Says.{says-less, says-at-most, says-equal, says-or, says-and, says-not, says-iff, says-false}
-use Rattle.sigma.specs.Instance.{Instance, isExponent, entry, statementAt}
+use Rattle.sigma.specs.Instance.{Instance, tableOf, isExponent, entry, statementAt}
 use Rattle.sigma.specs.Element.{isElement, someNonElement, isCoordinate, Element, Coordinate}
 use Rattle.sigma.specs.Admission.{firstDivisor, badKind, badModulus, badOrder, badSize, badCount, badEntries, badStatement}
 use Rattle.sigma.specs.Image.{image}
@@ -128,7 +128,7 @@ pub says-badEntries : (i : Instance) → Says (badEntries i) (Refusal10 i)
 unfolding badEntries
 says-badEntries i =
     says-and (says-exponent (i .header))
-    (says-any _ _ _ (λ r. says-any _ _ _ (λ c. says-not (says-element (i .header) (entry i r c)))))
+    (says-any _ _ _ (λ r. says-any _ _ _ (λ c. says-not (says-element (i .header) (entry (tableOf i) r c)))))
 
 -- some value among the first n is no group element
 pub says-someNonElement : (h : Header) (n : ℕ) (vs : List ℕ)
@@ -162,8 +162,8 @@ says-badCoordinates i x = says-any _ _ _ (λ j. says-not (says-coordinate (i .he
 pub says-badWitness : (i : Instance) (x : List ℕ) → Says (badWitness i x) (Refusal17 i x)
 unfolding badWitness statementAt
 says-badWitness i x =
-    says-iff (says-differ (i .header .rows) (image i x) (i .statement))
-    (λ (r, h, n). (r, h, λ e. n (image-at i x r h ∙ e)), λ (r, h, n). (r, h, λ e. n (sym (image-at i x r h) ∙ e)))
+    says-iff (says-differ (i .header .rows) (image (tableOf i) x) (i .statement))
+    (λ (r, h, n). (r, h, λ e. n (image-at (tableOf i) x r h ∙ e)), λ (r, h, n). (r, h, λ e. n (sym (image-at (tableOf i) x r h) ∙ e)))
 
 -- the test of a verdict
 pub says-accepted : (v : Verdict) → Says (isAccepted v) (v ≡ Accepted)

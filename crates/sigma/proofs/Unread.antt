@@ -13,9 +13,9 @@ use Rattle.lists.specs.Places.{places}
 use Rattle.lists.proofs.Places.{places-agree, getD-places}
 use Rattle.rules.specs.Rule.{Rule}
 use Rattle.rules.proofs.Says.{says-decides}
-use Rattle.sigma.specs.Instance.{Instance, entry, statementAt}
+use Rattle.sigma.specs.Instance.{Instance, Table, entry, statementAt}
 use Rattle.sigma.specs.Element.{Element, Coordinate}
-use Rattle.sigma.specs.Valid.{Valid}
+use Rattle.sigma.specs.Valid.{Valid, ValidTable}
 use Rattle.sigma.specs.Image.{rowImage}
 use Rattle.sigma.specs.Reads.{Agree, SameRound, readRound}
 use Rattle.sigma.specs.Meaning.{RowHolds, Holds, FailsFirst, Elements, Coordinates, Fits, Extracts}
@@ -68,16 +68,17 @@ same-round-of-read h round = record {
 -- ---- facts
 
 -- a row of [x] reads n places of x; in kind 2 there are as many rows
-pub rowImage-agree : {i : Instance} → Valid i → (x x′ : List ℕ) → Agree (i .header .columns) x x′
-    → (row : ℕ) → row < i .header .rows → rowImage i x row ≡ rowImage i x′ row
-rowImage-agree {i} v x x′ a row h = elim (says-decides (says-exponent (i .header))) [
+pub rowImage-agree : {table : Table} → ValidTable table → (x x′ : List ℕ) → Agree (table .header .columns) x x′
+    → (row : ℕ) → row < table .header .rows → rowImage table x row ≡ rowImage table x′ row
+rowImage-agree {table} v x x′ a row h = elim (says-decides (says-exponent (table .header))) [
   | inl e ↦
-      let powers = product-agree (i .header .columns) (λ c. entry i row c ^ getD x c 0) (λ c. entry i row c ^ getD x′ c 0)
-      (λ c b. ap (λ (k : ℕ). entry i row c ^ k) (a c b)) in
-      rowImage-exponent i e x row ∙ ap (λ (k : ℕ). k % i .header .modulus) powers ∙ sym (rowImage-exponent i e x′ row)
+      let powers = product-agree (table .header .columns) (λ c. entry table row c ^ getD x c 0) (λ c. entry table row c ^ getD x′ c 0)
+      (λ c b. ap (λ (k : ℕ). entry table row c ^ k) (a c b)) in
+      rowImage-exponent table e x row ∙ ap (λ (k : ℕ). k % table .header .modulus) powers ∙ sym (rowImage-exponent table e x′ row)
   | inr n ↦
       let same : getD x row 0 ≡ getD x′ row 0 = a row (omega (arith, v .square (valid-kind v n))) in
-      rowImage-root i n x row ∙ ap (λ (k : ℕ). k ^ i .header .order % i .header .modulus) same ∙ sym (rowImage-root i n x′ row)
+      rowImage-root table n x row ∙ ap (λ (k : ℕ). k ^ table .header .order % table .header .modulus) same
+      ∙ sym (rowImage-root table n x′ row)
 ]
 
 -- whether all values are group elements depends only on the places that are read
@@ -100,7 +101,7 @@ module _ (i : Instance) {round round′ : Round} (s : SameRound (i .header) roun
   -- so does the equation in a row
   pub row-same : Valid i → (row : ℕ) → row < i .header .rows → RowHolds i round row → RowHolds i round′ row
   row-same v row h e =
-      sym (rowImage-agree v (round .response) (round′ .response) (s .response) row h) ∙ e
+      sym (rowImage-agree (v .table) (round .response) (round′ .response) (s .response) row h) ∙ e
       ∙ ap₂ (λ (u c : ℕ). u * statementAt i row ^ c % i .header .modulus) (s .commitment row h) (s .challenge)
 
   -- so does the equation in every row

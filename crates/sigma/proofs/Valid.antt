@@ -1,4 +1,4 @@
--- The rules of the sheet's values turn an instance back exactly when it is not Valid, and what a Valid instance has.
+-- The rules of the sheet's values turn an instance back exactly when it is not Valid, and what a valid table has.
 -- Assumes nothing.
 use Prim.Native.Nat.{ℕ, _<_, _≤_}
 use mathlib.Core.Path.{_≡_}
@@ -8,10 +8,10 @@ use native.Mathlib.Decide.{decLt}
 use native.Mathlib.Omega.{arith}
 use Rattle.numbers.specs.Gcd.{gcd}
 use Rattle.rules.specs.Rule.{Clear}
-use Rattle.sigma.specs.Instance.{Instance}
+use Rattle.sigma.specs.Instance.{Instance, Table}
 use Rattle.sigma.specs.Element.{Element}
 use Rattle.sigma.specs.Admission.{headerRules, elementRules}
-use Rattle.sigma.specs.Valid.{Valid}
+use Rattle.sigma.specs.Valid.{Valid, ValidTable}
 use Rattle.sigma.proofs.ElementGroup.{element-coprime}
 use Rattle.sigma.proofs.Passed.{kind-passes, modulus-passes, order-passes, size-passes, count-passes}
 use Rattle.sigma.proofs.Passed.{entries-pass, statement-passes}
@@ -26,54 +26,57 @@ module _ (i : Instance) where
             let sized = size-passes h .0 size in
             let counted = count-passes h .0 count in
             record {
-              kind = kind-passes h .0 kind;
-              modulus = modulus-passes h .0 modulus;
-              order = order-passes h .0 order;
-              some-row = sized .0;
-              few-rows = sized .1;
-              some-column = sized .2;
-              few-columns = sized .3;
-              square = sized .4;
-              some-challenges = counted .0;
-              few-challenges = counted .1;
-              no-divisor = counted .2;
-              entries = entries-pass i .0 entries;
+              table = record {
+                kind = kind-passes h .0 kind;
+                modulus = modulus-passes h .0 modulus;
+                order = order-passes h .0 order;
+                some-row = sized .0;
+                few-rows = sized .1;
+                some-column = sized .2;
+                few-columns = sized .3;
+                square = sized .4;
+                some-challenges = counted .0;
+                few-challenges = counted .1;
+                no-divisor = counted .2;
+                entries = entries-pass i .0 entries;
+              };
               statement = statement-passes i .0 statement;
             },
         λ v.
-            let size = size-passes h .1 (v .some-row, v .few-rows, v .some-column, v .few-columns, v .square) in
-            let count = count-passes h .1 (v .some-challenges, v .few-challenges, v .no-divisor) in (
-              (kind-passes h .1 (v .kind), (modulus-passes h .1 (v .modulus), (order-passes h .1 (v .order), (size, (count, tt))))),
-              (entries-pass i .1 (v .entries), (statement-passes i .1 (v .statement), tt)),
+            let t = v .table in
+            let size = size-passes h .1 (t .some-row, t .few-rows, t .some-column, t .few-columns, t .square) in
+            let count = count-passes h .1 (t .some-challenges, t .few-challenges, t .no-divisor) in (
+              (kind-passes h .1 (t .kind), (modulus-passes h .1 (t .modulus), (order-passes h .1 (t .order), (size, (count, tt))))),
+              (entries-pass i .1 (t .entries), (statement-passes i .1 (v .statement), tt)),
             ),
       )
 
--- ---- what a Valid instance has
+-- ---- what a valid table has
 
-module _ {i : Instance} (v : Valid i) where
+module _ {table : Table} (v : ValidTable table) where
   -- the modulus is above 1
-  pub valid-modulus : 1 < i .header .modulus
+  pub valid-modulus : 1 < table .header .modulus
   valid-modulus = omega arith
 
   -- ℓ is above 0
-  pub valid-order : 0 < i .header .order
+  pub valid-order : 0 < table .header .order
   valid-order = omega arith
 
   -- K is at most ℓ, which divides itself
-  pub valid-challenges : i .header .challenges ≤ i .header .order
-  valid-challenges = elim (decLt (i .header .order) (i .header .challenges)) [
-    | yes below ↦ absurd (v .no-divisor (i .header .order) (v .order) below (dvd-refl (i .header .order)))
+  pub valid-challenges : table .header .challenges ≤ table .header .order
+  valid-challenges = elim (decLt (table .header .order) (table .header .challenges)) [
+    | yes below ↦ absurd (v .no-divisor (table .header .order) (v .order) below (dvd-refl (table .header .order)))
     | no above ↦ omega arith
   ]
 
   -- a challenge is below ℓ
-  pub valid-challenge : (c : ℕ) → c < i .header .challenges → c < i .header .order
+  pub valid-challenge : (c : ℕ) → c < table .header .challenges → c < table .header .order
   valid-challenge c h = omega (arith, valid-challenges)
 
-  -- an instance that is not of kind 1 is of kind 2
-  pub valid-kind : i .header .kind ≢ 1 → i .header .kind ≡ 2
+  -- a table that is not of kind 1 is of kind 2
+  pub valid-kind : table .header .kind ≢ 1 → table .header .kind ≡ 2
   valid-kind n = ⊎-elim (λ e. absurd (n e)) (λ e. e) (v .kind)
 
   -- in both kinds a group element has no divisor in common with the modulus
-  pub valid-coprime : (x : ℕ) → Element (i .header) x → gcd x (i .header .modulus) ≡ 1
-  valid-coprime = element-coprime (i .header) valid-modulus valid-order
+  pub valid-coprime : (x : ℕ) → Element (table .header) x → gcd x (table .header .modulus) ≡ 1
+  valid-coprime = element-coprime (table .header) valid-modulus valid-order

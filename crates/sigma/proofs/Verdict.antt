@@ -8,7 +8,7 @@ use native.Mathlib.Omega.{arith}
 use lib.ListN.{getD}
 use Rattle.types.specs.declared.Verdict.{Verdict}
 use Rattle.types.specs.declared.Verdict.the-variants.{Accepted, Rejected, Refused}
-use Rattle.sigma.specs.Instance.{Instance}
+use Rattle.sigma.specs.Instance.{Instance, tableOf}
 use Rattle.sigma.specs.Image.{image}
 use Rattle.sigma.specs.Round.{expectedImage, verdict}
 use Rattle.sigma.specs.Reads.{roundOf}
@@ -19,9 +19,9 @@ use Rattle.sigma.proofs.Comparison.{compare-accepted, compare-rejected,
 module _ (i : Instance) (t : List ℕ) (c : ℕ) (r : List ℕ) where
   -- the two sides agree in a row exactly when 01's equation holds there
   row-holds : (row : ℕ) → row < i .header .rows
-      → (getD (image i r) row 0 ≡ getD (expectedImage i t c) row 0) ↔ RowHolds i (roundOf t c r) row
+      → (getD (image (tableOf i) r) row 0 ≡ getD (expectedImage i t c) row 0) ↔ RowHolds i (roundOf t c r) row
   row-holds row h =
-      let left = image-at i r row h in
+      let left = image-at (tableOf i) r row h in
       let right = expected-image-at i t c row h in
       (λ e. sym left ∙ e ∙ right, λ e. left ∙ e ∙ sym right)
 
@@ -29,14 +29,14 @@ module _ (i : Instance) (t : List ℕ) (c : ℕ) (r : List ℕ) where
   pub verdict-accepted : (verdict i t c r ≡ Accepted) ↔ Holds i (roundOf t c r)
   unfolding verdict
   verdict-accepted =
-      let agree = compare-accepted (i .header .rows) (image i r) (expectedImage i t c) in
+      let agree = compare-accepted (i .header .rows) (image (tableOf i) r) (expectedImage i t c) in
       (λ e row h. row-holds row h .0 (agree .0 e row h), λ f. agree .1 (λ row h. row-holds row h .1 (f row h)))
 
   -- a round is rejected with exactly the first row in which 01's equation fails
   pub verdict-rejected : (row : ℕ) → (verdict i t c r ≡ Rejected row) ↔ FailsFirst i (roundOf t c r) row
   unfolding verdict
   verdict-rejected row =
-      let first = compare-rejected (i .header .rows) (image i r) (expectedImage i t c) row in (
+      let first = compare-rejected (i .header .rows) (image (tableOf i) r) (expectedImage i t c) row in (
         λ e. let (h, different, before) = first .0 e in record {
           inside = h;
           fails = λ x. different (row-holds row h .1 x);
@@ -48,7 +48,7 @@ module _ (i : Instance) (t : List ℕ) (c : ℕ) (r : List ℕ) where
   -- a verdict on values is never a refusal
   pub verdict-not-refused : (n : ℕ) → verdict i t c r ≢ Refused n
   unfolding verdict
-  verdict-not-refused n = compare-not-refused (i .header .rows) (image i r) (expectedImage i t c) n
+  verdict-not-refused n = compare-not-refused (i .header .rows) (image (tableOf i) r) (expectedImage i t c) n
 
   -- a round is accepted, or rejected with some row
   pub verdict-decided : Holds i (roundOf t c r) ⊎ ((row : ℕ) × FailsFirst i (roundOf t c r) row)

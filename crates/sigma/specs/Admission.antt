@@ -7,7 +7,7 @@ use lib.Dec.{eqb, ltb}
 use Rattle.types.specs.declared.Header.{Header}
 use Rattle.numbers.specs.Search.{find, any}
 use Rattle.rules.specs.Rule.{Rule, _when_}
-use Rattle.sigma.specs.Instance.{Instance, isExponent, entry}
+use Rattle.sigma.specs.Instance.{Instance, tableOf, isExponent, entry}
 use Rattle.sigma.specs.Element.{isElement, someNonElement}
 
 -- the first d with 2 ≤ d < K that divides ℓ, and K where there is none (for a K of at least 2)
@@ -42,7 +42,8 @@ badCount h =
 unfoldable pub badEntries : Instance → Bool
 badEntries inst =
     isExponent (inst .header) &&
-    any (inst .header .rows) (λ i. any (inst .header .columns) (λ j. not (isElement (inst .header) (entry inst i j))))
+    any (inst .header .rows)
+    (λ i. any (inst .header .columns) (λ j. not (isElement (inst .header) (entry (tableOf inst) i j))))
 
 -- some statement value is no group element
 unfoldable pub badStatement : Instance → Bool

@@ -1,6 +1,6 @@
--- Group elements and domain slots (01, "The sheet"), as tests and as facts.
+-- Group elements and domain slots (01, "The sheet"), as tests and as facts, and the domain's operation.
 -- Assumes nothing.
-use Prim.Native.Nat.{ℕ, _%_, _^_, _<_, _≤_}
+use Prim.Native.Nat.{ℕ, _+_, _*_, _%_, _^_, _<_, _≤_}
 use mathlib.Core.Path.{_≡_}
 use mathlib.Core.Logic.{_≢_}
 use mathlib.Core.Bool.{Bool, cond, not, _&&_}
@@ -37,3 +37,7 @@ pub record Element (h : Header) (v : ℕ) : Type 0 where
 pub record Coordinate (h : Header) (x : ℕ) : Type 0 where
   pub reduced : h .kind ≡ 1 → x < h .order
   pub element : h .kind ≢ 1 → Element h x
+
+-- two coordinates combined: added mod q in kind 1, multiplied mod m in kind 2
+unfoldable pub combine : Header → ℕ → ℕ → ℕ
+combine h x y = cond (isExponent h) ((x + y) % h .order) (x * y % h .modulus)

@@ -1,6 +1,6 @@
 -- The extractor (01, "A round"; refusals 14 to 16 of both rounds, then 18 to 20): u^a · (r/r′)^b with ℓa + (c − c′)b = 1.
 -- Assumes nothing.
-use Prim.Native.Nat.{ℕ, _+_, _-_, _*_, _%_}
+use Prim.Native.Nat.{ℕ, _*_, _%_}
 use mathlib.Core.Bool.{not, cond, _||_}
 use mathlib.Core.List.{List, [], _∷_, _++_}
 use lib.Dec.{eqb}
@@ -18,31 +18,17 @@ use Rattle.sigma.specs.Comparison.{differ}
 use Rattle.sigma.specs.Instance.{Instance, isExponent, statementAt}
 use Rattle.sigma.specs.Round.{verdict, badCommitment, badChallenge, badCoordinates}
 
--- the domain's operation: added mod q in kind 1, multiplied mod m in kind 2
-unfoldable pub combine : Header → ℕ → ℕ → ℕ
-combine h x y = cond (isExponent h) ((x + y) % h .order) (x * y % h .modulus)
-
--- x / y in the domain
-unfoldable pub divide : Header → ℕ → ℕ → ℕ
-divide h x y = cond (isExponent h) ((x + (h .order - y)) % h .order) (x * inverse (h .modulus) y % h .modulus)
-
--- x^k in the domain, for an integer k: k·x mod q in kind 1
-unfoldable pub raise : Header → ℕ → ℤ → ℕ
-raise h x k = cond (isExponent h) (residue (h .order) (k *ℤ pos x)) (power (h .modulus) x k)
-
--- coordinate j of u: 0 in kind 1, z in kind 2
-unfoldable pub baseCoordinate : Instance → ℕ → ℕ
-baseCoordinate inst j = cond (isExponent (inst .header)) 0 (statementAt inst j)
-
--- a slot of u^a · (r/r′)^b
+-- a slot of u^a · (r/r′)^b: in kind 1, where u is zeros, b(r − r′) mod q; in kind 2, where u is z, z^a · (r/r′)^b mod m
 unfoldable pub slotFormula : Header → ℕ → ℤ → ℤ → ℕ → ℕ → ℕ
-slotFormula h u a b r r′ = combine h (raise h u a) (raise h (divide h r r′) b)
+slotFormula h z a b r r′ =
+    cond (isExponent h) (residue (h .order) (b *ℤ (pos r -ℤ pos r′)))
+    (power (h .modulus) z a * power (h .modulus) (r * inverse (h .modulus) r′ % h .modulus) b % h .modulus)
 
--- 01's formula u^a · (r/r′)^b, slot by slot
+-- 01's formula, slot by slot
 unfoldable pub formula : Instance → ℤ → ℤ → List ℕ → List ℕ → List ℕ
 formula inst a b r r′ =
     tabulate (inst .header .columns)
-    (λ j. slotFormula (inst .header) (baseCoordinate inst j) a b (getD r j 0) (getD r′ j 0))
+    (λ j. slotFormula (inst .header) (statementAt inst j) a b (getD r j 0) (getD r′ j 0))
 
 -- the formula at the coefficients a and b that belong to the challenges c and c′
 unfoldable pub extracted : Instance → ℕ → List ℕ → ℕ → List ℕ → List ℕ

@@ -1,4 +1,4 @@
--- An instance: the values of a sheet, that is the homomorphism (01's table) with its statement.
+-- A table (01's, the homomorphism) and an instance: the values of a sheet, that is a table with its statement.
 -- Assumes nothing.
 use Prim.Native.Nat.{ℕ}
 use mathlib.Core.Bool.{Bool}
@@ -7,11 +7,24 @@ use lib.Dec.{eqb}
 use lib.ListN.{getD}
 use Rattle.types.specs.declared.Header.{Header}
 
+-- the fixed fields, and the entries as eight rows of eight
+pub record Table : Type 0 where
+  pub header : Header
+  pub entries : List (List ℕ)
+
 -- the fixed fields, the entries as eight rows of eight, and the statement z in eight places
 pub record Instance : Type 0 where
   pub header : Header
   pub entries : List (List ℕ)
   pub statement : List ℕ
+
+-- the fixed fields and the entries as one table
+abbrev pub tableWith : Header → List (List ℕ) → Table
+tableWith h entries = record { header = h; entries = entries }
+
+-- the table of an instance
+abbrev pub tableOf : Instance → Table
+tableOf inst = tableWith (inst .header) (inst .entries)
 
 -- the fixed fields, the entries and the statement as one instance
 abbrev pub instanceWith : Header → List (List ℕ) → List ℕ → Instance
@@ -22,8 +35,8 @@ unfoldable pub isExponent : Header → Bool
 isExponent h = eqb (h .kind) 1
 
 -- the entry in row i and column j
-unfoldable pub entry : Instance → ℕ → ℕ → ℕ
-entry inst i j = getD (getD (inst .entries) i []) j 0
+unfoldable pub entry : Table → ℕ → ℕ → ℕ
+entry table i j = getD (getD (table .entries) i []) j 0
 
 -- the statement's value in row i
 unfoldable pub statementAt : Instance → ℕ → ℕ

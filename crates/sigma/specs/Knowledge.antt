@@ -13,7 +13,7 @@ use Rattle.types.specs.declared.Verdict.the-variants.{Accepted}
 use Rattle.groups.specs.Round.{Bezout}
 use Rattle.lists.specs.Each.{Each}
 use Rattle.lists.specs.Places.{places, pad8}
-use Rattle.sigma.specs.Instance.{Instance}
+use Rattle.sigma.specs.Instance.{Instance, tableOf}
 use Rattle.sigma.specs.Element.{Coordinate}
 use Rattle.sigma.specs.Extractor.{formula}
 use Rattle.sigma.specs.Image.{image}
@@ -29,7 +29,7 @@ Choice inst x = Each (Coordinate (inst .header)) (inst .header .columns) x
 -- x is a witness: n domain slots with [x] = z
 pub record Witness (inst : Instance) (x : List ℕ) : Type 0 where
   pub slots : Choice inst x
-  pub carried : image inst x ≡ places (inst .header .rows) (inst .statement)
+  pub carried : image (tableOf inst) x ≡ places (inst .header .rows) (inst .statement)
 
 -- the call that judges rounds answers accepted
 abbrev pub AcceptedRound : Instance → Round → Type 0
@@ -37,7 +37,7 @@ AcceptedRound inst round = judge inst round ≡ Accepted
 
 -- the honest round of witness x, challenge c and nonce k
 unfoldable pub honestOn : Instance → List ℕ → ℕ → List ℕ → Round
-honestOn inst x c k = roundOf (image inst k) c (response inst k c x)
+honestOn inst x c k = roundOf (image (tableOf inst) k) c (response (inst .header) k c x)
 
 -- the simulated round of challenge c and response r
 unfoldable pub simulatedOn : Instance → ℕ → List ℕ → Round

@@ -6,7 +6,7 @@ use mathlib.Core.Logic.{_≢_}
 use mathlib.Core.List.{List}
 use lib.ListN.{getD}
 use Rattle.types.specs.declared.Round.{Round}
-use Rattle.sigma.specs.Instance.{Instance, statementAt}
+use Rattle.sigma.specs.Instance.{Instance, tableOf, statementAt}
 use Rattle.sigma.specs.Element.{Element, Coordinate}
 use Rattle.sigma.specs.Image.{rowImage}
 use Rattle.sigma.specs.Reads.{Agree}
@@ -14,7 +14,7 @@ use Rattle.sigma.specs.Reads.{Agree}
 -- the two sides of one row agree: [r]_i = t_i · z_i^c mod m
 abbrev pub RowHolds : Instance → Round → ℕ → Type 0
 RowHolds inst round row =
-    rowImage inst (round .response) row ≡ getD (round .commitment) row 0 * statementAt inst row ^ round .challenge % inst .header .modulus
+    rowImage (tableOf inst) (round .response) row ≡ getD (round .commitment) row 0 * statementAt inst row ^ round .challenge % inst .header .modulus
 
 -- the two sides of every row agree
 abbrev pub Holds : Instance → Round → Type 0

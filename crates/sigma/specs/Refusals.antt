@@ -10,7 +10,7 @@ use Rattle.types.specs.declared.Header.{Header}
 use Rattle.rules.specs.Condition.{Condition, _if_}
 use Rattle.sigma.specs.Element.{Element, Coordinate}
 use Rattle.sigma.specs.Image.{rowImage}
-use Rattle.sigma.specs.Instance.{Instance, entry, statementAt}
+use Rattle.sigma.specs.Instance.{Instance, tableOf, entry, statementAt}
 use Rattle.sigma.specs.Meaning.{Holds}
 use Rattle.sigma.specs.Reads.{Differ, roundOf}
 
@@ -47,7 +47,7 @@ abbrev pub Refusal10 : Instance → Type 0
 Refusal10 inst =
     (inst .header .kind ≡ 1) ×
     ((i : ℕ) × (i < inst .header .rows) ×
-    ((j : ℕ) × (j < inst .header .columns) × (¬ Element (inst .header) (entry inst i j))))
+    ((j : ℕ) × (j < inst .header .columns) × (¬ Element (inst .header) (entry (tableOf inst) i j))))
 
 -- some statement value is no group element
 abbrev pub Refusal11 : Instance → Type 0
@@ -67,7 +67,7 @@ Refusal16 inst x = (j : ℕ) × (j < inst .header .columns) × (¬ Coordinate (i
 
 -- the witness's image is not the statement
 abbrev pub Refusal17 : Instance → List ℕ → Type 0
-Refusal17 inst x = (i : ℕ) × (i < inst .header .rows) × (rowImage inst x i ≢ statementAt inst i)
+Refusal17 inst x = (i : ℕ) × (i < inst .header .rows) × (rowImage (tableOf inst) x i ≢ statementAt inst i)
 
 -- the two commitments differ
 abbrev pub Refusal18 : Instance → List ℕ → List ℕ → Type 0

@@ -9,7 +9,7 @@ use Rattle.types.specs.declared.Header.{Header}
 use Rattle.types.specs.declared.Verdict.{Verdict}
 use Rattle.lists.specs.Places.{tabulate}
 use Rattle.numbers.specs.Search.{any}
-use Rattle.sigma.specs.Instance.{Instance, isExponent, statementAt}
+use Rattle.sigma.specs.Instance.{Instance, tableOf, isExponent, statementAt}
 use Rattle.sigma.specs.Element.{someNonElement, isCoordinate}
 use Rattle.sigma.specs.Image.{image}
 use Rattle.sigma.specs.Comparison.{differ, compareSides}
@@ -19,8 +19,8 @@ unfoldable pub responseCoordinate : Header → ℕ → ℕ → ℕ → ℕ
 responseCoordinate h k c x = cond (isExponent h) ((k + c * x) % h .order) (k * x ^ c % h .modulus)
 
 -- the response to challenge c, of nonce k and witness x
-unfoldable pub response : Instance → List ℕ → ℕ → List ℕ → List ℕ
-response inst k c x = tabulate (inst .header .columns) (λ j. responseCoordinate (inst .header) (getD k j 0) c (getD x j 0))
+unfoldable pub response : Header → List ℕ → ℕ → List ℕ → List ℕ
+response h k c x = tabulate (h .columns) (λ j. responseCoordinate h (getD k j 0) c (getD x j 0))
 
 -- what [r] has to be, t · z^c, a value for each row
 unfoldable pub expectedImage : Instance → List ℕ → ℕ → List ℕ
@@ -28,7 +28,7 @@ expectedImage inst t c = tabulate (inst .header .rows) (λ i. getD t i 0 * state
 
 -- the verdict: accepted where [r] and t · z^c agree in every row
 unfoldable pub verdict : Instance → List ℕ → ℕ → List ℕ → Verdict
-verdict inst t c r = compareSides (inst .header .rows) (image inst r) (expectedImage inst t c)
+verdict inst t c r = compareSides (inst .header .rows) (image (tableOf inst) r) (expectedImage inst t c)
 
 -- some value of a commitment is no group element (14)
 unfoldable pub badCommitment : Instance → List ℕ → Bool
@@ -44,4 +44,4 @@ badCoordinates inst x = any (inst .header .columns) (λ j. not (isCoordinate (in
 
 -- the witness's image is not the statement (17)
 unfoldable pub badWitness : Instance → List ℕ → Bool
-badWitness inst x = differ (inst .header .rows) (image inst x) (inst .statement)
+badWitness inst x = differ (inst .header .rows) (image (tableOf inst) x) (inst .statement)

@@ -9,14 +9,14 @@ use Rattle.numbers.specs.Integer.{power}
 use Rattle.rules.specs.Rule.{Rule, _when_, lowest}
 use Rattle.sigma.specs.Answer.{computed}
 use Rattle.sigma.specs.Image.{rowImage}
-use Rattle.sigma.specs.Instance.{Instance, statementAt}
+use Rattle.sigma.specs.Instance.{Instance, tableOf, statementAt}
 use Rattle.sigma.specs.Round.{badChallenge, badCoordinates}
 
 -- the simulated commitment t = [r] · z^(−c), a value for each row
 unfoldable pub simulated : Instance → ℕ → List ℕ → List ℕ
 simulated inst c r =
     tabulate (inst .header .rows)
-    (λ i. rowImage inst r i * power (inst .header .modulus) (statementAt inst i) (negℤ (pos c)) % inst .header .modulus)
+    (λ i. rowImage (tableOf inst) r i * power (inst .header .modulus) (statementAt inst i) (negℤ (pos c)) % inst .header .modulus)
 
 -- the rules of a challenge and a response
 unfoldable pub simulateRules : Instance → ℕ → List ℕ → List Rule

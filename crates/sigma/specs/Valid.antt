@@ -3,23 +3,27 @@
 use Prim.Native.Nat.{ℕ, _<_, _≤_, _∣_}
 use mathlib.Core.Path.{_≡_}
 use mathlib.Core.Logic.{_⊎_}
-use Rattle.sigma.specs.Instance.{Instance, entry, statementAt}
+use Rattle.sigma.specs.Instance.{Instance, Table, tableOf, entry, statementAt}
 use Rattle.sigma.specs.Element.{Element}
+
+-- none of 4 to 8 and 10 applies to the table
+pub record ValidTable (table : Table) : Type 0 where
+  pub kind : (table .header .kind ≡ 1) ⊎ (table .header .kind ≡ 2)
+  pub modulus : 3 ≤ table .header .modulus
+  pub order : 2 ≤ table .header .order
+  pub some-row : 1 ≤ table .header .rows
+  pub few-rows : table .header .rows ≤ 8
+  pub some-column : 1 ≤ table .header .columns
+  pub few-columns : table .header .columns ≤ 8
+  pub square : table .header .kind ≡ 2 → table .header .rows ≡ table .header .columns
+  pub some-challenges : 2 ≤ table .header .challenges
+  pub few-challenges : table .header .challenges ≤ 65536
+  pub no-divisor : (d : ℕ) → 2 ≤ d → d < table .header .challenges → ¬ (d ∣ table .header .order)
+  pub entries :
+      table .header .kind ≡ 1 →
+      (i j : ℕ) → i < table .header .rows → j < table .header .columns → Element (table .header) (entry table i j)
 
 -- none of 4 to 8, 10 and 11 applies to the instance
 pub record Valid (inst : Instance) : Type 0 where
-  pub kind : (inst .header .kind ≡ 1) ⊎ (inst .header .kind ≡ 2)
-  pub modulus : 3 ≤ inst .header .modulus
-  pub order : 2 ≤ inst .header .order
-  pub some-row : 1 ≤ inst .header .rows
-  pub few-rows : inst .header .rows ≤ 8
-  pub some-column : 1 ≤ inst .header .columns
-  pub few-columns : inst .header .columns ≤ 8
-  pub square : inst .header .kind ≡ 2 → inst .header .rows ≡ inst .header .columns
-  pub some-challenges : 2 ≤ inst .header .challenges
-  pub few-challenges : inst .header .challenges ≤ 65536
-  pub no-divisor : (d : ℕ) → 2 ≤ d → d < inst .header .challenges → ¬ (d ∣ inst .header .order)
-  pub entries :
-      inst .header .kind ≡ 1 →
-      (i j : ℕ) → i < inst .header .rows → j < inst .header .columns → Element (inst .header) (entry inst i j)
+  pub table : ValidTable (tableOf inst)
   pub statement : (i : ℕ) → i < inst .header .rows → Element (inst .header) (statementAt inst i)

@@ -1,17 +1,16 @@
 -- `image::image` meets its contract. The invariant: the first i places hold the first i rows, and those beyond hold 0.
--- The measure: how many rows are left. No row reads the statement. Assumes nothing.
-use mathlib.Core.List.{[]}
+-- The measure: how many rows are left. Assumes nothing.
 use Prim.Native.Nat.{_-_}
 use native.Mathlib.Omega.{arith}
 use Rattle.lists.proofs.Filling.{Filled, filled-start, filled-turn, filled-eight}
 use Rattle.sigma.specs.Image.{rowImage, image}
-use Rattle.sigma.specs.Instance.{instanceWith, entry}
+use Rattle.sigma.specs.Instance.{tableWith}
 use Rattle.image.proofs.image.Statement.{statement}
 use Rattle.image.proofs.image.Tie as tie
 
 abbrev Inv-loop : tie.InvT-loop
 Inv-loop h entries x rows values₀ i₀ values i =
-    Filled values₀ rows (rowImage (instanceWith h entries []) x) values i
+    Filled values₀ rows (rowImage (tableWith h entries) x) values i
 
 abbrev μ-loop : tie.MeasureT-loop
 μ-loop h entries x rows values₀ i₀ values i = rows - i
@@ -38,11 +37,11 @@ loop-less : tie.Need-loop-less Inv-loop μ-loop
 loop-less c = omega arith
 
 loop-again : tie.Need-loop-again Inv-loop μ-loop
-loop-again c = filled-turn (c .before .before .loop .inv) (omega arith) (c .row-image .ensures [])
+loop-again c = filled-turn (c .before .before .loop .inv) (omega arith) (c .row-image .ensures)
 
 returns : tie.Need-returns Inv-loop μ-loop
-unfolding image rowImage entry
-returns c = λ statement. filled-eight (c .before .loop .inv) (omega arith)
+unfolding image
+returns c = filled-eight (c .before .loop .inv) (omega arith)
 
 pub image-spec : {M : Type 1} → statement M
 image-spec =

@@ -53,7 +53,7 @@ loop-again c = filled-turn (c .before .before .loop .inv) (omega arith) (c .resp
 
 returns : tie.Need-returns Inv-loop μ-loop
 unfolding response
-returns c = λ entries statement. filled-eight (c .before .loop .inv) (omega arith)
+returns c = filled-eight (c .before .loop .inv) (omega arith)
 
 pub response-spec : {M : Type 1} → statement M
 response-spec =

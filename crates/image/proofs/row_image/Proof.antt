@@ -23,7 +23,7 @@ pow-mod-requires : tie.Need-pow-mod-requires Inv-loop μ-loop
 pow-mod-requires c κs = omega arith
 
 returns : tie.Need-returns Inv-loop μ-loop
-returns c = λ statement. c .pow-mod .ensures .0 ∙ row-root _ _ _ _ statement (c .before .if1 .taken)
+returns c = c .pow-mod .ensures .0 ∙ row-root _ _ _ _ (c .before .if1 .taken)
 
 cast-columns : tie.Need-cast-columns Inv-loop μ-loop
 cast-columns c = omega arith
@@ -70,10 +70,10 @@ loop-again c =
     (omega arith, row-turn _ _ _ _ _ (at-loop .loop .inv .1) (c .before .pow-mod2 .ensures .0) (c .mul-mod .ensures .0))
 
 returns-2 : tie.Need-returns-2 Inv-loop μ-loop
-returns-2 c = λ statement.
+returns-2 c =
     let at-loop = c .before in
     let all : at-loop .loop .j ≡ at-loop .before .before .before .before .before .args .h .columns = omega arith in
-    (rw all at (at-loop .loop .inv .1)) ∙ row-exponent _ _ _ _ statement (at-loop .before .before .before .if1 .left)
+    (rw all at (at-loop .loop .inv .1)) ∙ row-exponent _ _ _ _ (at-loop .before .before .before .if1 .left)
 
 pub row-image-spec : {M : Type 1} → statement M
 row-image-spec =

@@ -22,7 +22,7 @@ returns : tie.Need-returns
 returns c =
     let start = c .before .before .before .before in
     let args = start .args in
-    let left = c .before .before .before .image .ensures (args .statement) in
+    let left = c .before .before .before .image .ensures in
     let right = c .before .before .expected-image .ensures (args .entries) in
     verdict-compared (instanceWith (args .h) (args .entries) (args .statement)) (start .pre) _ _ _ left right (c .compare .ensures)
 

@@ -3,9 +3,10 @@
 use Prim.Native.Nat.{_-_, _^_, _<_}
 use native.Mathlib.Nat.{le-of-lt, le-trans, le-pred-of-lt, mul-le-mul}
 use native.Mathlib.Omega.{arith}
+use lib.IntN.{pos, negℤ}
 use lib.ListN.{getD}
 use Rattle.lists.proofs.Filling.{Filled, filled-start, filled-turn, filled-eight}
-use Rattle.extractor.specs.Coefficients.{witnessSlot}
+use Rattle.sigma.specs.Extractor.{slotFormula}
 use Rattle.extractor.proofs.Coefficients.{quotient-within, left-is}
 use Rattle.extractor.proofs.Slots.{formula-filled}
 use Rattle.extractor.proofs.loaded.witness.Statement.{statement}
@@ -13,7 +14,7 @@ use Rattle.extractor.proofs.loaded.witness.Tie as tie
 
 abbrev Inv-loop : tie.InvT-loop
 Inv-loop h delta statement r s b a columns values₀ j₀ values j =
-    Filled values₀ columns (λ slot. witnessSlot h (getD statement slot 0) a b (getD r slot 0) (getD s slot 0)) values j
+    Filled values₀ columns (λ slot. slotFormula h (getD statement slot 0) (negℤ (pos a)) (pos b) (getD r slot 0) (getD s slot 0)) values j
 
 abbrev μ-loop : tie.MeasureT-loop
 μ-loop h delta statement r s b a columns values₀ j₀ values j = columns - j

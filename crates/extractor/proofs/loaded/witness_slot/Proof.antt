@@ -16,7 +16,10 @@ mul-mod-requires : tie.Need-mul-mod-requires
 mul-mod-requires c κs = search needs
 
 returns : tie.Need-returns
-returns c = slot-exponent _ _ _ _ _ _ (c .before .before .if1 .taken) (c .before .sub-mod .ensures .0) (c .mul-mod .ensures .0)
+returns c =
+    let kind = c .before .before .if1 .taken in
+    let start = c .before .before .before .before in
+    slot-exponent _ _ (start .args .a) _ _ _ kind (start .pre .divisor .reduced kind) (c .before .sub-mod .ensures .0) (c .mul-mod .ensures .0)
 
 inverse-requires : tie.Need-inverse-requires
 inverse-requires c κs =
@@ -42,7 +45,8 @@ returns-2 : tie.Need-returns-2
 returns-2 c =
     let powers = c .before in
     let quotient = powers .before .before in
-    slot-root _ _ _ _ _ _ (quotient .before .before .if1 .left) (quotient .before .inverse .ensures .0)
+    let other = quotient .before .before in
+    slot-root _ _ (other .before .before .args .a) _ _ _ (other .if1 .left) (quotient .before .inverse .ensures .0)
     (quotient .mul-mod2 .ensures .0) (powers .before .negative-power .ensures) (powers .pow-mod .ensures .0) (c .mul-mod3 .ensures .0)
 
 pub witness-slot-spec : {M : Type 1} → statement M

@@ -36,7 +36,7 @@ unfolding statementAt
 negative-power-requires c κs =
     let (valid, below) = c .before .before .before .before .pre in
     let inside = c .before .loop-test .taken in
-    (valid-modulus valid, valid-order valid, omega (arith, valid-challenge valid _ below), valid .statement _ inside)
+    (valid-modulus (valid .table), valid-order (valid .table), omega (arith, valid-challenge (valid .table) _ below), valid .statement _ inside)
 
 mul-mod-requires : tie.Need-mul-mod-requires Inv-loop μ-loop
 mul-mod-requires c κs = omega arith
@@ -57,8 +57,7 @@ loop-again : tie.Need-loop-again Inv-loop μ-loop
 unfolding simulatedRow statementAt
 loop-again c =
     let at-loop = c .before .before .before .before in
-    let row = c .before .before .row-image .ensures (at-loop .before .before .args .t3) in
-    filled-turn (at-loop .loop .inv) (omega arith) (rw (c .mul-mod .ensures .0, row, c .before .negative-power .ensures))
+    filled-turn (at-loop .loop .inv) (omega arith) (rw (c .mul-mod .ensures .0, c .before .before .row-image .ensures, c .before .negative-power .ensures))
 
 returns : tie.Need-returns Inv-loop μ-loop
 returns c =

@@ -40,7 +40,7 @@ returns-2 c =
     let numbered = c .before .before .before in
     let start = numbered .before .before in
     let number = numbered .before .commit-refusal .ensures (start .args .entries) (start .args .statement) in
-    let read = c .image .ensures (start .args .statement) ∙ ap (λ (xs : List ℕ). pad8 0 xs) (sym (image-places _ (start .pre) _)) in
+    let read = c .image .ensures ∙ ap (λ (xs : List ℕ). pad8 0 xs) (sym (image-places _ (start .pre .table) _)) in
     step-given _ _ _ number (numbered .if1 .left)
     (λ j. record { phase = Committed; nonce = c .before .first-places .ensures j; commitment = read j }) read
 

@@ -33,11 +33,9 @@ unfolding respondAfter
 returns-2 c =
     let ended = c .before in
     let numbered = ended .before .before in
-    let start = numbered .before .before in
     step-given _ _ _ {number = lowest (respondRules _ _ _ _)} (numbered .before .respond-refusal .ensures) (numbered .if1 .left)
     (ended .ended .ensures)
-    (c .response .ensures (start .args .entries) (start .args .statement)
-    ∙ ap (λ (xs : List ℕ). pad8 0 xs) (sym (response-places _ _ _ _)))
+    (c .response .ensures ∙ ap (λ (xs : List ℕ). pad8 0 xs) (sym (response-places _ _ _ _)))
 
 pub respond-loaded-spec : {M : Type 1} → statement M
 respond-loaded-spec =

@@ -46,7 +46,7 @@ witness c =
     let imaged = c .before .before in
     let start = imaged .before .before .before .before .before .before .before in
     slots (imaged .before)
-    ∙ pass 17 _ (witness-tested _ (start .pre) _ (imaged .image .ensures (start .args .statement)) (c .before .first-difference .ensures .0)
+    ∙ pass 17 _ (witness-tested _ (start .pre) _ (imaged .image .ensures) (c .before .first-difference .ensures .0)
     ∙ le-ltb _ _ (c .if3 .left))
 
 cast-rows : tie.Need-cast-rows
@@ -79,7 +79,7 @@ returns-3 c =
     let imaged = c .before .before in
     let start = imaged .before .before .before .before .before .before .before in
     sym (slots (imaged .before)
-    ∙ stop 17 _ (witness-tested _ (start .pre) _ (imaged .image .ensures (start .args .statement)) (c .before .first-difference .ensures .0)
+    ∙ stop 17 _ (witness-tested _ (start .pre) _ (imaged .image .ensures) (c .before .first-difference .ensures .0)
     ∙ lt-ltb _ _ (c .if3 .taken)))
 
 may-respond-requires : tie.Need-may-respond-requires

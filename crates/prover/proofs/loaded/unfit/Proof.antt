@@ -30,7 +30,7 @@ first-difference-requires c κs = search needs
 returns-2 : tie.Need-returns-2
 returns-2 c = λ statement v.
     let slots = c .before .before in
-    unfit-commitment _ v _ (slots .before .first-non-coordinate .ensures .0) (slots .if1 .left) (c .before .image .ensures statement)
+    unfit-commitment _ v _ (slots .before .first-non-coordinate .ensures .0) (slots .if1 .left) (c .before .image .ensures)
     (c .first-difference .ensures .0)
 
 pub unfit-spec : {M : Type 1} → statement M

@@ -9,12 +9,12 @@ use Rattle.report.proofs.rounds.verdict_at.Tie as tie
 record-start-requires : tie.Need-record-start-requires
 record-start-requires c κs =
     let (valid, (file, number)) = c .before .pre in
-    (valid .few-rows, (valid .few-columns, omega (arith, file .few)))
+    (valid .table .few-rows, (valid .table .few-columns, omega (arith, file .few)))
 
 round-at-requires : tie.Need-round-at-requires
 round-at-requires c κs =
     let (valid, (file, number)) = c .before .before .pre in
-    (valid .few-rows, (valid .few-columns, rw (c .record-start .ensures .0) (record-inside file _ number)))
+    (valid .table .few-rows, (valid .table .few-columns, rw (c .record-start .ensures .0) (record-inside file _ number)))
 
 judge-loaded-requires : tie.Need-judge-loaded-requires
 judge-loaded-requires c κs = c .before .before .before .pre .0
