@@ -1,13 +1,13 @@
 // Writing a round file: the call that makes one of no rounds, and the record writer for a sheet whose fixed fields are loaded
 // (01, "A round" and refusals 12 and 22).
-use crate::layout::MARK;
-use crate::layout::file_refusal;
-use crate::layout::record_length;
 use fields::read_u16;
 use fields::write_mark;
 use fields::write_u16;
 use fields::write_u32;
 use fields::write_words;
+use round_file::MARK;
+use round_file::file_refusal;
+use round_file::record_length;
 use types::Header;
 use types::Round;
 use types::Written;

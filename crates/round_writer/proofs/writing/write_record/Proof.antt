@@ -1,10 +1,10 @@
--- `round_file::writing::write_record` meets its contract: the three fields of a record stand one behind the other.
+-- `round_writer::writing::write_record` meets its contract: the three fields of a record stand one behind the other.
 -- Assumes nothing.
 use native.Mathlib.Omega.{arith}
 use Rattle.formats.specs.RoundFile.{recordLength, widthOf}
-use Rattle.round_file.proofs.FileWriting.{record-stored}
-use Rattle.round_file.proofs.writing.write_record.Statement.{statement}
-use Rattle.round_file.proofs.writing.write_record.Tie as tie
+use Rattle.round_writer.proofs.FileWriting.{record-stored}
+use Rattle.round_writer.proofs.writing.write_record.Statement.{statement}
+use Rattle.round_writer.proofs.writing.write_record.Tie as tie
 
 cast-rows : tie.Need-cast-rows
 cast-rows c = omega arith
