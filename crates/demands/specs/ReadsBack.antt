@@ -18,7 +18,7 @@ use Rattle.formats.specs.Meaning.{readInstance}
 use Rattle.formats.specs.Outcome.{Puts}
 use Rattle.formats.specs.Pattern.{fromPattern, made}
 use Rattle.formats.specs.RoundCalls.{countRounds, fetchRound, noRound}
-use Rattle.formats.specs.RoundFile.{challengeWidth, recordStart}
+use Rattle.formats.specs.RoundFile.{recordStart, widthOf}
 use Rattle.formats.specs.Rounds.{Words, appendEach}
 use Rattle.formats.specs.Sheet.{headerOf}
 use Rattle.formats.specs.Write.{Writing}
@@ -46,8 +46,8 @@ pub record ReadsBack : Type 0 where
       → Puts sheet buffer (encode (loaded sheet) buffer)
   -- rounds of 32-bit values, appended one by one to an empty file, are counted and read back as what is stored of them
   pub appended : (sheet buffer : List ℕ) → loadRefusal sheet ≡ 0 → (rounds : List Round) → length rounds ≤ 512
-      → recordStart challengeWidth (headerOf sheet) (length rounds) ≤ length buffer
-      → ((round : Round) → Member round rounds → Words (headerOf sheet) round)
+      → recordStart (widthOf 1) (headerOf sheet) (length rounds) ≤ length buffer
+      → ((round : Round) → Member round rounds → Words (widthOf 1) (headerOf sheet) round)
       → (w : Writing) → w ≡ appendEach sheet (emptyFile buffer) rounds
       → (countRounds sheet (front w) ≡ record { refusal = 0; count = length rounds })
       × ((k : ℕ) → k < length rounds

@@ -81,6 +81,7 @@ use Rattle.formats.specs.RoundFile.{
   fileVersion,
   countField,
   challengeWidth,
+  widthOf,
   recordLength,
   recordStart,
   recordBytes,
@@ -199,7 +200,7 @@ unfolding euclid gcd residue quotient power bezoutRight bezoutLeft inverse produ
     simulated simulateRules simulateAfter headerBytes storedEntries sheetOf badStart badVersion badLength shapeRules loadRules
     loadRefusal patterns patternOf entryOf patternEntries madeHeader made badPattern badValues makeRules fromPattern
     fileRules badNumber roundRules noRound countAfter checkAfter fetchAfter countRounds fetchRound roundMark
-    fileVersion countField challengeWidth recordLength recordStart roundAt badFile sheetMark versionOf headerOf
+    fileVersion countField widthOf challengeWidth recordLength recordStart roundAt badFile sheetMark versionOf headerOf
     entryCount sheetLength zeros64 entriesOf statementOf instanceOf short written writtenAtStart judgeRound
     simulateCommitment extractWitness newline wordLine verdictText verdictLine resultLine verdictOn roundLine roundLines markerText isNew
     isCommitted newProver proverStep commitRules commitAfter unfitProver respondRules respondAfter commit respond

@@ -20,7 +20,7 @@ use Rattle.formats.specs.Append.{appendRules, appended, appendAfter, app
 use Rattle.formats.specs.Load.{loadRules}
 use Rattle.formats.specs.Meaning.{Loads, InUse}
 use Rattle.formats.specs.Outcome.{Keeps, Adds}
-use Rattle.formats.specs.RoundFile.{challengeWidth, countField, recordBytes, recordLength, recordStart}
+use Rattle.formats.specs.RoundFile.{countField, recordBytes, recordLength, recordStart, widthInUse}
 use Rattle.formats.specs.Sheet.{headerOf}
 use Rattle.formats.specs.Write.{written}
 use Rattle.formats.proofs.Files.{in-use-passes, record-behind}
@@ -36,12 +36,12 @@ length-recordBytes width h round =
 
 module _ {h : Header} {buffer : List ℕ} {used : ℕ} (u : InUse h buffer used) where
   -- the bytes in use end where the next record begins
-  pub in-use-length : used ≡ recordStart challengeWidth h (countField (take used buffer))
+  pub in-use-length : used ≡ recordStart (widthInUse buffer used) h (countField (take used buffer))
   in-use-length = sym (length-take-le used buffer (u .inside)) ∙ u .file .exact
 
   -- they are at least seven
   pub in-use-long : 7 ≤ used
-  in-use-long = omega (arith, in-use-length, record-behind h (countField (take used buffer)))
+  in-use-long = omega (arith, in-use-length, record-behind (widthInUse buffer used) h (countField (take used buffer)))
 
   -- their count field is the buffer's
   pub in-use-count : countField (take used buffer) ≡ countField buffer
@@ -56,14 +56,14 @@ module _ (s buffer : List ℕ) (used : ℕ) (round : Round) where
 
   -- it runs exactly where the sheet loads, the bytes in use are a round file with room and the buffer can hold the record
   pub append-runs : (append s buffer used round .answer .refusal ≡ 0)
-      ↔ (Loads s × InUse (headerOf s) buffer used × (used + recordLength challengeWidth (headerOf s) ≤ length buffer))
+      ↔ (Loads s × InUse (headerOf s) buffer used × (used + recordLength (widthInUse buffer used) (headerOf s) ≤ length buffer))
   unfolding appendRules
   append-runs =
       let h = headerOf s in
       let rules = loadRules s ++ appendRules h buffer used in
       let parts = clear-append (loadRules s) (appendRules h buffer used) in
       let file = in-use-passes h buffer used in
-      let room = short-passes buffer (used + recordLength challengeWidth h) in (
+      let room = short-passes buffer (used + recordLength (widthInUse buffer used) h) in (
         λ e.
             let clear = clear-lowest rules (record-positive s h buffer used) (sym append-refusal ∙ e) in
             let (sheet, (inside, (fits, none))) = parts .0 clear in
@@ -81,7 +81,7 @@ module _ (s buffer : List ℕ) (used : ℕ) (round : Round) where
   pub append-given : append s buffer used round .answer .refusal ≡ 0
       → append s buffer used round
       ≡ record {
-        answer = record { refusal = 0; length = used + recordLength challengeWidth (headerOf s) };
+        answer = record { refusal = 0; length = used + recordLength (widthInUse buffer used) (headerOf s) };
         buffer = appended (headerOf s) buffer used round;
       }
   unfolding append appendAfter
@@ -90,40 +90,40 @@ module _ (s buffer : List ℕ) (used : ℕ) (round : Round) where
 -- ---- the buffer of the record writer
 
 module _ {h : Header} {buffer : List ℕ} {used : ℕ} (u : InUse h buffer used) (round : Round)
-    (fits : used + recordLength challengeWidth h ≤ length buffer) where
+    (fits : used + recordLength (widthInUse buffer used) h ≤ length buffer) where
   -- the count field is one more
   pub appended-counted : countField (appended h buffer used round) ≡ countField buffer + 1
   unfolding appended countField
   appended-counted =
-      let stored = sets buffer used (recordBytes challengeWidth h round) in
-      let size = length-sets buffer used (recordBytes challengeWidth h round) in
+      let stored = sets buffer used (recordBytes (widthInUse buffer used) h round) in
+      let size = length-sets buffer used (recordBytes (widthInUse buffer used) h round) in
       numberAt-sets 2 (countField buffer + 1) stored 5 (omega (arith, in-use-long u)) (omega (arith, u .room, in-use-count u))
 
   -- the record stands straight after the bytes in use
-  pub appended-stored : take (recordLength challengeWidth h) (drop used (appended h buffer used round)) ≡ recordBytes challengeWidth h round
+  pub appended-stored : take (recordLength (widthInUse buffer used) h) (drop used (appended h buffer used round)) ≡ recordBytes (widthInUse buffer used) h round
   unfolding appended
   appended-stored =
       let raised = bytesOf 2 (countField buffer + 1) in
-      let bytes = recordBytes challengeWidth h round in
-      let size = length-recordBytes challengeWidth h round in
-      ap (λ (l : List ℕ). take (recordLength challengeWidth h) l)
+      let bytes = recordBytes (widthInUse buffer used) h round in
+      let size = length-recordBytes (widthInUse buffer used) h round in
+      ap (λ (l : List ℕ). take (recordLength (widthInUse buffer used) h) l)
       (drop-sets-behind used (sets buffer used bytes) 5 raised (omega (arith, length-bytesOf 2 (countField buffer + 1), in-use-long u)))
       ∙ ap (λ (k : ℕ). take k (drop used (sets buffer used bytes))) (sym size)
       ∙ part-sets buffer used bytes (omega arith)
 
   -- no byte outside of the record and the count field is changed
-  pub appended-others : (j : ℕ) → (j < 5) ⊎ (7 ≤ j) → (j < used) ⊎ (used + recordLength challengeWidth h ≤ j)
+  pub appended-others : (j : ℕ) → (j < 5) ⊎ (7 ≤ j) → (j < used) ⊎ (used + recordLength (widthInUse buffer used) h ≤ j)
       → getD (appended h buffer used round) j 0 ≡ getD buffer j 0
   unfolding appended
   appended-others j outside apart =
-      let bytes = recordBytes challengeWidth h round in
+      let bytes = recordBytes (widthInUse buffer used) h round in
       let raised = bytesOf 2 (countField buffer + 1) in
-      let size = length-recordBytes challengeWidth h round in
+      let size = length-recordBytes (widthInUse buffer used) h round in
       let width = length-bytesOf 2 (countField buffer + 1) in
       ⊎-elim (λ (b : j < 5). getD-sets-before (sets buffer used bytes) 5 raised j 0 b)
       (λ (b : 7 ≤ j). getD-sets-behind (sets buffer used bytes) 5 raised j 0 (omega arith)) outside
       ∙ ⊎-elim (λ (b : j < used). getD-sets-before buffer used bytes j 0 b)
-      (λ (b : used + recordLength challengeWidth h ≤ j). getD-sets-behind buffer used bytes j 0 (omega arith)) apart
+      (λ (b : used + recordLength (widthInUse buffer used) h ≤ j). getD-sets-behind buffer used bytes j 0 (omega arith)) apart
 
 -- the buffer keeps its length
 pub appended-size : (h : Header) (buffer : List ℕ) (used : ℕ) (round : Round)
@@ -133,13 +133,13 @@ appended-size h buffer used round = simp length-sets
 
 -- what stands behind the record is as it was
 pub appended-behind : (h : Header) (buffer : List ℕ) (used : ℕ) (round : Round) (n : ℕ)
-    → 7 ≤ n → used + recordLength challengeWidth h ≤ n → drop n (appended h buffer used round) ≡ drop n buffer
+    → 7 ≤ n → used + recordLength (widthInUse buffer used) h ≤ n → drop n (appended h buffer used round) ≡ drop n buffer
 unfolding appended
 appended-behind h buffer used round n long behind =
-    let bytes = recordBytes challengeWidth h round in
+    let bytes = recordBytes (widthInUse buffer used) h round in
     let raised = length-bytesOf 2 (countField buffer + 1) in
     drop-sets-behind n (sets buffer used bytes) 5 (bytesOf 2 (countField buffer + 1)) (omega arith)
-    ∙ drop-sets-behind n buffer used bytes (omega (arith, length-recordBytes challengeWidth h round))
+    ∙ drop-sets-behind n buffer used bytes (omega (arith, length-recordBytes (widthInUse buffer used) h round))
 
 -- a call that is not refused adds the record and changes nothing else
 pub append-adds : (s buffer : List ℕ) (used : ℕ) (round : Round) → append s buffer used round .answer .refusal ≡ 0

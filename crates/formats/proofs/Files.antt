@@ -1,7 +1,7 @@
 -- A round file is read exactly where none of 01's conditions holds, and what the calls that read it answer then.
 -- Assumes nothing.
 use Prim.Native.Nat.{ℕ, _<_, _≤_}
-use mathlib.Core.Path.{_≡_, refl}
+use mathlib.Core.Path.{_≡_, refl, sym, ap, _∙_}
 use mathlib.Core.Logic.{_↔_}
 use mathlib.Core.Bool.{false, not, _||_}
 use mathlib.Core.List.{List, _++_}
@@ -10,7 +10,9 @@ use lib.Dec.{eqb, leb, ltb}
 use lib.ListN.{length, take}
 use borrow.Author.Tests.{leb-false, lt-leb, ltb-false, le-ltb}
 use Rattle.types.specs.declared.Header.{Header}
+use Rattle.encoding.specs.Bytes.{numberAt}
 use Rattle.encoding.specs.Text.{ascii}
+use Rattle.encoding.proofs.Bytes.{numberAt-take}
 use Rattle.rules.proofs.Lowest.{clear-append, clear-lowest, lowest-clear}
 use Rattle.rules.proofs.Says.{says-equal}
 use Rattle.sigma.specs.Comparison.{differ}
@@ -30,6 +32,7 @@ use Rattle.formats.specs.RoundFile.{
   recordStart,
   roundAt,
   roundMark,
+  widthOf,
 }
 use Rattle.formats.specs.Sheet.{headerOf}
 use Rattle.formats.proofs.Loads.{begins, load-clear}
@@ -41,9 +44,38 @@ unfolding roundMark ascii
 length-roundMark = refl
 
 -- a record begins behind the seven bytes of the fixed fields
-pub record-behind : (h : Header) (k : ℕ) → 7 ≤ recordStart challengeWidth h k
+pub record-behind : (width : ℕ) (h : Header) (k : ℕ) → 7 ≤ recordStart width h k
 unfolding recordStart
-record-behind h k = omega arith
+record-behind width h k = omega arith
+
+-- ---- the width of a file's challenges
+
+-- it has at most four bytes
+pub width-small : (f : List ℕ) → challengeWidth f ≤ 4
+unfolding challengeWidth widthOf
+width-small f = omega arith
+
+-- files of one version have one width
+pub width-version : (f f′ : List ℕ) → fileVersion f ≡ fileVersion f′ → challengeWidth f ≡ challengeWidth f′
+unfolding challengeWidth
+width-version f f′ e = ap widthOf e
+
+-- so do files with the same first five bytes
+pub width-front : (f f′ : List ℕ) → take 5 f ≡ take 5 f′ → challengeWidth f ≡ challengeWidth f′
+unfolding fileVersion
+width-front f f′ e =
+    width-version f f′ (sym (numberAt-take 2 5 f 3 (omega arith)) ∙ ap (λ (l : List ℕ). numberAt 2 l 3) e ∙ numberAt-take 2 5 f′ 3 (omega arith))
+
+-- that of a round file is its version's
+pub file-width : {h : Header} {f : List ℕ} → IsRoundFile h f → challengeWidth f ≡ widthOf 1
+unfolding challengeWidth
+file-width r = ap widthOf (r .version)
+
+-- a file of version 1 whose length goes with its count has the length that its own width gives
+pub exact-width : (h : Header) (f : List ℕ) → fileVersion f ≡ 1 → (length f ≡ recordStart (widthOf 1) h (countField f))
+    ↔ (length f ≡ recordStart (challengeWidth f) h (countField f))
+unfolding challengeWidth
+exact-width h f one = rw one ((λ e. e), (λ e. e))
 
 -- not 12: the file is a round file of the sheet
 pub file-passes : (h : Header) (f : List ℕ) → (badFile h f ≡ false) ↔ IsRoundFile h f
@@ -53,13 +85,13 @@ file-passes h f =
     let other = differ 3 f roundMark in
     let version = not (eqb (fileVersion f) 1) in
     let many = ltb 512 (countField f) in
-    let fits = not (eqb (length f) (recordStart challengeWidth h (countField f))) in
+    let fits = not (eqb (length f) (recordStart (challengeWidth f) h (countField f))) in
     let first = both-fail (short || other || version || many) fits in
     let second = both-fail (short || other || version) many in
     let third = both-fail (short || other) version in
     let fourth = both-fail short other in
     let agree = differ-false 3 f roundMark in
-    let passes = says-passes (says-equal (length f) (recordStart challengeWidth h (countField f))) in
+    let passes = says-passes (says-equal (length f) (recordStart (challengeWidth f) h (countField f))) in
     let numbered = says-passes (says-equal (fileVersion f) 1) in (
       λ e.
           let (a, exact) = first .0 e in
@@ -74,7 +106,7 @@ file-passes h f =
             exact = passes .0 exact;
           },
       λ r.
-          let long : 7 ≤ length f = omega (arith, r .exact, record-behind h (countField f)) in
+          let long : 7 ≤ length f = omega (arith, r .exact, record-behind (challengeWidth f) h (countField f)) in
           let marked = agree .1 (begins 3 f roundMark length-roundMark (omega arith) .1 (r .mark)) in
           let a = fourth .1 (le-ltb (length f) 7 long, marked) in
           let b = third .1 (a, numbered .1 (r .version)) in
@@ -145,6 +177,6 @@ module _ (s f : List ℕ) where
     -- reading then gives the values that stand in the record
     pub fetch-given : checkRound s f k ≡ 0
         → fetchRound s f k
-        ≡ record { refusal = 0; round = roundAt challengeWidth (headerOf s) f (recordStart challengeWidth (headerOf s) k) }
+        ≡ record { refusal = 0; round = roundAt (challengeWidth f) (headerOf s) f (recordStart (challengeWidth f) (headerOf s) k) }
     unfolding fetchRound fetchAfter checkRound
     fetch-given e = simp (e, unlessRefused-zero)

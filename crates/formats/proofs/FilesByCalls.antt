@@ -15,7 +15,7 @@ use Rattle.formats.specs.Append.{emptyFile}
 use Rattle.formats.specs.Meaning.{Loads}
 use Rattle.formats.specs.Outcome.{Puts}
 use Rattle.formats.specs.RoundCalls.{countRounds, fetchRound, noRound}
-use Rattle.formats.specs.RoundFile.{challengeWidth, countField, recordStart}
+use Rattle.formats.specs.RoundFile.{countField, recordStart, widthOf}
 use Rattle.formats.specs.Rounds.{Words, appendEach, roundsOf}
 use Rattle.formats.specs.Sheet.{headerOf}
 use Rattle.formats.specs.Write.{Writing}
@@ -36,8 +36,8 @@ rewritten s f buffer b e fits =
 
 -- rounds appended one by one are counted and read back, by the calls, as what was stored of them
 pub appended-read : (s buffer : List ℕ) → Loads s → (rounds : List Round) → length rounds ≤ 512
-    → recordStart challengeWidth (headerOf s) (length rounds) ≤ length buffer
-    → ((round : Round) → Member round rounds → Words (headerOf s) round) → (w : Writing) → w ≡ appendEach s (emptyFile buffer) rounds
+    → recordStart (widthOf 1) (headerOf s) (length rounds) ≤ length buffer
+    → ((round : Round) → Member round rounds → Words (widthOf 1) (headerOf s) round) → (w : Writing) → w ≡ appendEach s (emptyFile buffer) rounds
     → (countRounds s (take (w .answer .length) (w .buffer)) ≡ record { refusal = 0; count = length rounds })
     × ((k : ℕ) → k < length rounds → fetchRound s (take (w .answer .length) (w .buffer)) k
     ≡ record { refusal = 0; round = getD (map (paddedRound (headerOf s)) rounds) k noRound })

@@ -18,100 +18,108 @@ use Rattle.lists.proofs.Places.{tabulate-agree, tabulate-suc}
 use Rattle.sigma.specs.Reads.{paddedRound}
 use Rattle.formats.specs.Append.{append, appended}
 use Rattle.formats.specs.Meaning.{InUse, IsRoundFile}
-use Rattle.formats.specs.RoundFile.{challengeWidth, countField, fileVersion, recordBytes, recordLength, recordStart, roundAt}
+use Rattle.formats.specs.RoundFile.{challengeWidth, countField, fileVersion, recordBytes, recordLength, recordStart, roundAt, widthInUse}
 use Rattle.formats.specs.Rounds.{Grows, Words, roundsOf}
 use Rattle.formats.specs.Sheet.{headerOf}
 use Rattle.formats.proofs.Appending.{append-given, append-runs, in-use-count, in-use-long, length-recordBytes}
-use Rattle.formats.proofs.Files.{record-behind}
+use Rattle.formats.proofs.Files.{record-behind, width-version}
 use Rattle.formats.proofs.Records.{recordStart-later, recordStart-suc, roundAt-agree, roundAt-recordBytes}
 
 -- a file with the bytes of one more record behind it and the count field raised by one
 abbrev pub grown : Header → List ℕ → Round → List ℕ
-grown h f round = sets (f ++ recordBytes challengeWidth h round) 5 (bytesOf 2 (countField f + 1))
+grown h f round = sets (f ++ recordBytes (challengeWidth f) h round) 5 (bytesOf 2 (countField f + 1))
 
 -- a round file has at least seven bytes
 pub file-long : {h : Header} {f : List ℕ} → IsRoundFile h f → 7 ≤ length f
-file-long {h} {f} r = omega (arith, r .exact, record-behind h (countField f))
+file-long {h} {f} r = omega (arith, r .exact, record-behind (challengeWidth f) h (countField f))
 
 -- the bytes in use after the record writer
 pub in-use-grown : {h : Header} {buffer : List ℕ} {used : ℕ} → InUse h buffer used → (round : Round)
-    → used + recordLength challengeWidth h ≤ length buffer
-    → take (used + recordLength challengeWidth h) (appended h buffer used round) ≡ grown h (take used buffer) round
+    → used + recordLength (widthInUse buffer used) h ≤ length buffer
+    → take (used + recordLength (widthInUse buffer used) h) (appended h buffer used round) ≡ grown h (take used buffer) round
 unfolding appended
 in-use-grown {h} {buffer} {used} u round fits =
-    let bytes = recordBytes challengeWidth h round in
-    let size = length-recordBytes challengeWidth h round in
+    let bytes = recordBytes (widthInUse buffer used) h round in
+    let size = length-recordBytes (widthInUse buffer used) h round in
     let raised = length-bytesOf 2 (countField buffer + 1) in
-    let front : length (take used buffer ++ bytes) ≡ used + recordLength challengeWidth h =
+    let front : length (take used buffer ++ bytes) ≡ used + recordLength (widthInUse buffer used) h =
     length-append (take used buffer) bytes ∙ omega (arith, length-take-le used buffer (u .inside)) in
-    take-sets-inside (used + recordLength challengeWidth h) (sets buffer used bytes) 5 (bytesOf 2 (countField buffer + 1))
+    take-sets-inside (used + recordLength (widthInUse buffer used) h) (sets buffer used bytes) 5 (bytesOf 2 (countField buffer + 1))
     (omega (arith, in-use-long u))
     ∙ ap₂ (λ (l : List ℕ) (n : ℕ). sets l 5 (bytesOf 2 (n + 1)))
-    (ap (take (used + recordLength challengeWidth h)) (sets-eq bytes buffer used (omega arith))
-    ∙ take-at (take used buffer ++ bytes) _ (used + recordLength challengeWidth h) front)
+    (ap (take (used + recordLength (widthInUse buffer used) h)) (sets-eq bytes buffer used (omega arith))
+    ∙ take-at (take used buffer ++ bytes) _ (used + recordLength (widthInUse buffer used) h) front)
     (sym (in-use-count u))
 
 module _ {h : Header} {f : List ℕ} (r : IsRoundFile h f) (room : countField f < 512) (round : Round) where
   -- the length of the file with its record
-  grown-length : length (grown h f round) ≡ recordStart challengeWidth h (countField f) + recordLength challengeWidth h
+  grown-length : length (grown h f round) ≡ recordStart (challengeWidth f) h (countField f) + recordLength (challengeWidth f) h
   grown-length =
       simp (length-sets, length-append, length-recordBytes)
-      (ap (λ (n : ℕ). n + recordLength challengeWidth h) (r .exact))
+      (ap (λ (n : ℕ). n + recordLength (challengeWidth f) h) (r .exact))
 
   -- a byte before the count field is the file's
   grown-before : (j : ℕ) → j < 5 → getD (grown h f round) j 0 ≡ getD f j 0
   grown-before j b =
-      getD-sets-before (f ++ recordBytes challengeWidth h round) 5 (bytesOf 2 (countField f + 1)) j 0 b
-      ∙ List·getD-append f (recordBytes challengeWidth h round) 0 j (omega (arith, file-long r))
+      getD-sets-before (f ++ recordBytes (challengeWidth f) h round) 5 (bytesOf 2 (countField f + 1)) j 0 b
+      ∙ List·getD-append f (recordBytes (challengeWidth f) h round) 0 j (omega (arith, file-long r))
 
   -- a byte behind the count field is the file's or the record's
-  grown-behind : (j : ℕ) → 7 ≤ j → getD (grown h f round) j 0 ≡ getD (f ++ recordBytes challengeWidth h round) j 0
+  grown-behind : (j : ℕ) → 7 ≤ j → getD (grown h f round) j 0 ≡ getD (f ++ recordBytes (challengeWidth f) h round) j 0
   grown-behind j b =
-      getD-sets-behind (f ++ recordBytes challengeWidth h round) 5 (bytesOf 2 (countField f + 1)) j 0
+      getD-sets-behind (f ++ recordBytes (challengeWidth f) h round) 5 (bytesOf 2 (countField f + 1)) j 0
       (omega (arith, length-bytesOf 2 (countField f + 1)))
 
   -- the count is one more
   grown-count : countField (grown h f round) ≡ countField f + 1
   unfolding countField
   grown-count =
-      numberAt-sets 2 (countField f + 1) (f ++ recordBytes challengeWidth h round) 5
-      (omega (arith, file-long r, length-append f (recordBytes challengeWidth h round))) (omega arith)
+      numberAt-sets 2 (countField f + 1) (f ++ recordBytes (challengeWidth f) h round) 5
+      (omega (arith, file-long r, length-append f (recordBytes (challengeWidth f) h round))) (omega arith)
+
+  -- the version is the same
+  grown-version : fileVersion (grown h f round) ≡ fileVersion f
+  unfolding fileVersion
+  grown-version = numberAt-agree 2 (grown h f round) f 3 3 (λ k b. grown-before (3 + k) (omega arith))
+
+  -- and so is the width of the challenges
+  grown-width : challengeWidth (grown h f round) ≡ challengeWidth f
+  grown-width = width-version (grown h f round) f grown-version
 
   -- it is a round file
   grown-file : IsRoundFile h (grown h f round)
-  unfolding fileVersion
   grown-file =
-      let bytes = recordBytes challengeWidth h round in
+      let bytes = recordBytes (challengeWidth f) h round in
       record {
         mark =
             take-sets-before 3 (f ++ bytes) 5 (bytesOf 2 (countField f + 1)) (omega arith)
             ∙ take-append-le 3 f bytes (omega (arith, file-long r)) ∙ r .mark;
-        version = numberAt-agree 2 (grown h f round) f 3 3 (λ k b. grown-before (3 + k) (omega arith)) ∙ r .version;
+        version = grown-version ∙ r .version;
         few = omega (arith, grown-count);
         exact =
-            grown-length ∙ sym (recordStart-suc challengeWidth h (countField f))
-            ∙ ap (recordStart challengeWidth h) (sym (grown-count ∙ add-one (countField f)));
+            grown-length ∙ sym (recordStart-suc (challengeWidth f) h (countField f))
+            ∙ ap₂ (λ (width n : ℕ). recordStart width h n) (sym grown-width) (sym (grown-count ∙ add-one (countField f)));
       }
 
   -- its rounds are those of the file, and the round
-  grown-rounds : Words h round → roundsOf h (grown h f round) ≡ roundsOf h f ++ paddedRound h round ∷ []
-  unfolding roundsOf challengeWidth
+  grown-rounds : Words (challengeWidth f) h round → roundsOf h (grown h f round) ≡ roundsOf h f ++ paddedRound h round ∷ []
+  unfolding roundsOf
   grown-rounds words =
-      let bytes = recordBytes challengeWidth h round in
-      let start = recordStart challengeWidth h in
+      let bytes = recordBytes (challengeWidth f) h round in
+      let start = recordStart (challengeWidth f) h in
       let n = countField f in
       let old =
-      tabulate-agree n (λ k. roundAt challengeWidth h (grown h f round) (start k)) (λ k. roundAt challengeWidth h f (start k)) (λ k b.
-      roundAt-agree challengeWidth h (grown h f round) f (start k) (start k) (λ j c.
-      let inside : start k + j < length f = omega (arith, r .exact, recordStart-later challengeWidth h k n b) in
-      grown-behind (start k + j) (omega (arith, record-behind h k)) ∙ List·getD-append f bytes 0 (start k + j) inside)) in
-      let new : roundAt challengeWidth h (grown h f round) (start n) ≡ paddedRound h round =
-      roundAt-agree challengeWidth h (grown h f round) (f ++ bytes ++ []) (start n) (length f) (λ j c.
-      grown-behind (start n + j) (omega (arith, record-behind h n))
+      tabulate-agree n (λ k. roundAt (challengeWidth f) h (grown h f round) (start k)) (λ k. roundAt (challengeWidth f) h f (start k)) (λ k b.
+      roundAt-agree (challengeWidth f) h (grown h f round) f (start k) (start k) (λ j c.
+      let inside : start k + j < length f = omega (arith, r .exact, recordStart-later (challengeWidth f) h k n b) in
+      grown-behind (start k + j) (omega (arith, record-behind (challengeWidth f) h k)) ∙ List·getD-append f bytes 0 (start k + j) inside)) in
+      let new : roundAt (challengeWidth f) h (grown h f round) (start n) ≡ paddedRound h round =
+      roundAt-agree (challengeWidth f) h (grown h f round) (f ++ bytes ++ []) (start n) (length f) (λ j c.
+      grown-behind (start n + j) (omega (arith, record-behind (challengeWidth f) h n))
       ∙ ap₂ (λ (l : List ℕ) (at : ℕ). getD l (at + j) 0) (sym (append-nil (f ++ bytes))) (sym (r .exact)))
-      ∙ roundAt-recordBytes challengeWidth h round f [] (words .commitment) (words .challenge) (words .response) in
-      ap (λ (k : ℕ). tabulate k (λ k. roundAt challengeWidth h (grown h f round) (start k))) (grown-count ∙ add-one n)
-      ∙ tabulate-suc n (λ k. roundAt challengeWidth h (grown h f round) (start k))
+      ∙ roundAt-recordBytes (challengeWidth f) h round f [] (words .commitment) (words .challenge) (words .response) in
+      ap₂ (λ (k width : ℕ). tabulate k (λ k. roundAt width h (grown h f round) (recordStart width h k))) (grown-count ∙ add-one n) grown-width
+      ∙ tabulate-suc n (λ k. roundAt (challengeWidth f) h (grown h f round) (start k))
       ∙ ap₂ (λ (rs : List Round) (r : Round). rs ++ r ∷ []) old new
 
 -- a round that is appended stands behind the rounds that were there

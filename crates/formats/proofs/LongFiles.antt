@@ -29,7 +29,7 @@ use Rattle.formats.specs.RoundFile.{badFile, challengeWidth, countField,
 use Rattle.formats.specs.Sheet.{headerOf, instanceOf, sheetLength, versionOf}
 use Rattle.formats.proofs.After.{checkAfter-clear, checkAfter-refused, countAfter-refused}
 use Rattle.formats.proofs.Entries.{entryCount-exponent, entryCount-root}
-use Rattle.formats.proofs.Files.{file-passes}
+use Rattle.formats.proofs.Files.{file-passes, width-small}
 use Rattle.formats.proofs.Loads.{load-clear, load-refused, entries-refused, loads, loads-few}
 use Rattle.formats.proofs.Tests.{says-badLength, says-badStart}
 
@@ -45,9 +45,9 @@ sheet-short h a b = elim (says-decides (says-exponent h)) [
 
 -- a round file of such a sheet has at most 34,823 bytes
 pub file-short : {h : Header} {f : List ℕ} → h .rows ≤ 8 → h .columns ≤ 8 → IsRoundFile h f → length f ≤ 34823
-unfolding recordStart recordLength challengeWidth
+unfolding recordStart recordLength
 file-short {h} {f} a b r =
-    let most : recordLength challengeWidth h ≤ 68 = omega arith in
+    let most : recordLength (challengeWidth f) h ≤ 68 = omega (arith, width-small f) in
     omega (arith, r .exact, mul-le-mul (r .few) most)
 
 -- a number is 0 or more

@@ -14,7 +14,7 @@ use Rattle.lists.proofs.Places.{getD-tabulate}
 use Rattle.sigma.proofs.Answer.{unlessRefused-zero, unlessRefused-positive}
 use Rattle.formats.specs.Meaning.{IsRoundFile}
 use Rattle.formats.specs.RoundCalls.{checkRound, fetchRound, noRound, partAfter, partOfRound}
-use Rattle.formats.specs.RoundFile.{challengeWidth, countField, recordBytes, recordLength, recordPart, recordStart, roundAt}
+use Rattle.formats.specs.RoundFile.{challengeWidth, countField, recordBytes, recordLength, recordPart, recordStart, roundAt, widthOf}
 use Rattle.formats.specs.Rounds.{roundsOf}
 use Rattle.formats.specs.Sheet.{headerOf}
 use Rattle.formats.proofs.Files.{check-runs, fetch-given}
@@ -22,12 +22,12 @@ use Rattle.formats.proofs.Records.{recordBytes-roundAt, recordStart-lat
 
 -- a record of a file lies inside it
 pub record-inside : {h : Header} {f : List ℕ} → IsRoundFile h f → (k : ℕ) → k < countField f
-    → recordStart challengeWidth h k + recordLength challengeWidth h ≤ length f
-record-inside {h} {f} r k b = omega (arith, r .exact, recordStart-later challengeWidth h k (countField f) b)
+    → recordStart (challengeWidth f) h k + recordLength (challengeWidth f) h ≤ length f
+record-inside {h} {f} r k b = omega (arith, r .exact, recordStart-later (challengeWidth f) h k (countField f) b)
 
 module _ (s f : List ℕ) (k : ℕ) where
   -- where the check gives 0, the part is the record
-  pub part-given : checkRound s f k ≡ 0 → partOfRound s f k ≡ recordPart challengeWidth (headerOf s) f k
+  pub part-given : checkRound s f k ≡ 0 → partOfRound s f k ≡ recordPart (challengeWidth f) (headerOf s) f k
   unfolding partOfRound partAfter checkRound
   part-given e = simp (e, unlessRefused-zero)
 
@@ -37,18 +37,18 @@ module _ (s f : List ℕ) (k : ℕ) where
   part-refused some = unlessRefused-positive _ [] _ some
 
   -- a part that is given has a record's length
-  pub part-length : checkRound s f k ≡ 0 → length (partOfRound s f k) ≡ recordLength challengeWidth (headerOf s)
+  pub part-length : checkRound s f k ≡ 0 → length (partOfRound s f k) ≡ recordLength (challengeWidth f) (headerOf s)
   unfolding recordPart
   part-length e =
       let (l, r, b) = check-runs s f k .0 e in
-      let start = recordStart challengeWidth (headerOf s) k in
+      let start = recordStart (challengeWidth f) (headerOf s) k in
       ap length (part-given e)
-      ∙ length-take-le (recordLength challengeWidth (headerOf s)) (drop start f)
+      ∙ length-take-le (recordLength (challengeWidth f) (headerOf s)) (drop start f)
       (omega (arith, length-drop start f, record-inside r k b))
 
   -- the check gives 0 exactly where the part is not empty
   pub part-not-empty : (checkRound s f k ≡ 0) ↔ (partOfRound s f k ≢ [])
-  unfolding recordLength challengeWidth
+  unfolding recordLength challengeWidth widthOf
   part-not-empty = (
     λ e nothing.
         let none : length (partOfRound s f k) ≡ 0 = ap length nothing in
@@ -62,13 +62,13 @@ module _ (s f : List ℕ) (k : ℕ) where
 
   -- the part is the bytes of the round that is read
   pub part-bytes : AllBytes f → checkRound s f k ≡ 0
-      → partOfRound s f k ≡ recordBytes challengeWidth (headerOf s) (fetchRound s f k .round)
+      → partOfRound s f k ≡ recordBytes (challengeWidth f) (headerOf s) (fetchRound s f k .round)
   unfolding recordPart
   part-bytes b e =
       let (l, r, inside) = check-runs s f k .0 e in
-      let start = recordStart challengeWidth (headerOf s) k in
+      let start = recordStart (challengeWidth f) (headerOf s) k in
       rw (fetch-given s f k e)
-      (part-given e ∙ sym (recordBytes-roundAt challengeWidth (headerOf s) f start (record-inside r k inside) b))
+      (part-given e ∙ sym (recordBytes-roundAt (challengeWidth f) (headerOf s) f start (record-inside r k inside) b))
 
   -- the round that is read is the file's round of that number
   pub fetch-round : checkRound s f k ≡ 0
@@ -76,6 +76,6 @@ module _ (s f : List ℕ) (k : ℕ) where
   unfolding roundsOf
   fetch-round e =
       let (l, r, b) = check-runs s f k .0 e in
-      let start = recordStart challengeWidth (headerOf s) in
-      let same = getD-tabulate (countField f) (λ j. roundAt challengeWidth (headerOf s) f (start j)) k noRound b in
+      let start = recordStart (challengeWidth f) (headerOf s) in
+      let same = getD-tabulate (countField f) (λ j. roundAt (challengeWidth f) (headerOf s) f (start j)) k noRound b in
       fetch-given s f k e ∙ (λ j. record { refusal = 0; round = sym same j })

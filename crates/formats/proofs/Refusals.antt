@@ -32,7 +32,7 @@ use Rattle.formats.specs.Refusals.{
   appendConditions,
 }
 use Rattle.formats.specs.RoundCalls.{badNumber, fileRules, roundRules}
-use Rattle.formats.specs.RoundFile.{challengeWidth, noRounds, recordLength}
+use Rattle.formats.specs.RoundFile.{noRounds, recordLength, widthInUse}
 use Rattle.formats.specs.Sheet.{headerOf, instanceOf, sheetLength}
 use Rattle.formats.specs.Write.{short}
 use Rattle.formats.proofs.Tests.{
@@ -120,7 +120,7 @@ empty-tests buffer = (refl, says-short buffer (length noRounds), tt)
 pub append-tests : (h : Header) (buffer : List ℕ) (used : ℕ) → Tests (appendRules h buffer used) (appendConditions h buffer used)
 unfolding appendRules
 append-tests h buffer used =
-    (refl, says-badInUse h buffer used, (refl, says-short buffer (used + recordLength challengeWidth h), tt))
+    (refl, says-badInUse h buffer used, (refl, says-short buffer (used + recordLength (widthInUse buffer used) h), tt))
 
 -- ---- after the rules of the sheet
 

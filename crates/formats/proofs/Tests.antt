@@ -63,7 +63,7 @@ says-badFile h f =
     (says-or (says-differ 3 f roundMark)
     (says-or (says-not (says-equal (fileVersion f) 1))
     (says-or (says-less 512 (countField f))
-    (says-not (says-equal (length f) (recordStart challengeWidth h (countField f))))))))
+    (says-not (says-equal (length f) (recordStart (challengeWidth f) h (countField f))))))))
 
 -- 12, for the writer: more bytes in use than the buffer has, no file in those bytes, or 512 rounds already
 pub says-badInUse : (h : Header) (buffer : List ℕ) (used : ℕ) → Says (badInUse h buffer used) (Refusal12InUse h buffer used)

@@ -13,11 +13,11 @@ use Rattle.rules.specs.Rule.{Rule, _when_, lowest}
 use Rattle.formats.specs.Load.{loadRules}
 use Rattle.formats.specs.RoundFile.{
   badFile,
-  challengeWidth,
   countField,
   noRounds,
   recordBytes,
   recordLength,
+  widthInUse,
 }
 use Rattle.formats.specs.Sheet.{headerOf}
 use Rattle.formats.specs.Write.{Writing, short, written, writtenAtStart}
@@ -34,17 +34,17 @@ badInUse h buffer used =
 -- the rules of the bytes in use and the buffer
 unfoldable pub appendRules : Header → List ℕ → ℕ → List Rule
 appendRules h buffer used =
-    (12 when badInUse h buffer used) ∷ (22 when short buffer (used + recordLength challengeWidth h)) ∷ []
+    (12 when badInUse h buffer used) ∷ (22 when short buffer (used + recordLength (widthInUse buffer used) h)) ∷ []
 
 -- the buffer with a record straight after the bytes in use and the count field raised by one
 unfoldable pub appended : Header → List ℕ → ℕ → Round → List ℕ
 appended h buffer used round =
-    sets (sets buffer used (recordBytes challengeWidth h round)) 5 (bytesOf 2 (countField buffer + 1))
+    sets (sets buffer used (recordBytes (widthInUse buffer used) h round)) 5 (bytesOf 2 (countField buffer + 1))
 
 -- after the rules of the sheet: the record writer's outcome
 unfoldable pub appendAfter : List Rule → Header → List ℕ → ℕ → Round → Writing
 appendAfter before h buffer used round =
-    written (lowest (before ++ appendRules h buffer used)) (used + recordLength challengeWidth h)
+    written (lowest (before ++ appendRules h buffer used)) (used + recordLength (widthInUse buffer used) h)
     (appended h buffer used round) buffer
 
 -- the record writer

@@ -30,7 +30,7 @@ pub record IsRoundFile (h : Header) (f : List ℕ) : Type 0 where
   pub mark : take 3 f ≡ roundMark
   pub version : fileVersion f ≡ 1
   pub few : countField f ≤ 512
-  pub exact : length f ≡ recordStart challengeWidth h (countField f)
+  pub exact : length f ≡ recordStart (challengeWidth f) h (countField f)
 
 -- 12 does not apply to the record writer: the bytes in use are a round file with room for a round
 pub record InUse (h : Header) (buffer : List ℕ) (used : ℕ) : Type 0 where
@@ -70,8 +70,10 @@ pub record Makes (number modulus order challenges : ℕ) (values statement : Lis
 
 -- where the values of round k stand: t, c, r in 4(s + n + 1) bytes behind the seven
 pub record RoundStands (h : Header) (f : List ℕ) (k : ℕ) (round : Round) : Type 0 where
+  pub width : challengeWidth f ≡ 4
+  pub start : recordStart (challengeWidth f) h k ≡ 7 + k * (4 * (h .rows + h .columns + 1))
   pub commitment : (i : ℕ) → i < h .rows
-      → getD (round .commitment) i 0 ≡ numberAt 4 f (7 + k * (4 * (h .rows + h .columns + 1)) + 4 * i)
-  pub challenge : round .challenge ≡ numberAt 4 f (7 + k * (4 * (h .rows + h .columns + 1)) + 4 * h .rows)
+      → getD (round .commitment) i 0 ≡ numberAt 4 f (recordStart (challengeWidth f) h k + 4 * i)
+  pub challenge : round .challenge ≡ numberAt (challengeWidth f) f (recordStart (challengeWidth f) h k + 4 * h .rows)
   pub response : (j : ℕ) → j < h .columns
-      → getD (round .response) j 0 ≡ numberAt 4 f (7 + k * (4 * (h .rows + h .columns + 1)) + 4 * h .rows + 4 + 4 * j)
+      → getD (round .response) j 0 ≡ numberAt 4 f (recordStart (challengeWidth f) h k + 4 * h .rows + challengeWidth f + 4 * j)

@@ -7,7 +7,7 @@ use mathlib.Core.List.{List}
 use lib.ListN.{length, getD, take, drop}
 use Rattle.types.specs.declared.Header.{Header}
 use Rattle.types.specs.declared.Round.{Round}
-use Rattle.formats.specs.RoundFile.{challengeWidth, countField, recordBytes, recordLength}
+use Rattle.formats.specs.RoundFile.{countField, recordBytes, recordLength, widthInUse}
 use Rattle.formats.specs.Write.{Writing}
 
 -- the buffer keeps its bytes, and the length answered is 0
@@ -27,10 +27,10 @@ pub record Puts (bytes buffer : List ℕ) (w : Writing) : Type 0 where
 -- is changed, and the count of bytes in use that is answered takes the record in
 pub record Adds (h : Header) (round : Round) (buffer : List ℕ) (used : ℕ) (w : Writing) : Type 0 where
   pub number : w .answer .refusal ≡ 0
-  pub answered : w .answer .length ≡ used + recordLength challengeWidth h
-  pub stored : take (recordLength challengeWidth h) (drop used (w .buffer)) ≡ recordBytes challengeWidth h round
+  pub answered : w .answer .length ≡ used + recordLength (widthInUse buffer used) h
+  pub stored : take (recordLength (widthInUse buffer used) h) (drop used (w .buffer)) ≡ recordBytes (widthInUse buffer used) h round
   pub counted : countField (w .buffer) ≡ countField buffer + 1
   pub others :
-      (j : ℕ) → (j < 5) ⊎ (7 ≤ j) → (j < used) ⊎ (used + recordLength challengeWidth h ≤ j) →
+      (j : ℕ) → (j < 5) ⊎ (7 ≤ j) → (j < used) ⊎ (used + recordLength (widthInUse buffer used) h ≤ j) →
       getD (w .buffer) j 0 ≡ getD buffer j 0
   pub size : length (w .buffer) ≡ length buffer

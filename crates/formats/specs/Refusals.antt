@@ -27,6 +27,7 @@ use Rattle.formats.specs.RoundFile.{
   recordLength,
   recordStart,
   roundMark,
+  widthInUse,
 }
 use Rattle.formats.specs.Sheet.{headerOf, instanceOf, sheetLength, sheetMark, versionOf}
 
@@ -52,7 +53,7 @@ Refusal9 s = length s ≢ sheetLength (headerOf s)
 abbrev pub Refusal12 : Header → List ℕ → Type 0
 Refusal12 h f =
     (length f < 7) ⊎ Differ 3 f roundMark ⊎ (fileVersion f ≢ 1) ⊎ (512 < countField f) ⊎
-    (length f ≢ recordStart challengeWidth h (countField f))
+    (length f ≢ recordStart (challengeWidth f) h (countField f))
 
 -- for the writer: more bytes in use than the buffer has, no file in those bytes, or 512 rounds already
 abbrev pub Refusal12InUse : Header → List ℕ → ℕ → Type 0
@@ -109,4 +110,4 @@ emptyConditions buffer = (22 if Refusal22 buffer (length noRounds)) ∷ []
 abbrev pub appendConditions : Header → List ℕ → ℕ → List Condition
 appendConditions h buffer used =
     (12 if Refusal12InUse h buffer used) ∷
-    (22 if Refusal22 buffer (used + recordLength challengeWidth h)) ∷ []
+    (22 if Refusal22 buffer (used + recordLength (widthInUse buffer used) h)) ∷ []

@@ -50,7 +50,7 @@ checkAfter before h f k = lowest (before ++ roundRules h f k)
 
 -- after the rules of the sheet: the part of the file that is round k, empty where it is refused
 unfoldable pub partAfter : List Rule → Header → List ℕ → ℕ → List ℕ
-partAfter before h f k = unlessRefused (checkAfter before h f k) (recordPart challengeWidth h f k) []
+partAfter before h f k = unlessRefused (checkAfter before h f k) (recordPart (challengeWidth f) h f k) []
 
 -- after the rules of the sheet: round k's values, which are not tested
 unfoldable pub fetchAfter : List Rule → Header → List ℕ → ℕ → Fetched
@@ -58,7 +58,7 @@ fetchAfter before h f k =
     let refusal : ℕ = checkAfter before h f k in
     record {
       refusal = refusal;
-      round = unlessRefused refusal (roundAt challengeWidth h f (recordStart challengeWidth h k)) noRound;
+      round = unlessRefused refusal (roundAt (challengeWidth f) h f (recordStart (challengeWidth f) h k)) noRound;
     }
 
 -- the call that counts a file's rounds

@@ -1,5 +1,5 @@
 -- The bytes of a round file (01, "A round"): seven bytes and then the records. The width of a stored challenge is a
--- parameter of the layout.
+-- parameter of the layout, and the file's version gives it.
 -- Assumes nothing.
 use Prim.Native.Nat.{ℕ, _+_, _*_}
 use mathlib.Core.Bool.{Bool, not, _||_}
@@ -25,9 +25,17 @@ fileVersion f = numberAt 2 f 3
 unfoldable pub countField : List ℕ → ℕ
 countField f = numberAt 2 f 5
 
--- the width in bytes of a challenge in a record of version 1
-unfoldable pub challengeWidth : ℕ
-challengeWidth = 4
+-- the width in bytes of a challenge in a file of the version
+unfoldable pub widthOf : ℕ → ℕ
+widthOf version = 4
+
+-- the width of a file's challenges
+unfoldable pub challengeWidth : List ℕ → ℕ
+challengeWidth f = widthOf (fileVersion f)
+
+-- the width of the challenges of the file that the first bytes of a buffer are
+abbrev pub widthInUse : List ℕ → ℕ → ℕ
+widthInUse buffer used = challengeWidth (take used buffer)
 
 -- a record's length: t, c and r
 unfoldable pub recordLength : ℕ → Header → ℕ
@@ -60,7 +68,7 @@ roundAt width h f at =
 unfoldable pub badFile : Header → List ℕ → Bool
 badFile h f =
     ltb (length f) 7 || differ 3 f roundMark || not (eqb (fileVersion f) 1) || ltb 512 (countField f) ||
-    not (eqb (length f) (recordStart challengeWidth h (countField f)))
+    not (eqb (length f) (recordStart (challengeWidth f) h (countField f)))
 
 -- the file of no rounds
 unfoldable pub noRounds : List ℕ

@@ -11,23 +11,23 @@ use Rattle.lists.specs.Places.{tabulate}
 use Rattle.sigma.specs.Reads.{paddedRound}
 use Rattle.formats.specs.Append.{append}
 use Rattle.formats.specs.Meaning.{IsRoundFile}
-use Rattle.formats.specs.RoundFile.{challengeWidth, recordBytes, recordStart, roundAt, roundMark, countField}
+use Rattle.formats.specs.RoundFile.{challengeWidth, widthOf, recordBytes, recordStart, roundAt, roundMark, countField}
 use Rattle.formats.specs.Write.{Writing}
 
--- the values that a record holds have 32 bits
-pub record Words (h : Header) (round : Round) : Type 0 where
+-- the values of a record have 32 bits, and the challenge fits its width
+pub record Words (width : ℕ) (h : Header) (round : Round) : Type 0 where
   pub commitment : (j : ℕ) → j < h .rows → getD (round .commitment) j 0 < 2 ^ 32
-  pub challenge : round .challenge < 2 ^ 32
+  pub challenge : round .challenge < 256 ^ width
   pub response : (j : ℕ) → j < h .columns → getD (round .response) j 0 < 2 ^ 32
 
 -- the rounds of a file, in order
 unfoldable pub roundsOf : Header → List ℕ → List Round
-roundsOf h f = tabulate (countField f) (λ k. roundAt challengeWidth h f (recordStart challengeWidth h k))
+roundsOf h f = tabulate (countField f) (λ k. roundAt (challengeWidth f) h f (recordStart (challengeWidth f) h k))
 
--- the file of given rounds
-unfoldable pub fileOf : Header → List Round → List ℕ
-fileOf h rounds =
-    roundMark ++ bytesOf 2 1 ++ bytesOf 2 (length rounds) ++ flatten (map (recordBytes challengeWidth h) rounds)
+-- the file of given rounds, in a version
+unfoldable pub fileIn : ℕ → Header → List Round → List ℕ
+fileIn version h rounds =
+    roundMark ++ bytesOf 2 version ++ bytesOf 2 (length rounds) ++ flatten (map (recordBytes (widthOf version) h) rounds)
 
 -- the record writer called for each round in turn, on the buffer and the bytes in use that the call before it left
 unfoldable pub appendEach : List ℕ → Writing → List Round → Writing
@@ -38,4 +38,4 @@ appendEach sheet w (round ∷ rounds) = appendEach sheet (append sheet (w .buffe
 pub record Grows (h : Header) (f : List ℕ) (round : Round) (f′ : List ℕ) : Type 0 where
   pub file : IsRoundFile h f′
   pub count : countField f′ ≡ countField f + 1
-  pub rounds : Words h round → roundsOf h f′ ≡ roundsOf h f ++ paddedRound h round ∷ []
+  pub rounds : Words (challengeWidth f) h round → roundsOf h f′ ≡ roundsOf h f ++ paddedRound h round ∷ []

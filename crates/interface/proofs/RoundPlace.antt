@@ -9,9 +9,9 @@ use lib.ListN.{length, take, drop}
 use Rattle.types.specs.declared.Header.{Header}
 use Rattle.sigma.proofs.Answer.{unlessRefused-zero, unlessRefused-positive}
 use Rattle.formats.specs.RoundCalls.{checkRound, partOfRound}
-use Rattle.formats.specs.RoundFile.{challengeWidth, recordLength, recordPart, recordStart}
+use Rattle.formats.specs.RoundFile.{challengeWidth, recordLength, recordPart, recordStart, widthOf}
 use Rattle.formats.specs.Sheet.{headerOf}
-use Rattle.formats.proofs.Files.{check-runs}
+use Rattle.formats.proofs.Files.{check-runs, file-width}
 use Rattle.formats.proofs.Part.{part-given, part-refused, record-inside}
 use Rattle.interface.specs.RoundPlace.{noPart, partPlace}
 
@@ -20,8 +20,8 @@ module _ (s f : List ℕ) (k : ℕ) where
   pub place-given : checkRound s f k ≡ 0
       → partPlace s f k
       ≡ record {
-        offset = recordStart challengeWidth (headerOf s) k;
-        length = recordLength challengeWidth (headerOf s);
+        offset = recordStart (challengeWidth f) (headerOf s) k;
+        length = recordLength (challengeWidth f) (headerOf s);
       }
   unfolding partPlace
   place-given e = rw e (unlessRefused-zero _ noPart)
@@ -60,6 +60,9 @@ module _ (s f : List ℕ) (k : ℕ) where
     place-none refused = let some : 0 < checkRound s f k = omega arith in sym (place-refused some)
 
     -- a round that passes stands at its record
-    pub place-record : {h : Header} {offset size : ℕ} → n ≡ 0 → h ≡ headerOf s → offset ≡ recordStart challengeWidth h k
-        → size ≡ recordLength challengeWidth h → record { offset = offset; length = size } ≡ partPlace s f k
-    place-record passes same starts ends = rw (starts, ends, same) (sym (place-given (sym checked ∙ passes)))
+    pub place-record : {h : Header} {offset size : ℕ} → n ≡ 0 → h ≡ headerOf s → offset ≡ recordStart (widthOf 1) h k
+        → size ≡ recordLength (widthOf 1) h → record { offset = offset; length = size } ≡ partPlace s f k
+    place-record passes same starts ends =
+        let e : checkRound s f k ≡ 0 = sym checked ∙ passes in
+        let (l, r, b) = check-runs s f k .0 e in
+        rw (starts, ends, same, ← file-width r) (sym (place-given e))

@@ -17,7 +17,7 @@ unfoldable pub partPlace : List ℕ → List ℕ → ℕ → Part
 partPlace sheet file k =
     unlessRefused (checkRound sheet file k)
     (record {
-      offset = recordStart challengeWidth (headerOf sheet) k;
-      length = recordLength challengeWidth (headerOf sheet);
+      offset = recordStart (challengeWidth file) (headerOf sheet) k;
+      length = recordLength (challengeWidth file) (headerOf sheet);
     })
     noPart

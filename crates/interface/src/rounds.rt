@@ -49,7 +49,7 @@ pub extern "C" fn dimkhoros_empty(buffer: &mut [u8]) -> Written
     ensures answer { λ r. ⌜ r ≡ emptyFile (now (buffer .entry)) .answer ⌝ }
     ensures bytes { λ _. ⌜ now (buffer .exit) ≡ emptyFile (now (buffer .entry)) .buffer ⌝ }
 {
-    round_file::empty(buffer)
+    round_writer::empty(buffer)
 }
 
 // Writes round straight behind the first used bytes of buffer, which are a round file, raises its count by one and answers
@@ -64,5 +64,5 @@ pub extern "C" fn dimkhoros_append(
     ensures answer { λ r. ⌜ r ≡ append (now (sheet .entry)) (now (buffer .entry)) used round .answer ⌝ }
     ensures bytes { λ _. ⌜ now (buffer .exit) ≡ append (now (sheet .entry)) (now (buffer .entry)) used round .buffer ⌝ }
 {
-    round_file::append(sheet, buffer, used, round)
+    round_writer::append(sheet, buffer, used, round)
 }

@@ -14,7 +14,7 @@ use Rattle.runs.specs.Marker.{resultLine, verdictLine}
 
 -- the verdict on the values in record k
 unfoldable pub verdictIn : Instance → List ℕ → ℕ → Verdict
-verdictIn inst f k = judge inst (roundAt challengeWidth (inst .header) f (recordStart challengeWidth (inst .header) k))
+verdictIn inst f k = judge inst (roundAt (challengeWidth f) (inst .header) f (recordStart (challengeWidth f) (inst .header) k))
 
 -- the lines of the first n records
 unfoldable pub linesIn : Instance → List ℕ → ℕ → List ℕ

@@ -12,6 +12,7 @@ use Rattle.types.specs.declared.Round.{Round}
 use Rattle.rules.specs.Rule.{_when_, lowest}
 use Rattle.rules.proofs.Lowest.{lowest-append-zero, lowest-earlier, lowest-later-zero, stop}
 use Rattle.sigma.proofs.Answer.{unlessRefused-positive, unlessRefused-zero}
+use Rattle.formats.specs.Meaning.{IsRoundFile}
 use Rattle.formats.specs.RoundCalls.{
   badNumber,
   checkAfter,
@@ -22,8 +23,8 @@ use Rattle.formats.specs.RoundCalls.{
   partAfter,
   roundRules,
 }
-use Rattle.formats.specs.RoundFile.{challengeWidth, countField, recordLength, recordPart, recordStart, roundAt}
-use Rattle.formats.proofs.Files.{number-passes}
+use Rattle.formats.specs.RoundFile.{challengeWidth, countField, recordLength, recordPart, recordStart, roundAt, widthOf}
+use Rattle.formats.proofs.Files.{file-width, number-passes}
 use Rattle.formats.proofs.Growing.{file-long}
 use Rattle.formats.proofs.Part.{record-inside}
 use Rattle.round_file.proofs.FileTest.{file-clear}
@@ -62,14 +63,24 @@ module _ (h : Header) (f : List ℕ) {n : ℕ} (tested : n ≡ lowest (fileRules
         sym (lowest-append-zero (fileRules h f) _ tt tt .1 (sym tested ∙ e, (number-passes f k .1 inside, tt)))
 
 module _ (h : Header) (f : List ℕ) (k : ℕ) {n : ℕ} (tested : n ≡ checkAfter [] h f k) where
-  -- a round that passes is one of at most 512, and its record lies inside the file
-  pub record-there : n ≡ 0 → (k < 512) × (recordStart challengeWidth h k + recordLength challengeWidth h ≤ length f)
+  -- a round that passes is one of a round file of at most 512
+  round-there : n ≡ 0 → IsRoundFile h f × (k < countField f)
   unfolding checkAfter fileRules roundRules
-  record-there e =
+  round-there e =
       let (zero, (number, none)) = lowest-append-zero (fileRules h f) ((13 when badNumber f k) ∷ []) tt tt .0 (sym tested ∙ e) in
-      let file = file-clear h f refl zero in
-      let inside = number-passes f k .0 number in
-      (omega (arith, file .few), record-inside file k inside)
+      (file-clear h f refl zero, number-passes f k .0 number)
+
+  -- its record lies inside the file
+  pub record-there : n ≡ 0 → (k < 512) × (recordStart (widthOf 1) h k + recordLength (widthOf 1) h ≤ length f)
+  record-there e =
+      let (file, inside) = round-there e in
+      (omega (arith, file .few), rw (← file-width file) (record-inside file k inside))
+
+  -- so does the record of the file's own width
+  pub record-fits : {start : ℕ} → n ≡ 0 → start ≡ recordStart (widthOf 1) h k → start + recordLength (challengeWidth f) h ≤ length f
+  record-fits e is-start =
+      let (file, inside) = round-there e in
+      rw (is-start, ← file-width file) (record-inside file k inside)
 
   -- a refused round has an empty part
   pub part-none : n ≢ 0 → [] ≡ partAfter [] h f k
@@ -77,12 +88,13 @@ module _ (h : Header) (f : List ℕ) (k : ℕ) {n : ℕ} (tested : n ≡ checkAf
   part-none some = rw (← tested) (sym (unlessRefused-positive _ [] n (omega arith)))
 
   -- the part of a round that passes is its record
-  pub part-record : {start size : ℕ} → n ≡ 0 → start ≡ recordStart challengeWidth h k → size ≡ recordLength challengeWidth h
+  pub part-record : {start size : ℕ} → n ≡ 0 → start ≡ recordStart (widthOf 1) h k → size ≡ recordLength (widthOf 1) h
       → take (start + size - start) (drop start f) ≡ partAfter [] h f k
   unfolding partAfter recordPart
   part-record {start} {size} e is-start is-size =
       let same : start + size - start ≡ size = omega arith in
-      rw (← tested, e, unlessRefused-zero, same, is-start, is-size)
+      let width = file-width (round-there e .0) in
+      rw (← tested, e, unlessRefused-zero, same, is-start, is-size, width)
 
   -- a refused round is read as zeros
   pub fetch-none : {round : Round} → n ≢ 0 → round ≡ noRound → record { refusal = n; round = round } ≡ fetchAfter [] h f k
@@ -90,7 +102,7 @@ module _ (h : Header) (f : List ℕ) (k : ℕ) {n : ℕ} (tested : n ≡ checkAf
   fetch-none some is-none = rw (← tested, is-none, unlessRefused-positive _ noRound n (omega arith))
 
   -- a round that passes is read from its record
-  pub fetch-record : {start : ℕ} {round : Round} → n ≡ 0 → start ≡ recordStart challengeWidth h k
-      → round ≡ roundAt challengeWidth h f start → record { refusal = 0; round = round } ≡ fetchAfter [] h f k
+  pub fetch-record : {start : ℕ} {round : Round} → n ≡ 0 → start ≡ recordStart (widthOf 1) h k
+      → round ≡ roundAt (challengeWidth f) h f start → record { refusal = 0; round = round } ≡ fetchAfter [] h f k
   unfolding fetchAfter
-  fetch-record e is-start is-round = rw (← tested, e, is-round, is-start, unlessRefused-zero)
+  fetch-record e is-start is-round = rw (← tested, e, is-round, is-start, ← file-width (round-there e .0), unlessRefused-zero)

@@ -4,15 +4,11 @@ use crate::reading::count_in;
 use crate::reading::no_round;
 use crate::reading::part_in;
 use crate::reading::read_in;
-use crate::writing::append_in;
 use instance::load;
 use types::Counted;
 use types::Fetched;
-use types::Round;
-use types::Written;
 ghost use mathlib.Core.Path.{_≡_};
 ghost use Rattle.formats.specs.RoundCalls.{countRounds, checkRound, partOfRound, fetchRound};
-ghost use Rattle.formats.specs.Append.{append};
 
 // How many rounds a file has; 0 beside the number, 2 to 12, where the sheet or the file is refused.
 pub fn count(sheet: &[u8], file: &[u8]) -> Counted
@@ -67,19 +63,4 @@ pub fn read(sheet: &[u8], file: &[u8], k: usize) -> Fetched
     }
     let h = loaded.header;
     read_in(h, file, k)
-}
-
-// Writes round straight behind the first used bytes of buffer, which are a round file, raises its count by one and answers
-// the count of bytes in use. Where it is refused, with 2 to 12 or 22, buffer keeps its bytes.
-pub fn append(sheet: &[u8], buffer: &mut [u8], used: usize, round: Round) -> Written
-    ensures answer { λ r. ⌜ r ≡ append (now (sheet .entry)) (now (buffer .entry)) used round .answer ⌝ }
-    ensures bytes { λ _. ⌜ now (buffer .exit) ≡ append (now (sheet .entry)) (now (buffer .entry)) used round .buffer ⌝ }
-{
-    let loaded = load(sheet);
-    let refusal = loaded.refusal;
-    if refusal != 0 {
-        return Written { refusal, length: 0 };
-    }
-    let h = loaded.header;
-    append_in(h, buffer, used, round)
 }

@@ -5,7 +5,7 @@ use types::Header;
 ghost use Prim.Native.Nat.{_≤_};
 ghost use mathlib.Core.Path.{_≡_};
 ghost use Rattle.rules.specs.Rule.{lowest};
-ghost use Rattle.formats.specs.RoundFile.{challengeWidth, recordLength, recordStart};
+ghost use Rattle.formats.specs.RoundFile.{recordLength, recordStart, widthOf};
 ghost use Rattle.formats.specs.RoundCalls.{fileRules};
 
 // The three bytes that a round file begins with.
@@ -15,7 +15,7 @@ pub const MARK: [u8; 3] = *b"RND";
 pub fn record_length(h: Header) -> usize
     requires rows { ⌜ h .rows ≤ 8 ⌝ }
     requires columns { ⌜ h .columns ≤ 8 ⌝ }
-    ensures value { λ r. ⌜ r ≡ recordLength challengeWidth h ⌝ }
+    ensures value { λ r. ⌜ r ≡ recordLength (widthOf 1) h ⌝ }
     ensures small { λ r. ⌜ r ≤ 68 ⌝ }
 {
     4 * h.rows as usize + 4 + 4 * h.columns as usize
@@ -26,7 +26,7 @@ pub fn record_start(h: Header, k: usize) -> usize
     requires rows { ⌜ h .rows ≤ 8 ⌝ }
     requires columns { ⌜ h .columns ≤ 8 ⌝ }
     requires number { ⌜ k ≤ 512 ⌝ }
-    ensures value { λ r. ⌜ r ≡ recordStart challengeWidth h k ⌝ }
+    ensures value { λ r. ⌜ r ≡ recordStart (widthOf 1) h k ⌝ }
     ensures small { λ r. ⌜ r ≤ 34823 ⌝ }
 {
     7 + k * record_length(h)

@@ -67,8 +67,8 @@ pub fn part_in<'a>(h: Header, file: &'a [u8], k: usize) -> &'a [u8]
 pub fn round_at(h: Header, file: &[u8], at: usize) -> Round
     requires rows { ⌜ h .rows ≤ 8 ⌝ }
     requires columns { ⌜ h .columns ≤ 8 ⌝ }
-    requires within { ⌜ at + recordLength challengeWidth h ≤ length (now file) ⌝ }
-    ensures { λ r. ⌜ r ≡ roundAt challengeWidth h (now (file .entry)) at ⌝ }
+    requires within { ⌜ at + recordLength (challengeWidth (now file)) h ≤ length (now file) ⌝ }
+    ensures { λ r. ⌜ r ≡ roundAt (challengeWidth (now (file .entry))) h (now (file .entry)) at ⌝ }
 {
     let rows = h.rows as usize;
     let columns = h.columns as usize;

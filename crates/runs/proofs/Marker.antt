@@ -79,7 +79,7 @@ module _ (sheet f : List ℕ) where
   -- the verdict on a round is what judging gives for the values in its record
   pub verdict-on-record : countRounds sheet f .refusal ≡ 0 → (k : ℕ) → k < countField f
       → verdictOn sheet f k
-      ≡ judge (instanceOf sheet) (roundAt challengeWidth (headerOf sheet) f (recordStart challengeWidth (headerOf sheet) k))
+      ≡ judge (instanceOf sheet) (roundAt (challengeWidth f) (headerOf sheet) f (recordStart (challengeWidth f) (headerOf sheet) k))
   unfolding verdictOn judgeRound
   verdict-on-record e k h =
       let (sheet-loads, file) = count-runs sheet f .0 e in

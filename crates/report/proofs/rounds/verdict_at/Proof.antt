@@ -1,6 +1,7 @@
 -- `report::rounds::verdict_at` meets its contract: the record lies inside the file, and its values are judged.
 -- Assumes nothing.
 use native.Mathlib.Omega.{arith}
+use Rattle.formats.proofs.Files.{file-width}
 use Rattle.formats.proofs.Part.{record-inside}
 use Rattle.report.specs.Lines.{verdictIn}
 use Rattle.report.proofs.rounds.verdict_at.Statement.{statement}
@@ -14,7 +15,7 @@ record-start-requires c κs =
 round-at-requires : tie.Need-round-at-requires
 round-at-requires c κs =
     let (valid, (file, number)) = c .before .before .pre in
-    (valid .table .few-rows, (valid .table .few-columns, rw (c .record-start .ensures .0) (record-inside file _ number)))
+    (valid .table .few-rows, (valid .table .few-columns, rw (c .record-start .ensures .0, ← file-width file) (record-inside file _ number)))
 
 judge-loaded-requires : tie.Need-judge-loaded-requires
 judge-loaded-requires c κs = c .before .before .before .pre .0
@@ -23,7 +24,8 @@ returns : tie.Need-returns
 unfolding verdictIn
 returns c =
     let read = c .before in
-    rw (c .judge-loaded .ensures, read .round-at .ensures, read .before .record-start .ensures .0)
+    let file = read .before .before .before .pre .1 .0 in
+    rw (c .judge-loaded .ensures, read .round-at .ensures, read .before .record-start .ensures .0, file-width file)
 
 pub verdict-at-spec : {M : Type 1} → statement M
 verdict-at-spec =

@@ -1,8 +1,10 @@
 -- `round_file::layout::file_refusal` meets its contract: each return but the last stands where a round file cannot be.
 -- Assumes nothing.
+use mathlib.Core.Path.{_∙_}
 use native.Mathlib.Omega.{arith}
 use Rattle.encoding.specs.Text.{ascii}
 use Rattle.formats.specs.RoundFile.{countField, fileVersion, roundMark}
+use Rattle.formats.proofs.Files.{exact-width}
 use Rattle.formats.proofs.Growing.{file-long}
 use Rattle.round_file.proofs.FileTest.{file-refused, file-taken, unmarked-refused, mark-found}
 use Rattle.round_file.proofs.layout.file_refusal.Statement.{statement}
@@ -40,7 +42,7 @@ record-start-requires c κs = omega arith
 
 returns-5 : tie.Need-returns-5
 unfolding countField
-returns-5 c = file-refused _ _ (λ r. c .if5 .taken (cc (r .exact)))
+returns-5 c = file-refused _ _ (λ r. c .if5 .taken (exact-width _ _ (r .version) .1 (r .exact) ∙ (cc)))
 
 returns-6 : tie.Need-returns-6
 unfolding countField fileVersion roundMark ascii
@@ -51,7 +53,7 @@ returns-6 c =
       mark = mark-found h _ (marked .before .has-mark .ensures) (omega arith) (marked .if2 .left);
       version = omega arith;
       few = omega arith;
-      exact = cc;
+      exact = exact-width _ _ (omega arith) .0 (cc);
     })
 
 pub file-refusal-spec : {M : Type 1} → statement M

@@ -1,7 +1,7 @@
 -- `round_file::reading::read_in` meets its contract: the record of a round that passes lies inside the file.
 -- Assumes nothing.
 use native.Mathlib.Omega.{arith}
-use Rattle.round_file.proofs.FileReading.{record-there, fetch-none, fetch-record}
+use Rattle.round_file.proofs.FileReading.{record-fits, record-there, fetch-none, fetch-record}
 use Rattle.round_file.proofs.reading.read_in.Statement.{statement}
 use Rattle.round_file.proofs.reading.read_in.Tie as tie
 
@@ -20,7 +20,10 @@ record-start-requires c κs = omega (arith, record-there _ _ _ (c .before .check
 round-at-requires : tie.Need-round-at-requires
 round-at-requires c κs =
     let at-test = c .before in
-    omega (arith, record-there _ _ _ (at-test .before .check-in .ensures) (at-test .if1 .left))
+    omega (
+      arith,
+      record-fits _ _ _ (at-test .before .check-in .ensures) (at-test .if1 .left) (c .record-start .ensures .0),
+    )
 
 returns-2 : tie.Need-returns-2
 returns-2 c =

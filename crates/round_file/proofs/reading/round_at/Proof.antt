@@ -1,7 +1,7 @@
 -- `round_file::reading::round_at` meets its contract: the three fields of a record stand one behind the other.
 -- Assumes nothing.
 use native.Mathlib.Omega.{arith}
-use Rattle.formats.specs.RoundFile.{challengeWidth, recordLength, roundAt}
+use Rattle.formats.specs.RoundFile.{challengeWidth, recordLength, roundAt, widthOf}
 use Rattle.round_file.proofs.reading.round_at.Statement.{statement}
 use Rattle.round_file.proofs.reading.round_at.Tie as tie
 
@@ -12,37 +12,37 @@ cast-columns : tie.Need-cast-columns
 cast-columns c = omega arith
 
 read-words-requires : tie.Need-read-words-requires
-unfolding recordLength challengeWidth
+unfolding recordLength challengeWidth widthOf
 read-words-requires c κs = omega arith
 
 mul-read-u32 : tie.Need-mul-read-u32
 mul-read-u32 c = omega arith
 
 add-read-u32 : tie.Need-add-read-u32
-unfolding recordLength challengeWidth
+unfolding recordLength challengeWidth widthOf
 add-read-u32 c = omega arith
 
 read-u32-requires : tie.Need-read-u32-requires
-unfolding recordLength challengeWidth
+unfolding recordLength challengeWidth widthOf
 read-u32-requires c κs = omega arith
 
 mul-read-words : tie.Need-mul-read-words
 mul-read-words c = omega arith
 
 add-read-words : tie.Need-add-read-words
-unfolding recordLength challengeWidth
+unfolding recordLength challengeWidth widthOf
 add-read-words c = omega arith
 
 add-read-words-2 : tie.Need-add-read-words-2
-unfolding recordLength challengeWidth
+unfolding recordLength challengeWidth widthOf
 add-read-words-2 c = omega arith
 
 read-words-requires-2 : tie.Need-read-words-requires-2
-unfolding recordLength challengeWidth
+unfolding recordLength challengeWidth widthOf
 read-words-requires-2 c κs = omega arith
 
 returns : tie.Need-returns
-unfolding roundAt challengeWidth
+unfolding roundAt challengeWidth widthOf
 returns c = λ i. record {
   commitment = c .before .before .read-words .ensures i;
   challenge = c .before .read-u32 .ensures i;

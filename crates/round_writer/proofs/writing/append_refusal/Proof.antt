@@ -1,14 +1,14 @@
--- `round_file::writing::append_refusal` meets its contract: behind the first three returns the bytes in use are a round file.
+-- `round_writer::writing::append_refusal` meets its contract: behind the first three returns the bytes in use are a round file.
 -- Assumes nothing.
 use mathlib.Core.Path.{sym}
 use native.Mathlib.Omega.{arith}
 use lib.Seq.{length-take-le}
 use Rattle.formats.specs.RoundFile.{countField}
-use Rattle.round_file.proofs.FileWriting.{append-passes, in-use-refused, room-refused}
+use Rattle.round_writer.proofs.FileWriting.{append-passes, in-use-refused, room-refused}
 use Rattle.round_file.proofs.FileTest.{file-clear, file-taken}
 use Rattle.round_file.proofs.FileReading.{seven-bytes}
-use Rattle.round_file.proofs.writing.append_refusal.Statement.{statement}
-use Rattle.round_file.proofs.writing.append_refusal.Tie as tie
+use Rattle.round_writer.proofs.writing.append_refusal.Statement.{statement}
+use Rattle.round_writer.proofs.writing.append_refusal.Tie as tie
 
 returns : tie.Need-returns
 returns c = in-use-refused _ _ _ (λ u. omega (arith, u .inside))

@@ -1,12 +1,12 @@
--- `round_file::calls::append` meets its contract: a refused sheet's number is the answer, else the fixed fields are loaded.
+-- `round_writer::calls::append` meets its contract: a refused sheet's number is the answer, else the fixed fields are loaded.
 -- Assumes nothing.
 use mathlib.Core.Path.{sym}
 use native.Mathlib.Omega.{arith}
 use Rattle.formats.specs.Append.{append}
 use Rattle.formats.proofs.After.{appendAfter-clear, appendAfter-refused}
 use Rattle.instance.proofs.Answers.{answer-refused, answer-few, answer-header-call}
-use Rattle.round_file.proofs.calls.append.Statement.{statement}
-use Rattle.round_file.proofs.calls.append.Tie as tie
+use Rattle.round_writer.proofs.calls.append.Statement.{statement}
+use Rattle.round_writer.proofs.calls.append.Tie as tie
 
 load-requires : tie.Need-load-requires
 load-requires c κs = omega arith

@@ -1,13 +1,13 @@
 // Writing a round file: the call that makes one of no rounds, and the record writer for a sheet whose fixed fields are loaded
 // (01, "A round" and refusals 12 and 22).
-use crate::layout::MARK;
-use crate::layout::file_refusal;
-use crate::layout::record_length;
 use fields::read_u16;
 use fields::write_mark;
 use fields::write_u16;
 use fields::write_u32;
 use fields::write_words;
+use round_file::MARK;
+use round_file::file_refusal;
+use round_file::record_length;
 use types::Header;
 use types::Round;
 use types::Written;
@@ -17,7 +17,7 @@ ghost use mathlib.Core.List.{[]};
 ghost use lib.ListN.{length};
 ghost use lib.Seq.{sets};
 ghost use Rattle.rules.specs.Rule.{lowest};
-ghost use Rattle.formats.specs.RoundFile.{challengeWidth, recordBytes, recordLength};
+ghost use Rattle.formats.specs.RoundFile.{recordBytes, recordLength, widthOf};
 ghost use Rattle.formats.specs.Append.{appendAfter, appendRules, emptyFile};
 
 // Puts the file of no rounds at the start of buffer and answers its length. No byte behind it is changed, and a buffer that
@@ -45,8 +45,8 @@ pub fn empty(buffer: &mut [u8]) -> Written
 fn write_record(part: &mut [u8], h: Header, round: Round)
     requires rows { ⌜ h .rows ≤ 8 ⌝ }
     requires columns { ⌜ h .columns ≤ 8 ⌝ }
-    requires room { ⌜ recordLength challengeWidth h ≤ length (now part) ⌝ }
-    ensures stored { λ _. ⌜ now (part .exit) ≡ sets (now (part .entry)) 0 (recordBytes challengeWidth h round) ⌝ }
+    requires room { ⌜ recordLength (widthOf 1) h ≤ length (now part) ⌝ }
+    ensures stored { λ _. ⌜ now (part .exit) ≡ sets (now (part .entry)) 0 (recordBytes (widthOf 1) h round) ⌝ }
 {
     let rows = h.rows as usize;
     let columns = h.columns as usize;

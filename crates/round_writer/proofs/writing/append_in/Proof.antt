@@ -1,11 +1,11 @@
--- `round_file::writing::append_in` meets its contract: the part that is lent comes back with the record at its start.
+-- `round_writer::writing::append_in` meets its contract: the part that is lent comes back with the record at its start.
 -- Assumes nothing.
 use native.Mathlib.Omega.{arith}
 use lib.ListN.{length-take, length-drop}
 use Rattle.formats.specs.RoundFile.{countField}
-use Rattle.round_file.proofs.FileWriting.{append-none, append-record, record-room}
-use Rattle.round_file.proofs.writing.append_in.Statement.{statement}
-use Rattle.round_file.proofs.writing.append_in.Tie as tie
+use Rattle.round_writer.proofs.FileWriting.{append-none, append-record, record-room}
+use Rattle.round_writer.proofs.writing.append_in.Statement.{statement}
+use Rattle.round_writer.proofs.writing.append_in.Tie as tie
 
 append-refusal-requires : tie.Need-append-refusal-requires
 append-refusal-requires c κs = omega arith

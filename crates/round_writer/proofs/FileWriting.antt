@@ -24,10 +24,10 @@ use Rattle.rules.proofs.Lowest.{clear-lowest, lowest-clear, pass, stop}
 use Rattle.sigma.proofs.Answer.{unlessRefused-positive, unlessRefused-zero}
 use Rattle.formats.specs.Append.{appendAfter, appendRules, appended, emptyFile}
 use Rattle.formats.specs.Meaning.{InUse}
-use Rattle.formats.specs.RoundFile.{challengeWidth, countField, noRounds, recordBytes, recordLength, roundMark}
+use Rattle.formats.specs.RoundFile.{countField, noRounds, recordBytes, recordLength, roundMark, widthInUse, widthOf}
 use Rattle.formats.specs.Write.{short, written, writtenAtStart}
 use Rattle.formats.proofs.Appending.{in-use-long, length-recordBytes}
-use Rattle.formats.proofs.Files.{in-use-passes, length-roundMark}
+use Rattle.formats.proofs.Files.{file-width, in-use-passes, length-roundMark}
 use Rattle.formats.proofs.Writing.{Leaves, length-noRounds, short-passes}
 
 module _ (buffer : List ℕ) where
@@ -77,43 +77,58 @@ module _ (h : Header) (buffer : List ℕ) (used : ℕ) where
   in-use-refused other = sym (stop 12 _ (not-eq-not {b = true} .0 (λ e. other (in-use-passes h buffer used .0 e))))
 
   module _ (u : InUse h buffer used) where
+    -- the width of their challenges is that of version 1
+    width-used : widthInUse buffer used ≡ widthOf 1
+    width-used = file-width (u .file)
+
     -- a buffer without room for the record is refused
-    pub room-refused : length buffer < used + recordLength challengeWidth h → 22 ≡ lowest (appendRules h buffer used)
+    pub room-refused : length buffer < used + recordLength (widthOf 1) h → 22 ≡ lowest (appendRules h buffer used)
     unfolding appendRules short
-    room-refused less = sym (pass 12 _ (in-use-passes h buffer used .1 u) ∙ stop 22 [] (lt-ltb _ _ less))
+    room-refused less =
+        sym (pass 12 _ (in-use-passes h buffer used .1 u)
+        ∙ stop 22 [] (lt-ltb (length buffer) (used + recordLength (widthInUse buffer used) h) (rw width-used less)))
 
     -- one with room is not
-    pub append-passes : used + recordLength challengeWidth h ≤ length buffer → 0 ≡ lowest (appendRules h buffer used)
+    pub append-passes : used + recordLength (widthOf 1) h ≤ length buffer → 0 ≡ lowest (appendRules h buffer used)
     unfolding appendRules
-    append-passes fits = sym (lowest-clear _ (in-use-passes h buffer used .1 u, (short-passes buffer _ .1 fits, tt)))
+    append-passes fits =
+        sym (lowest-clear _ (in-use-passes h buffer used .1 u, (short-passes buffer (used + recordLength (widthInUse buffer used) h) .1 (rw width-used fits), tt)))
 
   module _ {n : ℕ} (tested : n ≡ lowest (appendRules h buffer used)) where
-    -- where nothing is refused, the buffer has the seven bytes before the records and room for the record
-    pub record-room : n ≡ 0 → (7 ≤ length buffer) × (used + recordLength challengeWidth h ≤ length buffer)
+    -- where nothing is refused, the bytes in use are a round file with room for a round
+    in-use-there : n ≡ 0 → InUse h buffer used
+    unfolding appendRules
+    in-use-there e = in-use-passes h buffer used .0 (clear-lowest (appendRules h buffer used) tt (sym tested ∙ e) .0)
+
+    -- and the buffer has the seven bytes before the records and room for the record
+    pub record-room : n ≡ 0 → (7 ≤ length buffer) × (used + recordLength (widthOf 1) h ≤ length buffer)
     unfolding appendRules
     record-room e =
         let (file, (room, none)) = clear-lowest (appendRules h buffer used) tt (sym tested ∙ e) in
-        let u = in-use-passes h buffer used .0 file in
-        (omega (arith, in-use-long u, u .inside), short-passes buffer _ .0 room)
+        let u = in-use-there e in
+        (omega (arith, in-use-long u, u .inside), rw (← width-used u) (short-passes buffer _ .0 room))
 
     module _ (round : Round) where
       -- a refused call keeps the buffer
       pub append-none : n ≢ 0 → Leaves (record { refusal = n; length = 0 }) buffer (appendAfter [] h buffer used round)
       unfolding appendAfter written
       append-none some = (
-        rw (← tested, unlessRefused-positive (used + recordLength challengeWidth h) 0 n (omega arith)),
+        rw (← tested, unlessRefused-positive (used + recordLength (widthInUse buffer used) h) 0 n (omega arith)),
         rw (← tested) (sym (unlessRefused-positive (appended h buffer used round) buffer n (omega arith))),
       )
 
       -- a call that is not refused answers the bytes in use and leaves the record and the raised count
       pub append-record : {count size : ℕ} {part after : List ℕ}
-          → n ≡ 0 → count ≡ countField buffer → size ≡ recordLength challengeWidth h
-          → part ≡ sets (take (length buffer - used) (drop used buffer)) 0 (recordBytes challengeWidth h round)
+          → n ≡ 0 → count ≡ countField buffer → size ≡ recordLength (widthOf 1) h
+          → part ≡ sets (take (length buffer - used) (drop used buffer)) 0 (recordBytes (widthOf 1) h round)
           → after ≡ sets (take used buffer ++ (part ++ drop (length buffer - used) (drop used buffer))) 5 (bytesOf 2 (count + 1))
           → Leaves (record { refusal = 0; length = used + size }) after (appendAfter [] h buffer used round)
       unfolding appendAfter written appended
       append-record e is-count is-size is-part is-after =
-          let bytes = recordBytes challengeWidth h round in
-          let room : length bytes ≤ length buffer - used = omega (arith, length-recordBytes challengeWidth h round, record-room e) in
-          let back = part-replaced-front used (length buffer - used) buffer bytes room in
-          (rw (← tested, e, is-size, unlessRefused-zero), rw (← tested, e, unlessRefused-zero, is-after, is-part, is-count, back))
+          let width = width-used (in-use-there e) in
+          let bytes = recordBytes (widthOf 1) h round in
+          let room : length bytes ≤ length buffer - used = omega (arith, length-recordBytes (widthOf 1) h round, record-room e) in
+          let back = part-replaced-front used (length buffer - used) buffer bytes room in (
+            rw (← tested, e, is-size, width, unlessRefused-zero),
+            rw (← tested, e, width, unlessRefused-zero, is-after, is-part, is-count, back),
+          )

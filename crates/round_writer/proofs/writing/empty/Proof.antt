@@ -1,11 +1,11 @@
--- `round_file::writing::empty` meets its contract: the three fields of a file of no rounds stand one behind the other.
+-- `round_writer::writing::empty` meets its contract: the three fields of a file of no rounds stand one behind the other.
 -- Assumes nothing.
 use native.Mathlib.Omega.{arith}
 use Rattle.encoding.specs.Text.{ascii}
 use Rattle.formats.specs.RoundFile.{roundMark}
-use Rattle.round_file.proofs.FileWriting.{empty-made, empty-none}
-use Rattle.round_file.proofs.writing.empty.Statement.{statement}
-use Rattle.round_file.proofs.writing.empty.Tie as tie
+use Rattle.round_writer.proofs.FileWriting.{empty-made, empty-none}
+use Rattle.round_writer.proofs.writing.empty.Statement.{statement}
+use Rattle.round_writer.proofs.writing.empty.Tie as tie
 
 returns : tie.Need-returns
 returns c = empty-none _ (omega (arith, c .if1 .taken))

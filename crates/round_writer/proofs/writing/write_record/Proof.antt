@@ -1,10 +1,10 @@
--- `round_file::writing::write_record` meets its contract: the three fields of a record stand one behind the other.
+-- `round_writer::writing::write_record` meets its contract: the three fields of a record stand one behind the other.
 -- Assumes nothing.
 use native.Mathlib.Omega.{arith}
-use Rattle.formats.specs.RoundFile.{challengeWidth, recordLength}
-use Rattle.round_file.proofs.FileWriting.{record-stored}
-use Rattle.round_file.proofs.writing.write_record.Statement.{statement}
-use Rattle.round_file.proofs.writing.write_record.Tie as tie
+use Rattle.formats.specs.RoundFile.{recordLength, widthOf}
+use Rattle.round_writer.proofs.FileWriting.{record-stored}
+use Rattle.round_writer.proofs.writing.write_record.Statement.{statement}
+use Rattle.round_writer.proofs.writing.write_record.Tie as tie
 
 cast-rows : tie.Need-cast-rows
 cast-rows c = omega arith
@@ -13,14 +13,14 @@ cast-columns : tie.Need-cast-columns
 cast-columns c = omega arith
 
 write-words-requires : tie.Need-write-words-requires
-unfolding recordLength challengeWidth
+unfolding recordLength widthOf
 write-words-requires c κs = omega arith
 
 mul-write-u32 : tie.Need-mul-write-u32
 mul-write-u32 c = omega arith
 
 write-u32-requires : tie.Need-write-u32-requires
-unfolding recordLength challengeWidth
+unfolding recordLength widthOf
 write-u32-requires c κs = omega arith
 
 mul-write-words : tie.Need-mul-write-words
@@ -30,14 +30,14 @@ add-write-words : tie.Need-add-write-words
 add-write-words c = omega arith
 
 write-words-requires-2 : tie.Need-write-words-requires-2
-unfolding recordLength challengeWidth
+unfolding recordLength widthOf
 write-words-requires-2 c κs = omega arith
 
 same-length : tie.Need-same-length
 same-length c = omega arith
 
 returns : tie.Need-returns
-unfolding challengeWidth
+unfolding widthOf
 returns c =
     let third = c .before .before in
     let second = third .before .before .before .before in
