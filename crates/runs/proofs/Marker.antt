@@ -7,7 +7,7 @@ use mathlib.Core.Logic.{_↔_, _≢_, ⊎-elim}
 use mathlib.Core.Bool.{Bool, true, false, not}
 use mathlib.Core.List.{List, [], _∷_, _++_, append-assoc, flatten}
 use native.Mathlib.Omega.{arith}
-use Rattle.types.specs.declared.Verdict.the-variants.{Accepted, Rejected, Refused}
+use Rattle.types.specs.declared.Verdict.the-variants.{Accepted, Refused}
 use Rattle.numbers.specs.Search.{any}
 use Rattle.numbers.proofs.Search.{any-of}
 use Rattle.lists.specs.Member.{Member}
@@ -34,8 +34,6 @@ use Rattle.runs.specs.Calls.{judgeRound}
 use Rattle.runs.specs.Marker.{
   newline,
   wordLine,
-  verdictText,
-  verdictLine,
   resultLine,
   verdictOn,
   roundLine,
@@ -115,26 +113,6 @@ module _ (sheet f : List ℕ) where
       → markerText sheet f ≡ ascii "rounds 0" ++ newline ++ ascii "pass" ++ newline
   unfolding tabulate itemsAt flatten wordLine ascii decimal newline digits
   empty-passes e z = round-lines e ∙ ap (roundLines sheet f) z ∙ pass-line 0 (λ k h. absurd (omega arith))
-
-  -- ---- the line of a round
-
-  -- an accepted round
-  pub accepted-line : (k : ℕ) → verdictOn sheet f k ≡ Accepted
-      → roundLine sheet f k ≡ decimal k ++ ascii " " ++ ascii "accepted" ++ newline
-  unfolding roundLine verdictLine verdictText
-  accepted-line k e = rw e
-
-  -- a rejected round, with its first differing row
-  pub rejected-line : (k row : ℕ) → verdictOn sheet f k ≡ Rejected row
-      → roundLine sheet f k ≡ decimal k ++ ascii " " ++ (ascii "rejected " ++ decimal row) ++ newline
-  unfolding roundLine verdictLine verdictText
-  rejected-line k row e = rw e
-
-  -- a refused round, with its number
-  pub refused-line : (k number : ℕ) → verdictOn sheet f k ≡ Refused number
-      → roundLine sheet f k ≡ decimal k ++ ascii " " ++ (ascii "refused " ++ decimal number) ++ newline
-  unfolding roundLine verdictLine verdictText
-  refused-line k number e = rw e
 
   -- of a sheet that loads, a round is refused with 14, 15 or 16
   pub round-refusal : loadRefusal sheet ≡ 0 → (k number : ℕ) → verdictOn sheet f k ≡ Refused number
