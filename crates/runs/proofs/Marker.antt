@@ -13,8 +13,11 @@ use Rattle.numbers.proofs.Search.{any-of}
 use Rattle.lists.specs.Member.{Member}
 use Rattle.lists.specs.Places.{itemsAt, tabulate, places}
 use Rattle.encoding.specs.Text.{ascii, digits, decimal}
-use Rattle.rules.specs.Rule.{_when_, lowest, numberOf, numbersOf}
-use Rattle.rules.proofs.Lowest.{clear-lowest, lowest-later-zero, lowest-member}
+use Rattle.rules.specs.AnswersBy.{conditionNumbers}
+use Rattle.rules.specs.Rule.{_when_, lowest}
+use Rattle.rules.proofs.AnswersBy.{given-among}
+use Rattle.rules.proofs.Condition.{given}
+use Rattle.rules.proofs.Lowest.{clear-lowest, lowest-later-zero}
 use Rattle.rules.proofs.Says.{says-not}
 use Rattle.formats.specs.Load.{loadRules, loadRefusal}
 use Rattle.formats.specs.RoundCalls.{fileRules, countAfter, countRounds, fetchRound}
@@ -25,10 +28,12 @@ use Rattle.formats.proofs.Loads.{load-clear, loads}
 use Rattle.formats.proofs.Positive.{load-positive}
 use Rattle.sigma.specs.Answer.{isAccepted}
 use Rattle.sigma.specs.Judge.{judgeRules, judge}
+use Rattle.sigma.specs.Refusals.{judgeConditions}
 use Rattle.sigma.proofs.After.{judgeAfter-clear}
 use Rattle.sigma.proofs.Answer.{unlessRefused-zero, unlessRefused-positive}
 use Rattle.sigma.proofs.Calculus.{all-pass}
 use Rattle.sigma.proofs.Calls.{judge-refused}
+use Rattle.sigma.proofs.Refusals.{judge-tests}
 use Rattle.sigma.proofs.Tests.{says-accepted}
 use Rattle.runs.specs.Calls.{judgeRound}
 use Rattle.runs.specs.Marker.{
@@ -117,7 +122,7 @@ module _ (sheet f : List ℕ) where
   -- of a sheet that loads, a round is refused with 14, 15 or 16
   pub round-refusal : loadRefusal sheet ≡ 0 → (k number : ℕ) → verdictOn sheet f k ≡ Refused number
       → Member number (14 ∷ 15 ∷ 16 ∷ [])
-  unfolding verdictOn judgeRound loadRefusal judgeRules numbersOf numberOf
+  unfolding verdictOn judgeRound loadRefusal judgeRules conditionNumbers
   round-refusal e k number refused =
       let round = fetchRound sheet f k .round in
       let inst = instanceOf sheet in
@@ -125,8 +130,8 @@ module _ (sheet f : List ℕ) where
       let r = places (inst .header .columns) (round .response) in
       let rules = judgeRules inst t (round .challenge) r in
       let none = clear-lowest (loadRules sheet) (load-positive sheet) e in
-      let (some, given) = judge-refused inst round number .0 (sym (judgeAfter-clear (loadRules sheet) inst none round) ∙ refused) in
+      let (some, same) = judge-refused inst round number .0 (sym (judgeAfter-clear (loadRules sheet) inst none round) ∙ refused) in
       let member : Member (lowest rules) (14 ∷ 15 ∷ 16 ∷ []) =
-      ⊎-elim (λ (z : lowest rules ≡ 0). absurd (omega arith))
-      (λ (m : Member (lowest rules) (numbersOf rules)). m) (lowest-member rules) in
-      subst (λ (n : ℕ). Member n (14 ∷ 15 ∷ 16 ∷ [])) given member
+      ⊎-elim (λ (z : lowest rules ≡ 0). absurd (omega arith)) (λ found. found)
+      (given-among (judgeConditions inst round) (lowest rules) (given rules (judgeConditions inst round) (judge-tests inst round))) in
+      subst (λ (n : ℕ). Member n (14 ∷ 15 ∷ 16 ∷ [])) same member
