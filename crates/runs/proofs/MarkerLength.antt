@@ -42,7 +42,7 @@ use Rattle.runs.specs.Marker.{
   roundLines,
   markerText,
 }
-use Rattle.runs.proofs.Demand2.{sheet-rejected}
+use Rattle.runs.proofs.Protocol.{sheet-rejected}
 use Rattle.runs.proofs.Marker.{sheet-line, file-line, round-lines, round-refusal}
 
 -- every number of a list is below 100
