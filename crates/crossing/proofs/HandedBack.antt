@@ -1,12 +1,11 @@
 -- The session that an answer hands back: after a refused call the one that was given, bit for bit.
 -- Assumes nothing.
-use Prim.Native.Nat.{ℕ, zero, suc, _+_, _<_}
-use mathlib.Core.Path.{_≡_, refl, sym, ap, ap₂, _∙_}
-use mathlib.Core.Bool.{Bool, cond}
+use Prim.Native.Nat.{ℕ, zero, suc, _<_}
+use mathlib.Core.Path.{_≡_, refl, sym, ap, _∙_}
 use mathlib.Core.List.{List, [], _∷_}
 use native.Mathlib.Omega.{arith}
 use Rattle.rules.specs.Answer.{unlessRefused}
-use Rattle.runs.specs.Run.{sessionAfter, countOf}
+use Rattle.runs.specs.Run.{sessionAfter}
 use Rattle.sigma.proofs.Answer.{unlessRefused-zero, unlessRefused-positive}
 
 -- where a session that crosses and comes back is the same, and a refused call leaves its session, what is handed back is the
@@ -28,17 +27,3 @@ handed-on-after answer form call session into same [] s = refl
 handed-on-after answer form call session into same (k ∷ calls) s =
     handed-on-after answer form call session into same calls (form (answer k s))
     ∙ ap (sessionAfter call session calls) (same k s)
-
--- and as many of the calls meet a test of the answer as meet a test of the outcome that says the same
-pub handed-on-count : {Call Form Session Told Outcome : Type 0} (answer : Call → Form → Told) (form : Told → Form)
-    (call : Call → Session → Outcome) (session : Outcome → Session) (into : Form → Session)
-    → ((k : Call) (s : Form) → into (form (answer k s)) ≡ session (call k (into s)))
-    → (told : Call → Told → Bool) (test : Call → Outcome → Bool)
-    → ((k : Call) (s : Form) → told k (answer k s) ≡ test k (call k (into s)))
-    → (calls : List Call) (s : Form) → countOf answer form told calls s ≡ countOf call session test calls (into s)
-unfolding countOf
-handed-on-count answer form call session into same told test agree [] s = refl
-handed-on-count answer form call session into same told test agree (k ∷ calls) s =
-    ap₂ (λ (b : Bool) (n : ℕ). cond b 1 0 + n) (agree k s)
-    (handed-on-count answer form call session into same told test agree calls (form (answer k s))
-    ∙ ap (countOf call session test calls) (same k s))

@@ -1,25 +1,28 @@
 -- Peggy's session crosses and comes back the same, and a call on a session that crossed is the call on the session.
 -- Assumes nothing.
 use Prim.Native.Nat.{ℕ, _≤_, _<_}
-use mathlib.Core.Path.{_≡_, refl, ap}
-use mathlib.Core.List.{List}
+use mathlib.Core.Path.{_≡_, refl, ap, _∙_}
+use mathlib.Core.List.{List, [], _∷_}
 use mathlib.Core.Logic.{inr}
+use native.Mathlib.Decide.{decLt}
 use native.Mathlib.Omega.{arith}
+use lib.ListN.{length}
 use Rattle.types.specs.declared.Prover.{Prover}
 use Rattle.types.specs.declared.ProverPhase.{ProverPhase}
 use Rattle.types.specs.declared.ProverPhase.the-variants.{New, Committed, Answered, Dropped}
 use Rattle.types.specs.declared.ProverStep.{ProverStep}
 use Rattle.sigma.proofs.Answer.{unlessRefused-positive}
 use Rattle.runs.specs.Prover.{proverState}
-use Rattle.runs.specs.ProverCalls.{ProverCall, Commit, Respond, Drop, callProver, proverAfter, answers, countAnswers}
-use Rattle.runs.specs.Run.{sessionAfter}
+use Rattle.runs.specs.ProverCalls.{ProverCall, Commit, Respond, Drop, callProver, proverAfter, proverTrace, answered}
+use Rattle.runs.specs.Run.{sessionAfter, trace}
 use Rattle.runs.proofs.OneAnswer.{one-answer}
 use Rattle.runs.proofs.ProverCalls.{prover-kept, ended-refuses}
-use Rattle.crossing.specs.Calls.{answeredProver, answersAcross, countAnswersAcross}
+use Rattle.runs.proofs.Run.{trace-refused, trace-given}
+use Rattle.crossing.specs.Calls.{answeredProver, answeredTrace}
 use Rattle.crossing.specs.OfFour.{ofFour}
 use Rattle.crossing.specs.Provers.{proverPhase, proverOf, proverSession, proverAnswer}
 use Rattle.crossing.specs.declared.ProverSession.{ProverSession}
-use Rattle.crossing.proofs.HandedBack.{handed-back, handed-on-after, handed-on-count}
+use Rattle.crossing.proofs.HandedBack.{handed-back, handed-on-after}
 use Rattle.crossing.proofs.Phases.{ofFour-beyond, ofFour-number}
 
 -- ---- the session
@@ -83,19 +86,40 @@ unfolding proverAfter
 handed-on-all =
     handed-on-after answeredProver (λ answer. answer .session) callProver (λ step. step .session) proverOf handed-on
 
--- a call that crossed answers a challenge exactly where the call on the session does
-answers-across : (call : ProverCall) (s : ProverSession)
-    → answersAcross call (answeredProver call s) ≡ answers call (callProver call (proverOf s))
-unfolding answersAcross answers proverAnswer
-answers-across (Commit sheet nonce) s = refl
-answers-across (Respond sheet c witness) s = refl
-answers-across Drop s = refl
+-- one call more in front of two traces that answer the same challenges
+answered-same : {A B : Type 0} (call : ProverCall) (a : A) (b : B) (later : List (ProverCall × A)) (later′ : List (ProverCall × B))
+    → answered later ≡ answered later′ → answered ((call, a) ∷ later) ≡ answered ((call, b) ∷ later′)
+unfolding answered
+answered-same (Commit sheet nonce) a b later later′ e = e
+answered-same (Respond sheet c witness) a b later later′ e = ap (λ (cs : List ℕ). c ∷ cs) e
+answered-same Drop a b later later′ e = e
+
+-- the calls that crossed answer the challenges that the calls on the session answer
+pub answered-across : (calls : List ProverCall) (s : ProverSession)
+    → answered (answeredTrace calls s) ≡ answered (proverTrace calls (proverOf s))
+unfolding answeredTrace proverTrace trace answered proverAnswer
+answered-across [] s = refl
+answered-across (call ∷ calls) s =
+    step
+    (answered-across calls (answeredProver call s .session) ∙ ap (λ (p : Prover). answered (proverTrace calls p)) (handed-on call s))
+    (decLt 0 (callProver call (proverOf s) .refusal))
+  where
+    step : answered (answeredTrace calls (answeredProver call s .session))
+        ≡ answered (proverTrace calls (callProver call (proverOf s) .session))
+        → Dec (0 < callProver call (proverOf s) .refusal)
+        → answered (answeredTrace (call ∷ calls) s) ≡ answered (proverTrace (call ∷ calls) (proverOf s))
+    step later (yes refused) =
+        rw (
+          trace-refused answeredProver (λ answer. answer .session) (λ answer. answer .refusal) call calls s refused,
+          trace-refused callProver (λ step. step .session) (λ step. step .refusal) call calls (proverOf s) refused,
+        ) later
+    step later (no given) =
+        let none : callProver call (proverOf s) .refusal ≡ 0 = omega arith in
+        rw (
+          trace-given answeredProver (λ answer. answer .session) (λ answer. answer .refusal) call calls s none,
+          trace-given callProver (λ step. step .session) (λ step. step .refusal) call calls (proverOf s) none,
+        ) (answered-same call _ _ _ _ later)
 
 -- so over any calls, each given the session that the last one handed back, at most one challenge is answered
-pub one-answer-across : (calls : List ProverCall) (s : ProverSession) → countAnswersAcross calls s ≤ 1
-unfolding countAnswersAcross countAnswers
-one-answer-across calls s =
-    rw
-    (handed-on-count answeredProver (λ answer. answer .session) callProver (λ step. step .session) proverOf handed-on
-    answersAcross answers answers-across calls s)
-    (one-answer calls (proverOf s))
+pub one-answer-across : (calls : List ProverCall) (s : ProverSession) → length (answered (answeredTrace calls s)) ≤ 1
+one-answer-across calls s = rw (answered-across calls s) (one-answer calls (proverOf s))

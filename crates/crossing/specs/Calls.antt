@@ -1,11 +1,9 @@
 -- Any call on a session that a caller hands in, answered in the form in which it crosses.
 -- Assumes nothing.
 use Prim.Native.Nat.{ℕ}
-use mathlib.Core.Bool.{Bool, false}
 use mathlib.Core.List.{List}
-use lib.Dec.{eqb}
-use Rattle.runs.specs.ProverCalls.{ProverCall, Commit, Respond, Drop, callProver}
-use Rattle.runs.specs.Run.{countOf}
+use Rattle.runs.specs.ProverCalls.{ProverCall, callProver}
+use Rattle.runs.specs.Run.{trace}
 use Rattle.runs.specs.Verifier.{takeCommitment, takeChallenge, takeResponse}
 use Rattle.runs.specs.VerifierCalls.{VerifierCall, Commitment, Challenge, Response}
 use Rattle.crossing.specs.Provers.{proverOf, proverAnswer}
@@ -18,15 +16,9 @@ use Rattle.crossing.specs.declared.VerifierSession.{VerifierSession}
 abbrev pub answeredProver : ProverCall → ProverSession → ProverAnswer
 answeredProver call s = proverAnswer s (callProver call (proverOf s))
 
--- the call answers a challenge: it brings one and is not refused
-unfoldable pub answersAcross : ProverCall → ProverAnswer → Bool
-answersAcross (Commit sheet nonce) answer = false
-answersAcross (Respond sheet c witness) answer = eqb (answer .refusal) 0
-answersAcross Drop answer = false
-
--- how many calls of a list answer a challenge, each given the session that the last one handed back
-unfoldable pub countAnswersAcross : List ProverCall → ProverSession → ℕ
-countAnswersAcross calls s = countOf answeredProver (λ answer. answer .session) answersAcross calls s
+-- the calls of a list that are carried out, each given the session that the last one handed back, with its answer
+unfoldable pub answeredTrace : List ProverCall → ProverSession → List (ProverCall × ProverAnswer)
+answeredTrace calls s = trace answeredProver (λ answer. answer .session) (λ answer. answer .refusal) calls s
 
 -- the number in the answer to a call on Vic's session
 unfoldable pub answeredRefusal : VerifierCall → VerifierSession → ℕ

@@ -6,8 +6,9 @@ use mathlib.Core.Path.{_≡_}
 use mathlib.Core.List.{List}
 use Rattle.formats.specs.Load.{loadRefusal}
 use Rattle.runs.specs.Demand1.{Demand1}
-use Rattle.runs.specs.Demand2.{Demand2}
 use Rattle.runs.specs.Demand3.{Demand3}
+use Rattle.runs.specs.Protocol.{Protocol}
+use Rattle.runs.specs.Sessions.{Sessions}
 use Rattle.demands.specs.MarksFiles.{MarksFiles}
 use Rattle.demands.specs.ReadsBack.{ReadsBack}
 
@@ -15,11 +16,14 @@ pub record Demands : Type 0 where
   -- 1: every call, for any bytes and any numbers, ends in a result or in one of its refusals, whose conditions are fixed, and a
   -- refused call changes neither a lent buffer nor a session
   pub refusals : Demand1
-  -- 2: commitments, responses and verdicts are those of Maurer's main protocol, in its order of steps, for every sheet that loads
-  pub protocol : (sheet : List ℕ) → loadRefusal sheet ≡ 0 → Demand2 sheet
-  -- and what is written reads back, and what reads is written back
+  -- 2: over any list of calls Peggy answers one challenge at most and keeps no nonce behind it, and Vic takes one commitment,
+  -- then one challenge, then one response
+  pub sessions : Sessions
+  -- for every sheet that loads, commitments, responses and verdicts are those of Maurer's main protocol
+  pub protocol : (sheet : List ℕ) → loadRefusal sheet ≡ 0 → Protocol sheet
+  -- what is written reads back as what it was, and what reads is written back byte by byte
   pub files : ReadsBack
-  -- and the marker's text on a sheet and a round file is what these verdicts make it
+  -- the marker's text on a sheet and a round file is what these verdicts make it, letter by letter
   pub marker : MarksFiles
   -- 3: the extractor gives a witness, and simulated and honest rounds are exactly the accepted ones, each met once, for every
   -- sheet that loads

@@ -1,6 +1,6 @@
 -- Demand 2's verdicts on whole files (00; 01, "The marker's lines"): the marker's text names the file's own count, has a line
 -- for each round with what judging answers on the round as it reads, and ends in `pass` exactly where every round is accepted.
--- A sheet or file that is refused gives one line with its number.
+-- A sheet or file that is refused gives one line with its number. The text stands here letter by letter.
 -- Assumes nothing.
 use Prim.Native.Nat.{ℕ, _<_}
 use mathlib.Core.Path.{_≡_}
@@ -12,42 +12,37 @@ use Rattle.lists.specs.Member.{Member}
 use Rattle.lists.specs.Places.{tabulate}
 use Rattle.encoding.specs.Text.{ascii, decimal}
 use Rattle.formats.specs.Load.{loadRefusal}
-use Rattle.formats.specs.RoundCalls.{countRounds, fetchRound}
+use Rattle.formats.specs.RoundCalls.{countRounds}
 use Rattle.formats.specs.RoundFile.{countField}
-use Rattle.runs.specs.Calls.{judgeRound}
-use Rattle.runs.specs.Marker.{newline, wordLine, roundLine, markerText}
+use Rattle.runs.specs.Marker.{verdictOn, markerText}
 
--- what judging answers on round k of a file, as the read call gives it
-abbrev pub verdictOf : List ℕ → List ℕ → ℕ → Verdict
-verdictOf sheet f k = judgeRound sheet (fetchRound sheet f k .round)
+-- the line of round k: its number and its verdict, with the first differing row or the refusal
+unfoldable pub printed : ℕ → Verdict → List ℕ
+printed k Accepted = decimal k ++ ascii " accepted\n"
+printed k (Rejected row) = decimal k ++ ascii " rejected " ++ decimal row ++ ascii "\n"
+printed k (Refused number) = decimal k ++ ascii " refused " ++ decimal number ++ ascii "\n"
 
--- the text of a file that reads: its own count, a line for each of its rounds, and a last word
+-- the text of a file that reads: its own count, a line for each of its rounds, and a last line
 abbrev pub textEnding : List ℕ → List ℕ → List ℕ → List ℕ
-textEnding sheet f word =
-    wordLine (ascii "rounds") (countField f) ++ flatten (tabulate (countField f) (roundLine sheet f)) ++ word ++ newline
+textEnding sheet f last =
+    ascii "rounds " ++ decimal (countField f) ++ ascii "\n" ++
+    flatten (tabulate (countField f) (λ k. printed k (verdictOn sheet f k))) ++ last
 
 pub record MarksFiles : Type 0 where
   -- a refused sheet gives the one line `sheet N`
   pub refused-sheet : (sheet f : List ℕ) → 0 < loadRefusal sheet
-      → markerText sheet f ≡ wordLine (ascii "sheet") (loadRefusal sheet)
+      → markerText sheet f ≡ ascii "sheet " ++ decimal (loadRefusal sheet) ++ ascii "\n"
   -- a refused file of a sheet that loads gives the one line `file 12`
   pub refused-file : (sheet f : List ℕ) → loadRefusal sheet ≡ 0 → 0 < countRounds sheet f .refusal
-      → markerText sheet f ≡ wordLine (ascii "file") 12
+      → markerText sheet f ≡ ascii "file 12\n"
   -- any other file passes where every round is accepted
   pub passes : (sheet f : List ℕ) → countRounds sheet f .refusal ≡ 0
-      → ((k : ℕ) → k < countField f → verdictOf sheet f k ≡ Accepted)
-      → markerText sheet f ≡ textEnding sheet f (ascii "pass")
+      → ((k : ℕ) → k < countField f → verdictOn sheet f k ≡ Accepted)
+      → markerText sheet f ≡ textEnding sheet f (ascii "pass\n")
   -- and fails where some round is not
   pub fails : (sheet f : List ℕ) → countRounds sheet f .refusal ≡ 0
-      → (k : ℕ) → k < countField f → verdictOf sheet f k ≢ Accepted
-      → markerText sheet f ≡ textEnding sheet f (ascii "fail")
-  -- the line of a round has its number and its verdict, with the first differing row or the refusal
-  pub accepted : (sheet f : List ℕ) (k : ℕ) → verdictOf sheet f k ≡ Accepted
-      → roundLine sheet f k ≡ decimal k ++ ascii " " ++ ascii "accepted" ++ newline
-  pub rejected : (sheet f : List ℕ) (k row : ℕ) → verdictOf sheet f k ≡ Rejected row
-      → roundLine sheet f k ≡ decimal k ++ ascii " " ++ (ascii "rejected " ++ decimal row) ++ newline
-  pub refused : (sheet f : List ℕ) (k number : ℕ) → verdictOf sheet f k ≡ Refused number
-      → roundLine sheet f k ≡ decimal k ++ ascii " " ++ (ascii "refused " ++ decimal number) ++ newline
+      → (k : ℕ) → k < countField f → verdictOn sheet f k ≢ Accepted
+      → markerText sheet f ≡ textEnding sheet f (ascii "fail\n")
   -- of a sheet that loads, a round is refused with 14, 15 or 16
-  pub round-refusals : (sheet f : List ℕ) → loadRefusal sheet ≡ 0 → (k number : ℕ) → verdictOf sheet f k ≡ Refused number
+  pub round-refusals : (sheet f : List ℕ) → loadRefusal sheet ≡ 0 → (k number : ℕ) → verdictOn sheet f k ≡ Refused number
       → Member number (14 ∷ 15 ∷ 16 ∷ [])

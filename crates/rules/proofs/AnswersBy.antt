@@ -1,4 +1,4 @@
--- A number that conditions give is 0 or one of theirs, and so one of 01's 22, and of those that apply it is 01's lowest.
+-- A number that conditions give is 0 or one of theirs, and so one of 01's numbers, and of those that apply it is 01's lowest.
 -- Assumes nothing.
 use mathlib.Core.Path.{_≡_, subst}
 use mathlib.Core.Bool.{true}
@@ -36,7 +36,7 @@ module _ (numbers : List ℕ) (conditions : List Condition) (numbered : conditio
   pub answers-tested : (rules : List Rule) → Tests rules conditions → AnswersBy numbers conditions (lowest rules)
   answers-tested rules tests = answers-given (lowest rules) (given rules conditions tests)
 
--- a call ends in a result or in one of 01's 22 numbers
+-- a call ends in a result or in one of 01's numbers
 pub answers-known : {numbers : List ℕ} {conditions : List Condition} {n : ℕ} → AnswersBy numbers conditions n
     → (n ≡ 0) ⊎ Member n refusalOrder
 answers-known {numbers} {conditions} {n} a =

@@ -6,7 +6,7 @@ use mathlib.Core.List.{List, [], _∷_, _++_}
 use mathlib.Core.Logic.{_⊎_, inl, inr}
 use Prim.Native.Nat.{ℕ}
 use Rattle.rules.specs.Condition.{Condition, _if_, Given, Tests}
-use Rattle.rules.specs.Rule.{Rule, _when_, lowest}
+use Rattle.rules.specs.Rule.{Rule, _when_, lowest, Clear}
 use Rattle.rules.specs.Says.{Says}
 use Rattle.rules.proofs.Lowest.{lowest-clear, pass, stop}
 use Rattle.rules.proofs.Says.{says-decides, says-false}
@@ -26,6 +26,23 @@ given [] (condition ∷ conditions) tests = absurd tests
 given (rule ∷ rules) [] tests = absurd tests
 given ((n when b) ∷ rules) ((m if P) ∷ conditions) tests =
     given-step m n b rules P conditions (tests .0) (tests .1) (given rules conditions (tests .2)) (says-decides (tests .1))
+
+-- rules behind others have to say their conditions only where none of the others applies
+pub given-behind : (before rules : List Rule) (conditions conditions′ : List Condition)
+    → Tests before conditions → (Clear before → Tests rules conditions′)
+    → Given (conditions ++ conditions′) (lowest (before ++ rules))
+given-behind [] rules [] conditions′ tests says = given rules conditions′ (says tt)
+given-behind [] rules (condition ∷ conditions) conditions′ tests says = absurd tests
+given-behind (rule ∷ before) rules [] conditions′ tests says = absurd tests
+given-behind ((n when b) ∷ before) rules ((m if P) ∷ conditions) conditions′ tests says =
+    choose (given-behind before rules conditions conditions′ (tests .2)) (says-decides (tests .1))
+  where
+    choose : ((Clear before → Tests rules conditions′) → Given (conditions ++ conditions′) (lowest (before ++ rules)))
+        → P ⊎ (¬ P) → Given ((m if P) ∷ (conditions ++ conditions′)) (lowest ((n when b) ∷ (before ++ rules)))
+    choose rest (inl p) = inl (p, stop n (before ++ rules) (tests .1 .complete p) ∙ tests .0)
+    choose rest (inr fails) =
+        let passed = says-false (tests .1) .1 fails in
+        inr (fails, rw (pass n (before ++ rules) passed) (rest (λ none. says (passed, none))))
 
 -- conditions give one number only
 pub given-unique : (conditions : List Condition) (m n : ℕ) → Given conditions m → Given conditions n → m ≡ n

@@ -4,11 +4,10 @@ use Prim.Native.Nat.{ℕ, _<_}
 use mathlib.Core.Path.{_≡_, refl, _∙_}
 use mathlib.Core.Bool.{Bool, true, false, _&&_}
 use mathlib.Core.List.{List, [], _∷_, _++_}
-use mathlib.Core.Logic.{_↔_, _⊎_, inl, inr, ⊎-elim}
+use mathlib.Core.Logic.{_↔_}
 use native.Mathlib.Omega.{arith}
 use lib.Dec.{T, ltb, ltb→lt}
-use Rattle.rules.specs.Rule.{Rule, _when_, lowest, numberOf, numbersOf, Clear, positive}
-use Rattle.lists.specs.Member.{Member}
+use Rattle.rules.specs.Rule.{Rule, _when_, lowest, Clear, positive}
 
 -- a rule that does not apply is passed over
 pub pass : (n : ℕ) (rules : List Rule) {b : Bool} → b ≡ false → lowest ((n when b) ∷ rules) ≡ lowest rules
@@ -94,12 +93,3 @@ lowest-append-zero xs ys p q =
       λ e. let c = both .0 (clear-lowest (xs ++ ys) (positive-append xs ys p q) e) in (lowest-clear xs (c .0), c .1),
       λ c. lowest-later-zero xs ys p (c .0) ∙ lowest-clear ys (c .1),
     )
-
--- ---- the numbers of a list
-
--- the number given is 0 or one of the list's numbers
-pub lowest-member : (rules : List Rule) → (lowest rules ≡ 0) ⊎ Member (lowest rules) (numbersOf rules)
-unfolding lowest numbersOf numberOf
-lowest-member [] = inl refl
-lowest-member ((n when true) ∷ rules) = inr (inl refl)
-lowest-member ((n when false) ∷ rules) = ⊎-elim (λ e. inl e) (λ m. inr (inr m)) (lowest-member rules)

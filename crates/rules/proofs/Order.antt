@@ -12,6 +12,7 @@ use Rattle.rules.specs.AnswersBy.{conditionNumbers}
 use Rattle.rules.specs.Condition.{Condition, _if_, Given, Applies}
 use Rattle.rules.specs.Order.{refusalOrder, isSublist, isMember, isDistinct, positionIn}
 use Rattle.lists.specs.Member.{Member}
+use Rattle.lists.specs.Places.{itemsAt, tabulate}
 use Rattle.rules.specs.Says.{Says}
 use Rattle.rules.proofs.Says.{says-true, says-equal, says-or, says-and, says-not, says-cond}
 
@@ -111,6 +112,11 @@ given-earliest (y ∷ ys) ((m if P) ∷ conditions) k n d s g a =
     choose u f h (inl c) (inr e) (inl t) = absurd (e .0 (t .0))
     choose u f h (inl c) (inr e) (inr t) = earlier-rest y ys conditions k n u (c .1) f (e .1) t
     choose u f h (inr c) e t = earlier-rest y ys ((m if P) ∷ conditions) k n u c h e t
+
+-- 1 to 22 stand in 01's order in rising order
+pub order-rises : isSublist (tabulate 22 suc) refusalOrder ≡ true
+unfolding isSublist refusalOrder tabulate itemsAt
+order-rises = refl
 
 -- no number stands twice in 01's order
 pub order-distinct : isDistinct refusalOrder ≡ true

@@ -10,6 +10,10 @@ unfoldable pub refusalOrder : List ℕ
 refusalOrder =
     1 ∷ 2 ∷ 3 ∷ 4 ∷ 5 ∷ 6 ∷ 7 ∷ 8 ∷ 9 ∷ 10 ∷ 11 ∷ 12 ∷ 13 ∷ 14 ∷ 15 ∷ 16 ∷ 17 ∷ 18 ∷ 19 ∷ 20 ∷ 21 ∷ 22 ∷ []
 
+-- the numbers of a sheet that does not load, 2 to 11
+unfoldable pub sheetNumbers : List ℕ
+sheetNumbers = 2 ∷ 3 ∷ 4 ∷ 5 ∷ 6 ∷ 7 ∷ 8 ∷ 9 ∷ 10 ∷ 11 ∷ []
+
 -- whether xs is left when some elements of ys are taken away
 unfoldable pub isSublist : List ℕ → List ℕ → Bool
 isSublist [] ys = true

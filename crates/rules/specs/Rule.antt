@@ -2,7 +2,7 @@
 -- Assumes nothing.
 use mathlib.Core.Path.{_≡_}
 use mathlib.Core.Bool.{Bool, true, false, cond, _&&_}
-use mathlib.Core.List.{List, [], _∷_, map}
+use mathlib.Core.List.{List, [], _∷_}
 use Prim.Native.Nat.{ℕ}
 use lib.Dec.{ltb}
 
@@ -15,14 +15,6 @@ pub data Rule : Type 0 where
 unfoldable pub lowest : List Rule → ℕ
 lowest [] = 0
 lowest ((n when broken) ∷ rules) = cond broken n (lowest rules)
-
--- a rule's number
-unfoldable pub numberOf : Rule → ℕ
-numberOf (n when broken) = n
-
--- the numbers of a list of rules, in its order
-unfoldable pub numbersOf : List Rule → List ℕ
-numbersOf rules = map numberOf rules
 
 -- no rule of the list applies
 abbrev pub Clear : List Rule → Type 0

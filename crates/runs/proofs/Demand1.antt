@@ -12,8 +12,9 @@ use Rattle.types.specs.declared.Verdict.the-variants.{Refused}
 use Rattle.types.specs.declared.VerifierStep.{VerifierStep}
 use Rattle.lists.specs.Places.{zeros8}
 use Rattle.rules.specs.AnswersBy.{conditionNumbers}
-use Rattle.rules.specs.Order.{refusalOrder, isSublist}
+use Rattle.rules.specs.Order.{refusalOrder, sheetNumbers, isSublist}
 use Rattle.rules.proofs.AnswersBy.{answers-given, answers-tested}
+use Rattle.rules.proofs.Order.{order-rises, order-distinct}
 use Rattle.formats.specs.Append.{append, appendAfter, emptyFile}
 use Rattle.formats.specs.Encode.{encode}
 use Rattle.formats.specs.Load.{load, loadRefusal, loadRules}
@@ -45,7 +46,7 @@ use Rattle.runs.proofs.VerifierSteps.{takeCommitmentAfter-kept, takeCha
 
 -- the calls that load and make sheets
 pub sheet-refusals : SheetRefusals
-unfolding conditionNumbers isSublist refusalOrder load loadRefusal encode fromPattern writtenAtStart written
+unfolding conditionNumbers isSublist refusalOrder sheetNumbers load loadRefusal encode fromPattern writtenAtStart written
 sheet-refusals = record {
   loading = λ sheet. record {
     number = answers-tested _ _ refl refl _ (load-tests sheet);
@@ -66,7 +67,7 @@ sheet-refusals = record {
 
 -- the calls that read and write round files
 pub file-refusals : FileRefusals
-unfolding conditionNumbers isSublist refusalOrder countRounds countAfter checkRound checkAfter fetchRound fetchAfter
+unfolding conditionNumbers isSublist refusalOrder sheetNumbers countRounds countAfter checkRound checkAfter fetchRound fetchAfter
     emptyFile append appendAfter writtenAtStart written
 file-refusals = record {
   counting = λ sheet file. record {
@@ -99,7 +100,7 @@ judged-kept n v u some = rw (judged-number n v u) (judged-positive n v (rw (judg
 
 -- the calls on rounds
 pub round-refusals : RoundRefusals
-unfolding conditionNumbers isSublist refusalOrder judgeRound judgeAfter simulateCommitment simulateAfter extractWitness
+unfolding conditionNumbers isSublist refusalOrder sheetNumbers judgeRound judgeAfter simulateCommitment simulateAfter extractWitness
     extractAfter computed eightPlaces
 round-refusals = record {
   judging = λ sheet round. record {
@@ -123,7 +124,7 @@ step-kept step p n e = (ap (λ (s : ProverStep). s .session) e, ap (λ (s : Prov
 
 -- the calls on Peggy's session
 pub prover-refusals : ProverRefusals
-unfolding conditionNumbers isSublist refusalOrder commit respond
+unfolding conditionNumbers isSublist refusalOrder sheetNumbers commit respond
 prover-refusals = record {
   committing = λ sheet p k. record {
     number = answers-given _ _ refl refl _ (commit-number sheet p k);
@@ -141,7 +142,7 @@ prover-refusals = record {
 
 -- the calls on Vic's session
 pub verifier-refusals : VerifierRefusals
-unfolding conditionNumbers isSublist refusalOrder takeCommitment takeChallenge takeResponse
+unfolding conditionNumbers isSublist refusalOrder sheetNumbers takeCommitment takeChallenge takeResponse
 verifier-refusals = record {
   commitment = λ sheet v t. record {
     number = answers-given _ _ refl refl _ (takeCommitment-number sheet v t);
@@ -160,6 +161,7 @@ verifier-refusals = record {
 -- demand 1 holds of every call
 pub demand1 : Demand1
 demand1 = record {
+  order = (order-rises, order-distinct);
   sheets = sheet-refusals;
   files = file-refusals;
   rounds = round-refusals;

@@ -3,7 +3,8 @@ pub mod Tests
 pub mod Witness
 pub mod Loaded
 pub mod Demand1
-pub mod Demand2
+pub mod Sessions
+pub mod Protocol
 pub mod Demand3
 pub mod Refusals
 pub mod Positive

@@ -7,14 +7,17 @@ use mathlib.Core.Logic.{_↔_, _≢_, ⊎-elim}
 use mathlib.Core.Bool.{Bool, true, false, not}
 use mathlib.Core.List.{List, [], _∷_, _++_, append-assoc, flatten}
 use native.Mathlib.Omega.{arith}
-use Rattle.types.specs.declared.Verdict.the-variants.{Accepted, Rejected, Refused}
+use Rattle.types.specs.declared.Verdict.the-variants.{Accepted, Refused}
 use Rattle.numbers.specs.Search.{any}
 use Rattle.numbers.proofs.Search.{any-of}
 use Rattle.lists.specs.Member.{Member}
 use Rattle.lists.specs.Places.{itemsAt, tabulate, places}
 use Rattle.encoding.specs.Text.{ascii, digits, decimal}
-use Rattle.rules.specs.Rule.{_when_, lowest, numberOf, numbersOf}
-use Rattle.rules.proofs.Lowest.{clear-lowest, lowest-later-zero, lowest-member}
+use Rattle.rules.specs.AnswersBy.{conditionNumbers}
+use Rattle.rules.specs.Rule.{_when_, lowest}
+use Rattle.rules.proofs.AnswersBy.{given-among}
+use Rattle.rules.proofs.Condition.{given}
+use Rattle.rules.proofs.Lowest.{clear-lowest, lowest-later-zero}
 use Rattle.rules.proofs.Says.{says-not}
 use Rattle.formats.specs.Load.{loadRules, loadRefusal}
 use Rattle.formats.specs.RoundCalls.{fileRules, countAfter, countRounds, fetchRound}
@@ -25,17 +28,17 @@ use Rattle.formats.proofs.Loads.{load-clear, loads}
 use Rattle.formats.proofs.Positive.{load-positive}
 use Rattle.sigma.specs.Answer.{isAccepted}
 use Rattle.sigma.specs.Judge.{judgeRules, judge}
+use Rattle.sigma.specs.Refusals.{judgeConditions}
 use Rattle.sigma.proofs.After.{judgeAfter-clear}
 use Rattle.sigma.proofs.Answer.{unlessRefused-zero, unlessRefused-positive}
 use Rattle.sigma.proofs.Calculus.{all-pass}
 use Rattle.sigma.proofs.Calls.{judge-refused}
+use Rattle.sigma.proofs.Refusals.{judge-tests}
 use Rattle.sigma.proofs.Tests.{says-accepted}
 use Rattle.runs.specs.Calls.{judgeRound}
 use Rattle.runs.specs.Marker.{
   newline,
   wordLine,
-  verdictText,
-  verdictLine,
   resultLine,
   verdictOn,
   roundLine,
@@ -116,30 +119,10 @@ module _ (sheet f : List ℕ) where
   unfolding tabulate itemsAt flatten wordLine ascii decimal newline digits
   empty-passes e z = round-lines e ∙ ap (roundLines sheet f) z ∙ pass-line 0 (λ k h. absurd (omega arith))
 
-  -- ---- the line of a round
-
-  -- an accepted round
-  pub accepted-line : (k : ℕ) → verdictOn sheet f k ≡ Accepted
-      → roundLine sheet f k ≡ decimal k ++ ascii " " ++ ascii "accepted" ++ newline
-  unfolding roundLine verdictLine verdictText
-  accepted-line k e = rw e
-
-  -- a rejected round, with its first differing row
-  pub rejected-line : (k row : ℕ) → verdictOn sheet f k ≡ Rejected row
-      → roundLine sheet f k ≡ decimal k ++ ascii " " ++ (ascii "rejected " ++ decimal row) ++ newline
-  unfolding roundLine verdictLine verdictText
-  rejected-line k row e = rw e
-
-  -- a refused round, with its number
-  pub refused-line : (k number : ℕ) → verdictOn sheet f k ≡ Refused number
-      → roundLine sheet f k ≡ decimal k ++ ascii " " ++ (ascii "refused " ++ decimal number) ++ newline
-  unfolding roundLine verdictLine verdictText
-  refused-line k number e = rw e
-
   -- of a sheet that loads, a round is refused with 14, 15 or 16
   pub round-refusal : loadRefusal sheet ≡ 0 → (k number : ℕ) → verdictOn sheet f k ≡ Refused number
       → Member number (14 ∷ 15 ∷ 16 ∷ [])
-  unfolding verdictOn judgeRound loadRefusal judgeRules numbersOf numberOf
+  unfolding verdictOn judgeRound loadRefusal judgeRules conditionNumbers
   round-refusal e k number refused =
       let round = fetchRound sheet f k .round in
       let inst = instanceOf sheet in
@@ -147,8 +130,8 @@ module _ (sheet f : List ℕ) where
       let r = places (inst .header .columns) (round .response) in
       let rules = judgeRules inst t (round .challenge) r in
       let none = clear-lowest (loadRules sheet) (load-positive sheet) e in
-      let (some, given) = judge-refused inst round number .0 (sym (judgeAfter-clear (loadRules sheet) inst none round) ∙ refused) in
+      let (some, same) = judge-refused inst round number .0 (sym (judgeAfter-clear (loadRules sheet) inst none round) ∙ refused) in
       let member : Member (lowest rules) (14 ∷ 15 ∷ 16 ∷ []) =
-      ⊎-elim (λ (z : lowest rules ≡ 0). absurd (omega arith))
-      (λ (m : Member (lowest rules) (numbersOf rules)). m) (lowest-member rules) in
-      subst (λ (n : ℕ). Member n (14 ∷ 15 ∷ 16 ∷ [])) given member
+      ⊎-elim (λ (z : lowest rules ≡ 0). absurd (omega arith)) (λ found. found)
+      (given-among (judgeConditions inst round) (lowest rules) (given rules (judgeConditions inst round) (judge-tests inst round))) in
+      subst (λ (n : ℕ). Member n (14 ∷ 15 ∷ 16 ∷ [])) same member

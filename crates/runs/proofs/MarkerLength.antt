@@ -19,14 +19,17 @@ use Rattle.lists.proofs.Rows.{flatten-append}
 use Rattle.encoding.specs.Text.{ascii, decimal}
 use Rattle.encoding.proofs.Text.{decimal-length}
 use Rattle.numbers.specs.Search.{any}
-use Rattle.rules.specs.Rule.{lowest, numberOf, numbersOf}
-use Rattle.rules.proofs.Lowest.{lowest-member}
-use Rattle.formats.specs.Load.{shapeRules, loadRules, loadRefusal}
+use Rattle.rules.specs.AnswersBy.{conditionNumbers}
+use Rattle.rules.specs.Rule.{lowest}
+use Rattle.rules.proofs.AnswersBy.{given-among}
+use Rattle.rules.proofs.Condition.{given}
+use Rattle.formats.specs.Load.{loadRules, loadRefusal}
+use Rattle.formats.specs.Refusals.{loadConditions}
 use Rattle.formats.specs.RoundCalls.{countRounds, fetchRound}
 use Rattle.formats.specs.RoundFile.{countField}
 use Rattle.formats.proofs.Files.{count-runs}
 use Rattle.formats.proofs.Loads.{loads-valid}
-use Rattle.sigma.specs.Admission.{headerRules, elementRules}
+use Rattle.formats.proofs.Refusals.{load-tests}
 use Rattle.sigma.specs.Answer.{isAccepted}
 use Rattle.runs.specs.Marker.{
   newline,
@@ -39,7 +42,7 @@ use Rattle.runs.specs.Marker.{
   roundLines,
   markerText,
 }
-use Rattle.runs.proofs.Demand2.{sheet-rejected}
+use Rattle.runs.proofs.Protocol.{sheet-rejected}
 use Rattle.runs.proofs.Marker.{sheet-line, file-line, round-lines, round-refusal}
 
 -- every number of a list is below 100
@@ -112,10 +115,10 @@ module _ (sheet f : List ℕ) where
 
   -- the number of a refused sheet
   sheet-small : loadRefusal sheet < 100
-  unfolding loadRefusal loadRules shapeRules headerRules elementRules numbersOf numberOf
-  sheet-small = elim (lowest-member (loadRules sheet)) [
+  unfolding loadRefusal conditionNumbers
+  sheet-small = elim (given-among (loadConditions sheet) _ (given (loadRules sheet) (loadConditions sheet) (load-tests sheet))) [
     | inl none ↦ omega arith
-    | inr m ↦ member-small (lowest (loadRules sheet)) (numbersOf (loadRules sheet)) tt m
+    | inr m ↦ member-small (lowest (loadRules sheet)) (conditionNumbers (loadConditions sheet)) tt m
   ]
 
   -- the whole text

@@ -10,7 +10,7 @@ use Rattle.formats.specs.RoundCalls.{fetchRound}
 use Rattle.formats.specs.Sheet.{instanceOf}
 use Rattle.sigma.specs.Meaning.{Fits, Holds}
 use Rattle.runs.specs.Marker.{verdictOn}
-use Rattle.runs.proofs.Demand2.{sheet-accepted}
+use Rattle.runs.proofs.Protocol.{sheet-accepted}
 
 -- the marker's verdict on round k is accepted exactly by 01's equation on what the read call gives
 pub marker-accepts : (sheet f : List ℕ) → loadRefusal sheet ≡ 0 → (k : ℕ)

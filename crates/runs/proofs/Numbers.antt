@@ -8,20 +8,22 @@ use Rattle.types.specs.declared.Round.{Round}
 use Rattle.types.specs.declared.Verifier.{Verifier}
 use Rattle.rules.specs.Condition.{Condition, Given, Tests}
 use Rattle.rules.specs.Rule.{Rule, lowest}
-use Rattle.rules.proofs.Condition.{given, tests-append}
-use Rattle.formats.specs.Load.{loadRules}
+use Rattle.rules.proofs.Condition.{given, given-behind}
+use Rattle.rules.proofs.Lowest.{lowest-clear}
+use Rattle.formats.specs.Load.{loadRules, loadRefusal}
 use Rattle.formats.specs.Refusals.{loadConditions}
 use Rattle.formats.specs.Sheet.{instanceOf}
+use Rattle.formats.proofs.Loads.{loads-valid}
 use Rattle.formats.proofs.Refusals.{load-tests}
 use Rattle.sigma.specs.Answer.{outcome, computed}
 use Rattle.sigma.specs.Extractor.{extractAfter}
 use Rattle.sigma.specs.Judge.{judgeAfter}
 use Rattle.sigma.specs.Refusals.{judgeConditions, simulateConditions, extractConditions}
 use Rattle.sigma.specs.Simulator.{simulateAfter}
+use Rattle.sigma.specs.Valid.{Valid}
 use Rattle.sigma.proofs.Refusals.{judge-tests, simulate-tests, extract-tests}
 use Rattle.sigma.proofs.Verdict.{verdict-not-refused}
 use Rattle.runs.specs.Calls.{judgeRound, simulateCommitment, extractWitness}
-use Rattle.runs.specs.OnSheet.{readSlots, readValues}
 use Rattle.runs.specs.Prover.{proverStep, commitAfter, commit, respondAfter, respond, dropRules, dropSession}
 use Rattle.runs.specs.Refusals.{
   commitConditions,
@@ -37,79 +39,73 @@ use Rattle.runs.proofs.Refusals.{commit-tests, respond-tests, drop-test
 use Rattle.runs.proofs.Refusals.{takeCommitment-tests, takeChallenge-tests, takeResponse-tests}
 use Rattle.runs.proofs.VerifierSteps.{takeResponseAfter-refusal}
 
--- rules that test a call's conditions, behind those of a sheet
-behind-sheet : (sheet : List ℕ) (rules : List Rule) (conditions : List Condition) → Tests rules conditions
+-- rules that test a call's conditions where the sheet loads, behind those of the sheet
+behind-sheet : (sheet : List ℕ) (rules : List Rule) (conditions : List Condition) → (Valid (instanceOf sheet) → Tests rules conditions)
     → Given (loadConditions sheet ++ conditions) (lowest (loadRules sheet ++ rules))
+unfolding loadRefusal
 behind-sheet sheet rules conditions tests =
-    given (loadRules sheet ++ rules) (loadConditions sheet ++ conditions)
-    (tests-append (loadRules sheet) rules (loadConditions sheet) conditions (load-tests sheet) tests)
+    given-behind (loadRules sheet) rules (loadConditions sheet) conditions (load-tests sheet)
+    (λ none. tests (loads-valid sheet (lowest-clear (loadRules sheet) none)))
 
 module _ (sheet : List ℕ) where
   -- ---- calls on rounds
 
   -- judging
   pub judge-number : (round : Round)
-      → Given
-      (loadConditions sheet
-      ++ judgeConditions (instanceOf sheet) (readValues sheet (round .commitment)) (round .challenge) (readSlots sheet (round .response)))
-      (outcome (judgeRound sheet round) .number)
+      → Given (loadConditions sheet ++ judgeConditions (instanceOf sheet) round) (outcome (judgeRound sheet round) .number)
   unfolding judgeRound judgeAfter
   judge-number round =
-      rw (judged-number _ _ (verdict-not-refused (instanceOf sheet) _ _ _)) (behind-sheet sheet _ _ (judge-tests (instanceOf sheet) _ _ _))
+      rw (judged-number _ _ (verdict-not-refused (instanceOf sheet) _ _ _)) (behind-sheet sheet _ _ (λ valid. judge-tests (instanceOf sheet) round))
 
   -- simulating
   pub simulate-number : (c : ℕ) (r : List ℕ)
-      → Given (loadConditions sheet ++ simulateConditions (instanceOf sheet) c (readSlots sheet r)) (simulateCommitment sheet c r .refusal)
+      → Given (loadConditions sheet ++ simulateConditions (instanceOf sheet) c r) (simulateCommitment sheet c r .refusal)
   unfolding simulateCommitment simulateAfter computed
-  simulate-number c r = behind-sheet sheet _ _ (simulate-tests (instanceOf sheet) c _)
+  simulate-number c r = behind-sheet sheet _ _ (λ valid. simulate-tests (instanceOf sheet) c r)
 
   -- extracting
   pub extract-number : (first second : Round)
-      → Given
-      (loadConditions sheet
-      ++ extractConditions (instanceOf sheet) (readValues sheet (first .commitment)) (first .challenge) (readSlots sheet (first .response))
-      (readValues sheet (second .commitment)) (second .challenge) (readSlots sheet (second .response)))
-      (extractWitness sheet first second .refusal)
+      → Given (loadConditions sheet ++ extractConditions (instanceOf sheet) first second) (extractWitness sheet first second .refusal)
   unfolding extractWitness extractAfter computed
-  extract-number first second = behind-sheet sheet _ _ (extract-tests (instanceOf sheet) _ _ _ _ _ _)
+  extract-number first second = behind-sheet sheet _ _ (λ valid. extract-tests valid first second)
 
   -- ---- Peggy
 
   -- committing
   pub commit-number : (p : Prover) (k : List ℕ)
-      → Given (loadConditions sheet ++ commitConditions (instanceOf sheet) p (readSlots sheet k)) (commit sheet p k .refusal)
+      → Given (loadConditions sheet ++ commitConditions (instanceOf sheet) p k) (commit sheet p k .refusal)
   unfolding commit commitAfter proverStep
-  commit-number p k = behind-sheet sheet _ _ (commit-tests (instanceOf sheet) p _)
+  commit-number p k = behind-sheet sheet _ _ (λ valid. commit-tests (instanceOf sheet) p k)
 
   -- responding
   pub respond-number : (p : Prover) (c : ℕ) (x : List ℕ)
-      → Given (loadConditions sheet ++ respondConditions (instanceOf sheet) p c (readSlots sheet x)) (respond sheet p c x .refusal)
+      → Given (loadConditions sheet ++ respondConditions (instanceOf sheet) p c x) (respond sheet p c x .refusal)
   unfolding respond respondAfter proverStep
-  respond-number p c x = behind-sheet sheet _ _ (respond-tests (instanceOf sheet) p c _)
+  respond-number p c x = behind-sheet sheet _ _ (λ valid. respond-tests valid p c x)
 
   -- ---- Vic
 
   -- the commitment
   pub takeCommitment-number : (v : Verifier) (t : List ℕ)
-      → Given (loadConditions sheet ++ takeCommitmentConditions (instanceOf sheet) v (readValues sheet t))
+      → Given (loadConditions sheet ++ takeCommitmentConditions (instanceOf sheet) v t)
       (takeCommitment sheet v t .refusal)
   unfolding takeCommitment takeCommitmentAfter verifierStep
-  takeCommitment-number v t = behind-sheet sheet _ _ (takeCommitment-tests (instanceOf sheet) v _)
+  takeCommitment-number v t = behind-sheet sheet _ _ (λ valid. takeCommitment-tests (instanceOf sheet) v t)
 
   -- the challenge
   pub takeChallenge-number : (v : Verifier) (c : ℕ)
       → Given (loadConditions sheet ++ takeChallengeConditions (instanceOf sheet) v c) (takeChallenge sheet v c .refusal)
   unfolding takeChallenge takeChallengeAfter verifierStep
-  takeChallenge-number v c = behind-sheet sheet _ _ (takeChallenge-tests (instanceOf sheet) v c)
+  takeChallenge-number v c = behind-sheet sheet _ _ (λ valid. takeChallenge-tests (instanceOf sheet) v c)
 
   -- the response
   pub takeResponse-number : (v : Verifier) (r : List ℕ)
-      → Given (loadConditions sheet ++ takeResponseConditions (instanceOf sheet) v (readSlots sheet r))
+      → Given (loadConditions sheet ++ takeResponseConditions (instanceOf sheet) v r)
       (outcome (takeResponse sheet v r .verdict) .number)
   unfolding takeResponse
   takeResponse-number v r =
       rw (takeResponseAfter-refusal (loadRules sheet) (instanceOf sheet) v r)
-      (behind-sheet sheet _ _ (takeResponse-tests (instanceOf sheet) v _))
+      (behind-sheet sheet _ _ (λ valid. takeResponse-tests (instanceOf sheet) v r))
 
 -- dropping, which takes no sheet
 pub drop-number : (p : Prover) → Given (dropConditions p) (dropSession p .refusal)

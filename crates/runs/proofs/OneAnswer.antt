@@ -1,136 +1,81 @@
--- When each call is given the session that the last one handed back, one Peggy session answers at most one challenge (01,
--- "Sessions"): over any list of calls, from any session, with any sheets and arguments.
+-- Peggy's steps over any list of calls, from any session, with any sheets and arguments (01, "Sessions"): one session answers
+-- one challenge at most, and its nonce is zeros once it has answered or dropped.
 -- Assumes nothing.
-use Prim.Native.Nat.{ℕ, _<_, _≤_}
-use mathlib.Core.Path.{_≡_, ap, _∙_}
+use Prim.Native.Nat.{ℕ, _≤_}
+use mathlib.Core.Path.{_≡_, refl, sym, ap, subst, _∙_}
 use mathlib.Core.Logic.{_⊎_, inl, inr, ⊎-elim}
-use mathlib.Core.Bool.{true}
-use mathlib.Core.List.{List, _∷_, _++_}
+use mathlib.Core.List.{List, [], _∷_}
 use native.Mathlib.Omega.{arith}
+use lib.ListN.{length}
 use Rattle.types.specs.declared.Prover.{Prover}
-use Rattle.types.specs.declared.ProverPhase.the-variants.{New, Committed, Answered, Dropped}
+use Rattle.types.specs.declared.ProverStep.{ProverStep}
 use Rattle.lists.specs.Places.{zeros8}
-use Rattle.runs.specs.Prover.{proverState}
-use Rattle.runs.specs.ProverCalls.{ProverCall, callProver, proverAfter, commits, answers, drops}
-use Rattle.runs.specs.ProverCalls.{countCommits, countAnswers, Ended}
-use Rattle.runs.specs.Run.{sessionAfter}
-use Rattle.runs.proofs.ProverCalls.{prover-moves, ended-refuses, ended-kept}
-use Rattle.runs.proofs.ProverCalls.{commits-moves, answers-moves, drops-moves}
-use Rattle.runs.proofs.Run.{after-append, stays, at-most-once, ready-after}
+use Rattle.runs.specs.Prover.{newProver}
+use Rattle.runs.specs.ProverCalls.{ProverCall, Commit, Respond, Drop, callProver, ProverMoves}
+use Rattle.runs.specs.ProverCalls.{proverAfter, proverTrace, answered, Ended}
+use Rattle.runs.specs.Run.{Leads}
+use Rattle.runs.specs.Sessions.{OneAnswer}
+use Rattle.runs.proofs.ProverCalls.{prover-kept, prover-moves, ended-apart, ended-unmoved}
+use Rattle.runs.proofs.Run.{trace-leads}
 
--- ---- at most once
+-- the steps lead from p to q
+abbrev To : Prover → List (ProverCall × ProverStep) → Prover → Type 0
+To p steps q = Leads (λ step. step .session) ProverMoves p steps q
 
--- the number of a session's state
-abbrev stateOf : Prover → ℕ
-stateOf p = proverState (p .phase)
+-- equal sessions are in one state
+abbrev phaseIs : {p q : Prover} → p ≡ q → p .phase ≡ q .phase
+phaseIs e = ap (λ (r : Prover). r .phase) e
 
--- a call that commits lifts the state's number from 0 to 1
-commits-lifts : (call : ProverCall) (p : Prover) → commits call (callProver call p) ≡ true
-    → (stateOf p < 1) × (1 ≤ stateOf (callProver call p .session))
-unfolding proverState
-commits-lifts call p t = let m = commits-moves p call t in omega (arith, ap proverState (m .0), ap proverState (m .1))
+-- ---- steps that lead from one session to another
 
--- a call that answers lifts it from 1 to 2
-answers-lifts : (call : ProverCall) (p : Prover) → answers call (callProver call p) ≡ true
-    → (stateOf p < 2) × (2 ≤ stateOf (callProver call p .session))
-unfolding proverState
-answers-lifts call p t = let m = answers-moves p call t in omega (arith, ap proverState (m .0), ap stateOf (m .1))
+-- none leads from a session that is Answered or Dropped
+ended-last : (p q : Prover) (steps : List (ProverCall × ProverStep)) → Ended p → To p steps q → (steps ≡ []) × (q ≡ p)
+ended-last p q [] ended leads = (refl, leads)
+ended-last p q ((call, step) ∷ later) ended leads = absurd (ended-unmoved p call step ended (leads .0))
 
--- a call that drops lifts it from 0 or 1 to 3
-drops-lifts : (call : ProverCall) (p : Prover) → drops call (callProver call p) ≡ true
-    → (stateOf p < 2) × (3 ≤ stateOf (callProver call p .session))
-unfolding proverState
-drops-lifts call p t =
-    let m = drops-moves p call t in
-    ⊎-elim (λ (e : p .phase ≡ New). omega (arith, ap proverState e, ap stateOf (m .1)))
-    (λ (e : p .phase ≡ Committed). omega (arith, ap proverState e, ap stateOf (m .1))) (m .0)
+-- at most one answers a challenge
+answered-once : (steps : List (ProverCall × ProverStep)) (p q : Prover) → To p steps q → length (answered steps) ≤ 1
+unfolding answered
+answered-once [] p q leads = omega arith
+answered-once ((Commit sheet nonce, step) ∷ later) p q leads = answered-once later (step .session) q (leads .1)
+answered-once ((Respond sheet c witness, step) ∷ later) p q leads =
+    let none = ended-last (step .session) q later (inl (phaseIs (leads .0 .1))) (leads .1) .0 in
+    subst (λ (rest : List (ProverCall × ProverStep)). length (c ∷ answered rest) ≤ 1) (sym none) (omega arith)
+answered-once ((Drop, step) ∷ later) p q leads = answered-once later (step .session) q (leads .1)
 
--- a call hands back the same session, or one in a state with a higher number
-same-or-higher : (call : ProverCall) (p : Prover)
-    → (callProver call p .session ≡ p) ⊎ (stateOf p < stateOf (callProver call p .session))
-unfolding proverState
-same-or-higher call p = elim (prover-moves p call) [
-  | inl same ↦ inl same
-  | inr (inl t) ↦ inr (omega (arith, commits-lifts call p t))
-  | inr (inr (inl t)) ↦ inr (omega (arith, answers-lifts call p t))
-  | inr (inr (inr t)) ↦ inr (omega (arith, drops-lifts call p t))
-]
+-- where they lead to Answered or Dropped, they lead from it or to a nonce of zeros
+wiped-last : (steps : List (ProverCall × ProverStep)) (p q : Prover) → To p steps q → Ended q → Ended p ⊎ (q .nonce ≡ zeros8)
+wiped-last [] p q leads ended = inl (subst Ended leads ended)
+wiped-last ((Commit sheet nonce, step) ∷ later) p q leads ended =
+    ⊎-elim (λ (e : Ended (step .session)). absurd (ended-apart _ e (inr (phaseIs (leads .0 .1))))) inr
+    (wiped-last later (step .session) q (leads .1) ended)
+wiped-last ((Respond sheet c witness, step) ∷ later) p q leads ended =
+    inr (ap (λ (r : Prover). r .nonce) (ended-last (step .session) q later (inl (phaseIs (leads .0 .1))) (leads .1) .1 ∙ leads .0 .1))
+wiped-last ((Drop, step) ∷ later) p q leads ended =
+    inr (ap (λ (r : Prover). r .nonce) (ended-last (step .session) q later (inr (phaseIs (leads .0 .1))) (leads .1) .1 ∙ leads .0 .1))
 
--- at most one call of a list answers a challenge
-pub one-answer : (calls : List ProverCall) (p : Prover) → countAnswers calls p ≤ 1
-unfolding countAnswers
-one-answer =
-    at-most-once callProver (λ step. step .session) stateOf same-or-higher answers 2 answers-lifts
+-- ---- any list of calls
 
--- at most one call of a list commits
-pub one-commit : (calls : List ProverCall) (p : Prover) → countCommits calls p ≤ 1
-unfolding countCommits
-one-commit =
-    at-most-once callProver (λ step. step .session) stateOf same-or-higher commits 1 commits-lifts
+-- the calls that are carried out lead from the session to the one at the end
+pub prover-leads : (calls : List ProverCall) (p : Prover)
+    → Leads (λ step. step .session) ProverMoves p (proverTrace calls p) (proverAfter calls p)
+unfolding proverTrace proverAfter
+prover-leads =
+    trace-leads callProver (λ step. step .session) (λ step. step .refusal) ProverMoves
+    (λ call p refused. ap (λ (step : ProverStep). step .session) (prover-kept call p refused)) prover-moves
 
--- ---- once it has ended
+-- at most one challenge is answered
+pub one-answer : (calls : List ProverCall) (p : Prover) → length (answered (proverTrace calls p)) ≤ 1
+one-answer calls p = answered-once (proverTrace calls p) p (proverAfter calls p) (prover-leads calls p)
 
--- an Answered or Dropped session stays as it is
-pub ended-stays : (calls : List ProverCall) (p : Prover) → Ended p → proverAfter calls p ≡ p
-unfolding proverAfter
-ended-stays calls p ended = stays callProver (λ step. step .session) p (λ call. ended-kept call p ended) calls
-
--- after a call that answers, the nonce is zeros and the commitment is kept, whatever calls follow
-pub answer-final : (call : ProverCall) (p : Prover) → answers call (callProver call p) ≡ true → (later : List ProverCall)
-    → proverAfter (call ∷ later) p ≡ record { phase = Answered; nonce = zeros8; commitment = p .commitment }
-unfolding proverAfter sessionAfter
-answer-final call p t later =
-    let m = answers-moves p call t .1 in
-    ended-stays later (callProver call p .session) (inl (ap (λ (q : Prover). q .phase) m)) ∙ m
-
--- after a call that drops, the nonce is zeros and the commitment is kept, whatever calls follow
-pub drop-final : (call : ProverCall) (p : Prover) → drops call (callProver call p) ≡ true → (later : List ProverCall)
-    → proverAfter (call ∷ later) p ≡ record { phase = Dropped; nonce = zeros8; commitment = p .commitment }
-unfolding proverAfter sessionAfter
-drop-final call p t later =
-    let m = drops-moves p call t .1 in
-    ended-stays later (callProver call p .session) (inr (ap (λ (q : Prover). q .phase) m)) ∙ m
-
--- wherever in a run a call answers, the nonce is zeros at the end of the run
-pub answer-wipes : (earlier : List ProverCall) (call : ProverCall) (later : List ProverCall) (p : Prover)
-    → answers call (callProver call (proverAfter earlier p)) ≡ true → proverAfter (earlier ++ call ∷ later) p .nonce ≡ zeros8
-unfolding proverAfter
-answer-wipes earlier call later p t =
-    ap (λ (q : Prover). q .nonce)
-    (after-append callProver (λ step. step .session) earlier (call ∷ later) p ∙ answer-final call (proverAfter earlier p) t later)
-
--- wherever in a run a call drops the session, the nonce is zeros at the end of the run
-pub drop-wipes : (earlier : List ProverCall) (call : ProverCall) (later : List ProverCall) (p : Prover)
-    → drops call (callProver call (proverAfter earlier p)) ≡ true → proverAfter (earlier ++ call ∷ later) p .nonce ≡ zeros8
-unfolding proverAfter
-drop-wipes earlier call later p t =
-    ap (λ (q : Prover). q .nonce)
-    (after-append callProver (λ step. step .session) earlier (call ∷ later) p ∙ drop-final call (proverAfter earlier p) t later)
-
--- after an Answered or Dropped session every call is refused, whatever calls came between
-pub ended-refuses-all : (calls : List ProverCall) (call : ProverCall) (p : Prover) → Ended p
-    → 0 < callProver call (proverAfter calls p) .refusal
-ended-refuses-all calls call p ended = rw (ended-stays calls p ended) (ended-refuses call p ended)
-
--- ---- what came before an answer
-
--- a call that leaves a session Committed found it so and left it as it was, or commits
-committed-from : (call : ProverCall) (p : Prover) → callProver call p .session .phase ≡ Committed
-    → (p .phase ≡ Committed) ⊎ (commits call (callProver call p) ≡ true)
-committed-from call p e = elim (prover-moves p call) [
-  | inl same ↦ inl (cc (same, e))
-  | inr (inl t) ↦ inr t
-  | inr (inr (inl t)) ↦ inl (cc (e, answers-moves p call t .1))
-  | inr (inr (inr t)) ↦ inl (cc (e, drops-moves p call t .1))
-]
-
--- a session that is Committed after a list of calls was so before, or some call of the list commits
-pub committed-after : (calls : List ProverCall) (p : Prover) → proverAfter calls p .phase ≡ Committed
-    → (p .phase ≡ Committed) ⊎ (0 < countCommits calls p)
-unfolding proverAfter countCommits
-committed-after = ready-after callProver (λ step. step .session) commits (λ q. q .phase ≡ Committed) committed-from
-
--- an answer comes from a session that was Committed at the start, or after a call that commits
-pub answer-after-commit : (earlier : List ProverCall) (call : ProverCall) (p : Prover)
-    → answers call (callProver call (proverAfter earlier p)) ≡ true → (p .phase ≡ Committed) ⊎ (0 < countCommits earlier p)
-answer-after-commit earlier call p t = committed-after earlier p (answers-moves (proverAfter earlier p) call t .0)
+-- Peggy's steps are 01's
+pub prover-once : OneAnswer
+unfolding newProver
+prover-once = record {
+  new = refl;
+  in-order = prover-leads;
+  once = one-answer;
+  wiped = λ calls p started ended.
+      ⊎-elim (λ e. absurd (started e)) (λ z. z) (wiped-last (proverTrace calls p) p (proverAfter calls p) (prover-leads calls p) ended);
+  ended = λ calls p ended. ended-last p (proverAfter calls p) (proverTrace calls p) ended (prover-leads calls p);
+}

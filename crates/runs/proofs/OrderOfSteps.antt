@@ -1,143 +1,81 @@
--- The order of Vic's steps (01, "Sessions": Waiting, Holding, Asked, Judged, in that order, one value a call), over any list of
--- calls, from any session, with any sheets and arguments.
+-- Vic's steps over any list of calls, from any session, with any sheets and arguments (01, "Sessions": Waiting, Holding, Asked,
+-- Judged, in that order, one value a call).
 -- Assumes nothing.
-use Prim.Native.Nat.{ℕ, suc, _<_, _≤_}
-use mathlib.Core.Path.{_≡_, ap}
-use mathlib.Core.Logic.{_⊎_, inl, inr, ⊎-elim}
-use mathlib.Core.Bool.{true}
-use mathlib.Core.List.{List}
+use Prim.Native.Nat.{ℕ, suc, _+_, _≤_}
+use mathlib.Core.Path.{_≡_, refl, ap, _∙_}
+use mathlib.Core.List.{List, [], _∷_}
 use native.Mathlib.Omega.{arith}
+use lib.ListN.{length}
 use Rattle.types.specs.declared.Verifier.{Verifier}
-use Rattle.types.specs.declared.VerifierPhase.the-variants.{Holding, Asked, Judged}
-use Rattle.runs.specs.Verifier.{verifierState}
-use Rattle.runs.specs.VerifierCalls.{VerifierCall, callVerifier, refusalOf, sessionOf, verifierAfter}
-use Rattle.runs.specs.VerifierCalls.{takesCommitment, takesChallenge, judges, countCommitments, countChallenges, countVerdicts}
-use Rattle.runs.proofs.Run.{stays, kept-after, at-most-once, ready-after}
-use Rattle.runs.proofs.VerifierCalls.{verifier-kept, verifier-moves, verifier-next, judged-refuses}
-use Rattle.runs.proofs.VerifierCalls.{takesCommitment-moves, takesChallenge-moves, judges-moves}
+use Rattle.types.specs.declared.VerifierPhase.the-variants.{Judged}
+use Rattle.runs.specs.Run.{Leads}
+use Rattle.runs.specs.Sessions.{StepsInOrder}
+use Rattle.runs.specs.Verifier.{newVerifier, verifierState}
+use Rattle.runs.specs.VerifierCalls.{VerifierCall, Commitment, Challenge, Response, VerifierOutcome, VerifierMoves}
+use Rattle.runs.specs.VerifierCalls.{callVerifier, refusalOf, sessionOf, verifierAfter, verifierTrace}
+use Rattle.runs.proofs.Run.{trace-leads}
+use Rattle.runs.proofs.VerifierCalls.{verifier-kept, verifier-moves, stateOf, next-state}
 
--- ---- at most once
+-- the steps lead from v to w
+abbrev To : Verifier → List (VerifierCall × VerifierOutcome) → Verifier → Type 0
+To v steps w = Leads sessionOf VerifierMoves v steps w
 
--- the number of a session's state
-abbrev stateOf : Verifier → ℕ
-stateOf v = verifierState (v .phase)
+-- ---- steps that lead from one session to another
 
--- a call hands back the same session, or one in a state with a higher number
-same-or-higher : (call : VerifierCall) (v : Verifier)
-    → (sessionOf (callVerifier call v) ≡ v) ⊎ (stateOf v < stateOf (sessionOf (callVerifier call v)))
-same-or-higher call v =
-    ⊎-elim (λ (same : sessionOf (callVerifier call v) ≡ v). inl same)
-    (λ (next : stateOf (sessionOf (callVerifier call v)) ≡ suc (stateOf v)). inr (omega arith)) (verifier-next call v)
+-- they lead as many states on as there are of them
+counted-on : (steps : List (VerifierCall × VerifierOutcome)) (v w : Verifier) → To v steps w → stateOf w ≡ stateOf v + length steps
+counted-on [] v w leads = let same = ap stateOf leads in omega arith
+counted-on ((call, answer) ∷ later) v w leads =
+    let rest = counted-on later (sessionOf answer) w (leads .1) in
+    omega (arith, next-state v call answer (leads .0))
 
--- taking a commitment lifts the state's number from 0 to 1
-commitment-lifts : (call : VerifierCall) (v : Verifier) → takesCommitment call (callVerifier call v) ≡ true
-    → (stateOf v < 1) × (1 ≤ stateOf (sessionOf (callVerifier call v)))
+-- none leads from a Judged session
+judged-last : (steps : List (VerifierCall × VerifierOutcome)) (v w : Verifier) → v .phase ≡ Judged → To v steps w
+    → (steps ≡ []) × (w ≡ v)
 unfolding verifierState
-commitment-lifts call v t = let m = takesCommitment-moves v call t in omega (arith, ap verifierState (m .0), ap verifierState (m .1))
+judged-last [] v w e leads = (refl, leads)
+judged-last ((call, answer) ∷ later) v w e leads = absurd (omega (arith, ap verifierState e, next-state v call answer (leads .0)))
 
--- taking a challenge lifts it from 1 to 2
-challenge-lifts : (call : VerifierCall) (v : Verifier) → takesChallenge call (callVerifier call v) ≡ true
-    → (stateOf v < 2) × (2 ≤ stateOf (sessionOf (callVerifier call v)))
+-- they keep a held commitment
+commitment-kept : (steps : List (VerifierCall × VerifierOutcome)) (v w : Verifier) → 1 ≤ stateOf v → To v steps w
+    → w .commitment ≡ v .commitment
 unfolding verifierState
-challenge-lifts call v t = let m = takesChallenge-moves v call t in omega (arith, ap verifierState (m .0), ap verifierState (m .1))
+commitment-kept [] v w h leads = ap (λ (u : Verifier). u .commitment) leads
+commitment-kept ((Commitment sheet t, answer) ∷ later) v w h leads = absurd (omega (arith, ap verifierState (leads .0 .0)))
+commitment-kept ((Challenge sheet c, answer) ∷ later) v w h leads =
+    let next = next-state v (Challenge sheet c) answer (leads .0) in
+    commitment-kept later (sessionOf answer) w (omega arith) (leads .1) ∙ ap (λ (u : Verifier). u .commitment) (leads .0 .1)
+commitment-kept ((Response sheet r, answer) ∷ later) v w h leads =
+    let next = next-state v (Response sheet r) answer (leads .0) in
+    commitment-kept later (sessionOf answer) w (omega arith) (leads .1) ∙ ap (λ (u : Verifier). u .commitment) (leads .0 .1)
 
--- giving a verdict lifts it from 2 to 3
-verdict-lifts : (call : VerifierCall) (v : Verifier) → judges call (callVerifier call v) ≡ true
-    → (stateOf v < 3) × (3 ≤ stateOf (sessionOf (callVerifier call v)))
+-- they keep a held challenge
+challenge-kept : (steps : List (VerifierCall × VerifierOutcome)) (v w : Verifier) → 2 ≤ stateOf v → To v steps w
+    → w .challenge ≡ v .challenge
 unfolding verifierState
-verdict-lifts call v t = let m = judges-moves v call t in omega (arith, ap verifierState (m .0), ap stateOf (m .1))
+challenge-kept [] v w h leads = ap (λ (u : Verifier). u .challenge) leads
+challenge-kept ((Commitment sheet t, answer) ∷ later) v w h leads = absurd (omega (arith, ap verifierState (leads .0 .0)))
+challenge-kept ((Challenge sheet c, answer) ∷ later) v w h leads = absurd (omega (arith, ap verifierState (leads .0 .0)))
+challenge-kept ((Response sheet r, answer) ∷ later) v w h leads =
+    let next = next-state v (Response sheet r) answer (leads .0) in
+    challenge-kept later (sessionOf answer) w (omega arith) (leads .1) ∙ ap (λ (u : Verifier). u .challenge) (leads .0 .1)
 
--- at most one call of a list takes a commitment
-pub one-commitment : (calls : List VerifierCall) (v : Verifier) → countCommitments calls v ≤ 1
-unfolding countCommitments
-one-commitment = at-most-once callVerifier sessionOf stateOf same-or-higher takesCommitment 1 commitment-lifts
+-- ---- any list of calls
 
--- at most one call of a list takes a challenge
-pub one-challenge : (calls : List VerifierCall) (v : Verifier) → countChallenges calls v ≤ 1
-unfolding countChallenges
-one-challenge = at-most-once callVerifier sessionOf stateOf same-or-higher takesChallenge 2 challenge-lifts
+-- the calls that are carried out lead from the session to the one at the end
+pub verifier-leads : (calls : List VerifierCall) (v : Verifier)
+    → Leads sessionOf VerifierMoves v (verifierTrace calls v) (verifierAfter calls v)
+unfolding verifierTrace verifierAfter
+verifier-leads = trace-leads callVerifier sessionOf refusalOf VerifierMoves verifier-kept verifier-moves
 
--- at most one call of a list gives a verdict
-pub one-verdict : (calls : List VerifierCall) (v : Verifier) → countVerdicts calls v ≤ 1
-unfolding countVerdicts
-one-verdict = at-most-once callVerifier sessionOf stateOf same-or-higher judges 3 verdict-lifts
-
--- a Judged session stays as it is
-pub judged-stays : (calls : List VerifierCall) (v : Verifier) → v .phase ≡ Judged → verifierAfter calls v ≡ v
-unfolding verifierAfter
-judged-stays calls v e = stays callVerifier sessionOf v (λ call. verifier-kept call v (judged-refuses call v e)) calls
-
--- after a Judged session every call is refused, whatever calls came between
-pub judged-refuses-all : (calls : List VerifierCall) (call : VerifierCall) (v : Verifier) → v .phase ≡ Judged
-    → 0 < refusalOf (callVerifier call (verifierAfter calls v))
-judged-refuses-all calls call v e = rw (judged-stays calls v e) (judged-refuses call v e)
-
--- ---- what came before
-
--- a call that leaves a session Holding found it so, or takes a commitment
-holding-from : (call : VerifierCall) (v : Verifier) → sessionOf (callVerifier call v) .phase ≡ Holding
-    → (v .phase ≡ Holding) ⊎ (takesCommitment call (callVerifier call v) ≡ true)
-holding-from call v e = elim (verifier-moves v call) [
-  | inl same ↦ inl (cc (same, e))
-  | inr (inl t) ↦ inr t
-  | inr (inr (inl t)) ↦ inl (cc (e, takesChallenge-moves v call t .1))
-  | inr (inr (inr t)) ↦ inl (cc (e, judges-moves v call t .1))
-]
-
--- a call that leaves a session Asked found it so, or takes a challenge
-asked-from : (call : VerifierCall) (v : Verifier) → sessionOf (callVerifier call v) .phase ≡ Asked
-    → (v .phase ≡ Asked) ⊎ (takesChallenge call (callVerifier call v) ≡ true)
-asked-from call v e = elim (verifier-moves v call) [
-  | inl same ↦ inl (cc (same, e))
-  | inr (inl t) ↦ inl (cc (e, takesCommitment-moves v call t .1))
-  | inr (inr (inl t)) ↦ inr t
-  | inr (inr (inr t)) ↦ inl (cc (e, judges-moves v call t .1))
-]
-
--- a challenge is taken from a session that was Holding at the start, or after a call that takes a commitment
-pub challenge-after-commitment : (earlier : List VerifierCall) (call : VerifierCall) (v : Verifier)
-    → takesChallenge call (callVerifier call (verifierAfter earlier v)) ≡ true → (v .phase ≡ Holding) ⊎ (0 < countCommitments earlier v)
-unfolding verifierAfter countCommitments
-challenge-after-commitment earlier call v t =
-    ready-after callVerifier sessionOf takesCommitment (λ w. w .phase ≡ Holding) holding-from earlier v
-    (takesChallenge-moves (verifierAfter earlier v) call t .0)
-
--- a verdict is given from a session that was Asked at the start, or after a call that takes a challenge
-pub verdict-after-challenge : (earlier : List VerifierCall) (call : VerifierCall) (v : Verifier)
-    → judges call (callVerifier call (verifierAfter earlier v)) ≡ true → (v .phase ≡ Asked) ⊎ (0 < countChallenges earlier v)
-unfolding verifierAfter countChallenges
-verdict-after-challenge earlier call v t =
-    ready-after callVerifier sessionOf takesChallenge (λ w. w .phase ≡ Asked) asked-from earlier v
-    (judges-moves (verifierAfter earlier v) call t .0)
-
--- ---- what is held
-
--- once a commitment is held, no call changes it
-pub commitment-fixed : (calls : List VerifierCall) (v : Verifier) → 1 ≤ verifierState (v .phase)
-    → verifierAfter calls v .commitment ≡ v .commitment
-unfolding verifierAfter
-commitment-fixed = kept-after callVerifier sessionOf (λ w. w .commitment) (λ w. 1 ≤ stateOf w) keeps
-  where
-    keeps : (call : VerifierCall) (v : Verifier) → 1 ≤ stateOf v
-        → (sessionOf (callVerifier call v) .commitment ≡ v .commitment) × (1 ≤ stateOf (sessionOf (callVerifier call v)))
-    keeps call v h = elim (verifier-moves v call) [
-      | inl same ↦ (ap (λ (w : Verifier). w .commitment) same, omega (arith, ap stateOf same))
-      | inr (inl t) ↦ absurd (omega (arith, commitment-lifts call v t))
-      | inr (inr (inl t)) ↦ (takesChallenge-moves v call t .2, omega (arith, challenge-lifts call v t))
-      | inr (inr (inr t)) ↦ (ap (λ (w : Verifier). w .commitment) (judges-moves v call t .1), omega (arith, verdict-lifts call v t))
-    ]
-
--- once a challenge is held, no call changes it
-pub challenge-fixed : (calls : List VerifierCall) (v : Verifier) → 2 ≤ verifierState (v .phase)
-    → verifierAfter calls v .challenge ≡ v .challenge
-unfolding verifierAfter
-challenge-fixed = kept-after callVerifier sessionOf (λ w. w .challenge) (λ w. 2 ≤ stateOf w) keeps
-  where
-    keeps : (call : VerifierCall) (v : Verifier) → 2 ≤ stateOf v
-        → (sessionOf (callVerifier call v) .challenge ≡ v .challenge) × (2 ≤ stateOf (sessionOf (callVerifier call v)))
-    keeps call v h = elim (verifier-moves v call) [
-      | inl same ↦ (ap (λ (w : Verifier). w .challenge) same, omega (arith, ap stateOf same))
-      | inr (inl t) ↦ absurd (omega (arith, commitment-lifts call v t))
-      | inr (inr (inl t)) ↦ absurd (omega (arith, challenge-lifts call v t))
-      | inr (inr (inr t)) ↦ (ap (λ (w : Verifier). w .challenge) (judges-moves v call t .1), omega (arith, verdict-lifts call v t))
-    ]
+-- Vic's steps are 01's
+pub verifier-ordered : StepsInOrder
+unfolding newVerifier
+verifier-ordered = record {
+  new = refl;
+  in-order = verifier-leads;
+  next = λ calls v. counted-on (verifierTrace calls v) v (verifierAfter calls v) (verifier-leads calls v);
+  commitment-fixed = λ calls v h. commitment-kept (verifierTrace calls v) v (verifierAfter calls v) h (verifier-leads calls v);
+  challenge-fixed = λ calls v h. challenge-kept (verifierTrace calls v) v (verifierAfter calls v) h (verifier-leads calls v);
+  ended = λ calls v e. judged-last (verifierTrace calls v) v (verifierAfter calls v) e (verifier-leads calls v);
+}

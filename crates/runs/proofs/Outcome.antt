@@ -1,8 +1,8 @@
 -- The outcome of a call on a session: the changed session where nothing is refused, else the same session.
 -- Assumes nothing.
 use Prim.Native.Nat.{ℕ, zero, suc, _<_}
-use mathlib.Core.Path.{_≡_, refl, ap, _∙_}
-use mathlib.Core.Logic.{_≢_}
+use mathlib.Core.Path.{_≡_, refl, sym, ap, _∙_}
+use mathlib.Core.Logic.{_≢_, _⊎_, inl, inr}
 use mathlib.Core.List.{List}
 use native.Mathlib.Omega.{arith}
 use Rattle.types.specs.declared.Prover.{Prover}
@@ -62,3 +62,15 @@ judged-number zero v u = ap (λ (w : Verdict). outcome w .number) (judged-zero v
     given (Rejected row) f = refl
     given (Refused k) f = absurd (f k refl)
 judged-number (suc n) v u = rw (judged-positive (suc n) v (omega arith))
+
+-- a verdict whose outcome has the number 0 is accepted or rejected
+pub judged-decided : (n : ℕ) (v : Verdict) → ((k : ℕ) → v ≢ Refused k) → outcome (judged n v) .number ≡ 0
+    → (judged n v ≡ Accepted) ⊎ ((row : ℕ) × (judged n v ≡ Rejected row))
+judged-decided n v u e =
+    let same : judged n v ≡ v = ap (λ (k : ℕ). judged k v) (sym (judged-number n v u) ∙ e) ∙ judged-zero v in
+    rw same (decide v u)
+  where
+    decide : (w : Verdict) → ((k : ℕ) → w ≢ Refused k) → (w ≡ Accepted) ⊎ ((row : ℕ) × (w ≡ Rejected row))
+    decide Accepted f = inl refl
+    decide (Rejected row) f = inr (row, refl)
+    decide (Refused k) f = absurd (f k refl)

@@ -8,10 +8,13 @@ use mathlib.Core.List.{List}
 use Rattle.types.specs.declared.Prover.{Prover}
 use Rattle.types.specs.declared.ProverPhase.the-variants.{New, Committed}
 use Rattle.types.specs.declared.Verifier.{Verifier}
+use Rattle.lists.specs.Places.{places}
 use Rattle.rules.specs.Condition.{Tests}
 use Rattle.rules.proofs.Says.{says-not, says-or, says-iff}
 use Rattle.sigma.specs.Instance.{Instance}
-use Rattle.sigma.proofs.Tests.{says-badCommitment, says-badChallenge, says-badCoordinates, says-badWitness}
+use Rattle.sigma.specs.Valid.{Valid}
+use Rattle.sigma.proofs.Refusals.{commitment-read, coordinates-read, witness-read}
+use Rattle.sigma.proofs.Tests.{says-badChallenge}
 use Rattle.runs.specs.Prover.{commitRules, respondRules, dropRules}
 use Rattle.runs.specs.Refusals.{
   commitConditions,
@@ -26,23 +29,25 @@ use Rattle.runs.proofs.Tests.{says-new, says-committed, says-waiting, s
 use Rattle.runs.proofs.Tests.{says-unfitProver, says-unfitCommitment}
 
 -- committing: 16 and 21
-pub commit-tests : (inst : Instance) (p : Prover) (k : List ℕ) → Tests (commitRules inst p k) (commitConditions inst p k)
+pub commit-tests : (inst : Instance) (p : Prover) (k : List ℕ)
+    → Tests (commitRules inst p (places (inst .header .columns) k)) (commitConditions inst p k)
 unfolding commitRules
-commit-tests inst p k = (refl, says-badCoordinates inst k, (refl, says-not (says-new (p .phase)), tt))
+commit-tests inst p k = (refl, coordinates-read inst k, (refl, says-not (says-new (p .phase)), tt))
 
 -- responding: 15 to 17 and 21
-pub respond-tests : (inst : Instance) (p : Prover) (c : ℕ) (x : List ℕ) → Tests (respondRules inst p c x) (respondConditions inst p c x)
+pub respond-tests : {inst : Instance} → Valid inst → (p : Prover) (c : ℕ) (x : List ℕ)
+    → Tests (respondRules inst p c (places (inst .header .columns) x)) (respondConditions inst p c x)
 unfolding respondRules
-respond-tests inst p c x = (
+respond-tests {inst} v p c x = (
   refl,
   says-badChallenge inst c,
   (
     refl,
-    says-badCoordinates inst x,
+    coordinates-read inst x,
     (
       refl,
-      says-badWitness inst x,
-      (refl, says-or (says-not (says-committed (p .phase))) (says-unfitProver inst p), tt),
+      witness-read v x,
+      (refl, says-or (says-not (says-committed (p .phase))) (says-unfitProver v p), tt),
     ),
   ),
 )
@@ -57,9 +62,9 @@ drop-tests p =
 
 -- Vic's commitment: 14 and 21
 pub takeCommitment-tests : (inst : Instance) (v : Verifier) (t : List ℕ)
-    → Tests (takeCommitmentRules inst v t) (takeCommitmentConditions inst v t)
+    → Tests (takeCommitmentRules inst v (places (inst .header .rows) t)) (takeCommitmentConditions inst v t)
 unfolding takeCommitmentRules
-takeCommitment-tests inst v t = (refl, says-badCommitment inst t, (refl, says-not (says-waiting (v .phase)), tt))
+takeCommitment-tests inst v t = (refl, commitment-read inst t, (refl, says-not (says-waiting (v .phase)), tt))
 
 -- Vic's challenge: 15 and 21
 pub takeChallenge-tests : (inst : Instance) (v : Verifier) (c : ℕ)
@@ -70,11 +75,11 @@ takeChallenge-tests inst v c =
 
 -- Vic's response: 16 and 21
 pub takeResponse-tests : (inst : Instance) (v : Verifier) (r : List ℕ)
-    → Tests (takeResponseRules inst v r) (takeResponseConditions inst v r)
+    → Tests (takeResponseRules inst v (places (inst .header .columns) r)) (takeResponseConditions inst v r)
 unfolding takeResponseRules
 takeResponse-tests inst v r = (
   refl,
-  says-badCoordinates inst r,
+  coordinates-read inst r,
   (
     refl,
     simp or-assoc

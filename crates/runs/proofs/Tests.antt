@@ -11,8 +11,9 @@ use Rattle.types.specs.declared.VerifierPhase.the-variants.{Waiting, Holding, A
 use Rattle.rules.specs.Says.{Says}
 use Rattle.rules.proofs.Says.{says-or}
 use Rattle.sigma.specs.Instance.{Instance}
+use Rattle.sigma.specs.Valid.{Valid}
 use Rattle.sigma.proofs.Comparison.{says-differ}
-use Rattle.sigma.proofs.Tests.{says-badCommitment, says-badCoordinates}
+use Rattle.sigma.proofs.Refusals.{commitment-read, coordinates-read, image-read}
 use Rattle.runs.specs.Prover.{isNew, isCommitted, unfitProver}
 use Rattle.runs.specs.Refusals.{UnfitProver, UnfitCommitment}
 use Rattle.runs.specs.Verifier.{isWaiting, isHolding, isAsked, unfitCommitment}
@@ -64,11 +65,12 @@ says-asked Judged = record { sound = λ e. absurd (false≢true e); complete = �
 -- ---- held values (21)
 
 -- what Peggy holds does not fit the instance
-pub says-unfitProver : (inst : Instance) (p : Prover) → Says (unfitProver inst p) (UnfitProver inst p)
+pub says-unfitProver : {inst : Instance} → Valid inst → (p : Prover) → Says (unfitProver inst p) (UnfitProver inst p)
 unfolding unfitProver
-says-unfitProver inst p = says-or (says-badCoordinates inst _) (says-differ 8 _ (p .commitment))
+says-unfitProver {inst} v p =
+    rw (image-read v (p .nonce)) (says-or (coordinates-read inst (p .nonce)) (says-differ 8 _ (p .commitment)))
 
 -- the commitment that Vic holds does not fit the instance
 pub says-unfitCommitment : (inst : Instance) (v : Verifier) → Says (unfitCommitment inst v) (UnfitCommitment inst v)
 unfolding unfitCommitment
-says-unfitCommitment inst v = says-badCommitment inst _
+says-unfitCommitment inst v = commitment-read inst (v .commitment)

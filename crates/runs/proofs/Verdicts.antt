@@ -11,6 +11,8 @@ use Rattle.rules.specs.Rule.{Rule, lowest}
 use Rattle.rules.proofs.Lowest.{lowest-behind}
 use Rattle.formats.specs.Load.{loadRules}
 use Rattle.formats.specs.Sheet.{instanceOf}
+use Rattle.formats.proofs.Positive.{load-positive}
+use Rattle.sigma.specs.Answer.{outcome}
 use Rattle.sigma.specs.Instance.{Instance}
 use Rattle.sigma.specs.Judge.{judgeRules, judgeAfter}
 use Rattle.sigma.specs.Reads.{roundOf}
@@ -18,7 +20,7 @@ use Rattle.sigma.proofs.Passed.{challenge-passes, commitment-passes}
 use Rattle.runs.specs.Calls.{judgeRound}
 use Rattle.runs.specs.Meaning.{ReadyToJudge}
 use Rattle.runs.specs.Verifier.{takeResponseRules, takeResponseAfter, takeResponse}
-use Rattle.runs.proofs.VerifierSteps.{ready-passes}
+use Rattle.runs.proofs.VerifierSteps.{ready-passes, takeResponseAfter-runs}
 
 -- the round of what Vic holds and a response
 abbrev pub heldRound : Verifier → List ℕ → Round
@@ -45,3 +47,11 @@ pub takeResponse-judged : (sheet : List ℕ) (v : Verifier) → ReadyToJudge (in
     → takeResponse sheet v r .verdict ≡ judgeRound sheet (heldRound v r)
 unfolding takeResponse judgeRound
 takeResponse-judged sheet v ready r = response-judged (instanceOf sheet) v ready (loadRules sheet) r
+
+-- so does a response call that is not refused
+pub takeResponse-given : (sheet : List ℕ) (v : Verifier) (r : List ℕ) → outcome (takeResponse sheet v r .verdict) .number ≡ 0
+    → takeResponse sheet v r .verdict ≡ judgeRound sheet (roundOf (v .commitment) (v .challenge) r)
+unfolding takeResponse
+takeResponse-given sheet v r passed =
+    takeResponse-judged sheet v
+    (takeResponseAfter-runs (loadRules sheet) (instanceOf sheet) v r (load-positive sheet) .0 passed .1 .ready) r

@@ -1,17 +1,20 @@
 -- Demand 1 (00): every call of 01, for any bytes and any numbers, ends in a result or in one of its refusals, whose conditions
 -- are fixed, and a refused call changes neither a lent buffer nor a session.
 -- Assumes nothing.
-use Prim.Native.Nat.{ℕ, _<_}
+use Prim.Native.Nat.{ℕ, suc}
 use mathlib.Core.Path.{_≡_}
+use mathlib.Core.Bool.{true}
 use mathlib.Core.Logic.{_↔_, _≢_}
 use mathlib.Core.List.{List, [], _∷_, _++_}
 use Rattle.types.specs.declared.Prover.{Prover}
+use Rattle.types.specs.declared.ProverStep.{ProverStep}
 use Rattle.types.specs.declared.Round.{Round}
 use Rattle.types.specs.declared.Verdict.the-variants.{Refused}
 use Rattle.types.specs.declared.Verifier.{Verifier}
-use Rattle.lists.specs.Places.{zeros8}
-use Rattle.rules.specs.AnswersBy.{AnswersBy}
+use Rattle.lists.specs.Places.{tabulate, zeros8}
+use Rattle.rules.specs.AnswersBy.{Refuses}
 use Rattle.rules.specs.Condition.{Condition}
+use Rattle.rules.specs.Order.{refusalOrder, sheetNumbers, isSublist, isDistinct}
 use Rattle.formats.specs.Append.{append, emptyFile}
 use Rattle.formats.specs.Encode.{encode}
 use Rattle.formats.specs.Load.{load, loadEntries, noHeader}
@@ -25,22 +28,20 @@ use Rattle.sigma.specs.Answer.{outcome}
 use Rattle.sigma.specs.Instance.{Instance}
 use Rattle.sigma.specs.Refusals.{judgeConditions, simulateConditions, extractConditions}
 use Rattle.runs.specs.Calls.{judgeRound, simulateCommitment, extractWitness}
-use Rattle.runs.specs.OnSheet.{readSlots, readValues}
 use Rattle.runs.specs.Prover.{commit, respond, dropSession}
 use Rattle.runs.specs.Refusals.{commitConditions, respondConditions, dropConditions}
 use Rattle.runs.specs.Refusals.{takeCommitmentConditions, takeChallengeConditions, takeResponseConditions}
 use Rattle.runs.specs.Verifier.{takeCommitment, takeChallenge, takeResponse}
 
--- a call answers with the number n, fixed by conditions that have these numbers, and Left is what a refused call leaves
-pub record Refuses (numbers : List ℕ) (conditions : List Condition) (n : ℕ) (Left : Type 0) : Type 0 where
-  pub number : AnswersBy numbers conditions n
-  pub left : 0 < n → Left
+-- a call on a sheet: the sheet's conditions come first, then the call's own
+abbrev pub RefusesOn : List ℕ → List ℕ → List Condition → ℕ → Type 0 → Type 0
+RefusesOn sheet numbers conditions n Left = Refuses (sheetNumbers ++ numbers) (loadConditions sheet ++ conditions) n Left
 
 -- the calls that load and make sheets
 pub record SheetRefusals : Type 0 where
-  -- loading: 2 to 11; a refused sheet gives zeros beside the number
+  -- loading; a refused sheet gives zeros beside the number
   pub loading : (sheet : List ℕ)
-      → Refuses (2 ∷ 3 ∷ 4 ∷ 5 ∷ 6 ∷ 7 ∷ 8 ∷ 9 ∷ 10 ∷ 11 ∷ []) (loadConditions sheet) (load sheet .refusal)
+      → Refuses sheetNumbers (loadConditions sheet) (load sheet .refusal)
       ((load sheet .header ≡ noHeader) × (load sheet .statement ≡ zeros8) × (loadEntries sheet ≡ zeros64))
   -- the sheet maker; a refused call keeps the buffer's bytes and answers length 0
   pub making : (number modulus order challenges : ℕ) (values statement buffer : List ℕ)
@@ -57,85 +58,75 @@ pub record SheetRefusals : Type 0 where
 pub record FileRefusals : Type 0 where
   -- counting the rounds; a refused file has count 0
   pub counting : (sheet file : List ℕ)
-      → Refuses (2 ∷ 3 ∷ 4 ∷ 5 ∷ 6 ∷ 7 ∷ 8 ∷ 9 ∷ 10 ∷ 11 ∷ 12 ∷ [])
-      (loadConditions sheet ++ fileConditions (headerOf sheet) file) (countRounds sheet file .refusal)
+      → RefusesOn sheet (12 ∷ []) (fileConditions (headerOf sheet) file) (countRounds sheet file .refusal)
       (countRounds sheet file .count ≡ 0)
   -- the check call gives the number, and the part of a refused round is empty
   pub checking : (sheet file : List ℕ) (k : ℕ)
-      → Refuses (2 ∷ 3 ∷ 4 ∷ 5 ∷ 6 ∷ 7 ∷ 8 ∷ 9 ∷ 10 ∷ 11 ∷ 12 ∷ 13 ∷ [])
-      (loadConditions sheet ++ roundConditions (headerOf sheet) file k) (checkRound sheet file k)
+      → RefusesOn sheet (12 ∷ 13 ∷ []) (roundConditions (headerOf sheet) file k) (checkRound sheet file k)
       (partOfRound sheet file k ≡ [])
   -- and no other part is: check gives 0 exactly where the part is not empty
   pub part : (sheet file : List ℕ) (k : ℕ) → (checkRound sheet file k ≡ 0) ↔ (partOfRound sheet file k ≢ [])
   -- reading a round's values; a refused round has zeros
   pub reading : (sheet file : List ℕ) (k : ℕ)
-      → Refuses (2 ∷ 3 ∷ 4 ∷ 5 ∷ 6 ∷ 7 ∷ 8 ∷ 9 ∷ 10 ∷ 11 ∷ 12 ∷ 13 ∷ [])
-      (loadConditions sheet ++ roundConditions (headerOf sheet) file k) (fetchRound sheet file k .refusal)
+      → RefusesOn sheet (12 ∷ 13 ∷ []) (roundConditions (headerOf sheet) file k) (fetchRound sheet file k .refusal)
       (fetchRound sheet file k .round ≡ noRound)
   -- making a file of no rounds; a refused call keeps the buffer's bytes and answers length 0
   pub starting : (buffer : List ℕ)
       → Refuses (22 ∷ []) (emptyConditions buffer) (emptyFile buffer .answer .refusal) (Keeps buffer (emptyFile buffer))
   -- the record writer; likewise
   pub appending : (sheet buffer : List ℕ) (used : ℕ) (round : Round)
-      → Refuses (2 ∷ 3 ∷ 4 ∷ 5 ∷ 6 ∷ 7 ∷ 8 ∷ 9 ∷ 10 ∷ 11 ∷ 12 ∷ 22 ∷ [])
-      (loadConditions sheet ++ appendConditions (headerOf sheet) buffer used) (append sheet buffer used round .answer .refusal)
-      (Keeps buffer (append sheet buffer used round))
+      → RefusesOn sheet (12 ∷ 22 ∷ []) (appendConditions (headerOf sheet) buffer used)
+      (append sheet buffer used round .answer .refusal) (Keeps buffer (append sheet buffer used round))
 
 -- the calls on rounds
 pub record RoundRefusals : Type 0 where
   -- judging; a refused round's verdict is the number
   pub judging : (sheet : List ℕ) (round : Round)
-      → Refuses (2 ∷ 3 ∷ 4 ∷ 5 ∷ 6 ∷ 7 ∷ 8 ∷ 9 ∷ 10 ∷ 11 ∷ 14 ∷ 15 ∷ 16 ∷ [])
-      (loadConditions sheet
-      ++ judgeConditions (instanceOf sheet) (readValues sheet (round .commitment)) (round .challenge) (readSlots sheet (round .response)))
+      → RefusesOn sheet (14 ∷ 15 ∷ 16 ∷ []) (judgeConditions (instanceOf sheet) round)
       (outcome (judgeRound sheet round) .number) (judgeRound sheet round ≡ Refused (outcome (judgeRound sheet round) .number))
   -- simulating; a refused call gives zeros beside the number
   pub simulating : (sheet : List ℕ) (c : ℕ) (r : List ℕ)
-      → Refuses (2 ∷ 3 ∷ 4 ∷ 5 ∷ 6 ∷ 7 ∷ 8 ∷ 9 ∷ 10 ∷ 11 ∷ 15 ∷ 16 ∷ [])
-      (loadConditions sheet ++ simulateConditions (instanceOf sheet) c (readSlots sheet r))
+      → RefusesOn sheet (15 ∷ 16 ∷ []) (simulateConditions (instanceOf sheet) c r)
       (simulateCommitment sheet c r .refusal) (simulateCommitment sheet c r .values ≡ zeros8)
   -- extracting; likewise
   pub extracting : (sheet : List ℕ) (first second : Round)
-      → Refuses (2 ∷ 3 ∷ 4 ∷ 5 ∷ 6 ∷ 7 ∷ 8 ∷ 9 ∷ 10 ∷ 11 ∷ 14 ∷ 15 ∷ 16 ∷ 18 ∷ 19 ∷ 20 ∷ [])
-      (loadConditions sheet
-      ++ extractConditions (instanceOf sheet) (readValues sheet (first .commitment)) (first .challenge) (readSlots sheet (first .response))
-      (readValues sheet (second .commitment)) (second .challenge) (readSlots sheet (second .response)))
+      → RefusesOn sheet (14 ∷ 15 ∷ 16 ∷ 18 ∷ 19 ∷ 20 ∷ []) (extractConditions (instanceOf sheet) first second)
       (extractWitness sheet first second .refusal) (extractWitness sheet first second .values ≡ zeros8)
+
+-- a call hands back Peggy's session p as it was, and zeros
+abbrev pub Unmoved : Prover → ProverStep → Type 0
+Unmoved p step = (step .session ≡ p) × (step .values ≡ zeros8)
 
 -- the calls on Peggy's session; a refused call hands back the same session, and zeros beside the number
 pub record ProverRefusals : Type 0 where
   pub committing : (sheet : List ℕ) (p : Prover) (k : List ℕ)
-      → Refuses (2 ∷ 3 ∷ 4 ∷ 5 ∷ 6 ∷ 7 ∷ 8 ∷ 9 ∷ 10 ∷ 11 ∷ 16 ∷ 21 ∷ [])
-      (loadConditions sheet ++ commitConditions (instanceOf sheet) p (readSlots sheet k)) (commit sheet p k .refusal)
-      ((commit sheet p k .session ≡ p) × (commit sheet p k .values ≡ zeros8))
+      → RefusesOn sheet (16 ∷ 21 ∷ []) (commitConditions (instanceOf sheet) p k)
+      (commit sheet p k .refusal) (Unmoved p (commit sheet p k))
   pub responding : (sheet : List ℕ) (p : Prover) (c : ℕ) (x : List ℕ)
-      → Refuses (2 ∷ 3 ∷ 4 ∷ 5 ∷ 6 ∷ 7 ∷ 8 ∷ 9 ∷ 10 ∷ 11 ∷ 15 ∷ 16 ∷ 17 ∷ 21 ∷ [])
-      (loadConditions sheet ++ respondConditions (instanceOf sheet) p c (readSlots sheet x)) (respond sheet p c x .refusal)
-      ((respond sheet p c x .session ≡ p) × (respond sheet p c x .values ≡ zeros8))
-  pub dropping : (p : Prover)
-      → Refuses (21 ∷ []) (dropConditions p) (dropSession p .refusal)
-      ((dropSession p .session ≡ p) × (dropSession p .values ≡ zeros8))
+      → RefusesOn sheet (15 ∷ 16 ∷ 17 ∷ 21 ∷ []) (respondConditions (instanceOf sheet) p c x)
+      (respond sheet p c x .refusal) (Unmoved p (respond sheet p c x))
+  pub dropping : (p : Prover) → Refuses (21 ∷ []) (dropConditions p) (dropSession p .refusal) (Unmoved p (dropSession p))
 
 -- the calls on Vic's session; a refused call hands back the same session
 pub record VerifierRefusals : Type 0 where
   pub commitment : (sheet : List ℕ) (v : Verifier) (t : List ℕ)
-      → Refuses (2 ∷ 3 ∷ 4 ∷ 5 ∷ 6 ∷ 7 ∷ 8 ∷ 9 ∷ 10 ∷ 11 ∷ 14 ∷ 21 ∷ [])
-      (loadConditions sheet ++ takeCommitmentConditions (instanceOf sheet) v (readValues sheet t))
+      → RefusesOn sheet (14 ∷ 21 ∷ []) (takeCommitmentConditions (instanceOf sheet) v t)
       (takeCommitment sheet v t .refusal) (takeCommitment sheet v t .session ≡ v)
   pub challenge : (sheet : List ℕ) (v : Verifier) (c : ℕ)
-      → Refuses (2 ∷ 3 ∷ 4 ∷ 5 ∷ 6 ∷ 7 ∷ 8 ∷ 9 ∷ 10 ∷ 11 ∷ 15 ∷ 21 ∷ [])
-      (loadConditions sheet ++ takeChallengeConditions (instanceOf sheet) v c) (takeChallenge sheet v c .refusal)
-      (takeChallenge sheet v c .session ≡ v)
+      → RefusesOn sheet (15 ∷ 21 ∷ []) (takeChallengeConditions (instanceOf sheet) v c)
+      (takeChallenge sheet v c .refusal) (takeChallenge sheet v c .session ≡ v)
   -- the verdict is then the number
   pub response : (sheet : List ℕ) (v : Verifier) (r : List ℕ)
-      → Refuses (2 ∷ 3 ∷ 4 ∷ 5 ∷ 6 ∷ 7 ∷ 8 ∷ 9 ∷ 10 ∷ 11 ∷ 16 ∷ 21 ∷ [])
-      (loadConditions sheet ++ takeResponseConditions (instanceOf sheet) v (readSlots sheet r))
+      → RefusesOn sheet (16 ∷ 21 ∷ []) (takeResponseConditions (instanceOf sheet) v r)
       (outcome (takeResponse sheet v r .verdict) .number)
       (takeResponse sheet v r ≡ record { verdict = Refused (outcome (takeResponse sheet v r .verdict) .number); session = v })
 
 -- demand 1: every call but the two that make a new session, which take nothing and refuse nothing, and the marker's, whose
 -- lines name what is refused
 pub record Demand1 : Type 0 where
+  -- 01's numbers 1 to 22 stand in its order in rising order, and none twice: the first of a call's numbers is the lowest
+  pub order : (isSublist (tabulate 22 suc) refusalOrder ≡ true) × (isDistinct refusalOrder ≡ true)
+  -- each call's numbers, the conditions that fix which of them is answered, and what a refused call leaves
   pub sheets : SheetRefusals
   pub files : FileRefusals
   pub rounds : RoundRefusals

@@ -1,5 +1,6 @@
 -- The calls on a sheet's bytes, the sessions and the marker.
 pub mod Calls
+pub mod OnSheet
 pub mod Prover
 pub mod Verifier
 pub mod Refusals
@@ -10,8 +11,8 @@ pub mod ProverCalls
 pub mod VerifierCalls
 pub mod JointRun
 pub mod Knowledge
-pub mod OnSheet
 pub mod Demand1
-pub mod Demand2
+pub mod Sessions
+pub mod Protocol
 pub mod Demand3
 pub mod Marker

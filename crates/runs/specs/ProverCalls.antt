@@ -3,14 +3,14 @@
 use Prim.Native.Nat.{ℕ}
 use mathlib.Core.Path.{_≡_}
 use mathlib.Core.Logic.{_⊎_}
-use mathlib.Core.Bool.{Bool, false}
-use mathlib.Core.List.{List}
-use lib.Dec.{eqb}
+use mathlib.Core.List.{List, [], _∷_}
 use Rattle.types.specs.declared.Prover.{Prover}
-use Rattle.types.specs.declared.ProverPhase.the-variants.{Answered, Dropped}
+use Rattle.types.specs.declared.ProverPhase.the-variants.{New, Committed, Answered, Dropped}
 use Rattle.types.specs.declared.ProverStep.{ProverStep}
+use Rattle.lists.specs.Places.{pad8, zeros8}
+use Rattle.runs.specs.OnSheet.{readSlots}
 use Rattle.runs.specs.Prover.{commit, respond, dropSession}
-use Rattle.runs.specs.Run.{sessionAfter, countOf}
+use Rattle.runs.specs.Run.{sessionAfter, trace}
 
 -- a call with what it brings: a sheet and a nonce, a sheet, a challenge and a witness, or nothing
 pub data ProverCall : Type 0 where
@@ -28,31 +28,30 @@ callProver Drop p = dropSession p
 unfoldable pub proverAfter : List ProverCall → Prover → Prover
 proverAfter calls p = sessionAfter callProver (λ step. step .session) calls p
 
--- the call commits: it brings a nonce and is not refused
-unfoldable pub commits : ProverCall → ProverStep → Bool
-commits (Commit sheet nonce) step = eqb (step .refusal) 0
-commits (Respond sheet c witness) step = false
-commits Drop step = false
+-- the calls of a list that are carried out, each with what it answered
+unfoldable pub proverTrace : List ProverCall → Prover → List (ProverCall × ProverStep)
+proverTrace calls p = trace callProver (λ step. step .session) (λ step. step .refusal) calls p
 
--- the call answers a challenge: it brings one and is not refused
-unfoldable pub answers : ProverCall → ProverStep → Bool
-answers (Commit sheet nonce) step = false
-answers (Respond sheet c witness) step = eqb (step .refusal) 0
-answers Drop step = false
+-- in which state a call is carried out, and what it hands back: committing leads from New to Committed with the nonce and the
+-- commitment that it answers, responding from Committed to Answered and dropping from either to Dropped, with a nonce of zeros
+abbrev pub ProverMoves : Prover → ProverCall → ProverStep → Type 0
+ProverMoves p (Commit sheet nonce) step =
+    (p .phase ≡ New) ×
+    (step .session ≡ record { phase = Committed; nonce = pad8 0 (readSlots sheet nonce); commitment = step .values })
+ProverMoves p (Respond sheet c witness) step =
+    (p .phase ≡ Committed) ×
+    (step .session ≡ record { phase = Answered; nonce = zeros8; commitment = p .commitment })
+ProverMoves p Drop step =
+    ((p .phase ≡ New) ⊎ (p .phase ≡ Committed)) ×
+    (step .session ≡ record { phase = Dropped; nonce = zeros8; commitment = p .commitment }) ×
+    (step .values ≡ zeros8)
 
--- the call drops the session: it is a drop and is not refused
-unfoldable pub drops : ProverCall → ProverStep → Bool
-drops (Commit sheet nonce) step = false
-drops (Respond sheet c witness) step = false
-drops Drop step = eqb (step .refusal) 0
-
--- how many calls of a list commit
-unfoldable pub countCommits : List ProverCall → Prover → ℕ
-countCommits calls p = countOf callProver (λ step. step .session) commits calls p
-
--- how many calls of a list answer a challenge
-unfoldable pub countAnswers : List ProverCall → Prover → ℕ
-countAnswers calls p = countOf callProver (λ step. step .session) answers calls p
+-- the challenges that the calls of a trace answered
+unfoldable pub answered : {Outcome : Type 0} → List (ProverCall × Outcome) → List ℕ
+answered [] = []
+answered ((Commit sheet nonce, outcome) ∷ later) = answered later
+answered ((Respond sheet c witness, outcome) ∷ later) = c ∷ answered later
+answered ((Drop, outcome) ∷ later) = answered later
 
 -- the session is Answered or Dropped
 abbrev pub Ended : Prover → Type 0

@@ -7,7 +7,7 @@ use Rattle.types.specs.declared.Prover.{Prover}
 use Rattle.types.specs.declared.ProverPhase.the-variants.{New, Committed}
 use Rattle.types.specs.declared.Verifier.{Verifier}
 use Rattle.types.specs.declared.VerifierPhase.the-variants.{Waiting, Holding, Asked}
-use Rattle.lists.specs.Places.{pad8, places}
+use Rattle.lists.specs.Places.{pad8}
 use Rattle.rules.specs.Condition.{Condition, _if_}
 use Rattle.sigma.specs.Image.{image}
 use Rattle.sigma.specs.Instance.{Instance, tableOf}
@@ -16,13 +16,11 @@ use Rattle.sigma.specs.Refusals.{Refusal14, Refusal15, Refusal16, Refusal17}
 
 -- a held nonce slot is no domain slot, or the nonce's image, 0 beyond s, is not the held commitment in all eight places
 abbrev pub UnfitProver : Instance → Prover → Type 0
-UnfitProver inst p =
-    Refusal16 inst (places (inst .header .columns) (p .nonce)) ⊎
-    Differ 8 (pad8 0 (image (tableOf inst) (places (inst .header .columns) (p .nonce)))) (p .commitment)
+UnfitProver inst p = Refusal16 inst (p .nonce) ⊎ Differ 8 (pad8 0 (image (tableOf inst) (p .nonce))) (p .commitment)
 
 -- a held commitment value is no group element
 abbrev pub UnfitCommitment : Instance → Verifier → Type 0
-UnfitCommitment inst v = Refusal14 inst (places (inst .header .rows) (v .commitment))
+UnfitCommitment inst v = Refusal14 inst (v .commitment)
 
 -- committing
 abbrev pub commitConditions : Instance → Prover → List ℕ → List Condition

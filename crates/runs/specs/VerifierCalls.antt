@@ -1,14 +1,16 @@
 -- Any list of calls on one of Vic's sessions (01, "Sessions").
 -- Assumes nothing.
 use Prim.Native.Nat.{ℕ}
-use mathlib.Core.Bool.{Bool, false}
+use mathlib.Core.Path.{_≡_}
 use mathlib.Core.List.{List}
-use lib.Dec.{eqb}
 use Rattle.types.specs.declared.Verifier.{Verifier}
+use Rattle.types.specs.declared.VerifierPhase.the-variants.{Waiting, Holding, Asked, Judged}
 use Rattle.types.specs.declared.VerifierStep.{VerifierStep}
 use Rattle.types.specs.declared.VerifierVerdict.{VerifierVerdict}
+use Rattle.lists.specs.Places.{pad8}
 use Rattle.sigma.specs.Answer.{outcome}
-use Rattle.runs.specs.Run.{sessionAfter, countOf}
+use Rattle.runs.specs.OnSheet.{readValues}
+use Rattle.runs.specs.Run.{sessionAfter, trace}
 use Rattle.runs.specs.Verifier.{takeCommitment, takeChallenge, takeResponse}
 
 -- a call with what it brings: a sheet and a commitment, a challenge or a response
@@ -42,32 +44,18 @@ callVerifier (Response sheet r) v = Told (takeResponse sheet v r)
 unfoldable pub verifierAfter : List VerifierCall → Verifier → Verifier
 verifierAfter calls v = sessionAfter callVerifier sessionOf calls v
 
--- the call brings a commitment and is not refused
-unfoldable pub takesCommitment : VerifierCall → VerifierOutcome → Bool
-takesCommitment (Commitment sheet t) answer = eqb (refusalOf answer) 0
-takesCommitment (Challenge sheet c) answer = false
-takesCommitment (Response sheet r) answer = false
+-- the calls of a list that are carried out, each with what it answered
+unfoldable pub verifierTrace : List VerifierCall → Verifier → List (VerifierCall × VerifierOutcome)
+verifierTrace calls v = trace callVerifier sessionOf refusalOf calls v
 
--- the call brings a challenge and is not refused
-unfoldable pub takesChallenge : VerifierCall → VerifierOutcome → Bool
-takesChallenge (Commitment sheet t) answer = false
-takesChallenge (Challenge sheet c) answer = eqb (refusalOf answer) 0
-takesChallenge (Response sheet r) answer = false
-
--- the call brings a response and is not refused: it is accepted or rejected
-unfoldable pub judges : VerifierCall → VerifierOutcome → Bool
-judges (Commitment sheet t) answer = false
-judges (Challenge sheet c) answer = false
-judges (Response sheet r) answer = eqb (refusalOf answer) 0
-
--- how many calls of a list take a commitment
-unfoldable pub countCommitments : List VerifierCall → Verifier → ℕ
-countCommitments calls v = countOf callVerifier sessionOf takesCommitment calls v
-
--- how many calls of a list take a challenge
-unfoldable pub countChallenges : List VerifierCall → Verifier → ℕ
-countChallenges calls v = countOf callVerifier sessionOf takesChallenge calls v
-
--- how many calls of a list give a verdict
-unfoldable pub countVerdicts : List VerifierCall → Verifier → ℕ
-countVerdicts calls v = countOf callVerifier sessionOf judges calls v
+-- in which state a call is carried out, and what it hands back: a commitment leads from Waiting to Holding, a challenge from
+-- Holding to Asked, and a response from Asked to Judged; what came before is kept, and no response is
+abbrev pub VerifierMoves : Verifier → VerifierCall → VerifierOutcome → Type 0
+VerifierMoves v (Commitment sheet t) answer =
+    (v .phase ≡ Waiting) ×
+    (sessionOf answer ≡ record { phase = Holding; commitment = pad8 0 (readValues sheet t); challenge = v .challenge })
+VerifierMoves v (Challenge sheet c) answer =
+    (v .phase ≡ Holding) × (sessionOf answer ≡ record { phase = Asked; commitment = v .commitment; challenge = c })
+VerifierMoves v (Response sheet r) answer =
+    (v .phase ≡ Asked) ×
+    (sessionOf answer ≡ record { phase = Judged; commitment = v .commitment; challenge = v .challenge })

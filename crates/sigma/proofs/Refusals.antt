@@ -1,27 +1,37 @@
 -- Each list of rules tests 01's conditions, so that the number it gives is that of the first condition that holds.
 -- Assumes nothing.
-use Prim.Native.Nat.{ℕ}
-use mathlib.Core.Path.{refl}
+use Prim.Native.Nat.{ℕ, _<_}
+use mathlib.Core.Path.{_≡_, refl, sym, subst, _∙_}
 use mathlib.Core.Bool.{not}
+use mathlib.Core.Logic.{_↔_}
 use mathlib.Core.List.{List}
+use lib.ListN.{getD}
 use Rattle.types.specs.declared.Header.{Header}
+use Rattle.types.specs.declared.Round.{Round}
+use Rattle.lists.specs.Places.{places}
+use Rattle.lists.proofs.Places.{getD-places, tabulate-agree}
 use Rattle.rules.specs.Condition.{Tests}
 use Rattle.rules.specs.Says.{Says}
 use Rattle.rules.proofs.Says.{says-equal, says-or, says-not, says-iff}
 use Rattle.sigma.specs.Admission.{headerRules, elementRules}
 use Rattle.sigma.specs.Answer.{isAccepted}
+use Rattle.sigma.specs.Comparison.{differ}
+use Rattle.sigma.specs.Element.{Element, Coordinate}
 use Rattle.sigma.specs.Extractor.{pairRules, extractRules}
+use Rattle.sigma.specs.Image.{image}
 use Rattle.sigma.specs.Instance.{Instance}
 use Rattle.sigma.specs.Judge.{judgeRules}
 use Rattle.sigma.specs.Meaning.{Holds}
-use Rattle.sigma.specs.Reads.{roundOf}
+use Rattle.sigma.specs.Refusals.{Refusal14, Refusal16, Refusal17, Refusal18}
 use Rattle.sigma.specs.Refusals.{headerConditions, elementConditions, judgeConditions, simulateConditions, extractConditions}
-use Rattle.sigma.specs.Round.{verdict}
+use Rattle.sigma.specs.Round.{badCommitment, badCoordinates, badWitness, verdict}
 use Rattle.sigma.specs.Simulator.{simulateRules}
+use Rattle.sigma.specs.Valid.{Valid}
 use Rattle.sigma.proofs.Comparison.{says-differ}
 use Rattle.sigma.proofs.Tests.{says-badKind, says-badModulus, says-badOrder, says-badSize, says-badCount}
 use Rattle.sigma.proofs.Tests.{says-badEntries, says-badStatement}
-use Rattle.sigma.proofs.Tests.{says-badCommitment, says-badChallenge, says-badCoordinates, says-accepted}
+use Rattle.sigma.proofs.Tests.{says-badCommitment, says-badChallenge, says-badCoordinates, says-badWitness, says-accepted}
+use Rattle.sigma.proofs.Unread.{rowImage-agree, same-round-of-read, same-round-sym, holds-same}
 use Rattle.sigma.proofs.Verdict.{verdict-accepted}
 
 -- 4 to 8
@@ -35,41 +45,94 @@ pub element-tests : (i : Instance) → Tests (elementRules i) (elementConditions
 unfolding elementRules
 element-tests i = (refl, says-badEntries i, (refl, says-badStatement i, tt))
 
--- 14 to 16 of a round
-pub judge-tests : (i : Instance) (t : List ℕ) (c : ℕ) (r : List ℕ) → Tests (judgeRules i t c r) (judgeConditions i t c r)
-unfolding judgeRules
-judge-tests i t c r = (refl, says-badCommitment i t, (refl, says-badChallenge i c, (refl, says-badCoordinates i r, tt)))
+-- ---- what a call brings: the tests read its first places, and so do the conditions
 
--- 15 and 16
-pub simulate-tests : (i : Instance) (c : ℕ) (r : List ℕ) → Tests (simulateRules i c r) (simulateConditions i c r)
-unfolding simulateRules
-simulate-tests i c r = (refl, says-badChallenge i c, (refl, says-badCoordinates i r, tt))
+-- some value among the first n places is not such exactly where some value of the array's first n is not
+some-read : (P : ℕ → Type 0) (n : ℕ) (xs : List ℕ)
+    → ((j : ℕ) × (j < n) × (¬ P (getD (places n xs) j 0))) ↔ ((j : ℕ) × (j < n) × (¬ P (getD xs j 0)))
+some-read P n xs = (
+  λ (j, h, fails). (j, h, subst (λ (v : ℕ). ¬ P v) (getD-places n xs j h) fails),
+  λ (j, h, fails). (j, h, subst (λ (v : ℕ). ¬ P v) (sym (getD-places n xs j h)) fails),
+)
+
+module _ (i : Instance) where
+  -- 14
+  pub commitment-read : (t : List ℕ) → Says (badCommitment i (places (i .header .rows) t)) (Refusal14 i t)
+  commitment-read t = says-iff (says-badCommitment i _) (some-read (Element (i .header)) (i .header .rows) t)
+
+  -- 16
+  pub coordinates-read : (x : List ℕ) → Says (badCoordinates i (places (i .header .columns) x)) (Refusal16 i x)
+  coordinates-read x = says-iff (says-badCoordinates i _) (some-read (Coordinate (i .header)) (i .header .columns) x)
+
+  -- 18
+  commitments-read : (t t′ : List ℕ)
+      → Says (differ (i .header .rows) (places (i .header .rows) t) (places (i .header .rows) t′)) (Refusal18 i t t′)
+  commitments-read t t′ =
+      let s = i .header .rows in
+      says-iff (says-differ s _ _) (
+        λ (j, h, fails). (j, h, λ e. fails (getD-places s t j h ∙ e ∙ sym (getD-places s t′ j h))),
+        λ (j, h, fails). (j, h, λ e. fails (sym (getD-places s t j h) ∙ e ∙ getD-places s t′ j h)),
+      )
+
+-- the image of what is read of x is the image of x
+pub image-read : {i : Instance} → Valid i → (x : List ℕ) → image i (places (i .header .columns) x) ≡ image i x
+unfolding image
+image-read {i} v x =
+    tabulate-agree (i .header .rows) _ _ (rowImage-agree v (places (i .header .columns) x) x (getD-places (i .header .columns) x))
+
+-- 17
+pub witness-read : {i : Instance} → Valid i → (x : List ℕ) → Says (badWitness i (places (i .header .columns) x)) (Refusal17 i x)
+unfolding badWitness
+witness-read {i} v x = rw (image-read v x) (says-badWitness i x)
 
 -- 20: a round is not accepted exactly when the two sides of some row differ
-says-rejected : (i : Instance) (t : List ℕ) (c : ℕ) (r : List ℕ)
-    → Says (not (isAccepted (verdict i t c r))) (¬ Holds i (roundOf t c r))
-says-rejected i t c r = says-not (says-iff (says-accepted (verdict i t c r)) (verdict-accepted i t c r))
+round-read : {i : Instance} → Valid i → (round : Round)
+    → Says (not (isAccepted (verdict i (places (i .header .rows) (round .commitment)) (round .challenge)
+    (places (i .header .columns) (round .response))))) (¬ Holds i round)
+round-read {i} v round =
+    let same = same-round-of-read (i .header) round in
+    says-not (says-iff (says-iff (says-accepted _) (verdict-accepted i _ (round .challenge) _))
+    (holds-same i same v, holds-same i (same-round-sym same) v))
+
+-- ---- the calls
+
+-- 14 to 16 of a round
+pub judge-tests : (i : Instance) (round : Round)
+    → Tests (judgeRules i (places (i .header .rows) (round .commitment)) (round .challenge) (places (i .header .columns) (round .response)))
+    (judgeConditions i round)
+unfolding judgeRules
+judge-tests i round =
+    (refl, commitment-read i _, (refl, says-badChallenge i _, (refl, coordinates-read i _, tt)))
+
+-- 15 and 16
+pub simulate-tests : (i : Instance) (c : ℕ) (r : List ℕ)
+    → Tests (simulateRules i c (places (i .header .columns) r)) (simulateConditions i c r)
+unfolding simulateRules
+simulate-tests i c r = (refl, says-badChallenge i c, (refl, coordinates-read i r, tt))
 
 -- 14 to 16 of both rounds, then 18 to 20
-pub extract-tests : (i : Instance) (t : List ℕ) (c : ℕ) (r t′ : List ℕ) (c′ : ℕ) (r′ : List ℕ)
-    → Tests (extractRules i t c r t′ c′ r′) (extractConditions i t c r t′ c′ r′)
+pub extract-tests : {i : Instance} → Valid i → (first second : Round)
+    → Tests
+    (extractRules i (places (i .header .rows) (first .commitment)) (first .challenge) (places (i .header .columns) (first .response))
+    (places (i .header .rows) (second .commitment)) (second .challenge) (places (i .header .columns) (second .response)))
+    (extractConditions i first second)
 unfolding extractRules pairRules
-extract-tests i t c r t′ c′ r′ = (
+extract-tests {i} v first second = (
   refl,
-  says-or (says-badCommitment i t) (says-badCommitment i t′),
+  says-or (commitment-read i (first .commitment)) (commitment-read i (second .commitment)),
   (
     refl,
-    says-or (says-badChallenge i c) (says-badChallenge i c′),
+    says-or (says-badChallenge i (first .challenge)) (says-badChallenge i (second .challenge)),
     (
       refl,
-      says-or (says-badCoordinates i r) (says-badCoordinates i r′),
+      says-or (coordinates-read i (first .response)) (coordinates-read i (second .response)),
       (
         refl,
-        says-differ (i .header .rows) t t′,
+        commitments-read i (first .commitment) (second .commitment),
         (
           refl,
-          says-equal c c′,
-          (refl, says-or (says-rejected i t c r) (says-rejected i t′ c′ r′), tt),
+          says-equal (first .challenge) (second .challenge),
+          (refl, says-or (round-read v first) (round-read v second), tt),
         ),
       ),
     ),

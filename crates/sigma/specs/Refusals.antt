@@ -7,12 +7,13 @@ use mathlib.Core.Logic.{_⊎_, _≢_}
 use mathlib.Core.List.{List, [], _∷_}
 use lib.ListN.{getD}
 use Rattle.types.specs.declared.Header.{Header}
+use Rattle.types.specs.declared.Round.{Round}
 use Rattle.rules.specs.Condition.{Condition, _if_}
 use Rattle.sigma.specs.Element.{Element, Coordinate}
 use Rattle.sigma.specs.Image.{rowImage}
 use Rattle.sigma.specs.Instance.{Instance, tableOf, entry, statementAt}
 use Rattle.sigma.specs.Meaning.{Holds}
-use Rattle.sigma.specs.Reads.{Differ, roundOf}
+use Rattle.sigma.specs.Reads.{Differ}
 
 -- the kind is neither 1 nor 2
 abbrev pub Refusal4 : Header → Type 0
@@ -83,19 +84,22 @@ abbrev pub elementConditions : Instance → List Condition
 elementConditions inst = (10 if Refusal10 inst) ∷ (11 if Refusal11 inst) ∷ []
 
 -- judging a round
-abbrev pub judgeConditions : Instance → List ℕ → ℕ → List ℕ → List Condition
-judgeConditions inst t c r = (14 if Refusal14 inst t) ∷ (15 if Refusal15 inst c) ∷ (16 if Refusal16 inst r) ∷ []
+abbrev pub judgeConditions : Instance → Round → List Condition
+judgeConditions inst round =
+    (14 if Refusal14 inst (round .commitment)) ∷
+    (15 if Refusal15 inst (round .challenge)) ∷
+    (16 if Refusal16 inst (round .response)) ∷ []
 
 -- simulating a commitment
 abbrev pub simulateConditions : Instance → ℕ → List ℕ → List Condition
 simulateConditions inst c r = (15 if Refusal15 inst c) ∷ (16 if Refusal16 inst r) ∷ []
 
 -- extracting a witness: each number is asked of both rounds before the next
-abbrev pub extractConditions : Instance → List ℕ → ℕ → List ℕ → List ℕ → ℕ → List ℕ → List Condition
-extractConditions inst t c r t′ c′ r′ =
-    (14 if (Refusal14 inst t ⊎ Refusal14 inst t′)) ∷
-    (15 if (Refusal15 inst c ⊎ Refusal15 inst c′)) ∷
-    (16 if (Refusal16 inst r ⊎ Refusal16 inst r′)) ∷
-    (18 if Refusal18 inst t t′) ∷
-    (19 if (c ≡ c′)) ∷
-    (20 if ((¬ Holds inst (roundOf t c r)) ⊎ (¬ Holds inst (roundOf t′ c′ r′)))) ∷ []
+abbrev pub extractConditions : Instance → Round → Round → List Condition
+extractConditions inst first second =
+    (14 if (Refusal14 inst (first .commitment) ⊎ Refusal14 inst (second .commitment))) ∷
+    (15 if (Refusal15 inst (first .challenge) ⊎ Refusal15 inst (second .challenge))) ∷
+    (16 if (Refusal16 inst (first .response) ⊎ Refusal16 inst (second .response))) ∷
+    (18 if Refusal18 inst (first .commitment) (second .commitment)) ∷
+    (19 if (first .challenge ≡ second .challenge)) ∷
+    (20 if ((¬ Holds inst first) ⊎ (¬ Holds inst second))) ∷ []

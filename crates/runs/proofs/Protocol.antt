@@ -1,0 +1,134 @@
+-- Demand 2's protocol: for every sheet that loads, Peggy's commitments and responses and Vic's verdicts are those of the main
+-- protocol in section 5 of Maurer's paper, as 01 writes it down.
+-- Assumes nothing.
+use Prim.Native.Nat.{ℕ, zero, suc, _<_, _≤_}
+use mathlib.Core.Path.{_≡_, ap, _∙_}
+use mathlib.Core.Logic.{_↔_, _≢_, _⊎_, ⊎-elim}
+use mathlib.Core.List.{List}
+use native.Mathlib.Omega.{arith}
+use lib.ListN.{length, getD, List·getD-eq-default}
+use Rattle.types.specs.declared.Prover.{Prover}
+use Rattle.types.specs.declared.ProverStep.{ProverStep}
+use Rattle.types.specs.declared.Round.{Round}
+use Rattle.types.specs.declared.Verdict.the-variants.{Accepted, Rejected}
+use Rattle.lists.specs.Places.{pad8, places}
+use Rattle.lists.proofs.Places.{getD-places, getD-pad8, getD-zeros8}
+use Rattle.formats.specs.Load.{loadRules, loadRefusal}
+use Rattle.formats.specs.Sheet.{instanceOf}
+use Rattle.formats.proofs.Loads.{loads-valid}
+use Rattle.sigma.specs.Answer.{eightPlaces, outcome}
+use Rattle.sigma.specs.Instance.{Instance}
+use Rattle.sigma.specs.Judge.{judgeAfter}
+use Rattle.sigma.specs.Meaning.{Holds, FailsFirst, Fits}
+use Rattle.sigma.specs.Round.{responseCoordinate}
+use Rattle.sigma.proofs.Answer.{unlessRefused-zero, unlessRefused-positive}
+use Rattle.sigma.proofs.ByKind.{responseCoordinate-exponent, responseCoordinate-root}
+use Rattle.sigma.proofs.Calls.{valid-judge-accepted, valid-judge-rejected}
+use Rattle.sigma.proofs.Unread.{rowImage-agree}
+use Rattle.sigma.proofs.Values.{length-image, length-response, image-at, response-at}
+use Rattle.sigma.proofs.Verdict.{verdict-not-refused}
+use Rattle.runs.specs.Calls.{judgeRound}
+use Rattle.runs.specs.Protocol.{CommitsToImage, RespondsBySlot, JudgesByRows, Protocol}
+use Rattle.runs.specs.Prover.{proverStep, commitAfter, commit, respondAfter, respond}
+use Rattle.runs.proofs.JointRun.{sheet-joint-run}
+use Rattle.runs.proofs.Loaded.{judge-loaded}
+use Rattle.runs.proofs.Outcome.{judged-decided}
+use Rattle.runs.proofs.ProverSteps.{commitAfter-given, respondAfter-given}
+use Rattle.runs.proofs.Verdicts.{takeResponse-given}
+
+-- eight places hold 0 beyond their values, refused or not
+pub eight-beyond : (n : ℕ) (xs : List ℕ) (i : ℕ) → length xs ≤ i → getD (eightPlaces n xs) i 0 ≡ 0
+unfolding eightPlaces
+eight-beyond zero xs i h = rw unlessRefused-zero (getD-pad8 0 xs i ∙ List·getD-eq-default xs 0 h)
+eight-beyond (suc n) xs i h = rw (unlessRefused-positive (pad8 0 xs) _ (suc n) (omega arith)) (getD-zeros8 i)
+
+module _ (sheet : List ℕ) (loaded : loadRefusal sheet ≡ 0) where
+  -- the sheet's values
+  abbrev values : Instance
+  values = instanceOf sheet
+
+  -- ---- Peggy
+
+  -- the commitment is the image of the nonce
+  pub commitments : CommitsToImage sheet
+  unfolding commit commitAfter proverStep
+  commitments = record {
+    rows = λ p k e i h.
+        let n = values .header .columns in
+        ap (λ (step : ProverStep). getD (step .values) i 0) (commitAfter-given (loadRules sheet) values p k e)
+        ∙ getD-pad8 0 _ i
+        ∙ image-at values (places n k) i h
+        ∙ rowImage-agree (loads-valid sheet loaded) (places n k) k (getD-places n k) i h;
+    beyond = λ p k i h. eight-beyond _ _ i (rw length-image h);
+  }
+
+  -- a slot of the response, in either kind
+  response-slot : (p : Prover) (c : ℕ) (x : List ℕ) → respond sheet p c x .refusal ≡ 0
+      → (j : ℕ) → j < instanceOf sheet .header .columns
+      → getD (respond sheet p c x .values) j 0 ≡ responseCoordinate (instanceOf sheet .header) (getD (p .nonce) j 0) c (getD x j 0)
+  unfolding respond
+  response-slot p c x e j h =
+      let n = values .header .columns in
+      ap (λ (step : ProverStep). getD (step .values) j 0) (respondAfter-given (loadRules sheet) values p c x e)
+      ∙ getD-pad8 0 _ j
+      ∙ response-at values (places n (p .nonce)) c (places n x) j h
+      ∙ rw (getD-places n (p .nonce) j h, getD-places n x j h)
+
+  -- the response is k + c·x mod q or k·x^c mod m, slot by slot
+  pub responses : RespondsBySlot sheet
+  unfolding respond respondAfter proverStep
+  responses = record {
+    exponent = λ kind p c x e j h. response-slot p c x e j h ∙ responseCoordinate-exponent (values .header) kind _ c _;
+    root = λ kind p c x e j h.
+        let other : values .header .kind ≢ 1 = λ one. omega arith in
+        response-slot p c x e j h ∙ responseCoordinate-root (values .header) other _ c _;
+    beyond = λ p c x j h. eight-beyond _ _ j (rw length-response h);
+  }
+
+  -- ---- Vic
+
+  -- a round is accepted exactly when it fits and 01's equation holds in every row
+  pub sheet-accepted : (round : Round)
+      → (judgeRound sheet round ≡ Accepted) ↔ (Fits (instanceOf sheet) round × Holds (instanceOf sheet) round)
+  sheet-accepted round = rw (judge-loaded sheet loaded round) (valid-judge-accepted values round (loads-valid sheet loaded))
+
+  -- else, if it fits, it is rejected with the first row where the equation does not hold
+  pub sheet-rejected : (round : Round) (row : ℕ)
+      → (judgeRound sheet round ≡ Rejected row) ↔ (Fits (instanceOf sheet) round × FailsFirst (instanceOf sheet) round row)
+  sheet-rejected round row =
+      rw (judge-loaded sheet loaded round) (valid-judge-rejected values round (loads-valid sheet loaded) row)
+
+  -- a round that is not refused is accepted or rejected
+  not-refused : (round : Round) → outcome (judgeRound sheet round) .number ≡ 0
+      → (judgeRound sheet round ≡ Accepted) ⊎ ((row : ℕ) × (judgeRound sheet round ≡ Rejected row))
+  unfolding judgeRound judgeAfter
+  not-refused round = judged-decided _ _ (verdict-not-refused (instanceOf sheet) _ _ _)
+
+  -- it fits
+  not-refused-fits : (round : Round) → outcome (judgeRound sheet round) .number ≡ 0 → Fits (instanceOf sheet) round
+  not-refused-fits round passed =
+      ⊎-elim (λ (e : judgeRound sheet round ≡ Accepted). sheet-accepted round .0 e .0)
+      (λ (found : (row : ℕ) × (judgeRound sheet round ≡ Rejected row)). sheet-rejected round (found .0) .0 (found .1) .0)
+      (not-refused round passed)
+
+  -- and its rows say which
+  pub verdicts : (round : Round) → outcome (judgeRound sheet round) .number ≡ 0 → JudgesByRows sheet round
+  verdicts round passed =
+      let fits = not-refused-fits round passed in
+      record {
+        accepted = (λ e. sheet-accepted round .0 e .1, λ holds. sheet-accepted round .1 (fits, holds));
+        rejected = λ row. (λ e. sheet-rejected round row .0 e .1, λ fails. sheet-rejected round row .1 (fits, fails));
+        decided = not-refused round passed;
+      }
+
+  -- ---- the whole
+
+  -- the protocol holds of every sheet that loads
+  pub protocol : Protocol sheet
+  protocol = record {
+    commitments = commitments;
+    responses = responses;
+    verdicts = verdicts;
+    verifier = takeResponse-given sheet;
+    joint-run = sheet-joint-run sheet loaded;
+  }

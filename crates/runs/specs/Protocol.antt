@@ -1,0 +1,70 @@
+-- Demand 2's protocol (00) in the words of 01 ("A round"), for a sheet: Peggy's commitments and responses and Vic's verdicts.
+-- When a call is refused is demand 1.
+-- Assumes nothing.
+use Prim.Native.Nat.{ℕ, _+_, _*_, _%_, _^_, _<_, _≤_}
+use mathlib.Core.Path.{_≡_}
+use mathlib.Core.Logic.{_↔_, _⊎_}
+use mathlib.Core.List.{List}
+use lib.ListN.{getD}
+use Rattle.types.specs.declared.Prover.{Prover}
+use Rattle.types.specs.declared.Round.{Round}
+use Rattle.types.specs.declared.Verdict.the-variants.{Accepted, Rejected}
+use Rattle.types.specs.declared.Verifier.{Verifier}
+use Rattle.formats.specs.Sheet.{instanceOf}
+use Rattle.sigma.specs.Answer.{outcome}
+use Rattle.sigma.specs.Image.{rowImage}
+use Rattle.sigma.specs.Knowledge.{Choice, Witness}
+use Rattle.sigma.specs.Meaning.{Holds, FailsFirst}
+use Rattle.sigma.specs.Reads.{roundOf}
+use Rattle.runs.specs.Calls.{judgeRound}
+use Rattle.runs.specs.JointRun.{jointRun, Succeeds}
+use Rattle.runs.specs.OnSheet.{readSlots, Below}
+use Rattle.runs.specs.Prover.{commit, respond}
+use Rattle.runs.specs.Verifier.{takeResponse}
+
+-- Peggy's commitment to a nonce k in a session p
+pub record CommitsToImage (sheet : List ℕ) : Type 0 where
+  -- t = [k], row by row
+  pub rows : (p : Prover) (k : List ℕ) → commit sheet p k .refusal ≡ 0 → (i : ℕ) → i < instanceOf sheet .header .rows
+      → getD (commit sheet p k .values) i 0 ≡ rowImage (instanceOf sheet) k i
+  -- places beyond s are 0
+  pub beyond : (p : Prover) (k : List ℕ) (i : ℕ) → instanceOf sheet .header .rows ≤ i
+      → getD (commit sheet p k .values) i 0 ≡ 0
+
+-- Peggy's response to a challenge c with a witness x in a session p
+pub record RespondsBySlot (sheet : List ℕ) : Type 0 where
+  -- slot by slot k + c·x mod q in kind 1
+  pub exponent : instanceOf sheet .header .kind ≡ 1 → (p : Prover) (c : ℕ) (x : List ℕ) → respond sheet p c x .refusal ≡ 0
+      → (j : ℕ) → j < instanceOf sheet .header .columns
+      → getD (respond sheet p c x .values) j 0 ≡ (getD (p .nonce) j 0 + c * getD x j 0) % instanceOf sheet .header .order
+  -- and k·x^c mod m in kind 2
+  pub root : instanceOf sheet .header .kind ≡ 2 → (p : Prover) (c : ℕ) (x : List ℕ) → respond sheet p c x .refusal ≡ 0
+      → (j : ℕ) → j < instanceOf sheet .header .columns
+      → getD (respond sheet p c x .values) j 0 ≡ getD (p .nonce) j 0 * getD x j 0 ^ c % instanceOf sheet .header .modulus
+  -- places beyond n are 0
+  pub beyond : (p : Prover) (c : ℕ) (x : List ℕ) (j : ℕ) → instanceOf sheet .header .columns ≤ j
+      → getD (respond sheet p c x .values) j 0 ≡ 0
+
+-- the verdict on a round that is not refused
+pub record JudgesByRows (sheet : List ℕ) (round : Round) : Type 0 where
+  -- it is accepted exactly where [r]_i = t_i · z_i^c mod m in every row i
+  pub accepted : (judgeRound sheet round ≡ Accepted) ↔ Holds (instanceOf sheet) round
+  -- and rejected with a row exactly where that is the first row whose two sides differ
+  pub rejected : (row : ℕ) → (judgeRound sheet round ≡ Rejected row) ↔ FailsFirst (instanceOf sheet) round row
+  -- it is one of the two
+  pub decided : (judgeRound sheet round ≡ Accepted) ⊎ ((row : ℕ) × (judgeRound sheet round ≡ Rejected row))
+
+-- the protocol on a sheet
+pub record Protocol (sheet : List ℕ) : Type 0 where
+  -- Peggy's commitments and responses
+  pub commitments : CommitsToImage sheet
+  pub responses : RespondsBySlot sheet
+  -- the verdicts of the call that judges rounds
+  pub verdicts : (round : Round) → outcome (judgeRound sheet round) .number ≡ 0 → JudgesByRows sheet round
+  -- Vic's verdict is what judging answers on the held commitment, the held challenge and the response
+  pub verifier : (v : Verifier) (r : List ℕ) → outcome (takeResponse sheet v r .verdict) .number ≡ 0
+      → takeResponse sheet v r .verdict ≡ judgeRound sheet (roundOf (v .commitment) (v .challenge) r)
+  -- both boxes together: for a witness, a nonce of domain slots and a challenge below K no call is refused and Vic accepts
+  pub joint-run : (x k : List ℕ) (c : ℕ) → Witness (instanceOf sheet) (readSlots sheet x)
+      → Choice (instanceOf sheet) (readSlots sheet k) → Below sheet c
+      → Succeeds (jointRun sheet x c k)
