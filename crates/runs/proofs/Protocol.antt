@@ -17,7 +17,7 @@ use Rattle.formats.specs.Load.{loadRules, loadRefusal}
 use Rattle.formats.specs.Sheet.{instanceOf}
 use Rattle.formats.proofs.Loads.{loads-valid}
 use Rattle.sigma.specs.Answer.{eightPlaces, outcome}
-use Rattle.sigma.specs.Instance.{Instance}
+use Rattle.sigma.specs.Instance.{Instance, tableOf}
 use Rattle.sigma.specs.Judge.{judgeAfter}
 use Rattle.sigma.specs.Meaning.{Holds, FailsFirst, Fits}
 use Rattle.sigma.specs.Round.{responseCoordinate}
@@ -57,8 +57,8 @@ module _ (sheet : List ℕ) (loaded : loadRefusal sheet ≡ 0) where
         let n = values .header .columns in
         ap (λ (step : ProverStep). getD (step .values) i 0) (commitAfter-given (loadRules sheet) values p k e)
         ∙ getD-pad8 0 _ i
-        ∙ image-at values (places n k) i h
-        ∙ rowImage-agree (loads-valid sheet loaded) (places n k) k (getD-places n k) i h;
+        ∙ image-at (tableOf values) (places n k) i h
+        ∙ rowImage-agree (loads-valid sheet loaded .table) (places n k) k (getD-places n k) i h;
     beyond = λ p k i h. eight-beyond _ _ i (rw length-image h);
   }
 
@@ -71,7 +71,7 @@ module _ (sheet : List ℕ) (loaded : loadRefusal sheet ≡ 0) where
       let n = values .header .columns in
       ap (λ (step : ProverStep). getD (step .values) j 0) (respondAfter-given (loadRules sheet) values p c x e)
       ∙ getD-pad8 0 _ j
-      ∙ response-at values (places n (p .nonce)) c (places n x) j h
+      ∙ response-at (values .header) (places n (p .nonce)) c (places n x) j h
       ∙ rw (getD-places n (p .nonce) j h, getD-places n x j h)
 
   -- the response is k + c·x mod q or k·x^c mod m, slot by slot

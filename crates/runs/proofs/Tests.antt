@@ -68,7 +68,7 @@ says-asked Judged = record { sound = λ e. absurd (false≢true e); complete = �
 pub says-unfitProver : {inst : Instance} → Valid inst → (p : Prover) → Says (unfitProver inst p) (UnfitProver inst p)
 unfolding unfitProver
 says-unfitProver {inst} v p =
-    rw (image-read v (p .nonce)) (says-or (coordinates-read inst (p .nonce)) (says-differ 8 _ (p .commitment)))
+    rw (image-read (v .table) (p .nonce)) (says-or (coordinates-read inst (p .nonce)) (says-differ 8 _ (p .commitment)))
 
 -- the commitment that Vic holds does not fit the instance
 pub says-unfitCommitment : (inst : Instance) (v : Verifier) → Says (unfitCommitment inst v) (UnfitCommitment inst v)

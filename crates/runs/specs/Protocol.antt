@@ -13,6 +13,7 @@ use Rattle.types.specs.declared.Verifier.{Verifier}
 use Rattle.formats.specs.Sheet.{instanceOf}
 use Rattle.sigma.specs.Answer.{outcome}
 use Rattle.sigma.specs.Image.{rowImage}
+use Rattle.sigma.specs.Instance.{tableOf}
 use Rattle.sigma.specs.Knowledge.{Choice, Witness}
 use Rattle.sigma.specs.Meaning.{Holds, FailsFirst}
 use Rattle.sigma.specs.Reads.{roundOf}
@@ -26,7 +27,7 @@ use Rattle.runs.specs.Verifier.{takeResponse}
 pub record CommitsToImage (sheet : List ℕ) : Type 0 where
   -- t = [k], row by row
   pub rows : (p : Prover) (k : List ℕ) → commit sheet p k .refusal ≡ 0 → (i : ℕ) → i < instanceOf sheet .header .rows
-      → getD (commit sheet p k .values) i 0 ≡ rowImage (instanceOf sheet) k i
+      → getD (commit sheet p k .values) i 0 ≡ rowImage (tableOf (instanceOf sheet)) k i
   -- places beyond s are 0
   pub beyond : (p : Prover) (k : List ℕ) (i : ℕ) → instanceOf sheet .header .rows ≤ i
       → getD (commit sheet p k .values) i 0 ≡ 0

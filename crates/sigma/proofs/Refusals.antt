@@ -19,14 +19,14 @@ use Rattle.sigma.specs.Comparison.{differ}
 use Rattle.sigma.specs.Element.{Element, Coordinate}
 use Rattle.sigma.specs.Extractor.{pairRules, extractRules}
 use Rattle.sigma.specs.Image.{image}
-use Rattle.sigma.specs.Instance.{Instance}
+use Rattle.sigma.specs.Instance.{Instance, Table}
 use Rattle.sigma.specs.Judge.{judgeRules}
 use Rattle.sigma.specs.Meaning.{Holds}
 use Rattle.sigma.specs.Refusals.{Refusal14, Refusal16, Refusal17, Refusal18}
 use Rattle.sigma.specs.Refusals.{headerConditions, elementConditions, judgeConditions, simulateConditions, extractConditions}
 use Rattle.sigma.specs.Round.{badCommitment, badCoordinates, badWitness, verdict}
 use Rattle.sigma.specs.Simulator.{simulateRules}
-use Rattle.sigma.specs.Valid.{Valid}
+use Rattle.sigma.specs.Valid.{Valid, ValidTable}
 use Rattle.sigma.proofs.Comparison.{says-differ}
 use Rattle.sigma.proofs.Tests.{says-badKind, says-badModulus, says-badOrder, says-badSize, says-badCount}
 use Rattle.sigma.proofs.Tests.{says-badEntries, says-badStatement}
@@ -75,15 +75,17 @@ module _ (i : Instance) where
       )
 
 -- the image of what is read of x is the image of x
-pub image-read : {i : Instance} → Valid i → (x : List ℕ) → image i (places (i .header .columns) x) ≡ image i x
+pub image-read : {table : Table} → ValidTable table → (x : List ℕ)
+    → image table (places (table .header .columns) x) ≡ image table x
 unfolding image
-image-read {i} v x =
-    tabulate-agree (i .header .rows) _ _ (rowImage-agree v (places (i .header .columns) x) x (getD-places (i .header .columns) x))
+image-read {table} v x =
+    let n = table .header .columns in
+    tabulate-agree (table .header .rows) _ _ (rowImage-agree v (places n x) x (getD-places n x))
 
 -- 17
 pub witness-read : {i : Instance} → Valid i → (x : List ℕ) → Says (badWitness i (places (i .header .columns) x)) (Refusal17 i x)
 unfolding badWitness
-witness-read {i} v x = rw (image-read v x) (says-badWitness i x)
+witness-read {i} v x = rw (image-read (v .table) x) (says-badWitness i x)
 
 -- 20: a round is not accepted exactly when the two sides of some row differ
 round-read : {i : Instance} → Valid i → (round : Round)
