@@ -5,7 +5,7 @@ use Prim.Native.Nat.{ℕ, _+_, _*_, _/_, _%_, _≤_, _<_}
 use native.Mathlib.Nat.{le-of-lt, mod-add-div, mul-comm, mul-le-mul-left, div-le-of-le-mul}
 use native.Mathlib.Omega.{arith}
 use lib.IntN.{pos, negℤ}
-use Rattle.groups.specs.Round.{Bezout}
+use Rattle.groups.specs.Transcript.{Bezout}
 use Rattle.numbers.specs.Gcd.{gcd}
 use Rattle.numbers.specs.Inverse.{inverse}
 use Rattle.numbers.proofs.Congruence.{mod-is-one}

@@ -1,7 +1,7 @@
 -- Laws of a commutative group that follow from its axioms.
 -- Assumes nothing.
 use mathlib.Core.Path.{_≡_, sym, ap, _∙_}
-use Rattle.groups.specs.Group.{Group, quotient}
+use Rattle.groups.specs.Group.{Group, groupQuotient}
 
 module _ {A : Type 0} (G : Group A) where
   infixl 70 _·_
@@ -46,13 +46,13 @@ module _ {A : Type 0} (G : Group A) where
   inverse-of-inverse x = sym (inverse-unique (inverse x) x (inverse-right x))
 
   -- a quotient turned round is its inverse
-  pub inverse-of-quotient : (x y : A) → inverse (quotient G x y) ≡ quotient G y x
-  unfolding quotient
+  pub inverse-of-quotient : (x y : A) → inverse (groupQuotient G x y) ≡ groupQuotient G y x
+  unfolding groupQuotient
   inverse-of-quotient x y =
       cc (inverse-of-product x (inverse y), inverse-of-inverse y, G .commutative (inverse x) y)
 
   -- a common factor cancels out of a quotient
-  pub quotient-cancel : (w x y : A) → quotient G (w · x) (w · y) ≡ quotient G x y
-  unfolding quotient
+  pub quotient-cancel : (w x y : A) → groupQuotient G (w · x) (w · y) ≡ groupQuotient G x y
+  unfolding groupQuotient
   quotient-cancel w x y =
       cc (inverse-of-product w y, interchange w x (inverse w) (inverse y), inverse-right w, G .unit-left (x · inverse y))

@@ -4,7 +4,7 @@ use mathlib.Core.Path.{_≡_, refl, sym, ap, _∙_}
 use Prim.Native.Nat.{ℕ, zero, suc}
 use lib.IntN.{ℤ, pos, negsuc, sucℤ, predℤ, negℤ, _+ℤ_, _-ℤ_, _*ℤ_, suc-pred, +ℤ-idr, +ℤ-sucℤ, +ℤ-predℤ, +ℤ-invl}
 use lib.IntN.{*ℤ-zero, *ℤ-comm, sucℤ-*ℤ, predℤ-*ℤ}
-use Rattle.groups.specs.Group.{Group, repeated, powerWith, power, quotient}
+use Rattle.groups.specs.Group.{Group, repeated, powerWith, groupPower, groupQuotient}
 use Rattle.groups.specs.Homomorphism.{Homomorphism}
 use Rattle.groups.proofs.Groups.{unit-right, divide-multiply, multiply-divide, cancel-right, interchange}
 use Rattle.groups.proofs.Groups.{inverse-unique, inverse-of-product}
@@ -21,65 +21,65 @@ module _ {A : Type 0} (G : Group A) where
   open Group G using (product as _·_, unit, inverse)
 
   -- x^0 is the unit
-  pub power-zero : (x : A) → power G x (pos 0) ≡ unit
-  unfolding power powerWith repeated
+  pub power-zero : (x : A) → groupPower G x (pos 0) ≡ unit
+  unfolding groupPower powerWith repeated
   power-zero x = refl
 
   -- x^1 is x
-  pub power-one : (x : A) → power G x (pos 1) ≡ x
-  unfolding power powerWith repeated
+  pub power-one : (x : A) → groupPower G x (pos 1) ≡ x
+  unfolding groupPower powerWith repeated
   power-one x = G .unit-left x
 
   -- x^(k + 1) = x^k · x
-  pub power-suc : (x : A) (k : ℤ) → power G x (sucℤ k) ≡ power G x k · x
-  unfolding power powerWith repeated
+  pub power-suc : (x : A) (k : ℤ) → groupPower G x (sucℤ k) ≡ groupPower G x k · x
+  unfolding groupPower powerWith repeated
   power-suc x (pos n) = refl
   power-suc x (negsuc zero) = sym (divide-multiply G unit x)
-  power-suc x (negsuc (suc n)) = sym (divide-multiply G (power G x (negsuc n)) x)
+  power-suc x (negsuc (suc n)) = sym (divide-multiply G (groupPower G x (negsuc n)) x)
 
   -- x^(k − 1) = x^k / x
-  pub power-pred : (x : A) (k : ℤ) → power G x (predℤ k) ≡ power G x k · inverse x
-  power-pred x k = cc (suc-pred k, power-suc x (predℤ k), multiply-divide G (power G x (predℤ k)) x)
+  pub power-pred : (x : A) (k : ℤ) → groupPower G x (predℤ k) ≡ groupPower G x k · inverse x
+  power-pred x k = cc (suc-pred k, power-suc x (predℤ k), multiply-divide G (groupPower G x (predℤ k)) x)
 
   -- x^(j + k) = x^j · x^k
-  pub power-sum : (x : A) (j k : ℤ) → power G x (j +ℤ k) ≡ power G x j · power G x k
-  power-sum x j = integer-steps (λ k. power G x (j +ℤ k) ≡ power G x j · power G x k)
-      (cc (+ℤ-idr j, unit-right G (power G x j), power-zero x))
-      (λ k h. cc (+ℤ-sucℤ j k, power-suc x (j +ℤ k), power-suc x k, G .associative (power G x j) (power G x k) x))
-      (λ k h. cc (+ℤ-predℤ j k, power-pred x (j +ℤ k), power-pred x k, G .associative (power G x j) (power G x k) (inverse x)))
+  pub power-sum : (x : A) (j k : ℤ) → groupPower G x (j +ℤ k) ≡ groupPower G x j · groupPower G x k
+  power-sum x j = integer-steps (λ k. groupPower G x (j +ℤ k) ≡ groupPower G x j · groupPower G x k)
+      (cc (+ℤ-idr j, unit-right G (groupPower G x j), power-zero x))
+      (λ k h. cc (+ℤ-sucℤ j k, power-suc x (j +ℤ k), power-suc x k, G .associative (groupPower G x j) (groupPower G x k) x))
+      (λ k h. cc (+ℤ-predℤ j k, power-pred x (j +ℤ k), power-pred x k, G .associative (groupPower G x j) (groupPower G x k) (inverse x)))
 
   -- x^(−k) is the inverse of x^k
-  pub power-negation : (x : A) (k : ℤ) → power G x (negℤ k) ≡ inverse (power G x k)
-  power-negation x k = inverse-unique G (power G x k) (power G x (negℤ k)) (cc (power-sum x (negℤ k) k, +ℤ-invl k, power-zero x))
+  pub power-negation : (x : A) (k : ℤ) → groupPower G x (negℤ k) ≡ inverse (groupPower G x k)
+  power-negation x k = inverse-unique G (groupPower G x k) (groupPower G x (negℤ k)) (cc (power-sum x (negℤ k) k, +ℤ-invl k, power-zero x))
 
   -- x^(j − k) = x^j / x^k
-  pub power-difference : (x : A) (j k : ℤ) → power G x (j -ℤ k) ≡ quotient G (power G x j) (power G x k)
-  unfolding quotient
+  pub power-difference : (x : A) (j k : ℤ) → groupPower G x (j -ℤ k) ≡ groupQuotient G (groupPower G x j) (groupPower G x k)
+  unfolding groupQuotient
   power-difference x j k = cc (power-sum x j (negℤ k), power-negation x k)
 
   -- (x^j)^k = x^(j · k)
-  pub power-power : (x : A) (j k : ℤ) → power G (power G x j) k ≡ power G x (j *ℤ k)
-  unfolding quotient
-  power-power x j = integer-steps (λ k. power G (power G x j) k ≡ power G x (j *ℤ k))
-      (cc (power-zero (power G x j), *ℤ-zero j, power-zero x))
-      (λ k h. cc (power-suc (power G x j) k, *ℤ-comm j (sucℤ k), sucℤ-*ℤ k j, *ℤ-comm k j, power-sum x (j *ℤ k) j))
-      (λ k h. cc (power-pred (power G x j) k, *ℤ-comm j (predℤ k), predℤ-*ℤ k j, *ℤ-comm k j, power-difference x (j *ℤ k) j))
+  pub power-power : (x : A) (j k : ℤ) → groupPower G (groupPower G x j) k ≡ groupPower G x (j *ℤ k)
+  unfolding groupQuotient
+  power-power x j = integer-steps (λ k. groupPower G (groupPower G x j) k ≡ groupPower G x (j *ℤ k))
+      (cc (power-zero (groupPower G x j), *ℤ-zero j, power-zero x))
+      (λ k h. cc (power-suc (groupPower G x j) k, *ℤ-comm j (sucℤ k), sucℤ-*ℤ k j, *ℤ-comm k j, power-sum x (j *ℤ k) j))
+      (λ k h. cc (power-pred (groupPower G x j) k, *ℤ-comm j (predℤ k), predℤ-*ℤ k j, *ℤ-comm k j, power-difference x (j *ℤ k) j))
 
   -- (x^j)^k = (x^k)^j
-  pub power-swap : (x : A) (j k : ℤ) → power G (power G x j) k ≡ power G (power G x k) j
+  pub power-swap : (x : A) (j k : ℤ) → groupPower G (groupPower G x j) k ≡ groupPower G (groupPower G x k) j
   power-swap x j k = cc (power-power x j k, power-power x k j, *ℤ-comm j k)
 
   -- (x · y)^k = x^k · y^k
-  pub power-of-product : (x y : A) (k : ℤ) → power G (x · y) k ≡ power G x k · power G y k
-  power-of-product x y = integer-steps (λ k. power G (x · y) k ≡ power G x k · power G y k)
+  pub power-of-product : (x y : A) (k : ℤ) → groupPower G (x · y) k ≡ groupPower G x k · groupPower G y k
+  power-of-product x y = integer-steps (λ k. groupPower G (x · y) k ≡ groupPower G x k · groupPower G y k)
       (cc (power-zero (x · y), power-zero x, power-zero y, G .unit-left unit))
-      (λ k h. cc (power-suc (x · y) k, power-suc x k, power-suc y k, interchange G (power G x k) (power G y k) x y))
+      (λ k h. cc (power-suc (x · y) k, power-suc x k, power-suc y k, interchange G (groupPower G x k) (groupPower G y k) x y))
       (λ k h. cc (
         power-pred (x · y) k,
         power-pred x k,
         power-pred y k,
         inverse-of-product G x y,
-        interchange G (power G x k) (power G y k) (inverse x) (inverse y),
+        interchange G (groupPower G x k) (groupPower G y k) (inverse x) (inverse y),
       ))
 
 module _ {A B : Type 0} (G : Group A) (g : A → B) (product : B → B → B) (unit : B) (inverse : B → B)
@@ -93,8 +93,8 @@ module _ {A B : Type 0} (G : Group A) (g : A → B) (product : B → B → B) (u
   repeated-image x (suc n) = products _ x ∙ ap (λ (y : B). product y (g x)) (repeated-image x n)
 
   -- a map that respects the operations carries x^k to the power of g x
-  pub power-image : (x : A) (k : ℤ) → g (power G x k) ≡ powerWith product unit inverse (g x) k
-  unfolding power powerWith
+  pub power-image : (x : A) (k : ℤ) → g (groupPower G x k) ≡ powerWith product unit inverse (g x) k
+  unfolding groupPower powerWith
   power-image x (pos n) = repeated-image x n
   power-image x (negsuc n) = repeated-image (G .inverse x) (suc n) ∙ ap (λ (y : B). repeated product unit y (suc n)) (inverses x)
 
@@ -110,12 +110,12 @@ module _ {A B : Type 0} {G : Group A} {H : Group B} (f : Homomorphism G H) where
       (cc (f .preserves (G .inverse x) x, G .inverse-left x, preserves-unit))
 
   -- a quotient is carried to the quotient
-  pub preserves-quotient : (x y : A) → f .map (quotient G x y) ≡ quotient H (f .map x) (f .map y)
-  unfolding quotient
+  pub preserves-quotient : (x y : A) → f .map (groupQuotient G x y) ≡ groupQuotient H (f .map x) (f .map y)
+  unfolding groupQuotient
   preserves-quotient x y = cc (f .preserves x (G .inverse y), preserves-inverse y)
 
   -- a power is carried to the power
-  pub preserves-power : (x : A) (k : ℤ) → f .map (power G x k) ≡ power H (f .map x) k
-  unfolding power
+  pub preserves-power : (x : A) (k : ℤ) → f .map (groupPower G x k) ≡ groupPower H (f .map x) k
+  unfolding groupPower
   preserves-power =
       power-image G (f .map) (H .product) (H .unit) (H .inverse) (f .preserves) preserves-unit preserves-inverse

@@ -4,7 +4,7 @@ use mathlib.Core.Path.{_≡_, refl}
 use Prim.Native.Nat.{ℕ, suc, _<_}
 use lib.IntN.{ℤ, pos, negsuc}
 use lib.ListN.{getD}
-use Rattle.groups.specs.Group.{repeated, powerWith, power, quotient}
+use Rattle.groups.specs.Group.{repeated, powerWith, groupPower, groupQuotient}
 use Rattle.groups.specs.Vector.{Vector, NumberGroup, numberPower, vectorGroup}
 use Rattle.groups.specs.Vector.{value-of-product, value-of-unit, value-of-inverse}
 use Rattle.groups.proofs.Powers.{power-image}
@@ -28,13 +28,13 @@ module _ {P : ℕ → Type 0} (N : NumberGroup P) where
 module _ {P : ℕ → Type 0} (N : NumberGroup P) (n : ℕ) where
   -- the j-th value of a quotient is the quotient of the j-th values
   pub value-of-quotient : (x y : Vector P n) (j : ℕ) → j < n
-      → getD ((quotient (vectorGroup N n) x y) .0) j 0 ≡ N .product (getD (x .0) j 0) (N .inverse (getD (y .0) j 0))
-  unfolding quotient vectorGroup
+      → getD ((groupQuotient (vectorGroup N n) x y) .0) j 0 ≡ N .product (getD (x .0) j 0) (N .inverse (getD (y .0) j 0))
+  unfolding groupQuotient vectorGroup
   value-of-quotient x y j h = cc (value-of-product N n x ((vectorGroup N n) .inverse y) j h, value-of-inverse N n y j h)
 
   -- the j-th value of a power is the power of the j-th value
   pub value-of-power : (x : Vector P n) (k : ℤ) (j : ℕ) → j < n
-      → getD ((power (vectorGroup N n) x k) .0) j 0 ≡ numberPower N (getD (x .0) j 0) k
+      → getD ((groupPower (vectorGroup N n) x k) .0) j 0 ≡ numberPower N (getD (x .0) j 0) k
   unfolding numberPower vectorGroup
   value-of-power x k j h =
       power-image (vectorGroup N n) (λ (y : Vector P n). getD (y .0) j 0) (N .product) (N .unit) (N .inverse)

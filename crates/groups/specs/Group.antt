@@ -26,9 +26,9 @@ powerWith product unit inverse x (pos n) = repeated product unit x n
 powerWith product unit inverse x (negsuc n) = repeated product unit (inverse x) (suc n)
 
 -- x^k in the group
-unfoldable pub power : {A : Type 0} → Group A → A → ℤ → A
-power G = powerWith (G .product) (G .unit) (G .inverse)
+unfoldable pub groupPower : {A : Type 0} → Group A → A → ℤ → A
+groupPower G = powerWith (G .product) (G .unit) (G .inverse)
 
 -- the quotient x / y in the group
-unfoldable pub quotient : {A : Type 0} → Group A → A → A → A
-quotient G x y = G .product x (G .inverse y)
+unfoldable pub groupQuotient : {A : Type 0} → Group A → A → A → A
+groupQuotient G x y = G .product x (G .inverse y)

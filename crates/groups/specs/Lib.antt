@@ -1,5 +1,5 @@
--- Definitions of commutative groups, their powers and n-fold products, homomorphisms and Maurer's round.
+-- Definitions of commutative groups, their powers and n-fold products, homomorphisms and Maurer's transcripts.
 pub mod Group
 pub mod Homomorphism
 pub mod Vector
-pub mod Round
+pub mod Transcript

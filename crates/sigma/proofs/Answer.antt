@@ -1,4 +1,4 @@
--- Answers: two verdicts never have the same outcome, and a refusal's number decides between a value and a refusal.
+-- Answers: each verdict has its outcome, two verdicts never have the same, and a refusal's number decides between a value and a refusal.
 -- Assumes nothing.
 use Prim.Native.Nat.{ℕ, zero, suc, _<_}
 use mathlib.Core.Path.{_≡_, refl, sym, ap, _∙_}
@@ -10,7 +10,12 @@ use Rattle.types.specs.declared.Verdict.{Verdict}
 use Rattle.types.specs.declared.Verdict.the-variants.{Accepted, Rejected, Refused}
 use Rattle.lists.specs.Places.{pad8, zeros8}
 use Rattle.rules.specs.Answer.{unlessRefused}
-use Rattle.sigma.specs.Answer.{Outcome, outcome, judged, eightPlaces, computed}
+use Rattle.sigma.specs.Answer.{Outcome, outcome, VerdictOutcomes, judged, eightPlaces, computed}
+
+-- each verdict has its outcome
+pub verdict-outcomes : VerdictOutcomes
+unfolding outcome
+verdict-outcomes = record { accepted = refl; rejected = λ row. refl; refused = λ number. refl }
 
 -- two verdicts with the same outcome are the same
 pub outcome-injective : (v w : Verdict) → outcome v ≡ outcome w → v ≡ w

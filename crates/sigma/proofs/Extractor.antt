@@ -9,7 +9,7 @@ use Rattle.types.specs.declared.Header.{Header}
 use Rattle.types.specs.declared.Round.{Round}
 use Rattle.lists.specs.Places.{places, pad8}
 use Rattle.lists.proofs.Places.{getD-places, places-agree}
-use Rattle.groups.specs.Round.{Accepts, Bezout}
+use Rattle.groups.specs.Transcript.{Accepting, Bezout}
 use Rattle.groups.specs.Vector.{same-vector}
 use Rattle.numbers.specs.Integer.{bezoutLeft, bezoutRight}
 use Rattle.numbers.proofs.Coprime.{bezout-challenges}
@@ -84,7 +84,7 @@ module _ {inst : Instance} (v : Valid inst) (first second : Round)
       let same : two .commitment ≡ one .commitment = same-vector (elementsOf (v .table)) (inst .header .rows) (two .commitment) (one .commitment)
       (places-agree (inst .header .rows) (second .commitment) (first .commitment) (λ i h. sym (p .commitments i h))) in
       let accepts = from-accepted v first (runs v first second p .first-fits) (p .first-accepted) in
-      let accepts′ = subst (λ (t : Codomain (tableOf inst)). Accepts (homomorphism (v .table)) (statementVector v) t c′ (two .response)) same
+      let accepts′ = subst (λ (t : Codomain (tableOf inst)). Accepting (homomorphism (v .table)) (statementVector v) t c′ (two .response)) same
       (from-accepted v second (runs v first second p .second-fits) (p .second-accepted)) in
       let delta : ℤ = pos c -ℤ pos c′ in
       let fit = chosen v first second p in

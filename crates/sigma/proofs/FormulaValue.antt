@@ -12,10 +12,10 @@ use lib.Seq.{ext-getD}
 use Rattle.lists.specs.Places.{tabulate}
 use Rattle.lists.proofs.Each.{each-from, each-at, each-length}
 use Rattle.lists.proofs.Places.{length-tabulate, getD-tabulate}
-use Rattle.groups.specs.Group.{power as groupPower, quotient}
-use Rattle.groups.specs.Round.{Accepts, Bezout, witnessFormula}
+use Rattle.groups.specs.Group.{groupPower, groupQuotient}
+use Rattle.groups.specs.Transcript.{Accepting, Bezout, witnessFormula}
 use Rattle.groups.specs.Vector.{same-slots}
-use Rattle.groups.proofs.Extraction.{quotient-image, extracted, any-choice, swapped}
+use Rattle.groups.proofs.Extraction.{quotient-image, formula-carried, any-choice, swapped}
 use Rattle.numbers.proofs.Exponent.{power-pos}
 use Rattle.numbers.proofs.Integer.{residue-pos}
 use Rattle.numbers.proofs.Product.{product-agree, product-one}
@@ -92,10 +92,10 @@ module _ {inst : Instance} (v : Valid inst) where
       ext-getD 0 (x .0) (formula inst a b (r .0) (r′ .0)) (long ∙ sym (length-formula inst a b (r .0) (r′ .0))) (λ j l.
       let h : j < inst .header .columns = omega arith in
       cc (
-        product-slot (v .table) (groupPower G baseOf a) (groupPower G (quotient G r r′) b) j h,
+        product-slot (v .table) (groupPower G baseOf a) (groupPower G (groupQuotient G r r′) b) j h,
         power-slot (v .table) baseOf a j h,
         baseOf-at j h,
-        power-slot (v .table) (quotient G r r′) b j h,
+        power-slot (v .table) (groupQuotient G r r′) b j h,
         quotient-slot (v .table) r r′ j h,
         slot-combined (inst .header) (statementAt inst j) a b (getD (r .0) j 0) (getD (r′ .0) j 0) (each-at _ _ (r′ .0) (r′ .1) j h),
         formula-at inst a b (r .0) (r′ .0) j h,
@@ -111,15 +111,15 @@ module _ {inst : Instance} (v : Valid inst) where
       ∙ rw (baseSlot-exponent (inst .header) e _, *ℤ-zero k) (residue-pos q 0 ∙ zero-mod q))
 
   module _ (t : Codomain (tableOf inst)) (c c′ : ℕ) (r r′ : Domain (tableOf inst))
-      (first : Accepts (homomorphism (v .table)) (statementVector v) t c r) (second : Accepts (homomorphism (v .table)) (statementVector v) t c′ r′) where
+      (first : Accepting (homomorphism (v .table)) (statementVector v) t c r) (second : Accepting (homomorphism (v .table)) (statementVector v) t c′ r′) where
     -- in kind 2 a row of the image is the slot's power ℓ, and [r/r′] = z^(c − c′)
     root-matching : inst .header .kind ≢ 1 → (j : ℕ) → j < inst .header .columns
-        → raise (inst .header) (getD ((quotient (domainGroup (v .table)) r r′) .0) j 0) (pos (inst .header .order))
+        → raise (inst .header) (getD ((groupQuotient (domainGroup (v .table)) r r′) .0) j 0) (pos (inst .header .order))
         ≡ raise (inst .header) (baseCoordinate inst j) (pos c -ℤ pos c′)
     unfolding homomorphism
     root-matching n j h =
         let row = column-row n j h in
-        let y : Domain (tableOf inst) = quotient (domainGroup (v .table)) r r′ in
+        let y : Domain (tableOf inst) = groupQuotient (domainGroup (v .table)) r r′ in
         let whole = quotient-image (homomorphism (v .table)) (statementVector v) t c c′ r r′ first second in
         let carried = ap (λ (w : Codomain (tableOf inst)). getD (w .0) j 0) whole in
         raise-root (inst .header) n _ (pos (inst .header .order)) ∙ power-pos _ _ _ ∙ sym (rowImage-root (tableOf inst) n (y .0) j)
@@ -128,10 +128,10 @@ module _ {inst : Instance} (v : Valid inst) where
         ∙ rw (baseSlot-root (inst .header) n _, statementVector-at v j row))
 
     -- (r/r′)^ℓ = u^(c − c′)
-    pub matching : groupPower (domainGroup (v .table)) (quotient (domainGroup (v .table)) r r′) (pos (inst .header .order))
+    pub matching : groupPower (domainGroup (v .table)) (groupQuotient (domainGroup (v .table)) r r′) (pos (inst .header .order))
         ≡ groupPower (domainGroup (v .table)) baseOf (pos c -ℤ pos c′)
     matching = same-slots (coordinatesOf (v .table)) (inst .header .columns) _ _ (λ j h.
-        power-slot (v .table) (quotient (domainGroup (v .table)) r r′) (pos (inst .header .order)) j h
+        power-slot (v .table) (groupQuotient (domainGroup (v .table)) r r′) (pos (inst .header .order)) j h
         ∙ by-kind (inst .header) (λ e. exponent-matching e _ j _) (λ n. root-matching n j h)
         ∙ sym (power-slot (v .table) baseOf (pos c -ℤ pos c′) j h ∙ rw (baseOf-at j h)))
 
@@ -141,7 +141,7 @@ module _ {inst : Instance} (v : Valid inst) where
     formula-witness a b one =
         let x : Domain (tableOf inst) = witnessFormula (domainGroup (v .table)) baseOf a b r r′ in
         let ℓ = inst .header .order in
-        let carried = extracted (homomorphism (v .table)) (statementVector v) t c c′ r r′ first second baseOf ℓ base-image a b one in
+        let carried = formula-carried (homomorphism (v .table)) (statementVector v) t c c′ r r′ first second baseOf ℓ base-image a b one in
         subst (Witness inst) (formula-value a b r r′) (record { slots = x .1; carried = ap (λ (y : Codomain (tableOf inst)). y .0) carried })
 
     -- all integers that fit give the same value

@@ -7,9 +7,8 @@ use lib.IntN.{ℤ, pos, negℤ}
 use lib.ListN.{getD}
 use Rattle.lists.proofs.Each.{each-at}
 use Rattle.lists.proofs.Places.{getD-places}
-use Rattle.groups.specs.Group.{power as groupPower, quotient}
-use Rattle.groups.specs.Round.{Accepts}
-use Rattle.groups.specs.Round.{response as groupResponse, simulated as groupSimulated}
+use Rattle.groups.specs.Group.{groupPower, groupQuotient}
+use Rattle.groups.specs.Transcript.{Accepting, honestResponse, simulatedCommitment}
 use Rattle.groups.specs.Vector.{numberPower, vectorGroup, value-of-product}
 use Rattle.groups.proofs.Vectors.{value-of-power, value-of-quotient}
 use Rattle.groups.proofs.Rows.{accepted-row, accepted-by-rows, value-of-simulated, value-of-response}
@@ -55,7 +54,7 @@ module _ {table : Table} (v : ValidTable table) where
 
   -- slot j of a quotient
   pub quotient-slot : (x y : Domain table) (j : ℕ) → j < table .header .columns
-      → getD ((quotient (domainGroup v) x y) .0) j 0 ≡ combine (table .header) (getD (x .0) j 0) (opposite (table .header) (getD (y .0) j 0))
+      → getD ((groupQuotient (domainGroup v) x y) .0) j 0 ≡ combine (table .header) (getD (x .0) j 0) (opposite (table .header) (getD (y .0) j 0))
   unfolding coordinatesOf coordinateGroup
   quotient-slot = value-of-quotient (coordinatesOf v) (table .header .columns)
 
@@ -67,7 +66,7 @@ module _ {table : Table} (v : ValidTable table) where
 
   -- slot j of the response
   pub response-value : (c : ℕ) (x k : Domain table) (j : ℕ) → j < table .header .columns
-      → getD ((groupResponse (domainGroup v) x c k) .0) j 0 ≡ getD (response (table .header) (k .0) c (x .0)) j 0
+      → getD ((honestResponse (domainGroup v) x c k) .0) j 0 ≡ getD (response (table .header) (k .0) c (x .0)) j 0
   unfolding coordinatesOf coordinateGroup
   response-value c x k j h =
       let y = getD (x .0) j 0 in
@@ -98,7 +97,7 @@ module _ {inst : Instance} (v : Valid inst) where
 
     -- Maurer's verifier accepts exactly where 01's equation holds in every row
     pub accepts-holds : (t : Codomain (tableOf inst)) (r : Domain (tableOf inst))
-        → Accepts (homomorphism (v .table)) statementVector t c r ↔ Holds inst (roundOf (t .0) c (r .0))
+        → Accepting (homomorphism (v .table)) statementVector t c r ↔ Holds inst (roundOf (t .0) c (r .0))
     unfolding homomorphism
     accepts-holds t r =
         let s = inst .header .rows in
@@ -114,7 +113,7 @@ module _ {inst : Instance} (v : Valid inst) where
 
     -- row i of the simulator's commitment
     pub simulated-value : (r : Domain (tableOf inst)) (i : ℕ) → i < inst .header .rows
-        → getD ((groupSimulated (homomorphism (v .table)) statementVector c r) .0) i 0 ≡ getD (simulated inst c (r .0)) i 0
+        → getD ((simulatedCommitment (homomorphism (v .table)) statementVector c r) .0) i 0 ≡ getD (simulated inst c (r .0)) i 0
     unfolding homomorphism
     simulated-value r i h =
         let s = inst .header .rows in

@@ -5,9 +5,9 @@ use Prim.Native.Nat.{ℕ, _<_}
 use mathlib.Core.Path.{_≡_, refl, sym}
 use mathlib.Core.List.{List}
 use Rattle.types.specs.declared.Verdict.the-variants.{Accepted}
-use Rattle.groups.specs.Round.{honestRound}
+use Rattle.groups.specs.Transcript.{honestTranscript}
 use Rattle.groups.specs.Vector.{same-vector}
-use Rattle.groups.proofs.Simulation.{honest-rounds as group-honest-rounds}
+use Rattle.groups.proofs.Simulation.{honest-transcripts}
 use Rattle.sigma.specs.Instance.{Instance, tableOf}
 use Rattle.sigma.specs.Judge.{judge}
 use Rattle.sigma.specs.Knowledge.{AcceptedRound, Choice, Witness, honestOn, MeetsEachOnce}
@@ -25,11 +25,11 @@ module _ {inst : Instance} (v : Valid inst) (x : List ℕ) (w : Witness inst x) 
   module _ (c : ℕ) (below : c < inst .header .challenges) where
     -- the honest rounds over all nonces are exactly the accepted rounds with challenge c, each met once
     pub honest-rounds : MeetsEachOnce (inst .header) (Choice inst) (AcceptedRound inst) c (honestOn inst x c)
-    unfolding honestOn honestRound homomorphism imageOf
+    unfolding honestOn honestTranscript homomorphism imageOf
     honest-rounds =
         let witness : Domain (tableOf inst) = (x, w .slots) in
-        transfer v c below (honestRound (homomorphism (v .table)) witness c)
-        (group-honest-rounds (homomorphism (v .table)) (statementVector v) c witness witness-image) (honestOn inst x c) (λ k. record {
+        transfer v c below (honestTranscript (homomorphism (v .table)) witness c)
+        (honest-transcripts (homomorphism (v .table)) (statementVector v) c witness witness-image) (honestOn inst x c) (λ k. record {
           commitment = λ i h. refl;
           challenge = refl;
           response = λ j h. sym (response-value (v .table) c witness k j h);

@@ -7,8 +7,8 @@ use mathlib.Core.List.{List}
 use Rattle.lists.specs.Places.{pad8}
 use Rattle.lists.proofs.Each.{each-at, each-length}
 use Rattle.lists.proofs.Places.{places-whole}
-use Rattle.groups.specs.Round.{simulatedRound}
-use Rattle.groups.proofs.Simulation.{simulated-rounds as group-simulated-rounds}
+use Rattle.groups.specs.Transcript.{simulatedTranscript}
+use Rattle.groups.proofs.Simulation.{simulated-transcripts}
 use Rattle.sigma.specs.Instance.{Instance}
 use Rattle.sigma.specs.Knowledge.{AcceptedRound, Choice, simulatedOn, MeetsEachOnce}
 use Rattle.sigma.specs.Simulator.{simulated, simulate}
@@ -21,9 +21,9 @@ use Rattle.sigma.proofs.Transfer.{transfer}
 module _ {inst : Instance} (v : Valid inst) (c : ℕ) (below : c < inst .header .challenges) where
   -- the simulated rounds over all responses are exactly the accepted rounds with challenge c, each met once
   pub simulated-rounds : MeetsEachOnce (inst .header) (Choice inst) (AcceptedRound inst) c (simulatedOn inst c)
-  unfolding simulatedOn simulatedRound
+  unfolding simulatedOn simulatedTranscript
   simulated-rounds =
-      transfer v c below (simulatedRound (homomorphism (v .table)) (statementVector v) c) (group-simulated-rounds (homomorphism (v .table)) (statementVector v) c)
+      transfer v c below (simulatedTranscript (homomorphism (v .table)) (statementVector v) c) (simulated-transcripts (homomorphism (v .table)) (statementVector v) c)
       (simulatedOn inst c) (λ r. record {
         commitment = λ i h. sym (simulated-value v c r i h);
         challenge = refl;

@@ -10,7 +10,7 @@ use Rattle.types.specs.declared.Round.{Round}
 use Rattle.lists.specs.Places.{places}
 use Rattle.lists.proofs.Each.{each-places, each-at}
 use Rattle.lists.proofs.Places.{getD-places}
-use Rattle.groups.specs.Round.{Round as GroupRound, Accepts, MeetsEachOnce as GroupMeets}
+use Rattle.groups.specs.Transcript.{Transcript, Accepting, EnumeratesAccepting}
 use Rattle.groups.specs.Vector.{same-slots}
 use Rattle.sigma.specs.Instance.{Instance, Table, tableOf}
 use Rattle.sigma.specs.Knowledge.{AcceptedRound, Choice, MeetsEachOnce}
@@ -24,7 +24,7 @@ use Rattle.sigma.proofs.Unread.{same-round-sym, same-round-trans, same-
 
 -- a round of Maurer's over the table's groups
 abbrev pub VectorRound : Table → Type 0
-VectorRound table = GroupRound (Domain table) (Codomain table)
+VectorRound table = Transcript (Domain table) (Codomain table)
 
 -- a round of Maurer's, as a round on values
 abbrev pub roundValues : (table : Table) → VectorRound table → Round
@@ -43,7 +43,7 @@ module _ {inst : Instance} (v : Valid inst) where
   -- of n coordinates and s group elements, the call that judges accepts exactly what Maurer's verifier accepts
   pub judge-accepts : (round : VectorRound (tableOf inst)) → round .challenge < inst .header .challenges
       → AcceptedRound inst (roundValues (tableOf inst) round)
-      ↔ Accepts (homomorphism (v .table)) (statementVector v) (round .commitment) (round .challenge) (round .response)
+      ↔ Accepting (homomorphism (v .table)) (statementVector v) (round .commitment) (round .challenge) (round .response)
   judge-accepts round below =
       let call = valid-judge-accepted inst (roundValues (tableOf inst) round) v in
       let rows = accepts-holds v (round .challenge) (round .commitment) (round .response) in
@@ -64,12 +64,12 @@ module _ {inst : Instance} (v : Valid inst) where
 
   -- Maurer's verifier accepts what is read of a round that the call accepts
   pub from-accepted : (round : Round) (fits : Fits inst round) → AcceptedRound inst round
-      → Accepts (homomorphism (v .table)) (statementVector v) (roundFrom round fits .commitment) (round .challenge) (roundFrom round fits .response)
+      → Accepting (homomorphism (v .table)) (statementVector v) (roundFrom round fits .commitment) (round .challenge) (roundFrom round fits .response)
   from-accepted round fits accepted =
       judge-accepts (roundFrom round fits) (fits .challenge) .0 (judge-same inst (same-round-of-read (inst .header) round) ∙ accepted)
 
   module _ (c : ℕ) (below : c < inst .header .challenges) (rounds : Domain (tableOf inst) → VectorRound (tableOf inst))
-      (meets : GroupMeets (homomorphism (v .table)) (statementVector v) c rounds) (make : List ℕ → Round)
+      (meets : EnumeratesAccepting (homomorphism (v .table)) (statementVector v) c rounds) (make : List ℕ → Round)
       (same : (x : Domain (tableOf inst)) → SameRound (inst .header) (make (x .0)) (roundValues (tableOf inst) (rounds x))) where
     -- where Maurer's rounds are exactly the accepted ones, each met once, so are the same rounds on values
     pub transfer : MeetsEachOnce (inst .header) (Choice inst) (AcceptedRound inst) c make
@@ -82,7 +82,7 @@ module _ {inst : Instance} (v : Valid inst) where
       met = λ round e accepted.
           let fits = valid-judge-accepted inst round v .0 accepted .0 in
           let read = roundFrom round fits in
-          let accepts = subst (λ (k : ℕ). Accepts (homomorphism (v .table)) (statementVector v) (read .commitment) k (read .response)) e
+          let accepts = subst (λ (k : ℕ). Accepting (homomorphism (v .table)) (statementVector v) (read .commitment) k (read .response)) e
           (from-accepted round fits accepted) in
           let (x, equal) = meets .met (read .commitment) (read .response) accepts in
           let agree : SameRound (inst .header) (roundValues (tableOf inst) (rounds x)) round = record {

@@ -1,6 +1,7 @@
 -- Answers: what 01 says of each case of an enum, and eight values beside a refusal.
 -- Assumes nothing.
 use Prim.Native.Nat.{ℕ}
+use mathlib.Core.Path.{_≡_}
 use mathlib.Core.Bool.{Bool, true, false}
 use mathlib.Core.List.{List, [], _∷_}
 use Rattle.types.specs.declared.Computed.{Computed}
@@ -9,7 +10,7 @@ use Rattle.types.specs.declared.Verdict.the-variants.{Accepted, Rejected, Refus
 use Rattle.lists.specs.Places.{pad8, zeros8}
 use Rattle.rules.specs.Answer.{unlessRefused}
 
--- a refusal's number, 0 for none, and the values of the answer; the number is the whole of a refused answer
+-- an answer as a refusal's number, 0 for none, and the values beside it
 pub record Outcome : Type 0 where
   pub number : ℕ
   pub values : List ℕ
@@ -19,6 +20,12 @@ unfoldable pub outcome : Verdict → Outcome
 outcome Accepted = record { number = 0; values = 1 ∷ [] }
 outcome (Rejected row) = record { number = 0; values = 0 ∷ row ∷ [] }
 outcome (Refused number) = record { number = number; values = [] }
+
+-- the outcomes of the three verdicts, in numbers
+pub record VerdictOutcomes : Type 0 where
+  pub accepted : outcome Accepted ≡ record { number = 0; values = 1 ∷ [] }
+  pub rejected : (row : ℕ) → outcome (Rejected row) ≡ record { number = 0; values = 0 ∷ row ∷ [] }
+  pub refused : (number : ℕ) → outcome (Refused number) ≡ record { number = number; values = [] }
 
 -- whether a verdict is accepted
 unfoldable pub isAccepted : Verdict → Bool

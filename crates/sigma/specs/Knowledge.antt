@@ -10,7 +10,7 @@ use Rattle.types.specs.declared.Computed.{Computed}
 use Rattle.types.specs.declared.Header.{Header}
 use Rattle.types.specs.declared.Round.{Round}
 use Rattle.types.specs.declared.Verdict.the-variants.{Accepted}
-use Rattle.groups.specs.Round.{Bezout}
+use Rattle.groups.specs.Transcript.{Bezout}
 use Rattle.lists.specs.Each.{Each}
 use Rattle.lists.specs.Places.{places, pad8}
 use Rattle.sigma.specs.Instance.{Instance, tableOf}
