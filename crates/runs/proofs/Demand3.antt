@@ -152,7 +152,7 @@ module _ (sheet : List ℕ) (loaded : loadRefusal sheet ≡ 0) where
       -- ---- the prover
 
       -- what Peggy gives for x, c and a nonce, in a run with Vic
-      honest-run : (k : List ℕ) → Choice (instanceOf sheet) k
+      pub honest-run : (k : List ℕ) → Choice (instanceOf sheet) k
           → (jointRun sheet x c k .committed .refusal ≡ 0) × (jointRun sheet x c k .answered .refusal ≡ 0)
           × (jointRun sheet x c k .committed .values ≡ pad8 0 (image (tableOf (instanceOf sheet)) k))
           × (jointRun sheet x c k .answered .values ≡ pad8 0 (response (instanceOf sheet .header) k c x))

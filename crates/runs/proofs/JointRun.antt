@@ -78,7 +78,7 @@ verifierHolding phase inst k c = record { phase = phase; commitment = pad8 0 (co
 
 module _ (inst : Instance) (x k : List ℕ) (c : ℕ) where
   -- Peggy commits
-  joint-commit : Choice inst (readOf inst k)
+  pub joint-commit : Choice inst (readOf inst k)
       → commitAfter [] inst newProver k
       ≡ record { refusal = 0; session = proverCommitted inst k; values = pad8 0 (commitmentOf inst k) }
   unfolding newProver

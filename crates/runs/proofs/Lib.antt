@@ -6,6 +6,7 @@ pub mod Demand1
 pub mod Sessions
 pub mod Protocol
 pub mod Demand3
+pub mod MainProtocol
 pub mod Refusals
 pub mod Positive
 pub mod Outcome

@@ -14,5 +14,6 @@ pub mod Knowledge
 pub mod Demand1
 pub mod Sessions
 pub mod Protocol
+pub mod MainProtocol
 pub mod Demand3
 pub mod Marker

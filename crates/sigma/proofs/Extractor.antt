@@ -15,13 +15,14 @@ use Rattle.numbers.specs.Integer.{bezoutLeft, bezoutRight}
 use Rattle.numbers.proofs.Coprime.{bezout-challenges}
 use Rattle.sigma.specs.Instance.{Instance, tableOf}
 use Rattle.sigma.specs.Extractor.{extracted, extract}
+use Rattle.sigma.specs.Domain.{Codomain}
 use Rattle.sigma.specs.Knowledge.{AcceptedRound, AcceptedPair, Extraction}
 use Rattle.sigma.specs.Meaning.{Extracts}
 use Rattle.sigma.specs.Valid.{Valid}
 use Rattle.sigma.proofs.FormulaValue.{formula-witness, formula-any, formula-swapped}
 use Rattle.sigma.proofs.Calls.{valid-judge-accepted, valid-extract-runs, extract-given}
 use Rattle.sigma.proofs.Formula.{formula-agree}
-use Rattle.sigma.proofs.Homomorphism.{Codomain, elementsOf, homomorphism}
+use Rattle.sigma.proofs.Homomorphism.{elementsOf, homomorphism}
 use Rattle.sigma.proofs.Maurer.{statementVector}
 use Rattle.sigma.proofs.Transfer.{roundFrom, from-accepted}
 

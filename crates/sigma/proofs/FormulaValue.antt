@@ -20,6 +20,7 @@ use Rattle.numbers.proofs.Exponent.{power-pos}
 use Rattle.numbers.proofs.Integer.{residue-pos}
 use Rattle.numbers.proofs.Product.{product-agree, product-one}
 use Rattle.sigma.specs.Instance.{Instance, tableOf, entry, statementAt}
+use Rattle.sigma.specs.Domain.{Domain, Codomain}
 use Rattle.sigma.specs.Element.{Coordinate}
 use Rattle.sigma.specs.Extractor.{formula}
 use Rattle.sigma.specs.Image.{rowImage}
@@ -28,7 +29,7 @@ use Rattle.sigma.specs.Valid.{Valid}
 use Rattle.sigma.proofs.ByKind.{by-kind, rowImage-exponent, rowImage-root}
 use Rattle.sigma.proofs.CoordinateGroup.{raise, raise-exponent, raise-root, coordinate-exponent, coordinate-root}
 use Rattle.sigma.proofs.Formula.{baseSlot, baseSlot-exponent, baseSlot-root, slot-combined, length-formula, formula-at}
-use Rattle.sigma.proofs.Homomorphism.{Domain, Codomain, coordinatesOf, elementsOf, domainGroup, codomainGroup}
+use Rattle.sigma.proofs.Homomorphism.{coordinatesOf, elementsOf, domainGroup, codomainGroup}
 use Rattle.sigma.proofs.Homomorphism.{imageOf, imageOf-at, homomorphism, row-column}
 use Rattle.sigma.proofs.Maurer.{statementVector, statementVector-at, product-slot, power-slot, power-row, quotient-slot}
 use Rattle.sigma.proofs.Valid.{valid-modulus, valid-order, valid-kind}

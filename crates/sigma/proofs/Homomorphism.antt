@@ -14,7 +14,7 @@ use Rattle.lists.specs.Places.{places}
 use Rattle.lists.proofs.Each.{each-from, each-at, each-places}
 use Rattle.groups.specs.Group.{Group}
 use Rattle.groups.specs.Homomorphism.{Homomorphism as GroupHomomorphism}
-use Rattle.groups.specs.Vector.{Vector, NumberGroup, vectorGroup, same-slots, value-of-product}
+use Rattle.groups.specs.Vector.{NumberGroup, vectorGroup, same-slots, value-of-product}
 use Rattle.numbers.specs.Congruence.{Cong}
 use Rattle.numbers.specs.Product.{product}
 use Rattle.numbers.proofs.Congruence.{_then_, cong-of-equal, cong-mod, cong-one, cong-pow, mod-mul-both, mod-pow}
@@ -22,6 +22,7 @@ use Rattle.numbers.proofs.Exponent.{power-pos, power-coprime}
 use Rattle.numbers.proofs.Powers.{pow-mul, mul-pow, one-pow, cong-pow-mod}
 use Rattle.numbers.proofs.Product.{product-cong, product-mul, product-pow, product-one}
 use Rattle.sigma.specs.Instance.{Table, entry}
+use Rattle.sigma.specs.Domain.{Domain, Codomain}
 use Rattle.sigma.specs.Element.{Element, Coordinate, combine}
 use Rattle.sigma.specs.Image.{rowImage, image}
 use Rattle.sigma.specs.Valid.{ValidTable}
@@ -30,14 +31,6 @@ use Rattle.sigma.proofs.CoordinateGroup.{coordinateGroup}
 use Rattle.sigma.proofs.ElementGroup.{element-by-order, element-by-gcd, elementGroup}
 use Rattle.sigma.proofs.Valid.{valid-modulus, valid-order, valid-kind, valid-coprime}
 use Rattle.sigma.proofs.Values.{length-image, image-at}
-
--- n coordinates, as a type
-abbrev pub Domain : Table → Type 0
-Domain table = Vector (Coordinate (table .header)) (table .header .columns)
-
--- s group elements, as a type
-abbrev pub Codomain : Table → Type 0
-Codomain table = Vector (Element (table .header)) (table .header .rows)
 
 -- the first s places of an array, each a group element, as s group elements
 abbrev pub elementsFrom : (table : Table) (t : List ℕ)

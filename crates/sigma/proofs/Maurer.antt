@@ -16,6 +16,7 @@ use Rattle.numbers.specs.Integer.{power}
 use Rattle.numbers.proofs.Congruence.{mod-mul-right}
 use Rattle.numbers.proofs.Exponent.{power-pos}
 use Rattle.sigma.specs.Instance.{Instance, Table, tableOf, statementAt}
+use Rattle.sigma.specs.Domain.{Domain, Codomain}
 use Rattle.sigma.specs.Element.{combine}
 use Rattle.sigma.specs.Meaning.{Holds}
 use Rattle.sigma.specs.Reads.{roundOf}
@@ -24,7 +25,7 @@ use Rattle.sigma.specs.Simulator.{simulated}
 use Rattle.sigma.specs.Valid.{Valid, ValidTable}
 use Rattle.sigma.proofs.CoordinateGroup.{opposite, raise, coordinateGroup, coordinate-power, response-combine}
 use Rattle.sigma.proofs.ElementGroup.{elementGroup, element-power}
-use Rattle.sigma.proofs.Homomorphism.{Domain, Codomain, coordinatesOf, elementsOf, domainGroup, codomainGroup}
+use Rattle.sigma.proofs.Homomorphism.{coordinatesOf, elementsOf, domainGroup, codomainGroup}
 use Rattle.sigma.proofs.Homomorphism.{elementsFrom, imageOf-at, homomorphism}
 use Rattle.sigma.proofs.Valid.{valid-modulus, valid-order}
 use Rattle.sigma.proofs.Values.{simulated-at, response-at}

@@ -9,10 +9,11 @@ use Rattle.groups.specs.Transcript.{honestTranscript}
 use Rattle.groups.specs.Vector.{same-vector}
 use Rattle.groups.proofs.Simulation.{honest-transcripts}
 use Rattle.sigma.specs.Instance.{Instance, tableOf}
+use Rattle.sigma.specs.Domain.{Domain}
 use Rattle.sigma.specs.Judge.{judge}
 use Rattle.sigma.specs.Knowledge.{AcceptedRound, Choice, Witness, honestOn, MeetsEachOnce}
 use Rattle.sigma.specs.Valid.{Valid}
-use Rattle.sigma.proofs.Homomorphism.{Domain, elementsOf, imageOf, homomorphism}
+use Rattle.sigma.proofs.Homomorphism.{elementsOf, imageOf, homomorphism}
 use Rattle.sigma.proofs.Maurer.{statementVector, response-value}
 use Rattle.sigma.proofs.Transfer.{transfer}
 

@@ -13,12 +13,13 @@ use Rattle.lists.proofs.Places.{getD-places}
 use Rattle.groups.specs.Transcript.{Transcript, Accepting, EnumeratesAccepting}
 use Rattle.groups.specs.Vector.{same-slots}
 use Rattle.sigma.specs.Instance.{Instance, Table, tableOf}
+use Rattle.sigma.specs.Domain.{Domain, Codomain}
 use Rattle.sigma.specs.Knowledge.{AcceptedRound, Choice, MeetsEachOnce}
 use Rattle.sigma.specs.Meaning.{Fits}
 use Rattle.sigma.specs.Reads.{roundOf, SameRound}
 use Rattle.sigma.specs.Valid.{Valid}
 use Rattle.sigma.proofs.Calls.{valid-judge-accepted}
-use Rattle.sigma.proofs.Homomorphism.{Domain, Codomain, elementsFrom, coordinatesOf, elementsOf, homomorphism}
+use Rattle.sigma.proofs.Homomorphism.{elementsFrom, coordinatesOf, elementsOf, homomorphism}
 use Rattle.sigma.proofs.Maurer.{statementVector, accepts-holds}
 use Rattle.sigma.proofs.Unread.{same-round-sym, same-round-trans, same-round-of-read, judge-same}
 

@@ -1,6 +1,7 @@
 -- The protocol on values: what 01 says of a sheet's values and of a round.
 pub mod Instance
 pub mod Element
+pub mod Domain
 pub mod Admission
 pub mod Valid
 pub mod Reads

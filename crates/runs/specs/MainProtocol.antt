@@ -1,0 +1,60 @@
+-- Demand 2 (00) in the words of Maurer's paper (004, section 5): a sheet that loads is a homomorphism of commutative groups with
+-- a statement, and the calls run the paper's main protocol over it.
+-- Assumes nothing.
+use Prim.Native.Nat.{ℕ, _*_, _%_, _<_}
+use mathlib.Core.Path.{_≡_}
+use mathlib.Core.Logic.{_↔_}
+use mathlib.Core.List.{List}
+use lib.ListN.{getD}
+use Rattle.types.specs.declared.Round.{Round}
+use Rattle.types.specs.declared.Verdict.the-variants.{Accepted}
+use Rattle.groups.specs.Group.{Group}
+use Rattle.groups.specs.Homomorphism.{Homomorphism}
+use Rattle.groups.specs.Transcript.{Accepting, honestResponse}
+use Rattle.lists.specs.Each.{Each}
+use Rattle.lists.specs.Places.{pad8}
+use Rattle.formats.specs.Sheet.{instanceOf}
+use Rattle.sigma.specs.Domain.{Domain, Codomain}
+use Rattle.sigma.specs.Element.{Element, Coordinate, combine}
+use Rattle.sigma.specs.Image.{rowImage}
+use Rattle.sigma.specs.Instance.{Table, tableOf}
+use Rattle.sigma.specs.Reads.{roundOf}
+use Rattle.runs.specs.Calls.{judgeRound}
+use Rattle.runs.specs.OnSheet.{Below, readSlots, readValues}
+use Rattle.runs.specs.Prover.{newProver, commit, respond}
+
+-- the table of a sheet
+abbrev pub tableIn : List ℕ → Table
+tableIn sheet = tableOf (instanceOf sheet)
+
+pub record MainProtocol (sheet : List ℕ) : Type 0 where
+  -- the choices of n domain slots form a commutative group under the domain's operation, slot by slot
+  pub domain : Group (Domain (tableIn sheet))
+  pub joined : (x y : Domain (tableIn sheet)) (j : ℕ) → j < tableIn sheet .header .columns
+      → getD ((domain .product x y) .0) j 0 ≡ combine (tableIn sheet .header) (getD (x .0) j 0) (getD (y .0) j 0)
+  -- lists of s group elements form one under the product mod m, row by row
+  pub codomain : Group (Codomain (tableIn sheet))
+  pub multiplied : (t u : Codomain (tableIn sheet)) (i : ℕ) → i < tableIn sheet .header .rows
+      → getD ((codomain .product t u) .0) i 0 ≡ getD (t .0) i 0 * getD (u .0) i 0 % tableIn sheet .header .modulus
+  -- the table's image [x] is a homomorphism between the two
+  pub table : Homomorphism domain codomain
+  pub carried : (x : Domain (tableIn sheet)) (i : ℕ) → i < tableIn sheet .header .rows
+      → getD ((table .map x) .0) i 0 ≡ rowImage (tableIn sheet) (x .0) i
+  -- and the statement is an element of the second
+  pub statement : Codomain (tableIn sheet)
+  pub stated : statement .0 ≡ readValues sheet (instanceOf sheet .statement)
+  -- Peggy's commitment to a nonce k in a new session is [k]
+  pub commits : (k : Domain (tableIn sheet))
+      → (commit sheet newProver (k .0) .refusal ≡ 0) × (commit sheet newProver (k .0) .values ≡ pad8 0 ((table .map k) .0))
+  -- her response to a challenge c with a witness x, in the session that committing handed back, is k · x^c
+  pub responds : (x k : Domain (tableIn sheet)) (c : ℕ) → table .map x ≡ statement → Below sheet c
+      → (respond sheet (commit sheet newProver (k .0) .session) c (x .0) .refusal ≡ 0)
+      × (respond sheet (commit sheet newProver (k .0) .session) c (x .0) .values ≡ pad8 0 ((honestResponse domain x c k) .0))
+  -- the round (t, c, r) is accepted exactly where [r] = t · z^c
+  pub accepts : (t : Codomain (tableIn sheet)) (c : ℕ) (r : Domain (tableIn sheet)) → Below sheet c
+      → (judgeRound sheet (roundOf (t .0) c (r .0)) ≡ Accepted) ↔ Accepting table statement t c r
+  -- and no other round is accepted
+  pub no-other : (round : Round) → judgeRound sheet round ≡ Accepted
+      → Each (Element (tableIn sheet .header)) (tableIn sheet .header .rows) (readValues sheet (round .commitment))
+      × Below sheet (round .challenge)
+      × Each (Coordinate (tableIn sheet .header)) (tableIn sheet .header .columns) (readSlots sheet (round .response))
