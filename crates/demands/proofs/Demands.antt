@@ -1,9 +1,15 @@
 -- The demands hold of the definitions of the calls.
 -- Assumes nothing.
+use Rattle.examples.proofs.Pages.{worked-examples}
+use Rattle.formats.proofs.ByteLayout.{layout}
+use Rattle.formats.proofs.PatternMeaning.{patterns-mean}
+use Rattle.formats.proofs.Writers.{writers}
 use Rattle.runs.proofs.Demand1.{demand1}
 use Rattle.runs.proofs.Demand3.{demand3}
+use Rattle.runs.proofs.MainProtocol.{main-protocol}
 use Rattle.runs.proofs.Protocol.{protocol}
 use Rattle.runs.proofs.Sessions.{sessions}
+use Rattle.sigma.proofs.Answer.{verdict-outcomes}
 use Rattle.demands.specs.Demands.{Demands}
 use Rattle.demands.proofs.MarksFiles.{marks-files}
 use Rattle.demands.proofs.ReadsBack.{reads-back}
@@ -12,8 +18,15 @@ pub demands : Demands
 demands = record {
   refusals = demand1;
   sessions = sessions;
+  main-protocol = main-protocol;
   protocol = protocol;
+  outcomes = verdict-outcomes;
+  layout = layout;
+  writers = writers;
+  patterns = patterns-mean;
   files = reads-back;
   marker = marks-files;
   knowledge = demand3;
+  pages = worked-examples .0;
+  corners = worked-examples .1;
 }

@@ -4,11 +4,18 @@
 use Prim.Native.Nat.{ℕ}
 use mathlib.Core.Path.{_≡_}
 use mathlib.Core.List.{List}
+use Rattle.examples.specs.Corners.{EveryCorner}
+use Rattle.examples.specs.Pages.{EveryPage}
+use Rattle.formats.specs.ByteLayout.{Layout}
 use Rattle.formats.specs.Load.{loadRefusal}
+use Rattle.formats.specs.PatternMeaning.{PatternsMean}
+use Rattle.formats.specs.Writers.{Writers}
 use Rattle.runs.specs.Demand1.{Demand1}
 use Rattle.runs.specs.Demand3.{Demand3}
+use Rattle.runs.specs.MainProtocol.{MainProtocol}
 use Rattle.runs.specs.Protocol.{Protocol}
 use Rattle.runs.specs.Sessions.{Sessions}
+use Rattle.sigma.specs.Answer.{VerdictOutcomes}
 use Rattle.demands.specs.MarksFiles.{MarksFiles}
 use Rattle.demands.specs.ReadsBack.{ReadsBack}
 
@@ -19,8 +26,18 @@ pub record Demands : Type 0 where
   -- 2: over any list of calls Peggy answers one challenge at most and keeps no nonce behind it, and Vic takes one commitment,
   -- then one challenge, then one response
   pub sessions : Sessions
-  -- for every sheet that loads, commitments, responses and verdicts are those of Maurer's main protocol
+  -- for every sheet that loads, the calls run the main protocol of Maurer's section 5 over groups and a homomorphism
+  pub main-protocol : (sheet : List ℕ) → loadRefusal sheet ≡ 0 → MainProtocol sheet
+  -- which is, row by row and slot by slot, what 01 says of commitments, responses and verdicts
   pub protocol : (sheet : List ℕ) → loadRefusal sheet ≡ 0 → Protocol sheet
+  -- an answer that is an enum stands for these numbers and values
+  pub outcomes : VerdictOutcomes
+  -- where each value stands in the bytes of sheets and round files
+  pub layout : Layout
+  -- which bytes the calls that write put into a lent buffer
+  pub writers : Writers
+  -- the shape and the meaning of the patterns
+  pub patterns : PatternsMean
   -- what is written reads back as what it was, and what reads is written back byte by byte
   pub files : ReadsBack
   -- the marker's text on a sheet and a round file is what these verdicts make it, letter by letter
@@ -28,3 +45,6 @@ pub record Demands : Type 0 where
   -- 3: the extractor gives a witness, and simulated and honest rounds are exactly the accepted ones, each met once, for every
   -- sheet that loads
   pub knowledge : (sheet : List ℕ) → loadRefusal sheet ≡ 0 → Demand3 sheet
+  -- the starred pages, and for each refusal inputs on both sides of its bounds
+  pub pages : EveryPage
+  pub corners : EveryCorner

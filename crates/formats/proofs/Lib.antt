@@ -23,5 +23,6 @@ pub mod RoundFileRoundTrip
 pub mod Part
 pub mod LongFiles
 pub mod MadeSheet
-pub mod FieldPlaces
+pub mod ByteLayout
 pub mod FilesByCalls
+pub mod Writers

@@ -25,6 +25,8 @@ use Rattle.numbers.proofs.Powers.{cong-pow-exponent, mul-pow, one-pow, pow-mul}
 use Rattle.sigma.specs.Element.{Element}
 use Rattle.sigma.specs.Image.{image, rowImage}
 use Rattle.sigma.specs.Instance.{tableOf, entry, isExponent}
+use Rattle.formats.specs.PatternMeaning.{PatternsMean}
+use Rattle.formats.proofs.MadeSheet.{made-header, made-statement, pattern-shape}
 use Rattle.formats.specs.Pattern.{entryOf, made, madeHeader, patternEntries, patternOf, patterns, pedersen}
 
 -- a power of a power, the exponents in the other order
@@ -111,3 +113,24 @@ module _ (m q K : ℕ) (z : List ℕ) where
       cong-pow-exponent m q h (element .ordered refl) _ ε (difference q (a * β) ε some) in
       product-commitments g h b β a α ((ε + (q - a * β % q)) % q)
       ∙ ap (λ (k : ℕ). pedersen m g h a α ∷ k ∷ []) (cong-mul (cong-refl m (g ^ (a * b))) same .same)
+
+-- the shape and the meaning of all six
+pub patterns-mean : PatternsMean
+unfolding made
+patterns-mean = record {
+  shapes = record {
+    sizes = pattern-shape;
+    header = made-header;
+    statement = made-statement;
+    table = λ number m ℓ K values z. refl;
+  };
+  images = λ m ℓ K. record {
+    schnorr = schnorr-image m ℓ K [];
+    okamoto = okamoto-image m ℓ K [];
+    equality = equality-image m ℓ K [];
+    diffie-hellman = diffie-hellman-key m ℓ K [];
+    product = product-image m ℓ K [];
+    product-witness = product-witness m ℓ K [];
+    root = root-image m ℓ K [];
+  };
+}

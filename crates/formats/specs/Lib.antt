@@ -11,3 +11,6 @@ pub mod Refusals
 pub mod Meaning
 pub mod Outcome
 pub mod Rounds
+pub mod ByteLayout
+pub mod Writers
+pub mod PatternMeaning

@@ -1,14 +1,12 @@
 -- What 01 says of bytes, as facts: a sheet that loads, a sheet that is made, a round file of a sheet, and what is read of a
 -- sheet's values.
 -- Assumes nothing.
-use Prim.Native.Nat.{ℕ, _+_, _*_, _<_, _≤_}
+use Prim.Native.Nat.{ℕ, _<_, _≤_}
 use mathlib.Core.Path.{_≡_}
 use mathlib.Core.Bool.{cond}
 use mathlib.Core.List.{List}
 use lib.ListN.{length, getD, take}
 use Rattle.types.specs.declared.Header.{Header}
-use Rattle.types.specs.declared.Round.{Round}
-use Rattle.encoding.specs.Bytes.{numberAt}
 use Rattle.lists.specs.Places.{pad8, places, tabulate, zeros8}
 use Rattle.sigma.specs.Element.{Element}
 use Rattle.sigma.specs.Instance.{Instance, tableOf, entry, isExponent}
@@ -67,13 +65,3 @@ pub record Makes (number modulus order challenges : ℕ) (values statement : Lis
   pub statement-count : length statement ≡ patternOf number .rows
   pub values-elements : (j : ℕ) → j < length values → Element (madeHeader number modulus order challenges) (getD values j 0)
   pub valid : Valid (made number modulus order challenges values statement)
-
--- where the values of round k stand: t, c, r in 4(s + n + 1) bytes behind the seven
-pub record RoundStands (h : Header) (f : List ℕ) (k : ℕ) (round : Round) : Type 0 where
-  pub width : challengeWidth f ≡ 4
-  pub start : recordStart (challengeWidth f) h k ≡ 7 + k * (4 * (h .rows + h .columns + 1))
-  pub commitment : (i : ℕ) → i < h .rows
-      → getD (round .commitment) i 0 ≡ numberAt 4 f (recordStart (challengeWidth f) h k + 4 * i)
-  pub challenge : round .challenge ≡ numberAt (challengeWidth f) f (recordStart (challengeWidth f) h k + 4 * h .rows)
-  pub response : (j : ℕ) → j < h .columns
-      → getD (round .response) j 0 ≡ numberAt 4 f (recordStart (challengeWidth f) h k + 4 * h .rows + challengeWidth f + 4 * j)

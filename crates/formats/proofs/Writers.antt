@@ -1,0 +1,21 @@
+-- What the calls that write leave in a lent buffer.
+-- Assumes nothing.
+use Rattle.encoding.specs.Bytes.{bytesOf}
+use Rattle.encoding.specs.Text.{ascii}
+use Rattle.formats.specs.RoundFile.{noRounds, roundMark}
+use Rattle.formats.specs.Writers.{Writers}
+use Rattle.formats.proofs.Appending.{append-adds}
+use Rattle.formats.proofs.Making.{make-puts}
+use Rattle.formats.proofs.Unread.{append-same, encode-same}
+use Rattle.formats.proofs.Writing.{empty-puts, encode-puts}
+
+pub writers : Writers
+unfolding noRounds roundMark ascii bytesOf
+writers = record {
+  encoded = encode-puts;
+  made-sheet = make-puts;
+  empty = empty-puts;
+  appended = append-adds;
+  values-read = λ inst inst′ buffer same. encode-same same buffer;
+  round-read = λ sheet buffer used round round′ same. append-same sheet buffer used same;
+}

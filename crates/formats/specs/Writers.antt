@@ -1,0 +1,35 @@
+-- What the calls that write leave in a lent buffer where they are not refused: which bytes, and no other byte (01, "The
+-- patterns" and "A round").
+-- Assumes nothing.
+use Prim.Native.Nat.{ℕ}
+use mathlib.Core.Path.{_≡_}
+use mathlib.Core.List.{List, [], _∷_}
+use Rattle.types.specs.declared.Round.{Round}
+use Rattle.sigma.specs.Instance.{Instance}
+use Rattle.sigma.specs.Reads.{SameRound}
+use Rattle.formats.specs.Append.{append, emptyFile}
+use Rattle.formats.specs.Encode.{encode, sheetOf}
+use Rattle.formats.specs.Meaning.{SameInstance}
+use Rattle.formats.specs.Outcome.{Adds, Puts}
+use Rattle.formats.specs.Pattern.{fromPattern, made}
+use Rattle.formats.specs.Sheet.{headerOf}
+
+pub record Writers : Type 0 where
+  -- the second writer puts the sheet of its values at the buffer's start
+  pub encoded : (inst : Instance) (buffer : List ℕ) → encode inst buffer .answer .refusal ≡ 0
+      → Puts (sheetOf inst) buffer (encode inst buffer)
+  -- the sheet maker puts the sheet of the pattern there
+  pub made-sheet : (number modulus order challenges : ℕ) (values statement buffer : List ℕ)
+      → fromPattern number modulus order challenges values statement buffer .answer .refusal ≡ 0
+      → Puts (sheetOf (made number modulus order challenges values statement)) buffer
+      (fromPattern number modulus order challenges values statement buffer)
+  -- a file of no rounds is seven bytes
+  pub empty : (buffer : List ℕ) → emptyFile buffer .answer .refusal ≡ 0
+      → Puts (0x52 ∷ 0x4E ∷ 0x44 ∷ 0 ∷ 1 ∷ 0 ∷ 0 ∷ []) buffer (emptyFile buffer)
+  -- the record writer puts the record straight after the bytes in use and raises the count by one
+  pub appended : (sheet buffer : List ℕ) (used : ℕ) (round : Round) → append sheet buffer used round .answer .refusal ≡ 0
+      → Adds (headerOf sheet) round buffer used (append sheet buffer used round)
+  -- places that are not read change nothing of what is written
+  pub values-read : (inst inst′ : Instance) (buffer : List ℕ) → SameInstance inst inst′ → encode inst buffer ≡ encode inst′ buffer
+  pub round-read : (sheet buffer : List ℕ) (used : ℕ) (round round′ : Round) → SameRound (headerOf sheet) round round′
+      → append sheet buffer used round ≡ append sheet buffer used round′
