@@ -4,8 +4,9 @@
 use mathlib.Core.Path.{_≡_, sym, _∙_}
 use mathlib.Core.Bool.{not, or-eq-true-iff}
 use mathlib.Core.Logic.{Or·inl, Or·inr}
-use Prim.Native.Nat.{ℕ}
+use Prim.Native.Nat.{ℕ, _≤_}
 use lib.ListN.{drop}
+use native.Mathlib.Omega.{arith}
 use borrow.Author.Needs.{needs}
 use borrow.Author.Tests.{lt-ltb, le-ltb}
 use Rattle.lists.specs.Places.{places}
@@ -48,9 +49,10 @@ unfolding respondRules
 witness c =
     let imaged = c .before .before in
     let start = imaged .before .before .before .before .before .before .before in
+    let agree : start .args .h .rows ≤ c .before .first-difference .result = omega (arith, c .if3 .left) in
     slots (imaged .before)
     ∙ pass 17 _ (witness-tested _ (start .pre) _ (imaged .image .ensures (start .args .statement)) (c .before .first-difference .ensures .0)
-    ∙ le-ltb _ _ (c .if3 .left))
+    ∙ le-ltb _ _ agree)
 
 cast-rows : tie.Need-cast-rows
 cast-rows c = search needs
