@@ -39,9 +39,9 @@ pub fn prover_of(session: ProverSession) -> Prover
     let nonce = session.nonce;
     let commitment = session.commitment;
     Prover {
-        phase: prover_phase(session.phase),
         nonce,
         commitment,
+        phase: prover_phase(session.phase),
     }
 }
 
@@ -49,13 +49,13 @@ pub fn prover_of(session: ProverSession) -> Prover
 pub fn prover_session(session: Prover) -> ProverSession
     ensures { λ r. ⌜ r ≡ proverSession session ⌝ }
 {
-    let phase = session.phase;
     let nonce = session.nonce;
     let commitment = session.commitment;
+    let phase = session.phase;
     ProverSession {
-        phase: prover_state(phase),
         nonce,
         commitment,
+        phase: prover_state(phase),
     }
 }
 
@@ -67,15 +67,15 @@ pub fn prover_answer(given: ProverSession, step: ProverStep) -> ProverAnswer
     let values = step.values;
     if refusal != 0 {
         return ProverAnswer {
-            refusal,
             session: given,
             values,
+            refusal,
         };
     }
     let session = step.session;
     ProverAnswer {
-        refusal,
         session: prover_session(session),
         values,
+        refusal,
     }
 }

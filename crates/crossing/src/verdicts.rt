@@ -10,19 +10,19 @@ pub fn judgement_of(verdict: Verdict) -> Judgement
 {
     match verdict {
         Verdict::Accepted => Judgement {
-            refusal: 0,
             accepted: 1,
             row: 0,
+            refusal: 0,
         },
         Verdict::Rejected(row) => Judgement {
-            refusal: 0,
             accepted: 0,
             row,
+            refusal: 0,
         },
         Verdict::Refused(number) => Judgement {
-            refusal: number,
             accepted: 0,
             row: 0,
+            refusal: number,
         },
     }
 }

@@ -41,9 +41,9 @@ pub fn verifier_of(session: VerifierSession) -> Verifier
 {
     let commitment = session.commitment;
     Verifier {
-        phase: verifier_phase(session.phase),
         commitment,
         challenge: session.challenge,
+        phase: verifier_phase(session.phase),
     }
 }
 
@@ -51,12 +51,12 @@ pub fn verifier_of(session: VerifierSession) -> Verifier
 pub fn verifier_session(session: Verifier) -> VerifierSession
     ensures { λ r. ⌜ r ≡ verifierSession session ⌝ }
 {
-    let phase = session.phase;
     let commitment = session.commitment;
+    let phase = session.phase;
     VerifierSession {
-        phase: verifier_state(phase),
         commitment,
         challenge: session.challenge,
+        phase: verifier_state(phase),
     }
 }
 
@@ -68,14 +68,14 @@ pub fn verifier_answer(given: VerifierSession, step: VerifierStep) -> VerifierAn
     let refusal = step.refusal;
     if refusal != 0 {
         return VerifierAnswer {
-            refusal,
             session: given,
+            refusal,
         };
     }
     let session = step.session;
     VerifierAnswer {
-        refusal,
         session: verifier_session(session),
+        refusal,
     }
 }
 

@@ -115,8 +115,8 @@ use Rattle.runs.specs.Marker.{
   markerText,
 }
 use Rattle.runs.specs.Prover.{
-  isNew,
-  isCommitted,
+  proverState,
+  proverIn,
   newProver,
   proverStep,
   commitRules,
@@ -130,9 +130,8 @@ use Rattle.runs.specs.Prover.{
   dropSession,
 }
 use Rattle.runs.specs.Verifier.{
-  isWaiting,
-  isHolding,
-  isAsked,
+  verifierState,
+  verifierIn,
   newVerifier,
   verifierStep,
   unfitCommitment,
@@ -202,9 +201,9 @@ unfolding euclid gcd residue quotient power bezoutRight bezoutLeft inverse produ
     fileRules badNumber roundRules noRound countAfter checkAfter fetchAfter countRounds fetchRound roundMark
     fileVersion countField widthOf challengeWidth recordLength recordStart roundAt badFile sheetMark versionOf headerOf
     entryCount sheetLength zeros64 entriesOf statementOf instanceOf short written writtenAtStart judgeRound
-    simulateCommitment extractWitness newline wordLine verdictText verdictLine resultLine verdictOn roundLine roundLines markerText isNew
-    isCommitted newProver proverStep commitRules commitAfter unfitProver respondRules respondAfter commit respond
-    isWaiting isHolding isAsked newVerifier verifierStep unfitCommitment takeCommitmentRules takeCommitmentAfter
+    simulateCommitment extractWitness newline wordLine verdictText verdictLine resultLine verdictOn roundLine roundLines markerText proverState
+    proverIn newProver proverStep commitRules commitAfter unfitProver respondRules respondAfter commit respond
+    verifierState verifierIn newVerifier verifierStep unfitCommitment takeCommitmentRules takeCommitmentAfter
     takeChallengeRules takeChallengeAfter takeResponseRules takeResponseAfter takeCommitment takeChallenge
     takeResponse jointRun exampleFile exampleText array smallRound run bothWays judgedNumber pages smallSheet
     schnorrSheet madeSheet okamotoSheet diffieHellmanSheet productSheet rootSheet flatten noRoundsText refusedSheetText

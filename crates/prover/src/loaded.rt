@@ -1,8 +1,6 @@
 // Committing and responding on loaded values (01, "Sessions"; refusals 15 to 17 and 21). What a call brings is tested before
 // the session.
 use crate::session::ended;
-use crate::session::may_commit;
-use crate::session::may_respond;
 use crate::session::refused;
 use image::first_difference;
 use image::first_places;
@@ -33,9 +31,9 @@ fn commit_refusal(h: Header, session: Prover, nonce: [u32; 8]) -> u32
         return 16;
     }
     let phase = session.phase;
-    if !may_commit(phase) {
+    let ProverPhase::New = phase else {
         return 21;
-    }
+    };
     0
 }
 
@@ -58,13 +56,13 @@ pub fn commit_loaded(
     let kept = first_places(nonce, h.columns as usize);
     let commitment = image(h, entries, nonce);
     ProverStep {
-        refusal: 0,
         session: Prover {
-            phase: ProverPhase::Committed,
             nonce: kept,
             commitment,
+            phase: ProverPhase::Committed,
         },
         values: commitment,
+        refusal: 0,
     }
 }
 
@@ -109,9 +107,9 @@ fn respond_refusal(
         return 17;
     }
     let phase = session.phase;
-    if !may_respond(phase) {
+    let ProverPhase::Committed = phase else {
         return 21;
-    }
+    };
     if unfit(h, entries, session) {
         return 21;
     }
@@ -137,8 +135,8 @@ pub fn respond_loaded(
     }
     let nonce = session.nonce;
     ProverStep {
-        refusal: 0,
         session: ended(session, ProverPhase::Answered),
         values: response(h, nonce, challenge, witness),
+        refusal: 0,
     }
 }

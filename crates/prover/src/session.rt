@@ -1,50 +1,19 @@
-// Peggy's session where no sheet is taken: which states allow which call, a new session, an ended one, and dropping.
+// Peggy's session where no sheet is taken: a new session, the answer of a refused call, an ended session, and dropping.
 use types::Prover;
 use types::ProverPhase;
 use types::ProverStep;
 ghost use mathlib.Core.Path.{_≡_};
-ghost use mathlib.Core.Bool.{_||_};
 ghost use Rattle.lists.specs.Places.{zeros8};
-ghost use Rattle.runs.specs.Prover.{isNew, isCommitted, newProver, dropSession};
-
-// Whether the state allows committing: New alone does.
-pub fn may_commit(phase: ProverPhase) -> bool
-    ensures { λ r. ⌜ r ≡ isNew phase ⌝ }
-{
-    match phase {
-        ProverPhase::New => true,
-        ProverPhase::Committed | ProverPhase::Answered | ProverPhase::Dropped => false,
-    }
-}
-
-// Whether the state allows responding: Committed alone does.
-pub fn may_respond(phase: ProverPhase) -> bool
-    ensures { λ r. ⌜ r ≡ isCommitted phase ⌝ }
-{
-    match phase {
-        ProverPhase::Committed => true,
-        ProverPhase::New | ProverPhase::Answered | ProverPhase::Dropped => false,
-    }
-}
-
-// Whether the state allows dropping: New and Committed do.
-fn may_drop(phase: ProverPhase) -> bool
-    ensures { λ r. ⌜ r ≡ (isNew phase || isCommitted phase) ⌝ }
-{
-    match phase {
-        ProverPhase::New | ProverPhase::Committed => true,
-        ProverPhase::Answered | ProverPhase::Dropped => false,
-    }
-}
+ghost use Rattle.runs.specs.Prover.{newProver, dropSession};
 
 // The answer of a refused call: the number, the session as it was and zeros.
 pub fn refused(session: Prover, number: u32) -> ProverStep
     ensures { λ r. ⌜ r ≡ record { refusal = number; session = session; values = zeros8 } ⌝ }
 {
     ProverStep {
-        refusal: number,
         session,
         values: [0u32; 8],
+        refusal: number,
     }
 }
 
@@ -54,9 +23,9 @@ pub fn ended(session: Prover, phase: ProverPhase) -> Prover
 {
     let commitment = session.commitment;
     Prover {
-        phase,
         nonce: [0u32; 8],
         commitment,
+        phase,
     }
 }
 
@@ -66,9 +35,9 @@ pub fn new() -> Prover
 {
     let zeros = [0u32; 8];
     Prover {
-        phase: ProverPhase::New,
         nonce: zeros,
         commitment: zeros,
+        phase: ProverPhase::New,
     }
 }
 
@@ -78,12 +47,12 @@ pub fn drop_session(session: Prover) -> ProverStep
     ensures { λ r. ⌜ r ≡ dropSession session ⌝ }
 {
     let phase = session.phase;
-    if !may_drop(phase) {
-        return refused(session, 21);
-    }
-    ProverStep {
-        refusal: 0,
-        session: ended(session, ProverPhase::Dropped),
-        values: [0u32; 8],
+    match phase {
+        ProverPhase::New | ProverPhase::Committed => ProverStep {
+            session: ended(session, ProverPhase::Dropped),
+            values: [0u32; 8],
+            refusal: 0,
+        },
+        ProverPhase::Answered | ProverPhase::Dropped => refused(session, 21),
     }
 }

@@ -9,7 +9,7 @@ use mathlib.Core.List.{List, _++_}
 use lib.Dec.{T}
 use lib.ListN.{length}
 use Rattle.types.specs.declared.Prover.{Prover}
-use Rattle.types.specs.declared.ProverPhase.the-variants.{Committed, Answered, Dropped}
+use Rattle.types.specs.declared.ProverPhase.the-variants.{New, Committed, Answered, Dropped}
 use Rattle.lists.specs.Places.{pad8, places, zeros8}
 use Rattle.lists.proofs.Places.{length-places}
 use Rattle.rules.specs.Rule.{Rule, lowest, Clear, positive}
@@ -24,11 +24,11 @@ use Rattle.sigma.proofs.Calculus.{says-passes, both-fail}
 use Rattle.sigma.proofs.Comparison.{differ-false}
 use Rattle.sigma.proofs.Passed.{challenge-passes, coordinates-pass, witness-passes}
 use Rattle.runs.specs.Meaning.{Commits, Responds, Drops}
-use Rattle.runs.specs.Prover.{isCommitted, unfitProver, proverStep}
+use Rattle.runs.specs.Prover.{proverIn, unfitProver, proverStep}
 use Rattle.runs.specs.Prover.{commitRules, commitAfter, respondRules, respondAfter, dropRules, dropSession}
 use Rattle.runs.proofs.Positive.{commit-positive, respond-positive, drop-positive}
 use Rattle.runs.proofs.Outcome.{proverStep-positive, proverStep-given}
-use Rattle.runs.proofs.Tests.{says-new, says-committed}
+use Rattle.runs.proofs.Tests.{says-prover}
 use Rattle.runs.proofs.Witness.{witness-slots}
 
 -- ---- when no rule of a call applies
@@ -38,7 +38,7 @@ pub commit-clear : (inst : Instance) (p : Prover) (k : List ℕ) → Clear (comm
 unfolding commitRules
 commit-clear inst p k =
     let slots = coordinates-pass inst k in
-    let phase = says-passes (says-new (p .phase)) in (
+    let phase = says-passes (says-prover New p) in (
       λ (a, (b, none)). record { nonce = slots .0 a; phase = phase .0 b },
       λ x. (slots .1 (x .nonce), (phase .1 (x .phase), tt)),
     )
@@ -59,8 +59,8 @@ respond-clear inst p c x l =
     let slots = coordinates-pass inst x in
     let image = witness-passes inst x in
     let whole = witness-slots inst x l in
-    let state = both-fail (not (isCommitted (p .phase))) (unfitProver inst p) in
-    let phase = says-passes (says-committed (p .phase)) in
+    let state = both-fail (not (proverIn Committed p)) (unfitProver inst p) in
+    let phase = says-passes (says-prover Committed p) in
     let held = unfit-passes inst p in (
       λ (a, (b, (d, (e, none)))). record {
         challenge = below .0 a;
@@ -85,7 +85,7 @@ respond-clear inst p c x l =
 pub drop-clear : (p : Prover) → Clear (dropRules p) ↔ Drops p
 unfolding dropRules
 drop-clear p =
-    let phase = says-passes (says-or (says-new (p .phase)) (says-committed (p .phase))) in
+    let phase = says-passes (says-or (says-prover New p) (says-prover Committed p)) in
     (λ (a, none). phase .0 a, λ d. (phase .1 d, tt))
 
 -- ---- committing

@@ -8,6 +8,7 @@ use mathlib.Core.List.{List}
 use Rattle.types.specs.declared.Prover.{Prover}
 use Rattle.types.specs.declared.ProverPhase.the-variants.{New, Committed}
 use Rattle.types.specs.declared.Verifier.{Verifier}
+use Rattle.types.specs.declared.VerifierPhase.the-variants.{Waiting, Holding, Asked}
 use Rattle.lists.specs.Places.{places}
 use Rattle.rules.specs.Condition.{Tests}
 use Rattle.rules.proofs.Says.{says-not, says-or, says-iff}
@@ -25,14 +26,14 @@ use Rattle.runs.specs.Refusals.{
   takeResponseConditions,
 }
 use Rattle.runs.specs.Verifier.{takeCommitmentRules, takeChallengeRules, takeResponseRules}
-use Rattle.runs.proofs.Tests.{says-new, says-committed, says-waiting, says-holding, says-asked}
+use Rattle.runs.proofs.Tests.{says-prover, says-verifier}
 use Rattle.runs.proofs.Tests.{says-unfitProver, says-unfitCommitment}
 
 -- committing: 16 and 21
 pub commit-tests : (inst : Instance) (p : Prover) (k : List ℕ)
     → Tests (commitRules inst p (places (inst .header .columns) k)) (commitConditions inst p k)
 unfolding commitRules
-commit-tests inst p k = (refl, coordinates-read inst k, (refl, says-not (says-new (p .phase)), tt))
+commit-tests inst p k = (refl, coordinates-read inst k, (refl, says-not (says-prover New p), tt))
 
 -- responding: 15 to 17 and 21
 pub respond-tests : {inst : Instance} → Valid inst → (p : Prover) (c : ℕ) (x : List ℕ)
@@ -47,7 +48,7 @@ respond-tests {inst} v p c x = (
     (
       refl,
       witness-read v x,
-      (refl, says-or (says-not (says-committed (p .phase))) (says-unfitProver v p), tt),
+      (refl, says-or (says-not (says-prover Committed p)) (says-unfitProver v p), tt),
     ),
   ),
 )
@@ -58,20 +59,20 @@ unfolding dropRules
 drop-tests p =
     let neither : ¬ ((p .phase ≡ New) ⊎ (p .phase ≡ Committed)) ↔ ((p .phase ≢ New) × (p .phase ≢ Committed)) =
     (λ n. (λ e. n (inl e), λ e. n (inr e)), λ n. ⊎-elim (n .0) (n .1)) in
-    (refl, says-iff (says-not (says-or (says-new (p .phase)) (says-committed (p .phase)))) neither, tt)
+    (refl, says-iff (says-not (says-or (says-prover New p) (says-prover Committed p))) neither, tt)
 
 -- Vic's commitment: 14 and 21
 pub takeCommitment-tests : (inst : Instance) (v : Verifier) (t : List ℕ)
     → Tests (takeCommitmentRules inst v (places (inst .header .rows) t)) (takeCommitmentConditions inst v t)
 unfolding takeCommitmentRules
-takeCommitment-tests inst v t = (refl, commitment-read inst t, (refl, says-not (says-waiting (v .phase)), tt))
+takeCommitment-tests inst v t = (refl, commitment-read inst t, (refl, says-not (says-verifier Waiting v), tt))
 
 -- Vic's challenge: 15 and 21
 pub takeChallenge-tests : (inst : Instance) (v : Verifier) (c : ℕ)
     → Tests (takeChallengeRules inst v c) (takeChallengeConditions inst v c)
 unfolding takeChallengeRules
 takeChallenge-tests inst v c =
-    (refl, says-badChallenge inst c, (refl, says-or (says-not (says-holding (v .phase))) (says-unfitCommitment inst v), tt))
+    (refl, says-badChallenge inst c, (refl, says-or (says-not (says-verifier Holding v)) (says-unfitCommitment inst v), tt))
 
 -- Vic's response: 16 and 21
 pub takeResponse-tests : (inst : Instance) (v : Verifier) (r : List ℕ)
@@ -83,7 +84,7 @@ takeResponse-tests inst v r = (
   (
     refl,
     simp or-assoc
-        (says-or (says-not (says-asked (v .phase)))
+        (says-or (says-not (says-verifier Asked v))
         (says-or (says-unfitCommitment inst v) (says-badChallenge inst (v .challenge)))),
     tt,
   ),

@@ -1,7 +1,7 @@
 -- What each test of a session says (01, "Sessions"; refusal 21).
 -- Assumes nothing.
-use mathlib.Core.Path.{_≡_, refl}
-use mathlib.Core.Bool.{false≢true}
+use Prim.Native.Nat.{ℕ, zero, suc}
+use mathlib.Core.Path.{_≡_, refl, sym, ap, _∙_}
 use Rattle.types.specs.declared.Prover.{Prover}
 use Rattle.types.specs.declared.ProverPhase.{ProverPhase}
 use Rattle.types.specs.declared.ProverPhase.the-variants.{New, Committed, Answered, Dropped}
@@ -9,58 +9,60 @@ use Rattle.types.specs.declared.Verifier.{Verifier}
 use Rattle.types.specs.declared.VerifierPhase.{VerifierPhase}
 use Rattle.types.specs.declared.VerifierPhase.the-variants.{Waiting, Holding, Asked, Judged}
 use Rattle.rules.specs.Says.{Says}
-use Rattle.rules.proofs.Says.{says-or}
+use Rattle.rules.proofs.Says.{says-equal, says-or, says-iff}
 use Rattle.sigma.specs.Instance.{Instance}
 use Rattle.sigma.specs.Valid.{Valid}
 use Rattle.sigma.proofs.Comparison.{says-differ}
 use Rattle.sigma.proofs.Refusals.{commitment-read, coordinates-read, image-read}
-use Rattle.runs.specs.Prover.{isNew, isCommitted, unfitProver}
+use Rattle.runs.specs.Prover.{proverState, proverIn, unfitProver}
 use Rattle.runs.specs.Refusals.{UnfitProver, UnfitCommitment}
-use Rattle.runs.specs.Verifier.{isWaiting, isHolding, isAsked, unfitCommitment}
+use Rattle.runs.specs.Verifier.{verifierState, verifierIn, unfitCommitment}
 
--- ---- Peggy's states
+-- ---- states
 
--- the session is New
-pub says-new : (s : ProverPhase) → Says (isNew s) (s ≡ New)
-unfolding isNew
-says-new New = record { sound = λ e. refl; complete = λ e. refl }
-says-new Committed = record { sound = λ e. absurd (false≢true e); complete = λ e. cc }
-says-new Answered = record { sound = λ e. absurd (false≢true e); complete = λ e. cc }
-says-new Dropped = record { sound = λ e. absurd (false≢true e); complete = λ e. cc }
+-- the state of a number, the last for every number beyond
+proverAt : ℕ → ProverPhase
+proverAt zero = New
+proverAt (suc zero) = Committed
+proverAt (suc (suc zero)) = Answered
+proverAt (suc (suc (suc n))) = Dropped
 
--- the session is Committed
-pub says-committed : (s : ProverPhase) → Says (isCommitted s) (s ≡ Committed)
-unfolding isCommitted
-says-committed New = record { sound = λ e. absurd (false≢true e); complete = λ e. cc }
-says-committed Committed = record { sound = λ e. refl; complete = λ e. refl }
-says-committed Answered = record { sound = λ e. absurd (false≢true e); complete = λ e. cc }
-says-committed Dropped = record { sound = λ e. absurd (false≢true e); complete = λ e. cc }
+-- a state's number has the state
+prover-at : (s : ProverPhase) → proverAt (proverState s) ≡ s
+unfolding proverState proverAt
+prover-at New = refl
+prover-at Committed = refl
+prover-at Answered = refl
+prover-at Dropped = refl
 
--- ---- Vic's states
+-- Peggy's session is in a state
+pub says-prover : (state : ProverPhase) (p : Prover) → Says (proverIn state p) (p .phase ≡ state)
+unfolding proverIn
+says-prover state p =
+    says-iff (says-equal (proverState (p .phase)) (proverState state))
+    (λ e. sym (prover-at (p .phase)) ∙ ap proverAt e ∙ prover-at state, ap proverState)
 
--- the session is Waiting
-pub says-waiting : (s : VerifierPhase) → Says (isWaiting s) (s ≡ Waiting)
-unfolding isWaiting
-says-waiting Waiting = record { sound = λ e. refl; complete = λ e. refl }
-says-waiting Holding = record { sound = λ e. absurd (false≢true e); complete = λ e. cc }
-says-waiting Asked = record { sound = λ e. absurd (false≢true e); complete = λ e. cc }
-says-waiting Judged = record { sound = λ e. absurd (false≢true e); complete = λ e. cc }
+-- the state of a number, the last for every number beyond
+verifierAt : ℕ → VerifierPhase
+verifierAt zero = Waiting
+verifierAt (suc zero) = Holding
+verifierAt (suc (suc zero)) = Asked
+verifierAt (suc (suc (suc n))) = Judged
 
--- the session is Holding
-pub says-holding : (s : VerifierPhase) → Says (isHolding s) (s ≡ Holding)
-unfolding isHolding
-says-holding Waiting = record { sound = λ e. absurd (false≢true e); complete = λ e. cc }
-says-holding Holding = record { sound = λ e. refl; complete = λ e. refl }
-says-holding Asked = record { sound = λ e. absurd (false≢true e); complete = λ e. cc }
-says-holding Judged = record { sound = λ e. absurd (false≢true e); complete = λ e. cc }
+-- a state's number has the state
+verifier-at : (s : VerifierPhase) → verifierAt (verifierState s) ≡ s
+unfolding verifierState verifierAt
+verifier-at Waiting = refl
+verifier-at Holding = refl
+verifier-at Asked = refl
+verifier-at Judged = refl
 
--- the session is Asked
-pub says-asked : (s : VerifierPhase) → Says (isAsked s) (s ≡ Asked)
-unfolding isAsked
-says-asked Waiting = record { sound = λ e. absurd (false≢true e); complete = λ e. cc }
-says-asked Holding = record { sound = λ e. absurd (false≢true e); complete = λ e. cc }
-says-asked Asked = record { sound = λ e. refl; complete = λ e. refl }
-says-asked Judged = record { sound = λ e. absurd (false≢true e); complete = λ e. cc }
+-- Vic's session is in a state
+pub says-verifier : (state : VerifierPhase) (v : Verifier) → Says (verifierIn state v) (v .phase ≡ state)
+unfolding verifierIn
+says-verifier state v =
+    says-iff (says-equal (verifierState (v .phase)) (verifierState state))
+    (λ e. sym (verifier-at (v .phase)) ∙ ap verifierAt e ∙ verifier-at state, ap verifierState)
 
 -- ---- held values (21)
 

@@ -12,9 +12,9 @@ use Rattle.sigma.specs.Comparison.{differ}
 use Rattle.sigma.specs.Instance.{Instance}
 use Rattle.sigma.specs.Reads.{Agree}
 use Rattle.sigma.proofs.Comparison.{says-differ}
-use Rattle.runs.specs.Prover.{proverStep, unfitProver, respondRules, commitAfter, respondAfter}
+use Rattle.runs.specs.Prover.{proverIn, proverStep, unfitProver, respondRules, commitAfter, respondAfter}
 use Rattle.runs.specs.Reads.{SameProver, SameVerifier}
-use Rattle.runs.specs.Verifier.{verifierStep, unfitCommitment, takeChallengeRules, takeResponseRules}
+use Rattle.runs.specs.Verifier.{verifierIn, verifierStep, unfitCommitment, takeChallengeRules, takeResponseRules}
 use Rattle.runs.specs.Verifier.{takeCommitmentAfter, takeChallengeAfter, takeResponseAfter}
 
 -- ---- what a call brings
@@ -65,7 +65,7 @@ module _ (before : List Rule) (inst : Instance) (p p′ : Prover) where
   pub respondAfter-held : SameProver (inst .header) p p′ → (c : ℕ) (x : List ℕ)
       → (respondAfter before inst p c x .refusal ≡ respondAfter before inst p′ c x .refusal)
       × (respondAfter before inst p c x .values ≡ respondAfter before inst p′ c x .values)
-  unfolding respondAfter proverStep respondRules
+  unfolding respondAfter proverStep respondRules proverIn
   respondAfter-held s c x =
       let nonce = places-agree (inst .header .columns) (p .nonce) (p′ .nonce) (s .nonce) in
       (rw (unfitProver-same inst p p′ s, s .phase), rw (unfitProver-same inst p p′ s, nonce, s .phase))
@@ -82,13 +82,13 @@ module _ (before : List Rule) (inst : Instance) (v v′ : Verifier) where
   -- the challenge call reads the state and s places of the commitment
   pub takeChallengeAfter-held : v .phase ≡ v′ .phase → Agree (inst .header .rows) (v .commitment) (v′ .commitment) → (c : ℕ)
       → takeChallengeAfter before inst v c .refusal ≡ takeChallengeAfter before inst v′ c .refusal
-  unfolding takeChallengeAfter verifierStep takeChallengeRules
+  unfolding takeChallengeAfter verifierStep takeChallengeRules verifierIn
   takeChallengeAfter-held e a c = rw (unfitCommitment-same inst v v′ a, e)
 
   -- the response call reads the state, s places of the commitment and the challenge
   pub takeResponseAfter-held : SameVerifier (inst .header) v v′ → (r : List ℕ)
       → takeResponseAfter before inst v r .verdict ≡ takeResponseAfter before inst v′ r .verdict
-  unfolding takeResponseAfter takeResponseRules
+  unfolding takeResponseAfter takeResponseRules verifierIn
   takeResponseAfter-held s r =
       let commitment = places-agree (inst .header .rows) (v .commitment) (v′ .commitment) (s .commitment) in
       rw (unfitCommitment-same inst v v′ (s .commitment), commitment, s .phase, s .challenge)

@@ -9,7 +9,7 @@ use mathlib.Core.List.{List, _++_}
 use lib.Dec.{T}
 use Rattle.types.specs.declared.Verdict.the-variants.{Refused}
 use Rattle.types.specs.declared.Verifier.{Verifier}
-use Rattle.types.specs.declared.VerifierPhase.the-variants.{Holding, Asked, Judged}
+use Rattle.types.specs.declared.VerifierPhase.the-variants.{Waiting, Holding, Asked, Judged}
 use Rattle.lists.specs.Places.{pad8, places}
 use Rattle.rules.specs.Rule.{Rule, lowest, Clear, positive}
 use Rattle.rules.proofs.Lowest.{lowest-append-zero}
@@ -22,12 +22,12 @@ use Rattle.sigma.proofs.Calculus.{says-passes, both-fail}
 use Rattle.sigma.proofs.Passed.{challenge-passes, commitment-passes, coordinates-pass}
 use Rattle.sigma.proofs.Verdict.{verdict-not-refused}
 use Rattle.runs.specs.Meaning.{TakesCommitment, TakesChallenge, ReadyToJudge, TakesResponse}
-use Rattle.runs.specs.Verifier.{isHolding, isAsked, unfitCommitment, verifierStep}
+use Rattle.runs.specs.Verifier.{verifierIn, unfitCommitment, verifierStep}
 use Rattle.runs.specs.Verifier.{takeCommitmentRules, takeCommitmentAfter, takeChallengeRules, takeChallengeAfter}
 use Rattle.runs.specs.Verifier.{takeResponseRules, takeResponseAfter}
 use Rattle.runs.proofs.Positive.{takeCommitment-positive, takeChallenge-positive, takeResponse-positive}
 use Rattle.runs.proofs.Outcome.{verifierStep-positive, verifierStep-given, judged-number}
-use Rattle.runs.proofs.Tests.{says-waiting, says-holding, says-asked}
+use Rattle.runs.proofs.Tests.{says-verifier}
 
 -- ---- when no rule of a call applies
 
@@ -37,7 +37,7 @@ pub takeCommitment-clear : (inst : Instance) (v : Verifier) (t : List ℕ)
 unfolding takeCommitmentRules
 takeCommitment-clear inst v t =
     let elements = commitment-passes inst t in
-    let phase = says-passes (says-waiting (v .phase)) in (
+    let phase = says-passes (says-verifier Waiting v) in (
       λ (a, (b, none)). record { commitment = elements .0 a; phase = phase .0 b },
       λ x. (elements .1 (x .commitment), (phase .1 (x .phase), tt)),
     )
@@ -54,8 +54,8 @@ pub takeChallenge-clear : (inst : Instance) (v : Verifier) (c : ℕ)
 unfolding takeChallengeRules
 takeChallenge-clear inst v c =
     let below = challenge-passes inst c in
-    let state = both-fail (not (isHolding (v .phase))) (unfitCommitment inst v) in
-    let phase = says-passes (says-holding (v .phase)) in
+    let state = both-fail (not (verifierIn Holding v)) (unfitCommitment inst v) in
+    let phase = says-passes (says-verifier Holding v) in
     let held = unfit-passes inst v in (
       λ (a, (b, none)). record { challenge = below .0 a; phase = phase .0 (state .0 b .0); held = held .0 (state .0 b .1) },
       λ x. (below .1 (x .challenge), (state .1 (phase .1 (x .phase), held .1 (x .held)), tt)),
@@ -63,11 +63,11 @@ takeChallenge-clear inst v c =
 
 -- not 21: Vic is Asked, and what he holds fits
 pub ready-passes : (inst : Instance) (v : Verifier)
-    → ((not (isAsked (v .phase)) || unfitCommitment inst v || badChallenge inst (v .challenge)) ≡ false) ↔ ReadyToJudge inst v
+    → ((not (verifierIn Asked v) || unfitCommitment inst v || badChallenge inst (v .challenge)) ≡ false) ↔ ReadyToJudge inst v
 ready-passes inst v =
-    let all = both-fail (not (isAsked (v .phase)) || unfitCommitment inst v) (badChallenge inst (v .challenge)) in
-    let state = both-fail (not (isAsked (v .phase))) (unfitCommitment inst v) in
-    let phase = says-passes (says-asked (v .phase)) in
+    let all = both-fail (not (verifierIn Asked v) || unfitCommitment inst v) (badChallenge inst (v .challenge)) in
+    let state = both-fail (not (verifierIn Asked v)) (unfitCommitment inst v) in
+    let phase = says-passes (says-verifier Asked v) in
     let held = unfit-passes inst v in
     let below = challenge-passes inst (v .challenge) in (
       λ b. record {

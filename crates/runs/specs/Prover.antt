@@ -1,8 +1,9 @@
 -- Peggy's session (01, "Sessions"; refusals 15 to 17 and 21). Each call hands back the session with some fields changed.
 -- Assumes nothing.
 use Prim.Native.Nat.{ℕ}
-use mathlib.Core.Bool.{Bool, true, false, not, _||_}
+use mathlib.Core.Bool.{Bool, not, _||_}
 use mathlib.Core.List.{List, [], _∷_, _++_}
+use lib.Dec.{eqb}
 use Rattle.types.specs.declared.Prover.{Prover}
 use Rattle.types.specs.declared.ProverPhase.{ProverPhase}
 use Rattle.types.specs.declared.ProverPhase.the-variants.{New, Committed, Answered, Dropped}
@@ -25,19 +26,9 @@ proverState Committed = 1
 proverState Answered = 2
 proverState Dropped = 3
 
--- whether the session is New
-unfoldable pub isNew : ProverPhase → Bool
-isNew New = true
-isNew Committed = false
-isNew Answered = false
-isNew Dropped = false
-
--- whether the session is Committed
-unfoldable pub isCommitted : ProverPhase → Bool
-isCommitted New = false
-isCommitted Committed = true
-isCommitted Answered = false
-isCommitted Dropped = false
+-- whether a session is in a state
+unfoldable pub proverIn : ProverPhase → Prover → Bool
+proverIn state p = eqb (proverState (p .phase)) (proverState state)
 
 -- a new session holds zeros
 unfoldable pub newProver : Prover
@@ -54,7 +45,7 @@ proverStep refusal before after xs =
 
 -- the rules of a nonce and the state
 unfoldable pub commitRules : Instance → Prover → List ℕ → List Rule
-commitRules inst p k = (16 when badCoordinates inst k) ∷ (21 when not (isNew (p .phase))) ∷ []
+commitRules inst p k = (16 when badCoordinates inst k) ∷ (21 when not (proverIn New p)) ∷ []
 
 -- after the rules of the sheet: the nonce, read in n places, and its commitment are stored
 unfoldable pub commitAfter : List Rule → Instance → Prover → List ℕ → ProverStep
@@ -75,7 +66,7 @@ respondRules inst p c x =
     (15 when badChallenge inst c) ∷
     (16 when badCoordinates inst x) ∷
     (17 when badWitness inst x) ∷
-    (21 when (not (isCommitted (p .phase)) || unfitProver inst p)) ∷ []
+    (21 when (not (proverIn Committed p) || unfitProver inst p)) ∷ []
 
 -- after the rules of the sheet: the response is answered and the nonce set to zeros
 unfoldable pub respondAfter : List Rule → Instance → Prover → ℕ → List ℕ → ProverStep
@@ -87,7 +78,7 @@ respondAfter before inst p c witness =
 
 -- the rule of the state
 unfoldable pub dropRules : Prover → List Rule
-dropRules p = (21 when not (isNew (p .phase) || isCommitted (p .phase))) ∷ []
+dropRules p = (21 when not (proverIn New p || proverIn Committed p)) ∷ []
 
 -- the call that commits to a nonce
 unfoldable pub commit : List ℕ → Prover → List ℕ → ProverStep

@@ -1,8 +1,9 @@
 -- Vic's session (01, "Sessions"; refusals 14 to 16 and 21). Each call hands back the session with some fields changed.
 -- Assumes nothing.
 use Prim.Native.Nat.{ℕ}
-use mathlib.Core.Bool.{Bool, true, false, not, _||_}
+use mathlib.Core.Bool.{Bool, not, _||_}
 use mathlib.Core.List.{List, [], _∷_, _++_}
+use lib.Dec.{eqb}
 use Rattle.types.specs.declared.Verifier.{Verifier}
 use Rattle.types.specs.declared.VerifierPhase.{VerifierPhase}
 use Rattle.types.specs.declared.VerifierPhase.the-variants.{Waiting, Holding, Asked, Judged}
@@ -24,26 +25,9 @@ verifierState Holding = 1
 verifierState Asked = 2
 verifierState Judged = 3
 
--- whether the session is Waiting
-unfoldable pub isWaiting : VerifierPhase → Bool
-isWaiting Waiting = true
-isWaiting Holding = false
-isWaiting Asked = false
-isWaiting Judged = false
-
--- whether the session is Holding
-unfoldable pub isHolding : VerifierPhase → Bool
-isHolding Waiting = false
-isHolding Holding = true
-isHolding Asked = false
-isHolding Judged = false
-
--- whether the session is Asked
-unfoldable pub isAsked : VerifierPhase → Bool
-isAsked Waiting = false
-isAsked Holding = false
-isAsked Asked = true
-isAsked Judged = false
+-- whether a session is in a state
+unfoldable pub verifierIn : VerifierPhase → Verifier → Bool
+verifierIn state v = eqb (verifierState (v .phase)) (verifierState state)
 
 -- a new session holds zeros
 unfoldable pub newVerifier : Verifier
@@ -59,7 +43,7 @@ unfitCommitment inst v = badCommitment inst (places (inst .header .rows) (v .com
 
 -- the rules of a commitment and the state
 unfoldable pub takeCommitmentRules : Instance → Verifier → List ℕ → List Rule
-takeCommitmentRules inst v t = (14 when badCommitment inst t) ∷ (21 when not (isWaiting (v .phase))) ∷ []
+takeCommitmentRules inst v t = (14 when badCommitment inst t) ∷ (21 when not (verifierIn Waiting v)) ∷ []
 
 -- after the rules of the sheet: the commitment is stored, read in s places
 unfoldable pub takeCommitmentAfter : List Rule → Instance → Verifier → List ℕ → VerifierStep
@@ -71,7 +55,7 @@ takeCommitmentAfter before inst v commitment =
 -- the rules of a challenge and the session
 unfoldable pub takeChallengeRules : Instance → Verifier → ℕ → List Rule
 takeChallengeRules inst v c =
-    (15 when badChallenge inst c) ∷ (21 when (not (isHolding (v .phase)) || unfitCommitment inst v)) ∷ []
+    (15 when badChallenge inst c) ∷ (21 when (not (verifierIn Holding v) || unfitCommitment inst v)) ∷ []
 
 -- after the rules of the sheet: the challenge is stored
 unfoldable pub takeChallengeAfter : List Rule → Instance → Verifier → ℕ → VerifierStep
@@ -83,7 +67,7 @@ takeChallengeAfter before inst v c =
 unfoldable pub takeResponseRules : Instance → Verifier → List ℕ → List Rule
 takeResponseRules inst v r =
     (16 when badCoordinates inst r) ∷
-    (21 when (not (isAsked (v .phase)) || unfitCommitment inst v || badChallenge inst (v .challenge))) ∷ []
+    (21 when (not (verifierIn Asked v) || unfitCommitment inst v || badChallenge inst (v .challenge))) ∷ []
 
 -- after the rules of the sheet: the verdict on the held commitment and challenge and the response; no response is stored
 unfoldable pub takeResponseAfter : List Rule → Instance → Verifier → List ℕ → VerifierVerdict

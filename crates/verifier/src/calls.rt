@@ -18,9 +18,9 @@ pub fn new() -> Verifier
     ensures { λ r. ⌜ r ≡ newVerifier ⌝ }
 {
     Verifier {
-        phase: VerifierPhase::Waiting,
         commitment: [0u32; 8],
         challenge: 0,
+        phase: VerifierPhase::Waiting,
     }
 }
 
@@ -31,7 +31,7 @@ pub fn take_commitment(sheet: &[u8], session: Verifier, commitment: [u32; 8]) ->
     let loaded = load(sheet);
     let refusal = loaded.refusal;
     if refusal != 0 {
-        return VerifierStep { refusal, session };
+        return VerifierStep { session, refusal };
     }
     let h = loaded.header;
     take_commitment_loaded(h, session, commitment)
@@ -44,7 +44,7 @@ pub fn take_challenge(sheet: &[u8], session: Verifier, challenge: u32) -> Verifi
     let loaded = load(sheet);
     let refusal = loaded.refusal;
     if refusal != 0 {
-        return VerifierStep { refusal, session };
+        return VerifierStep { session, refusal };
     }
     let h = loaded.header;
     take_challenge_loaded(h, session, challenge)

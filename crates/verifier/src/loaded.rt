@@ -102,15 +102,15 @@ pub fn take_commitment_loaded(h: Header, session: Verifier, commitment: [u32; 8]
 {
     let refusal = commitment_refusal(h, session, commitment);
     if refusal != 0 {
-        return VerifierStep { refusal, session };
+        return VerifierStep { session, refusal };
     }
     VerifierStep {
-        refusal: 0,
         session: Verifier {
-            phase: VerifierPhase::Holding,
             commitment: first_places(commitment, h.rows as usize),
             challenge: session.challenge,
+            phase: VerifierPhase::Holding,
         },
+        refusal: 0,
     }
 }
 
@@ -122,16 +122,16 @@ pub fn take_challenge_loaded(h: Header, session: Verifier, challenge: u32) -> Ve
 {
     let refusal = challenge_refusal(h, session, challenge);
     if refusal != 0 {
-        return VerifierStep { refusal, session };
+        return VerifierStep { session, refusal };
     }
     let commitment = session.commitment;
     VerifierStep {
-        refusal: 0,
         session: Verifier {
-            phase: VerifierPhase::Asked,
             commitment,
             challenge,
+            phase: VerifierPhase::Asked,
         },
+        refusal: 0,
     }
 }
 
@@ -159,9 +159,9 @@ pub fn take_response_loaded(
     VerifierVerdict {
         verdict: verdict(h, entries, statement, commitment, challenge, response),
         session: Verifier {
-            phase: VerifierPhase::Judged,
             commitment,
             challenge,
+            phase: VerifierPhase::Judged,
         },
     }
 }

@@ -1,11 +1,14 @@
 -- `prover::loaded::commit_refusal` meets its contract: each return is a law of the rules of committing.
 -- Assumes nothing.
-use mathlib.Core.Path.{sym, ap, _∙_}
-use mathlib.Core.Bool.{not}
+use mathlib.Core.Path.{sym, _∙_}
 use borrow.Author.Needs.{needs}
 use Rattle.rules.proofs.Lowest.{pass, stop, lowest-clear}
+use Rattle.types.specs.declared.ProverPhase.the-variants.{New}
+use Rattle.sigma.proofs.Calculus.{says-passes}
 use Rattle.runs.specs.Prover.{commitRules}
+use Rattle.runs.proofs.Tests.{says-prover}
 use Rattle.image.proofs.Tested.{coordinates-bad, coordinates-good}
+use Rattle.prover.proofs.States.{not-new}
 use Rattle.prover.proofs.loaded.commit_refusal.Statement.{statement}
 use Rattle.prover.proofs.loaded.commit_refusal.Tie as tie
 
@@ -20,15 +23,15 @@ unfolding commitRules
 returns c = λ entries statement.
     sym (stop 16 _ (coordinates-bad _ _ (c .before .first-non-coordinate .ensures .0) (c .if1 .taken)))
 
-may-commit-requires : tie.Need-may-commit-requires
-may-commit-requires c κs = search needs
+enum-told : tie.Need-enum-told
+enum-told c = search needs
 
 returns-2 : tie.Need-returns-2
 unfolding commitRules
 returns-2 c = λ entries statement.
-    let slots = c .before .before in
+    let slots = c .before in
     sym (pass 16 _ (coordinates-good _ _ (slots .before .first-non-coordinate .ensures .0) (slots .if1 .left))
-    ∙ stop 21 _ (ap not (sym (c .before .may-commit .ensures)) ∙ c .if2 .taken))
+    ∙ stop 21 _ (not-new _ (c .match .keys2)))
 
 returns-3 : tie.Need-returns-3
 unfolding commitRules
@@ -36,7 +39,7 @@ returns-3 c = λ entries statement.
     let slots = c .before .before in
     sym (lowest-clear _ (
       coordinates-good _ _ (slots .before .first-non-coordinate .ensures .0) (slots .if1 .left),
-      (ap not (sym (c .before .may-commit .ensures)) ∙ c .if2 .left, tt),
+      (says-passes (says-prover New _) .1 (c .enum-told .given .1), tt),
     ))
 
 pub commit-refusal-spec : {M : Type 1} → statement M
@@ -46,6 +49,6 @@ commit-refusal-spec =
     cast-columns
     first-non-coordinate-requires
     returns
-    may-commit-requires
+    enum-told
     returns-2
     returns-3)

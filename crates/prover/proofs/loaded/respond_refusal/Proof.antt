@@ -1,22 +1,26 @@
 -- `prover::loaded::respond_refusal` meets its contract: each return is a law of the rules of responding, and each test that fails
 -- leaves the rules behind it.
 -- Assumes nothing.
-use mathlib.Core.Path.{_≡_, sym, ap, _∙_}
+use mathlib.Core.Path.{_≡_, sym, _∙_}
 use mathlib.Core.Bool.{not, or-eq-true-iff}
 use mathlib.Core.Logic.{Or·inl, Or·inr}
-use Prim.Native.Nat.{ℕ}
+use Prim.Native.Nat.{ℕ, _≤_}
 use lib.ListN.{drop}
+use native.Mathlib.Omega.{arith}
 use borrow.Author.Needs.{needs}
 use borrow.Author.Tests.{lt-ltb, le-ltb}
 use Rattle.lists.specs.Places.{places}
 use Rattle.rules.specs.Rule.{lowest}
 use Rattle.rules.proofs.Lowest.{pass, stop, lowest-clear}
-use Rattle.sigma.proofs.Calculus.{both-fail}
+use Rattle.sigma.proofs.Calculus.{says-passes, both-fail}
 use Rattle.sigma.proofs.Passed.{challenge-passes}
 use Rattle.sigma.proofs.Tests.{says-badChallenge}
-use Rattle.runs.specs.Prover.{isCommitted, respondRules}
+use Rattle.types.specs.declared.ProverPhase.the-variants.{Committed}
+use Rattle.runs.specs.Prover.{proverIn, respondRules}
+use Rattle.runs.proofs.Tests.{says-prover}
 use Rattle.sigma.specs.Instance.{instanceWith}
 use Rattle.image.proofs.Tested.{coordinates-bad, coordinates-good, witness-tested}
+use Rattle.prover.proofs.States.{not-committed}
 use Rattle.prover.proofs.loaded.respond_refusal.Statement.{statement}
 use Rattle.prover.proofs.loaded.respond_refusal.Tie as tie
 
@@ -45,9 +49,10 @@ unfolding respondRules
 witness c =
     let imaged = c .before .before in
     let start = imaged .before .before .before .before .before .before .before in
+    let agree : start .args .h .rows ≤ c .before .first-difference .result = omega (arith, c .if3 .left) in
     slots (imaged .before)
     ∙ pass 17 _ (witness-tested _ (start .pre) _ (imaged .image .ensures) (c .before .first-difference .ensures .0)
-    ∙ le-ltb _ _ (c .if3 .left))
+    ∙ le-ltb _ _ agree)
 
 cast-rows : tie.Need-cast-rows
 cast-rows c = search needs
@@ -82,14 +87,13 @@ returns-3 c =
     ∙ stop 17 _ (witness-tested _ (start .pre) _ (imaged .image .ensures) (c .before .first-difference .ensures .0)
     ∙ lt-ltb _ _ (c .if3 .taken)))
 
-may-respond-requires : tie.Need-may-respond-requires
-may-respond-requires c κs = search needs
+enum-told : tie.Need-enum-told
+enum-told c = search needs
 
 returns-4 : tie.Need-returns-4
 unfolding respondRules
 returns-4 c =
-    sym (witness (c .before .before)
-    ∙ stop 21 _ (or-eq-true-iff _ _ .1 (Or·inl (ap not (sym (c .before .may-respond .ensures)) ∙ c .if4 .taken))))
+    sym (witness (c .before) ∙ stop 21 _ (or-eq-true-iff _ _ .1 (Or·inl (not-committed _ (c .match .keys2)))))
 
 unfit-requires : tie.Need-unfit-requires
 unfit-requires c κs = search needs
@@ -101,7 +105,7 @@ returns-5 c =
     let start = asked .before .before .before .before .before .before .before .before .before .before .before in
     let held = c .before .unfit .ensures (start .args .statement) (start .pre) in
     sym (witness (asked .before .before)
-    ∙ stop 21 _ (or-eq-true-iff (not (isCommitted _)) _ .1 (Or·inr (sym held ∙ c .if5 .taken))))
+    ∙ stop 21 _ (or-eq-true-iff (not (proverIn Committed _)) _ .1 (Or·inr (sym held ∙ c .if4 .taken))))
 
 returns-6 : tie.Need-returns-6
 unfolding respondRules
@@ -109,8 +113,8 @@ returns-6 c =
     let asked = c .before .before in
     let start = asked .before .before .before .before .before .before .before .before .before .before .before in
     let held = c .before .unfit .ensures (start .args .statement) (start .pre) in
-    let state = ap not (sym (asked .before .may-respond .ensures)) ∙ asked .if4 .left in
-    sym (witness (asked .before .before) ∙ lowest-clear _ (both-fail _ _ .1 (state, sym held ∙ c .if5 .left), tt))
+    let state = says-passes (says-prover Committed _) .1 (asked .enum-told .given .1) in
+    sym (witness (asked .before .before) ∙ lowest-clear _ (both-fail _ _ .1 (state, sym held ∙ c .if4 .left), tt))
 
 pub respond-refusal-spec : {M : Type 1} → statement M
 respond-refusal-spec =
@@ -124,7 +128,7 @@ respond-refusal-spec =
     image-requires
     first-difference-requires
     returns-3
-    may-respond-requires
+    enum-told
     returns-4
     unfit-requires
     returns-5

@@ -9,8 +9,9 @@ use Rattle.rules.proofs.Lowest.{pass, stop, lowest-clear}
 use Rattle.sigma.proofs.Calculus.{says-passes, both-fail}
 use Rattle.sigma.proofs.Passed.{challenge-passes}
 use Rattle.sigma.proofs.Tests.{says-badChallenge}
-use Rattle.runs.specs.Verifier.{isHolding, unfitCommitment, takeChallengeRules}
-use Rattle.runs.proofs.Tests.{says-holding}
+use Rattle.types.specs.declared.VerifierPhase.the-variants.{Holding}
+use Rattle.runs.specs.Verifier.{verifierIn, unfitCommitment, takeChallengeRules}
+use Rattle.runs.proofs.Tests.{says-verifier}
 use Rattle.verifier.proofs.States.{not-holding}
 use Rattle.verifier.proofs.loaded.challenge_refusal.Statement.{statement}
 use Rattle.verifier.proofs.loaded.challenge_refusal.Tie as tie
@@ -36,7 +37,7 @@ returns-3 : tie.Need-returns-3
 unfolding takeChallengeRules unfitCommitment
 returns-3 c = λ entries statement.
     sym (pass 15 _ (challenge-passes _ _ .1 (omega (arith, c .before .before .before .before .before .if1 .left)))
-    ∙ stop 21 _ (or-eq-true-iff (not (isHolding _)) _ .1
+    ∙ stop 21 _ (or-eq-true-iff (not (verifierIn Holding _)) _ .1
     (Or·inr (sym (c .before .bad-commitment .ensures entries statement) ∙ c .if2 .taken))))
 
 returns-4 : tie.Need-returns-4
@@ -47,7 +48,7 @@ returns-4 c = λ entries statement.
       challenge-passes _ _ .1 (omega (arith, holding .before .before .if1 .left)),
       (
         both-fail _ _ .1 (
-          says-passes (says-holding _) .1 (holding .enum-told .given .1),
+          says-passes (says-verifier Holding _) .1 (holding .enum-told .given .1),
           sym (c .before .bad-commitment .ensures entries statement) ∙ c .if2 .left,
         ),
         tt,

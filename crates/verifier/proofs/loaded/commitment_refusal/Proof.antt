@@ -4,8 +4,9 @@ use mathlib.Core.Path.{sym, _∙_}
 use borrow.Author.Needs.{needs}
 use Rattle.rules.proofs.Lowest.{pass, stop, lowest-clear}
 use Rattle.sigma.proofs.Calculus.{says-passes}
+use Rattle.types.specs.declared.VerifierPhase.the-variants.{Waiting}
 use Rattle.runs.specs.Verifier.{takeCommitmentRules}
-use Rattle.runs.proofs.Tests.{says-waiting}
+use Rattle.runs.proofs.Tests.{says-verifier}
 use Rattle.verifier.proofs.States.{not-waiting}
 use Rattle.verifier.proofs.loaded.commitment_refusal.Statement.{statement}
 use Rattle.verifier.proofs.loaded.commitment_refusal.Tie as tie
@@ -34,7 +35,7 @@ returns-3 c = λ entries statement.
     let tested = c .before .before in
     sym (lowest-clear _ (
       sym (tested .before .bad-commitment .ensures entries statement) ∙ tested .if1 .left,
-      (says-passes (says-waiting _) .1 (c .enum-told .given .1), tt),
+      (says-passes (says-verifier Waiting _) .1 (c .enum-told .given .1), tt),
     ))
 
 pub commitment-refusal-spec : {M : Type 1} → statement M

@@ -14,8 +14,9 @@ use Rattle.rules.proofs.Lowest.{pass, stop, lowest-clear}
 use Rattle.sigma.proofs.Calculus.{says-passes, both-fail}
 use Rattle.sigma.proofs.Passed.{challenge-passes}
 use Rattle.sigma.proofs.Tests.{says-badChallenge}
-use Rattle.runs.specs.Verifier.{isAsked, unfitCommitment, takeResponseRules}
-use Rattle.runs.proofs.Tests.{says-asked}
+use Rattle.types.specs.declared.VerifierPhase.the-variants.{Asked}
+use Rattle.runs.specs.Verifier.{verifierIn, unfitCommitment, takeResponseRules}
+use Rattle.runs.proofs.Tests.{says-verifier}
 use Rattle.sigma.specs.Instance.{instanceWith}
 use Rattle.image.proofs.Tested.{coordinates-bad, coordinates-good}
 use Rattle.verifier.proofs.States.{not-asked}
@@ -58,13 +59,13 @@ unfolding takeResponseRules unfitCommitment
 returns-3 c = λ entries statement.
     let unfit = sym (c .before .bad-commitment .ensures entries statement) ∙ c .if2 .taken in
     sym (slots (c .before .before .before .before .before) entries statement
-    ∙ stop 21 _ (or-eq-true-iff _ _ .1 (Or·inl (or-eq-true-iff (not (isAsked _)) _ .1 (Or·inr unfit)))))
+    ∙ stop 21 _ (or-eq-true-iff _ _ .1 (Or·inl (or-eq-true-iff (not (verifierIn Asked _)) _ .1 (Or·inr unfit)))))
 
 returns-4 : tie.Need-returns-4
 unfolding takeResponseRules
 returns-4 c = λ entries statement.
     sym (slots (c .before .before .before .before .before .before .before .before) entries statement
-    ∙ stop 21 _ (or-eq-true-iff (not (isAsked _) || unfitCommitment _ _) _ .1
+    ∙ stop 21 _ (or-eq-true-iff (not (verifierIn Asked _) || unfitCommitment _ _) _ .1
     (Or·inr (says-badChallenge _ _ .complete (omega (arith, c .if3 .taken))))))
 
 returns-5 : tie.Need-returns-5
@@ -76,7 +77,7 @@ returns-5 c = λ entries statement.
     ∙ lowest-clear _ (
       both-fail _ _ .1 (
         both-fail _ _ .1 (
-          says-passes (says-asked _) .1 (asked .enum-told .given .1),
+          says-passes (says-verifier Asked _) .1 (asked .enum-told .given .1),
           sym (fits .before .bad-commitment .ensures entries statement) ∙ fits .if2 .left,
         ),
         challenge-passes _ _ .1 (omega (arith, c .if3 .left)),
