@@ -21,8 +21,8 @@ refused-requires c κs = search needs
 returns : tie.Need-returns
 unfolding simulateRules
 returns c =
-    c .refused .ensures
-    ∙ simulate-refused _ _ _ 15 (omega arith) (stop 15 _ (says-badChallenge _ _ .complete (c .before .if1 .taken)))
+    rw (c .refused .ensures)
+    (simulate-refused _ _ _ 15 (omega arith) (stop 15 _ (says-badChallenge _ _ .complete (c .before .if1 .taken))))
 
 some-non-coordinate-requires : tie.Need-some-non-coordinate-requires
 some-non-coordinate-requires c κs = search needs
@@ -34,10 +34,10 @@ returns-2 : tie.Need-returns-2
 unfolding simulateRules
 returns-2 c =
     let searched = c .before in
-    c .refused2 .ensures
-    ∙ simulate-refused _ _ _ 16 (omega arith)
+    rw (c .refused2 .ensures)
+    (simulate-refused _ _ _ 16 (omega arith)
     (pass 15 _ (challenge-passes _ _ .1 (searched .before .before .if1 .left))
-    ∙ stop 16 _ (coordinates-read _ _ ∙ sym (searched .before .some-non-coordinate .ensures) ∙ searched .if2 .taken))
+    ∙ stop 16 _ (coordinates-read _ _ ∙ sym (searched .before .some-non-coordinate .ensures) ∙ searched .if2 .taken)))
 
 simulated-requires : tie.Need-simulated-requires
 simulated-requires c κs = search needs
