@@ -26,7 +26,7 @@ use Rattle.sigma.specs.Admission.{
 }
 use Rattle.sigma.specs.Answer.{outcome, isAccepted, judged, eightPlaces, computed}
 use Rattle.sigma.specs.Comparison.{firstDifference, differ, compareSides}
-use Rattle.sigma.specs.Element.{isElement, someNonElement, isCoordinate}
+use Rattle.sigma.specs.Element.{isElement, someNonElement, isCoordinate, someNonCoordinate}
 use Rattle.sigma.specs.Extractor.{
   slotFormula,
   formula,
@@ -194,7 +194,7 @@ pub worked-examples : EveryPage × EveryCorner
 unfolding euclid gcd residue quotient power bezoutRight bezoutLeft inverse product find any itemsAt tabulate places
     pad8 zeros8 unlessRefused lowest numberAt bytesOf bytesOfEach ascii digits decimal firstDivisor badKind badModulus
     badOrder badSize badCount badEntries badStatement headerRules elementRules outcome isAccepted judged eightPlaces
-    computed firstDifference differ compareSides isElement someNonElement isCoordinate slotFormula formula extracted pairRules extractRules extractAfter rowImage image isExponent entry statementAt judgeRules
+    computed firstDifference differ compareSides isElement someNonElement isCoordinate someNonCoordinate slotFormula formula extracted pairRules extractRules extractAfter rowImage image isExponent entry statementAt judgeRules
     judgeAfter responseCoordinate response expectedImage verdict badCommitment badChallenge badCoordinates badWitness
     simulated simulateRules simulateAfter headerBytes storedEntries sheetOf badStart badVersion badLength shapeRules loadRules
     loadRefusal patterns patternOf entryOf patternEntries madeHeader made badPattern badValues makeRules fromPattern

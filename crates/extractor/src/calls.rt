@@ -1,6 +1,6 @@
 // The call on a sheet's bytes (01, "A round"): it loads the sheet, and a refused sheet's number is its answer.
 use crate::loaded::extract_loaded;
-use crate::loaded::refused;
+use image::refused;
 use instance::load;
 use instance::loaded_entries;
 use types::Computed;

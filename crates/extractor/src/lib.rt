@@ -1,7 +1,5 @@
-// Extracting a witness from two rounds (01, "A round"). The function on loaded values is for callers that have loaded the
-// sheet.
+// Extracting a witness from two rounds (01, "A round").
 mod calls; // calls.rt: the call on a sheet's bytes
 mod loaded; // loaded.rt: extracting on loaded values
 
 pub use calls::extract;
-pub use loaded::extract_loaded;

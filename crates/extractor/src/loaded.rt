@@ -1,12 +1,13 @@
 // Extracting a witness from two rounds on loaded values (01, "A round"; refusals 14 to 16 of both rounds, then 18 to 20).
-use image::first_difference;
+use image::differ;
 use image::negative_power;
+use image::refused;
 use image::verdict;
-use modular::first_non_coordinate;
-use modular::first_non_element;
 use modular::inverse;
 use modular::mul_mod;
 use modular::pow_mod;
+use modular::some_non_coordinate;
+use modular::some_non_element;
 use modular::sub_mod;
 use types::Computed;
 use types::Header;
@@ -16,7 +17,7 @@ ghost use mathlib.Core.Path.{_≡_};
 ghost use mathlib.Core.List.{List};
 ghost use Prim.Native.Nat.{ℕ, _≤_, _<_};
 ghost use lib.IntN.{pos, negℤ};
-ghost use Rattle.lists.specs.Places.{pad8, zeros8};
+ghost use Rattle.lists.specs.Places.{pad8};
 ghost use Rattle.numbers.specs.Inverse.{inverse};
 ghost use Rattle.rules.specs.Rule.{lowest};
 ghost use Rattle.sigma.specs.Extractor.{slotFormula, formula, extract};
@@ -32,16 +33,16 @@ fn pair_refusal(h: Header, first: Round, second: Round) -> u32
     ensures { λ r. ⌜ ((entries : List (List ℕ)) (statement : List ℕ)
         → r ≡ lowest (rulesOfPair (instanceWith h entries statement) first second)) ⌝ }
 {
-    let t = first.commitment;
-    let u = second.commitment;
-    let r = first.response;
-    let s = second.response;
+    let t1 = first.commitment;
+    let t2 = second.commitment;
+    let r1 = first.response;
+    let r2 = second.response;
     let rows = h.rows as usize;
     let columns = h.columns as usize;
-    if first_non_element(h, t, rows) < rows {
+    if some_non_element(h, t1, rows) {
         return 14;
     }
-    if first_non_element(h, u, rows) < rows {
+    if some_non_element(h, t2, rows) {
         return 14;
     }
     if first.challenge >= h.challenges {
@@ -50,29 +51,19 @@ fn pair_refusal(h: Header, first: Round, second: Round) -> u32
     if second.challenge >= h.challenges {
         return 15;
     }
-    if first_non_coordinate(h, r, columns) < columns {
+    if some_non_coordinate(h, r1, columns) {
         return 16;
     }
-    if first_non_coordinate(h, s, columns) < columns {
+    if some_non_coordinate(h, r2, columns) {
         return 16;
     }
-    if first_difference(t, u, rows) < rows {
+    if differ(t1, t2, rows) {
         return 18;
     }
     if first.challenge == second.challenge {
         return 19;
     }
     0
-}
-
-// The answer of a refused call: the number and zeros.
-pub fn refused(number: u32) -> Computed
-    ensures { λ r. ⌜ r ≡ record { refusal = number; values = zeros8 } ⌝ }
-{
-    Computed {
-        refusal: number,
-        values: [0u32; 8],
-    }
 }
 
 // A slot of the formula with the exponents -a and b: in kind 1 b (r - s) mod q, in kind 2 z^(-a) (r/s)^b mod m.
@@ -124,24 +115,24 @@ pub fn extract_loaded(
     if refusal != 0 {
         return refused(refusal);
     }
-    let t = first.commitment;
-    let u = second.commitment;
-    let r = first.response;
-    let s = second.response;
-    let Verdict::Accepted = verdict(h, entries, statement, t, first.challenge, r) else {
+    let t1 = first.commitment;
+    let t2 = second.commitment;
+    let r1 = first.response;
+    let r2 = second.response;
+    let Verdict::Accepted = verdict(h, entries, statement, t1, first.challenge, r1) else {
         return refused(20);
     };
-    let Verdict::Accepted = verdict(h, entries, statement, u, second.challenge, s) else {
+    let Verdict::Accepted = verdict(h, entries, statement, t2, second.challenge, r2) else {
         return refused(20);
     };
     if first.challenge > second.challenge {
         return Computed {
+            values: witness(h, statement, first.challenge - second.challenge, r1, r2),
             refusal: 0,
-            values: witness(h, statement, first.challenge - second.challenge, r, s),
         };
     }
     Computed {
+        values: witness(h, statement, second.challenge - first.challenge, r2, r1),
         refusal: 0,
-        values: witness(h, statement, second.challenge - first.challenge, s, r),
     }
 }

@@ -1,5 +1,8 @@
 // The values of a round on loaded values (01, "A round"): the image, the verifier's two sides and their comparison, the
 // response, a power by a negative exponent, and the places of an array that are read. Nothing is refused here.
+mod answer; // answer.rt: the answer of a refused call
+
+pub use answer::refused;
 use modular::inverse;
 use modular::mul_mod;
 use modular::pow_mod;
@@ -11,7 +14,7 @@ ghost use Prim.Native.Nat.{ℕ, _≤_, _<_};
 ghost use lib.IntN.{pos, negℤ};
 ghost use Rattle.lists.specs.Places.{places, pad8};
 ghost use Rattle.numbers.specs.Integer.{power};
-ghost use Rattle.sigma.specs.Comparison.{firstDifference, compareSides};
+ghost use Rattle.sigma.specs.Comparison.{firstDifference, differ, compareSides};
 ghost use Rattle.sigma.specs.Element.{Element};
 ghost use Rattle.sigma.specs.Image.{rowImage, image};
 ghost use Rattle.sigma.specs.Round.{responseCoordinate, response, expectedImage, verdict};
@@ -86,6 +89,14 @@ pub fn first_difference(xs: [u32; 8], ys: [u32; 8], n: usize) -> usize
         i += 1;
     }
     i
+}
+
+// Whether xs and ys differ at some place below n.
+pub fn differ(xs: [u32; 8], ys: [u32; 8], n: usize) -> bool
+    requires { ⌜ n ≤ 8 ⌝ }
+    ensures { λ r. ⌜ r ≡ differ n xs ys ⌝ }
+{
+    first_difference(xs, ys, n) < n
 }
 
 // The verdict on two sides of n rows: accepted where they agree in each, else rejected with the first row that differs.

@@ -6,9 +6,7 @@ use Prim.Native.Nat.{ℕ}
 use lib.Dec.{ltb}
 use Rattle.types.specs.declared.Header.{Header}
 use Rattle.numbers.specs.Search.{any}
-use Rattle.sigma.specs.Element.{isElement, isCoordinate, someNonElement}
-use Rattle.sigma.specs.Instance.{Instance}
-use Rattle.sigma.specs.Round.{badCoordinates}
+use Rattle.sigma.specs.Element.{isElement, isCoordinate, someNonElement, someNonCoordinate}
 use Rattle.modular.specs.FirstFailing.{firstFailing}
 
 -- some value among the first n is no group element exactly if the search ends before n
@@ -16,8 +14,8 @@ pub someNonElement-first : (h : Header) (n : ℕ) (vs : List ℕ) → someNonEle
 unfolding someNonElement any firstFailing
 someNonElement-first h n vs = refl
 
--- some value of a response or a witness is no coordinate exactly if the search ends before n
-pub badCoordinates-first : (inst : Instance) (xs : List ℕ)
-    → badCoordinates inst xs ≡ ltb (firstFailing (isCoordinate (inst .header)) (inst .header .columns) xs) (inst .header .columns)
-unfolding badCoordinates any firstFailing
-badCoordinates-first inst xs = refl
+-- some value among the first n is no coordinate exactly if the search ends before n
+pub someNonCoordinate-first : (h : Header) (n : ℕ) (xs : List ℕ)
+    → someNonCoordinate h n xs ≡ ltb (firstFailing (isCoordinate h) n xs) n
+unfolding someNonCoordinate any firstFailing
+someNonCoordinate-first h n xs = refl

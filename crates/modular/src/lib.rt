@@ -4,7 +4,7 @@ ghost use mathlib.Core.Path.{_≡_};
 ghost use Prim.Native.Nat.{_+_, _-_, _*_, _%_, _^_, _≤_, _<_};
 ghost use Rattle.numbers.specs.Gcd.{gcd};
 ghost use Rattle.numbers.specs.Inverse.{inverse};
-ghost use Rattle.sigma.specs.Element.{isElement, isCoordinate};
+ghost use Rattle.sigma.specs.Element.{isElement, isCoordinate, someNonElement, someNonCoordinate};
 ghost use Rattle.modular.specs.Divisor.{divisorOf, divisorOutcome};
 ghost use Rattle.modular.specs.FirstFailing.{firstFailing};
 
@@ -168,4 +168,20 @@ pub fn first_non_coordinate(h: Header, values: [u32; 8], n: usize) -> usize
         i += 1;
     }
     i
+}
+
+// Whether some value among the first n is no group element.
+pub fn some_non_element(h: Header, values: [u32; 8], n: usize) -> bool
+    requires { ⌜ (0 < h .modulus) × (n ≤ 8) ⌝ }
+    ensures { λ r. ⌜ r ≡ someNonElement h n values ⌝ }
+{
+    first_non_element(h, values, n) < n
+}
+
+// Whether some value among the first n is no coordinate of the domain.
+pub fn some_non_coordinate(h: Header, values: [u32; 8], n: usize) -> bool
+    requires { ⌜ (0 < h .modulus) × (n ≤ 8) ⌝ }
+    ensures { λ r. ⌜ r ≡ someNonCoordinate h n values ⌝ }
+{
+    first_non_coordinate(h, values, n) < n
 }

@@ -1,6 +1,7 @@
 // The calls on a sheet's bytes (01, "A round"): each loads the sheet, and a refused sheet's number is its answer.
 use crate::loaded::judge_loaded;
 use crate::loaded::simulate_loaded;
+use image::refused;
 use instance::load;
 use instance::loaded_entries;
 use types::Computed;
@@ -33,10 +34,7 @@ pub fn simulate(sheet: &[u8], c: u32, r: [u32; 8]) -> Computed
     let loaded = load(sheet);
     let refusal = loaded.refusal;
     if refusal != 0 {
-        return Computed {
-            refusal,
-            values: [0u32; 8],
-        };
+        return refused(refusal);
     }
     let h = loaded.header;
     let statement = loaded.statement;

@@ -1,10 +1,11 @@
 // Judging a round and simulating a commitment on loaded values (01, "A round"; refusals 14 to 16).
 use image::negative_power;
+use image::refused;
 use image::row_image;
 use image::verdict;
-use modular::first_non_coordinate;
-use modular::first_non_element;
 use modular::mul_mod;
+use modular::some_non_coordinate;
+use modular::some_non_element;
 use types::Computed;
 use types::Header;
 use types::Round;
@@ -27,13 +28,13 @@ pub fn judge_loaded(h: Header, entries: [[u32; 8]; 8], statement: [u32; 8], roun
     let response = round.response;
     let rows = h.rows as usize;
     let columns = h.columns as usize;
-    if first_non_element(h, commitment, rows) < rows {
+    if some_non_element(h, commitment, rows) {
         return Verdict::Refused(14);
     }
     if round.challenge >= h.challenges {
         return Verdict::Refused(15);
     }
-    if first_non_coordinate(h, response, columns) < columns {
+    if some_non_coordinate(h, response, columns) {
         return Verdict::Refused(16);
     }
     verdict(h, entries, statement, commitment, round.challenge, response)
@@ -76,19 +77,13 @@ pub fn simulate_loaded(
 {
     let columns = h.columns as usize;
     if c >= h.challenges {
-        return Computed {
-            refusal: 15,
-            values: [0u32; 8],
-        };
+        return refused(15);
     }
-    if first_non_coordinate(h, r, columns) < columns {
-        return Computed {
-            refusal: 16,
-            values: [0u32; 8],
-        };
+    if some_non_coordinate(h, r, columns) {
+        return refused(16);
     }
     Computed {
-        refusal: 0,
         values: simulated(h, entries, statement, c, r),
+        refusal: 0,
     }
 }

@@ -11,7 +11,7 @@ use borrow.Author.Tests.{leb-false, lt-leb, ltb-false, le-ltb}
 use Rattle.types.specs.declared.Header.{Header}
 use Rattle.rules.proofs.Says.{says-equal, says-or, says-false}
 use Rattle.sigma.specs.Instance.{Instance, tableOf, entry, statementAt}
-use Rattle.sigma.specs.Element.{someNonElement, Element}
+use Rattle.sigma.specs.Element.{someNonElement, someNonCoordinate, Element}
 use Rattle.sigma.specs.Image.{rowImage, image}
 use Rattle.sigma.specs.Admission.{badKind, badModulus, badOrder, badSize, badCount, badEntries, badStatement}
 use Rattle.sigma.specs.Meaning.{Elements, Coordinates}
@@ -102,7 +102,7 @@ module _ (i : Instance) where
 
   -- not 16: every slot is a coordinate of the domain
   pub coordinates-pass : (x : List ℕ) → (badCoordinates i x ≡ false) ↔ Coordinates i x
-  unfolding badCoordinates
+  unfolding badCoordinates someNonCoordinate
   coordinates-pass x = all-pass _ _ _ (λ j. says-coordinate (i .header) (getD x j 0))
 
   -- not 17: every row of the witness's image is the statement's value

@@ -18,7 +18,7 @@ use Rattle.numbers.proofs.Search.{find-within, find-holds, find-first}
 use Rattle.rules.specs.Says.{Says}
 use Rattle.rules.proofs.Says.{says-less, says-at-most, says-equal, says-or, says-and, says-not, says-iff, says-false}
 use Rattle.sigma.specs.Instance.{Instance, tableOf, isExponent, entry, statementAt}
-use Rattle.sigma.specs.Element.{isElement, someNonElement, isCoordinate, Element, Coordinate}
+use Rattle.sigma.specs.Element.{isElement, someNonElement, isCoordinate, someNonCoordinate, Element, Coordinate}
 use Rattle.sigma.specs.Admission.{firstDivisor, badKind, badModulus, badOrder, badSize, badCount, badEntries, badStatement}
 use Rattle.sigma.specs.Image.{image}
 use Rattle.sigma.specs.Round.{badCommitment, badChallenge, badCoordinates, badWitness}
@@ -155,7 +155,7 @@ says-badChallenge i c = says-at-most (i .header .challenges) c
 
 -- 16: some slot is no coordinate of the domain
 pub says-badCoordinates : (i : Instance) (x : List ℕ) → Says (badCoordinates i x) (Refusal16 i x)
-unfolding badCoordinates
+unfolding badCoordinates someNonCoordinate
 says-badCoordinates i x = says-any _ _ _ (λ j. says-not (says-coordinate (i .header) (getD x j 0)))
 
 -- 17: some row of the witness's image is not the statement's value

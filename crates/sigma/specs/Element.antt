@@ -26,6 +26,10 @@ someNonElement h n vs = any n (λ i. not (isElement h (getD vs i 0)))
 unfoldable pub isCoordinate : Header → ℕ → Bool
 isCoordinate h x = cond (isExponent h) (ltb x (h .order)) (isElement h x)
 
+-- some value among the first n is no coordinate of the domain
+unfoldable pub someNonCoordinate : Header → ℕ → List ℕ → Bool
+someNonCoordinate h n xs = any n (λ j. not (isCoordinate h (getD xs j 0)))
+
 -- the fact that v is a group element
 pub record Element (h : Header) (v : ℕ) : Type 0 where
   pub positive : 1 ≤ v

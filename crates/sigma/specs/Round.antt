@@ -1,16 +1,15 @@
 -- A round on values (01, "A round"): response, the verifier's two sides, and the tests of what a call brings.
 -- Assumes nothing.
 use Prim.Native.Nat.{ℕ, _+_, _*_, _%_, _^_}
-use mathlib.Core.Bool.{Bool, not, cond}
+use mathlib.Core.Bool.{Bool, cond}
 use mathlib.Core.List.{List}
 use lib.Dec.{leb}
 use lib.ListN.{getD}
 use Rattle.types.specs.declared.Header.{Header}
 use Rattle.types.specs.declared.Verdict.{Verdict}
 use Rattle.lists.specs.Places.{tabulate}
-use Rattle.numbers.specs.Search.{any}
 use Rattle.sigma.specs.Instance.{Instance, tableOf, isExponent, statementAt}
-use Rattle.sigma.specs.Element.{someNonElement, isCoordinate}
+use Rattle.sigma.specs.Element.{someNonElement, someNonCoordinate}
 use Rattle.sigma.specs.Image.{image}
 use Rattle.sigma.specs.Comparison.{differ, compareSides}
 
@@ -40,7 +39,7 @@ badChallenge inst c = leb (inst .header .challenges) c
 
 -- some slot of a witness, nonce or response is no domain slot (16)
 unfoldable pub badCoordinates : Instance → List ℕ → Bool
-badCoordinates inst x = any (inst .header .columns) (λ j. not (isCoordinate (inst .header) (getD x j 0)))
+badCoordinates inst x = someNonCoordinate (inst .header) (inst .header .columns) x
 
 -- the witness's image is not the statement (17)
 unfoldable pub badWitness : Instance → List ℕ → Bool

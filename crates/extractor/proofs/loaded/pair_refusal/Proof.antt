@@ -8,7 +8,7 @@ use mathlib.Core.Logic.{Or·inl, Or·inr}
 use Prim.Native.Nat.{ℕ}
 use lib.ListN.{drop}
 use borrow.Author.Needs.{needs}
-use borrow.Author.Tests.{eq-eqb, ne-eqb, lt-ltb, le-ltb}
+use borrow.Author.Tests.{eq-eqb, ne-eqb}
 use Rattle.rules.specs.Rule.{lowest}
 use Rattle.rules.proofs.Lowest.{pass, stop, lowest-clear}
 use Rattle.sigma.specs.Round.{badCommitment, badChallenge, badCoordinates}
@@ -17,7 +17,7 @@ use Rattle.sigma.proofs.Passed.{challenge-passes}
 use Rattle.sigma.proofs.Tests.{says-badChallenge}
 use Rattle.sigma.specs.Extractor.{pairRules}
 use Rattle.sigma.specs.Instance.{instanceWith}
-use Rattle.image.proofs.Tested.{commitment-bad, commitment-good, coordinates-bad, coordinates-good, difference-tested}
+use Rattle.image.proofs.Tested.{commitment-read, coordinates-read, difference-read}
 use Rattle.extractor.specs.Rules.{rulesOfPair}
 use Rattle.extractor.proofs.loaded.pair_refusal.Statement.{statement}
 use Rattle.extractor.proofs.loaded.pair_refusal.Tie as tie
@@ -48,8 +48,8 @@ unfolding pairRules
 elements c = λ entries statement.
     let searched = c .before .before .before in
     pass 14 _ (both-fail _ _ .1 (
-      commitment-good _ _ (searched .first-non-element .ensures .0) (c .before .before .if1 .left),
-      commitment-good _ _ (c .before .first-non-element2 .ensures .0) (c .if2 .left),
+      commitment-read _ _ ∙ sym (searched .some-non-element .ensures) ∙ c .before .before .if1 .left,
+      commitment-read _ _ ∙ sym (c .before .some-non-element2 .ensures) ∙ c .if2 .left,
     ))
 
 -- behind both challenges
@@ -67,8 +67,8 @@ slots c = λ entries statement.
     let first = c .before .before in
     challenges (first .before .before) entries statement
     ∙ pass 16 _ (both-fail _ _ .1 (
-      coordinates-good _ _ (first .before .first-non-coordinate .ensures .0) (first .if5 .left),
-      coordinates-good _ _ (c .before .first-non-coordinate2 .ensures .0) (c .if6 .left),
+      coordinates-read _ _ ∙ sym (first .before .some-non-coordinate .ensures) ∙ first .if5 .left,
+      coordinates-read _ _ ∙ sym (c .before .some-non-coordinate2 .ensures) ∙ c .if6 .left,
     ))
 
 -- behind the comparison of the commitments
@@ -76,7 +76,7 @@ same : (c : tie.Else7) → Rest 4 (start-7 c)
 unfolding pairRules
 same c = λ entries statement.
     slots (c .before .before) entries statement
-    ∙ pass 18 _ (difference-tested _ _ _ (c .before .first-difference .ensures .0) ∙ le-ltb _ _ (c .if7 .left))
+    ∙ pass 18 _ (difference-read _ _ _ ∙ sym (c .before .differ .ensures) ∙ c .if7 .left)
 
 cast-rows : tie.Need-cast-rows
 cast-rows c = search needs
@@ -84,22 +84,22 @@ cast-rows c = search needs
 cast-columns : tie.Need-cast-columns
 cast-columns c = search needs
 
-first-non-element-requires : tie.Need-first-non-element-requires
-first-non-element-requires c κs = search needs
+some-non-element-requires : tie.Need-some-non-element-requires
+some-non-element-requires c κs = search needs
 
 returns : tie.Need-returns
 unfolding pairRules
 returns c = λ entries statement.
-    let bad = commitment-bad _ _ (c .before .first-non-element .ensures .0) (c .if1 .taken) in
+    let bad = commitment-read _ _ ∙ sym (c .before .some-non-element .ensures) ∙ c .if1 .taken in
     sym (stop 14 _ (or-eq-true-iff _ _ .1 (Or·inl bad)))
 
-first-non-element-requires-2 : tie.Need-first-non-element-requires-2
-first-non-element-requires-2 c κs = search needs
+some-non-element-requires-2 : tie.Need-some-non-element-requires-2
+some-non-element-requires-2 c κs = search needs
 
 returns-2 : tie.Need-returns-2
 unfolding pairRules
 returns-2 c = λ entries statement.
-    let bad = commitment-bad _ _ (c .before .first-non-element2 .ensures .0) (c .if2 .taken) in
+    let bad = commitment-read _ _ ∙ sym (c .before .some-non-element2 .ensures) ∙ c .if2 .taken in
     sym (stop 14 _ (or-eq-true-iff (badCommitment _ _) _ .1 (Or·inr bad)))
 
 returns-3 : tie.Need-returns-3
@@ -114,33 +114,33 @@ returns-4 c = λ entries statement.
     sym (elements (c .before .before .before .before .before .before) entries statement
     ∙ stop 15 _ (or-eq-true-iff (badChallenge _ _) _ .1 (Or·inr (says-badChallenge _ _ .complete (c .if4 .taken)))))
 
-first-non-coordinate-requires : tie.Need-first-non-coordinate-requires
-first-non-coordinate-requires c κs = search needs
+some-non-coordinate-requires : tie.Need-some-non-coordinate-requires
+some-non-coordinate-requires c κs = search needs
 
 returns-5 : tie.Need-returns-5
 unfolding pairRules
 returns-5 c = λ entries statement.
-    let bad = coordinates-bad _ _ (c .before .first-non-coordinate .ensures .0) (c .if5 .taken) in
+    let bad = coordinates-read _ _ ∙ sym (c .before .some-non-coordinate .ensures) ∙ c .if5 .taken in
     sym (challenges (c .before .before) entries statement ∙ stop 16 _ (or-eq-true-iff _ _ .1 (Or·inl bad)))
 
-first-non-coordinate-requires-2 : tie.Need-first-non-coordinate-requires-2
-first-non-coordinate-requires-2 c κs = search needs
+some-non-coordinate-requires-2 : tie.Need-some-non-coordinate-requires-2
+some-non-coordinate-requires-2 c κs = search needs
 
 returns-6 : tie.Need-returns-6
 unfolding pairRules
 returns-6 c = λ entries statement.
-    let bad = coordinates-bad _ _ (c .before .first-non-coordinate2 .ensures .0) (c .if6 .taken) in
+    let bad = coordinates-read _ _ ∙ sym (c .before .some-non-coordinate2 .ensures) ∙ c .if6 .taken in
     sym (challenges (c .before .before .before .before) entries statement
     ∙ stop 16 _ (or-eq-true-iff (badCoordinates _ _) _ .1 (Or·inr bad)))
 
-first-difference-requires : tie.Need-first-difference-requires
-first-difference-requires c κs = search needs
+differ-requires : tie.Need-differ-requires
+differ-requires c κs = search needs
 
 returns-7 : tie.Need-returns-7
 unfolding pairRules
 returns-7 c = λ entries statement.
     sym (slots (c .before .before) entries statement
-    ∙ stop 18 _ (difference-tested _ _ _ (c .before .first-difference .ensures .0) ∙ lt-ltb _ _ (c .if7 .taken)))
+    ∙ stop 18 _ (difference-read _ _ _ ∙ sym (c .before .differ .ensures) ∙ c .if7 .taken))
 
 returns-8 : tie.Need-returns-8
 unfolding pairRules
@@ -158,17 +158,17 @@ pair-refusal-spec =
     (tie.spec
     cast-rows
     cast-columns
-    first-non-element-requires
+    some-non-element-requires
     returns
-    first-non-element-requires-2
+    some-non-element-requires-2
     returns-2
     returns-3
     returns-4
-    first-non-coordinate-requires
+    some-non-coordinate-requires
     returns-5
-    first-non-coordinate-requires-2
+    some-non-coordinate-requires-2
     returns-6
-    first-difference-requires
+    differ-requires
     returns-7
     returns-8
     returns-9)

@@ -2,7 +2,6 @@
 -- Assumes nothing.
 use mathlib.Core.Path.{sym}
 use native.Mathlib.Omega.{arith}
-use Rattle.lists.specs.Places.{zeros8}
 use Rattle.runs.specs.Calls.{simulateCommitment}
 use Rattle.sigma.proofs.After.{simulateAfter-clear, simulateAfter-refused}
 use Rattle.instance.proofs.Answers.{answer-refused, answer-header, answer-valid, answer-call}
@@ -12,11 +11,14 @@ use Rattle.protocol.proofs.calls.simulate.Tie as tie
 load-requires : tie.Need-load-requires
 load-requires c κs = omega arith
 
+refused-requires : tie.Need-refused-requires
+refused-requires c κs = omega arith
+
 returns : tie.Need-returns
-unfolding simulateCommitment zeros8
+unfolding simulateCommitment
 returns c =
-    let (number, some) = answer-refused _ _ (c .before .load .ensures) (c .if1 .taken) in
-    rw number (sym (simulateAfter-refused _ _ some _ _))
+    let (number, some) = answer-refused _ _ (c .before .before .load .ensures) (c .before .if1 .taken) in
+    rw (c .refused .ensures, number) (sym (simulateAfter-refused _ _ some _ _))
 
 loaded-entries-requires : tie.Need-loaded-entries-requires
 loaded-entries-requires c κs =
@@ -38,4 +40,6 @@ returns-2 c =
     (c .before .loaded-entries .ensures) (c .simulate-loaded .ensures)
 
 pub simulate-spec : {M : Type 1} → statement M
-simulate-spec = tie.close (tie.spec load-requires returns loaded-entries-requires simulate-loaded-requires returns-2)
+simulate-spec =
+    tie.close
+    (tie.spec load-requires refused-requires returns loaded-entries-requires simulate-loaded-requires returns-2)

@@ -8,7 +8,7 @@ use Rattle.sigma.specs.Judge.{judgeRules}
 use Rattle.sigma.proofs.Calls.{judge-refused}
 use Rattle.sigma.proofs.Passed.{challenge-passes}
 use Rattle.sigma.proofs.Tests.{says-badChallenge}
-use Rattle.image.proofs.Tested.{commitment-bad, commitment-good, coordinates-bad, coordinates-good}
+use Rattle.image.proofs.Tested.{commitment-read, coordinates-read}
 use Rattle.protocol.proofs.Judging.{judge-passed}
 use Rattle.protocol.proofs.loaded.judge_loaded.Statement.{statement}
 use Rattle.protocol.proofs.loaded.judge_loaded.Tie as tie
@@ -19,14 +19,14 @@ cast-rows c = search needs
 cast-columns : tie.Need-cast-columns
 cast-columns c = search needs
 
-first-non-element-requires : tie.Need-first-non-element-requires
-first-non-element-requires c κs = search needs
+some-non-element-requires : tie.Need-some-non-element-requires
+some-non-element-requires c κs = search needs
 
 returns : tie.Need-returns
 unfolding judgeRules
 returns c =
     sym (judge-refused _ _ 14 .1
-    (omega arith, stop 14 _ (commitment-bad _ _ (c .before .first-non-element .ensures .0) (c .if1 .taken))))
+    (omega arith, stop 14 _ (commitment-read _ _ ∙ sym (c .before .some-non-element .ensures) ∙ c .if1 .taken)))
 
 returns-2 : tie.Need-returns-2
 unfolding judgeRules
@@ -34,12 +34,12 @@ returns-2 c =
     let good = c .before .before .before in
     sym (judge-refused _ _ 15 .1 (
       omega arith,
-      pass 14 _ (commitment-good _ _ (good .before .first-non-element .ensures .0) (good .if1 .left))
+      pass 14 _ (commitment-read _ _ ∙ sym (good .before .some-non-element .ensures) ∙ good .if1 .left)
           ∙ stop 15 _ (says-badChallenge _ _ .complete (omega (arith, c .if2 .taken))),
     ))
 
-first-non-coordinate-requires : tie.Need-first-non-coordinate-requires
-first-non-coordinate-requires c κs = search needs
+some-non-coordinate-requires : tie.Need-some-non-coordinate-requires
+some-non-coordinate-requires c κs = search needs
 
 returns-3 : tie.Need-returns-3
 unfolding judgeRules
@@ -48,9 +48,9 @@ returns-3 c =
     let good = below .before .before .before in
     sym (judge-refused _ _ 16 .1 (
       omega arith,
-      pass 14 _ (commitment-good _ _ (good .before .first-non-element .ensures .0) (good .if1 .left))
+      pass 14 _ (commitment-read _ _ ∙ sym (good .before .some-non-element .ensures) ∙ good .if1 .left)
           ∙ pass 15 _ (challenge-passes _ _ .1 (omega (arith, below .if2 .left)))
-          ∙ stop 16 _ (coordinates-bad _ _ (c .before .first-non-coordinate .ensures .0) (c .if3 .taken)),
+          ∙ stop 16 _ (coordinates-read _ _ ∙ sym (c .before .some-non-coordinate .ensures) ∙ c .if3 .taken),
     ))
 
 verdict-requires : tie.Need-verdict-requires
@@ -63,10 +63,10 @@ returns-4 c =
     let below = fits .before .before in
     let good = below .before .before .before in
     judge-passed _ _ (
-      commitment-good _ _ (good .before .first-non-element .ensures .0) (good .if1 .left),
+      commitment-read _ _ ∙ sym (good .before .some-non-element .ensures) ∙ good .if1 .left,
       (
         challenge-passes _ _ .1 (omega (arith, below .if2 .left)),
-        (coordinates-good _ _ (fits .before .first-non-coordinate .ensures .0) (fits .if3 .left), tt),
+        (coordinates-read _ _ ∙ sym (fits .before .some-non-coordinate .ensures) ∙ fits .if3 .left, tt),
       ),
     ) (c .verdict .ensures)
 
@@ -76,10 +76,10 @@ judge-loaded-spec =
     (tie.spec
     cast-rows
     cast-columns
-    first-non-element-requires
+    some-non-element-requires
     returns
     returns-2
-    first-non-coordinate-requires
+    some-non-coordinate-requires
     returns-3
     verdict-requires
     returns-4)
