@@ -1,18 +1,14 @@
--- The tests of what a call brings (14 and 16 to 18), made of the searches of the code: whether a search ends before the last place.
+-- The tests of what a call brings (14 and 16 to 18) look at the places that are read.
 -- Assumes nothing.
-use mathlib.Core.Path.{_≡_, sym, ap, _∙_}
-use mathlib.Core.Bool.{Bool, true, false, not}
+use mathlib.Core.Path.{_≡_, ap}
+use mathlib.Core.Bool.{Bool, not}
 use mathlib.Core.List.{List}
-use Prim.Native.Nat.{ℕ, _≤_, _<_}
-use lib.Dec.{ltb}
+use Prim.Native.Nat.{ℕ}
 use lib.ListN.{getD}
-use borrow.Author.Tests.{lt-ltb, le-ltb}
 use Rattle.lists.specs.Places.{places, pad8}
 use Rattle.lists.proofs.Places.{getD-places, getD-pad8}
 use Rattle.numbers.specs.Search.{any}
-use Rattle.numbers.proofs.Search.{any-agree, find-agree}
-use Rattle.modular.specs.FirstFailing.{firstFailing}
-use Rattle.modular.proofs.FirstFailing.{someNonElement-first, someNonCoordinate-first}
+use Rattle.numbers.proofs.Search.{any-agree}
 use Rattle.sigma.specs.Comparison.{firstDifference, differ}
 use Rattle.sigma.specs.Element.{isElement, isCoordinate, someNonElement, someNonCoordinate}
 use Rattle.sigma.specs.Image.{image}
@@ -43,47 +39,10 @@ pub difference-read : (n : ℕ) (xs ys : List ℕ) → differ n (places n xs) (p
 unfolding differ firstDifference any
 difference-read n xs ys = any-agree n _ _ (λ i h. rw (getD-places n xs i h, getD-places n ys i h))
 
--- 14, for the search for a value that is no group element
-module _ (inst : Instance) (t : List ℕ) {i : ℕ} (is-first : i ≡ firstFailing (isElement (inst .header)) (inst .header .rows) t) where
-  -- it applies exactly where the search ends before s
-  pub commitment-tested : badCommitment inst (places (inst .header .rows) t) ≡ ltb i (inst .header .rows)
-  commitment-tested =
-      commitment-read inst t
-      ∙ someNonElement-first (inst .header) (inst .header .rows) t
-      ∙ ap (λ (k : ℕ). ltb k (inst .header .rows)) (sym is-first)
-
-  -- before s
-  pub commitment-bad : i < inst .header .rows → badCommitment inst (places (inst .header .rows) t) ≡ true
-  commitment-bad before = commitment-tested ∙ lt-ltb _ _ before
-
-  -- not before s
-  pub commitment-good : inst .header .rows ≤ i → badCommitment inst (places (inst .header .rows) t) ≡ false
-  commitment-good past = commitment-tested ∙ le-ltb _ _ past
-
--- 16, for the search for a slot that is no coordinate of the domain
-module _ (inst : Instance) (x : List ℕ) {i : ℕ}
-    (is-first : i ≡ firstFailing (isCoordinate (inst .header)) (inst .header .columns) x) where
-  -- it applies exactly where the search ends before n
-  coordinates-tested : badCoordinates inst (places (inst .header .columns) x) ≡ ltb i (inst .header .columns)
-  coordinates-tested =
-      coordinates-read inst x
-      ∙ someNonCoordinate-first (inst .header) (inst .header .columns) x
-      ∙ ap (λ (k : ℕ). ltb k (inst .header .columns)) (sym is-first)
-
-  -- before n
-  pub coordinates-bad : i < inst .header .columns → badCoordinates inst (places (inst .header .columns) x) ≡ true
-  coordinates-bad before = coordinates-tested ∙ lt-ltb _ _ before
-
-  -- not before n
-  pub coordinates-good : inst .header .columns ≤ i → badCoordinates inst (places (inst .header .columns) x) ≡ false
-  coordinates-good past = coordinates-tested ∙ le-ltb _ _ past
-
--- 17: the search for a row in which the image, with zeros behind it, is not the statement ends before s
-pub witness-tested : (inst : Instance) → Valid inst → (x : List ℕ) {values : List ℕ} {i : ℕ} → values ≡ pad8 0 (image (tableOf inst) x)
-    → i ≡ firstDifference (inst .header .rows) values (inst .statement)
-    → badWitness inst (places (inst .header .columns) x) ≡ ltb i (inst .header .rows)
-unfolding badWitness differ firstDifference
-witness-tested inst v x is-image is-first =
-    rw (is-first, is-image, image-places (tableOf inst) (v .table) x)
-    (ap (λ (k : ℕ). ltb k (inst .header .rows))
-    (sym (find-agree _ _ 0 (inst .header .rows) (λ i h k. rw (getD-pad8 0 (image (tableOf inst) x) i)))))
+-- 17 asks whether the image, with zeros behind it, and the statement differ
+pub witness-read : (inst : Instance) → Valid inst → (x : List ℕ) {values : List ℕ} → values ≡ pad8 0 (image (tableOf inst) x)
+    → badWitness inst (places (inst .header .columns) x) ≡ differ (inst .header .rows) values (inst .statement)
+unfolding badWitness differ firstDifference any
+witness-read inst v x is-image =
+    rw (is-image, image-places (tableOf inst) (v .table) x)
+    (any-agree (inst .header .rows) _ _ (λ i h. rw (getD-pad8 0 (image (tableOf inst) x) i)))

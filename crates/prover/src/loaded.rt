@@ -2,11 +2,11 @@
 // the session.
 use crate::session::ended;
 use crate::session::refused;
-use image::first_difference;
+use image::differ;
 use image::first_places;
 use image::image;
 use image::response;
-use modular::first_non_coordinate;
+use modular::some_non_coordinate;
 use types::Header;
 use types::Prover;
 use types::ProverPhase;
@@ -27,7 +27,7 @@ fn commit_refusal(h: Header, session: Prover, nonce: [u32; 8]) -> u32
         → r ≡ lowest (commitRules (instanceWith h entries statement) session (places (h .columns) nonce))) ⌝ }
 {
     let columns = h.columns as usize;
-    if first_non_coordinate(h, nonce, columns) < columns {
+    if some_non_coordinate(h, nonce, columns) {
         return 16;
     }
     let phase = session.phase;
@@ -76,10 +76,10 @@ fn unfit(h: Header, entries: [[u32; 8]; 8], session: Prover) -> bool
     let k = session.nonce;
     let t = session.commitment;
     let columns = h.columns as usize;
-    if first_non_coordinate(h, k, columns) < columns {
+    if some_non_coordinate(h, k, columns) {
         return true;
     }
-    first_difference(image(h, entries, k), t, 8) < 8
+    differ(image(h, entries, k), t, 8)
 }
 
 // The number that responding is refused with: 15 for a challenge of K or more, 16 for a witness slot that is no domain slot,
@@ -100,10 +100,10 @@ fn respond_refusal(
     if challenge >= h.challenges {
         return 15;
     }
-    if first_non_coordinate(h, witness, columns) < columns {
+    if some_non_coordinate(h, witness, columns) {
         return 16;
     }
-    if first_difference(image(h, entries, witness), statement, rows) < rows {
+    if differ(image(h, entries, witness), statement, rows) {
         return 17;
     }
     let phase = session.phase;

@@ -2,8 +2,8 @@
 // then 21 for the session. A refused call hands back the session unchanged.
 use image::first_places;
 use image::verdict;
-use modular::first_non_coordinate;
-use modular::first_non_element;
+use modular::some_non_coordinate;
+use modular::some_non_element;
 use types::Header;
 use types::Verdict;
 use types::Verifier;
@@ -28,7 +28,7 @@ fn bad_commitment(h: Header, commitment: [u32; 8]) -> bool
         (places (h .rows) commitment)) ⌝ }
 {
     let rows = h.rows as usize;
-    first_non_element(h, commitment, rows) < rows
+    some_non_element(h, commitment, rows)
 }
 
 // The number that a commitment is refused with, or 0: 14 for a value that is no group element, 21 for a session that is not
@@ -77,7 +77,7 @@ fn response_refusal(h: Header, session: Verifier, response: [u32; 8]) -> u32
         session (places (h .columns) response))) ⌝ }
 {
     let columns = h.columns as usize;
-    if first_non_coordinate(h, response, columns) < columns {
+    if some_non_coordinate(h, response, columns) {
         return 16;
     }
     let phase = session.phase;

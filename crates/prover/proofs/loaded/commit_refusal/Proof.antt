@@ -7,7 +7,7 @@ use Rattle.types.specs.declared.ProverPhase.the-variants.{New}
 use Rattle.sigma.proofs.Calculus.{says-passes}
 use Rattle.runs.specs.Prover.{commitRules}
 use Rattle.runs.proofs.Tests.{says-prover}
-use Rattle.image.proofs.Tested.{coordinates-bad, coordinates-good}
+use Rattle.image.proofs.Tested.{coordinates-read}
 use Rattle.prover.proofs.States.{not-new}
 use Rattle.prover.proofs.loaded.commit_refusal.Statement.{statement}
 use Rattle.prover.proofs.loaded.commit_refusal.Tie as tie
@@ -15,13 +15,13 @@ use Rattle.prover.proofs.loaded.commit_refusal.Tie as tie
 cast-columns : tie.Need-cast-columns
 cast-columns c = search needs
 
-first-non-coordinate-requires : tie.Need-first-non-coordinate-requires
-first-non-coordinate-requires c κs = search needs
+some-non-coordinate-requires : tie.Need-some-non-coordinate-requires
+some-non-coordinate-requires c κs = search needs
 
 returns : tie.Need-returns
 unfolding commitRules
 returns c = λ entries statement.
-    sym (stop 16 _ (coordinates-bad _ _ (c .before .first-non-coordinate .ensures .0) (c .if1 .taken)))
+    sym (stop 16 _ (coordinates-read _ _ ∙ sym (c .before .some-non-coordinate .ensures) ∙ c .if1 .taken))
 
 enum-told : tie.Need-enum-told
 enum-told c = search needs
@@ -30,7 +30,7 @@ returns-2 : tie.Need-returns-2
 unfolding commitRules
 returns-2 c = λ entries statement.
     let slots = c .before in
-    sym (pass 16 _ (coordinates-good _ _ (slots .before .first-non-coordinate .ensures .0) (slots .if1 .left))
+    sym (pass 16 _ (coordinates-read _ _ ∙ sym (slots .before .some-non-coordinate .ensures) ∙ slots .if1 .left)
     ∙ stop 21 _ (not-new _ (c .match .keys2)))
 
 returns-3 : tie.Need-returns-3
@@ -38,7 +38,7 @@ unfolding commitRules
 returns-3 c = λ entries statement.
     let slots = c .before .before in
     sym (lowest-clear _ (
-      coordinates-good _ _ (slots .before .first-non-coordinate .ensures .0) (slots .if1 .left),
+      coordinates-read _ _ ∙ sym (slots .before .some-non-coordinate .ensures) ∙ slots .if1 .left,
       (says-passes (says-prover New _) .1 (c .enum-told .given .1), tt),
     ))
 
@@ -47,7 +47,7 @@ commit-refusal-spec =
     tie.close
     (tie.spec
     cast-columns
-    first-non-coordinate-requires
+    some-non-coordinate-requires
     returns
     enum-told
     returns-2

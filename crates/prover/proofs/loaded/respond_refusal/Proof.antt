@@ -4,11 +4,9 @@
 use mathlib.Core.Path.{_≡_, sym, _∙_}
 use mathlib.Core.Bool.{not, or-eq-true-iff}
 use mathlib.Core.Logic.{Or·inl, Or·inr}
-use Prim.Native.Nat.{ℕ, _≤_}
+use Prim.Native.Nat.{ℕ}
 use lib.ListN.{drop}
-use native.Mathlib.Omega.{arith}
 use borrow.Author.Needs.{needs}
-use borrow.Author.Tests.{lt-ltb, le-ltb}
 use Rattle.lists.specs.Places.{places}
 use Rattle.rules.specs.Rule.{lowest}
 use Rattle.rules.proofs.Lowest.{pass, stop, lowest-clear}
@@ -19,7 +17,7 @@ use Rattle.types.specs.declared.ProverPhase.the-variants.{Committed}
 use Rattle.runs.specs.Prover.{proverIn, respondRules}
 use Rattle.runs.proofs.Tests.{says-prover}
 use Rattle.sigma.specs.Instance.{instanceWith}
-use Rattle.image.proofs.Tested.{coordinates-bad, coordinates-good, witness-tested}
+use Rattle.image.proofs.Tested.{coordinates-read, witness-read}
 use Rattle.prover.proofs.States.{not-committed}
 use Rattle.prover.proofs.loaded.respond_refusal.Statement.{statement}
 use Rattle.prover.proofs.loaded.respond_refusal.Tie as tie
@@ -41,7 +39,7 @@ challenge c = pass 15 _ (challenge-passes _ _ .1 (c .if1 .left))
 slots : (c : tie.Else2) → Rest 2 (c .before .before .before .before .before .before)
 unfolding respondRules
 slots c =
-    challenge (c .before .before) ∙ pass 16 _ (coordinates-good _ _ (c .before .first-non-coordinate .ensures .0) (c .if2 .left))
+    challenge (c .before .before) ∙ pass 16 _ (coordinates-read _ _ ∙ sym (c .before .some-non-coordinate .ensures) ∙ c .if2 .left)
 
 -- behind the comparison of its image
 witness : (c : tie.Else3) → Rest 3 (c .before .before .before .before .before .before .before .before .before)
@@ -49,10 +47,8 @@ unfolding respondRules
 witness c =
     let imaged = c .before .before in
     let start = imaged .before .before .before .before .before .before .before in
-    let agree : start .args .h .rows ≤ c .before .first-difference .result = omega (arith, c .if3 .left) in
     slots (imaged .before)
-    ∙ pass 17 _ (witness-tested _ (start .pre) _ (imaged .image .ensures) (c .before .first-difference .ensures .0)
-    ∙ le-ltb _ _ agree)
+    ∙ pass 17 _ (witness-read _ (start .pre) _ (imaged .image .ensures) ∙ sym (c .before .differ .ensures) ∙ c .if3 .left)
 
 cast-rows : tie.Need-cast-rows
 cast-rows c = search needs
@@ -64,19 +60,19 @@ returns : tie.Need-returns
 unfolding respondRules
 returns c = sym (stop 15 _ (says-badChallenge _ _ .complete (c .if1 .taken)))
 
-first-non-coordinate-requires : tie.Need-first-non-coordinate-requires
-first-non-coordinate-requires c κs = search needs
+some-non-coordinate-requires : tie.Need-some-non-coordinate-requires
+some-non-coordinate-requires c κs = search needs
 
 returns-2 : tie.Need-returns-2
 unfolding respondRules
 returns-2 c =
-    sym (challenge (c .before .before) ∙ stop 16 _ (coordinates-bad _ _ (c .before .first-non-coordinate .ensures .0) (c .if2 .taken)))
+    sym (challenge (c .before .before) ∙ stop 16 _ (coordinates-read _ _ ∙ sym (c .before .some-non-coordinate .ensures) ∙ c .if2 .taken))
 
 image-requires : tie.Need-image-requires
 image-requires c κs = search needs
 
-first-difference-requires : tie.Need-first-difference-requires
-first-difference-requires c κs = search needs
+differ-requires : tie.Need-differ-requires
+differ-requires c κs = search needs
 
 returns-3 : tie.Need-returns-3
 unfolding respondRules
@@ -84,8 +80,7 @@ returns-3 c =
     let imaged = c .before .before in
     let start = imaged .before .before .before .before .before .before .before in
     sym (slots (imaged .before)
-    ∙ stop 17 _ (witness-tested _ (start .pre) _ (imaged .image .ensures) (c .before .first-difference .ensures .0)
-    ∙ lt-ltb _ _ (c .if3 .taken)))
+    ∙ stop 17 _ (witness-read _ (start .pre) _ (imaged .image .ensures) ∙ sym (c .before .differ .ensures) ∙ c .if3 .taken))
 
 enum-told : tie.Need-enum-told
 enum-told c = search needs
@@ -123,10 +118,10 @@ respond-refusal-spec =
     cast-rows
     cast-columns
     returns
-    first-non-coordinate-requires
+    some-non-coordinate-requires
     returns-2
     image-requires
-    first-difference-requires
+    differ-requires
     returns-3
     enum-told
     returns-4

@@ -18,7 +18,7 @@ use Rattle.types.specs.declared.VerifierPhase.the-variants.{Asked}
 use Rattle.runs.specs.Verifier.{verifierIn, unfitCommitment, takeResponseRules}
 use Rattle.runs.proofs.Tests.{says-verifier}
 use Rattle.sigma.specs.Instance.{instanceWith}
-use Rattle.image.proofs.Tested.{coordinates-bad, coordinates-good}
+use Rattle.image.proofs.Tested.{coordinates-read}
 use Rattle.verifier.proofs.States.{not-asked}
 use Rattle.verifier.proofs.loaded.response_refusal.Statement.{statement}
 use Rattle.verifier.proofs.loaded.response_refusal.Tie as tie
@@ -29,18 +29,18 @@ slots : (c : tie.Else1) (entries : List (List ℕ)) (statement : List ℕ)
     let rules = takeResponseRules (instanceWith (args .h) entries statement) (args .session) (places (args .h .columns) (args .response)) in
     lowest rules ≡ lowest (drop 1 rules)
 unfolding takeResponseRules
-slots c entries statement = pass 16 _ (coordinates-good _ _ (c .before .first-non-coordinate .ensures .0) (c .if1 .left))
+slots c entries statement = pass 16 _ (coordinates-read _ _ ∙ sym (c .before .some-non-coordinate .ensures) ∙ c .if1 .left)
 
 cast-columns : tie.Need-cast-columns
 cast-columns c = search needs
 
-first-non-coordinate-requires : tie.Need-first-non-coordinate-requires
-first-non-coordinate-requires c κs = search needs
+some-non-coordinate-requires : tie.Need-some-non-coordinate-requires
+some-non-coordinate-requires c κs = search needs
 
 returns : tie.Need-returns
 unfolding takeResponseRules
 returns c = λ entries statement.
-    sym (stop 16 _ (coordinates-bad _ _ (c .before .first-non-coordinate .ensures .0) (c .if1 .taken)))
+    sym (stop 16 _ (coordinates-read _ _ ∙ sym (c .before .some-non-coordinate .ensures) ∙ c .if1 .taken))
 
 enum-told : tie.Need-enum-told
 enum-told c = search needs
@@ -90,7 +90,7 @@ response-refusal-spec =
     tie.close
     (tie.spec
     cast-columns
-    first-non-coordinate-requires
+    some-non-coordinate-requires
     returns
     enum-told
     returns-2
