@@ -1,12 +1,12 @@
--- `interface::sheets::dimkhoros_entries` meets its contract: a refused sheet's number is the answer, else the numbers of its
+-- `tables::table::store_entries` meets its contract: a refused sheet's number is the answer, else the numbers of its
 -- entries are stored, row by row.
 -- Assumes nothing.
 use mathlib.Core.Path.{sym, _∙_}
 use borrow.Author.Needs.{needs}
 use Rattle.instance.proofs.Answers.{answer-number, answer-header}
-use Rattle.interface.proofs.Entries.{entries-kept, entries-put}
-use Rattle.interface.proofs.sheets.dimkhoros_entries.Statement.{statement}
-use Rattle.interface.proofs.sheets.dimkhoros_entries.Tie as tie
+use Rattle.tables.proofs.Entries.{entries-kept, entries-put}
+use Rattle.tables.proofs.table.store_entries.Statement.{statement}
+use Rattle.tables.proofs.table.store_entries.Tie as tie
 
 load-requires : tie.Need-load-requires
 load-requires c κs = search needs
@@ -32,5 +32,5 @@ returns-2 c =
       entries-put _ is-load _ (passed .if1 .left) (c .before .loaded-entries .ensures) (c .flat .ensures),
     )
 
-pub dimkhoros-entries-spec : {M : Type 1} → statement M
-dimkhoros-entries-spec = tie.close (tie.spec load-requires returns loaded-entries-requires flat-requires returns-2)
+pub store-entries-spec : {M : Type 1} → statement M
+store-entries-spec = tie.close (tie.spec load-requires returns loaded-entries-requires flat-requires returns-2)

@@ -9,7 +9,7 @@ use lib.ListN.{length, getD}
 use lib.Seq.{ext-getD}
 use Rattle.lists.specs.Places.{places}
 use Rattle.lists.proofs.Places.{length-tabulate, getD-tabulate, tabulate-agree, places-whole}
-use Rattle.interface.specs.Flat.{flat, flatAt, square, squareAt, squareRow}
+use Rattle.tables.specs.Flat.{flat, flatAt, square, squareAt, squareRow}
 
 -- column j of row i of 64 numbers is number 8 i + j
 pub getD-square : (xs : List ℕ) (i j : ℕ) → i < 8 → j < 8 → getD (getD (square xs) i []) j 0 ≡ getD xs (8 * i + j) 0

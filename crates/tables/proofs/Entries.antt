@@ -11,7 +11,7 @@ use Rattle.formats.specs.Load.{load, loadEntries, loadRefusal}
 use Rattle.formats.specs.Sheet.{entriesOf, instanceOf}
 use Rattle.formats.proofs.Loads.{entries-given}
 use Rattle.instance.proofs.Answers.{answer-number, answer-header}
-use Rattle.interface.specs.Flat.{flat, flatUnlessRefused}
+use Rattle.tables.specs.Flat.{flat, flatUnlessRefused}
 
 module _ (s : List ℕ) {loaded : Loaded} (is-load : loaded ≡ load s) (before : List ℕ) where
   -- a refused sheet leaves the numbers

@@ -1,13 +1,13 @@
--- `interface::table::square` meets its contract. The invariant: the first i places hold the first i rows.
+-- `tables::table::square` meets its contract. The invariant: the first i places hold the first i rows.
 -- The measure: how many rows are left.
 -- Assumes nothing.
 use Prim.Native.Nat.{_-_}
 use mathlib.Core.Path.{refl}
 use native.Mathlib.Omega.{arith}
 use Rattle.lists.proofs.Filling.{Filled, filled-start, filled-turn, filled-whole}
-use Rattle.interface.specs.Flat.{square, squareRow}
-use Rattle.interface.proofs.table.square.Statement.{statement}
-use Rattle.interface.proofs.table.square.Tie as tie
+use Rattle.tables.specs.Flat.{square, squareRow}
+use Rattle.tables.proofs.table.square.Statement.{statement}
+use Rattle.tables.proofs.table.square.Tie as tie
 
 abbrev Inv-loop : tie.InvT-loop
 Inv-loop entries rows₀ i₀ rows i = Filled rows₀ 8 (squareRow entries) rows i

@@ -1,10 +1,13 @@
 // A sheet's entries in the two forms in which they cross: eight rows of eight, and 64 numbers, row by row.
+use instance::load;
+use instance::loaded_entries;
 ghost use Prim.Native.Nat.{_<_};
 ghost use mathlib.Core.Path.{_≡_};
-ghost use Rattle.interface.specs.Flat.{flat, squareRow, square};
+ghost use Rattle.formats.specs.Load.{loadRefusal};
+ghost use Rattle.tables.specs.Flat.{flat, flatUnlessRefused, squareRow, square};
 
 // The 64 numbers of eight rows of eight, row by row.
-pub fn flat(rows: [[u32; 8]; 8]) -> [u32; 64]
+fn flat(rows: [[u32; 8]; 8]) -> [u32; 64]
     ensures { λ r. ⌜ r ≡ flat rows ⌝ }
 {
     let mut numbers = [0u32; 64];
@@ -14,6 +17,23 @@ pub fn flat(rows: [[u32; 8]; 8]) -> [u32; 64]
         numbers[k] = rows[i][j];
     }
     numbers
+}
+
+// Puts a sheet's entries into numbers, row by row, and answers 0. The number of a sheet that is refused, 2 to 11, is the answer,
+// and numbers keeps what it holds.
+pub fn store_entries(sheet: &[u8], numbers: &mut [u32; 64]) -> u32
+    ensures answer { λ r. ⌜ r ≡ loadRefusal (now (sheet .entry)) ⌝ }
+    ensures numbers { λ _. ⌜ now (numbers .exit) ≡ flatUnlessRefused (now (sheet .entry)) (now (numbers .entry)) ⌝ }
+{
+    let loaded = load(sheet);
+    let refusal = loaded.refusal;
+    if refusal != 0 {
+        return refusal;
+    }
+    let h = loaded.header;
+    let stored = flat(loaded_entries(sheet, h));
+    *numbers = stored;
+    0
 }
 
 // Row i of 64 numbers that stand row by row.
