@@ -10,7 +10,8 @@ use Rattle.rules.specs.Rule.{Rule, lowest, Clear}
 use Rattle.rules.proofs.Lowest.{lowest-later, lowest-earlier}
 use Rattle.sigma.proofs.Answer.{unlessRefused-positive}
 use Rattle.formats.specs.Append.{appendAfter, appendRules}
-use Rattle.formats.specs.RoundCalls.{countAfter, checkAfter, partAfter, fetchAfter, noRound, fileRules, roundRules}
+use Rattle.formats.specs.RoundCalls.{countAfter, checkAfter, locateAfter, fetchAfter, noRound, fileRules, roundRules}
+use Rattle.formats.specs.RoundFile.{challengeWidth, recordLength, recordStart}
 use Rattle.formats.specs.Write.{written}
 
 module _ (before : List Rule) (h : Header) where
@@ -26,10 +27,10 @@ module _ (before : List Rule) (h : Header) where
   unfolding checkAfter
   checkAfter-clear none f k = lowest-later before _ none
 
-  -- the part
-  pub partAfter-clear : Clear before → (f : List ℕ) (k : ℕ) → partAfter before h f k ≡ partAfter [] h f k
-  unfolding partAfter
-  partAfter-clear none f k = rw (checkAfter-clear none f k)
+  -- the place
+  pub locateAfter-clear : Clear before → (f : List ℕ) (k : ℕ) → locateAfter before h f k ≡ locateAfter [] h f k
+  unfolding locateAfter
+  locateAfter-clear none f k = rw (checkAfter-clear none f k)
 
   -- reading
   pub fetchAfter-clear : Clear before → (f : List ℕ) (k : ℕ) → fetchAfter before h f k ≡ fetchAfter [] h f k
@@ -55,10 +56,16 @@ module _ (before : List Rule) (h : Header) where
   unfolding checkAfter
   checkAfter-refused some f k = lowest-earlier before (roundRules h f k) some
 
-  -- the part
-  pub partAfter-refused : 0 < lowest before → (f : List ℕ) (k : ℕ) → partAfter before h f k ≡ []
-  unfolding partAfter
-  partAfter-refused some f k = rw (checkAfter-refused some f k) (unlessRefused-positive _ [] (lowest before) some)
+  -- the place
+  pub locateAfter-refused : 0 < lowest before → (f : List ℕ) (k : ℕ)
+      → locateAfter before h f k ≡ record { offset = 0; length = 0; refusal = lowest before }
+  unfolding locateAfter
+  locateAfter-refused some f k =
+      rw (checkAfter-refused some f k) (λ j. record {
+        offset = unlessRefused-positive (recordStart (challengeWidth f) h k) 0 (lowest before) some j;
+        length = unlessRefused-positive (recordLength (challengeWidth f) h) 0 (lowest before) some j;
+        refusal = lowest before;
+      })
 
   -- reading
   pub fetchAfter-refused : 0 < lowest before → (f : List ℕ) (k : ℕ)

@@ -1,20 +1,20 @@
--- The bytes of one round, as a part of the caller's own file (01, "A round"): empty exactly where the check call gives a number,
--- else the record's bytes.
+-- The place and the bytes of one round, as a part of the caller's own file (01, "A round"): empty exactly where the check call
+-- gives a number, else the record's.
 -- Assumes nothing.
 use Prim.Native.Nat.{ℕ, zero, suc, _+_, _<_, _≤_}
 use mathlib.Core.Path.{_≡_, refl, sym, ap, _∙_}
 use mathlib.Core.Logic.{_↔_, _≢_}
 use mathlib.Core.List.{List, []}
 use native.Mathlib.Omega.{arith}
-use lib.ListN.{length, getD, drop, length-drop}
+use lib.ListN.{length, getD, take, drop, length-drop}
 use lib.Seq.{length-take-le}
 use Rattle.types.specs.declared.Header.{Header}
 use Rattle.encoding.specs.Bytes.{AllBytes}
 use Rattle.lists.proofs.Places.{getD-tabulate}
 use Rattle.sigma.proofs.Answer.{unlessRefused-zero, unlessRefused-positive}
 use Rattle.formats.specs.Meaning.{IsRoundFile}
-use Rattle.formats.specs.RoundCalls.{checkRound, fetchRound, noRound, partAfter, partOfRound}
-use Rattle.formats.specs.RoundFile.{challengeWidth, countField, recordBytes, recordLength, recordPart, recordStart, roundAt, widthOf}
+use Rattle.formats.specs.RoundCalls.{checkRound, fetchRound, noRound, partOfRound, locateAfter, locateRound}
+use Rattle.formats.specs.RoundFile.{challengeWidth, countField, recordBytes, recordLength, recordStart, roundAt, widthOf}
 use Rattle.formats.specs.Rounds.{roundsOf}
 use Rattle.formats.specs.Sheet.{headerOf}
 use Rattle.formats.proofs.Files.{check-runs, fetch-given}
@@ -26,19 +26,50 @@ pub record-inside : {h : Header} {f : List ℕ} → IsRoundFile h f → (k : ℕ
 record-inside {h} {f} r k b = omega (arith, r .exact, recordStart-later (challengeWidth f) h k (countField f) b)
 
 module _ (s f : List ℕ) (k : ℕ) where
+  -- where the check gives 0, the place is the record's
+  pub place-given : checkRound s f k ≡ 0
+      → locateRound s f k
+      ≡ record {
+        offset = recordStart (challengeWidth f) (headerOf s) k;
+        length = recordLength (challengeWidth f) (headerOf s);
+        refusal = 0;
+      }
+  unfolding locateRound locateAfter checkRound
+  place-given e = simp (e, unlessRefused-zero)
+
+  -- where it gives a number, the place is of no bytes
+  pub place-refused : 0 < checkRound s f k → locateRound s f k ≡ record { offset = 0; length = 0; refusal = checkRound s f k }
+  unfolding locateRound locateAfter checkRound
+  place-refused some = λ j. record {
+    offset = unlessRefused-positive (recordStart (challengeWidth f) (headerOf s) k) 0 (checkRound s f k) some j;
+    length = unlessRefused-positive (recordLength (challengeWidth f) (headerOf s)) 0 (checkRound s f k) some j;
+    refusal = checkRound s f k;
+  }
+
+  -- the place lies inside the file
+  pub place-inside : locateRound s f k .offset + locateRound s f k .length ≤ length f
+  place-inside = decide (checkRound s f k) refl
+    where
+      decide : (n : ℕ) → checkRound s f k ≡ n → locateRound s f k .offset + locateRound s f k .length ≤ length f
+      decide zero e =
+          let (l, r, b) = check-runs s f k .0 e in
+          rw (place-given e) (record-inside r k b)
+      decide (suc n) e = rw (place-refused (omega arith)) (omega arith)
+
   -- where the check gives 0, the part is the record
-  pub part-given : checkRound s f k ≡ 0 → partOfRound s f k ≡ recordPart (challengeWidth f) (headerOf s) f k
-  unfolding partOfRound partAfter checkRound
-  part-given e = simp (e, unlessRefused-zero)
+  pub part-given : checkRound s f k ≡ 0
+      → partOfRound s f k
+      ≡ take (recordLength (challengeWidth f) (headerOf s)) (drop (recordStart (challengeWidth f) (headerOf s) k) f)
+  unfolding partOfRound
+  part-given e = rw (place-given e)
 
   -- where it gives a number, the part is empty
   pub part-refused : 0 < checkRound s f k → partOfRound s f k ≡ []
-  unfolding partOfRound partAfter checkRound
-  part-refused some = unlessRefused-positive _ [] _ some
+  unfolding partOfRound
+  part-refused some = rw (place-refused some)
 
   -- a part that is given has a record's length
   pub part-length : checkRound s f k ≡ 0 → length (partOfRound s f k) ≡ recordLength (challengeWidth f) (headerOf s)
-  unfolding recordPart
   part-length e =
       let (l, r, b) = check-runs s f k .0 e in
       let start = recordStart (challengeWidth f) (headerOf s) k in
@@ -63,7 +94,6 @@ module _ (s f : List ℕ) (k : ℕ) where
   -- the part is the bytes of the round that is read
   pub part-bytes : AllBytes f → checkRound s f k ≡ 0
       → partOfRound s f k ≡ recordBytes (challengeWidth f) (headerOf s) (fetchRound s f k .round)
-  unfolding recordPart
   part-bytes b e =
       let (l, r, inside) = check-runs s f k .0 e in
       let start = recordStart (challengeWidth f) (headerOf s) k in

@@ -4,9 +4,11 @@ use Prim.Native.Nat.{ℕ}
 use mathlib.Core.Bool.{Bool}
 use mathlib.Core.List.{List, [], _∷_, _++_}
 use lib.Dec.{leb}
+use lib.ListN.{take, drop}
 use Rattle.types.specs.declared.Counted.{Counted}
 use Rattle.types.specs.declared.Fetched.{Fetched}
 use Rattle.types.specs.declared.Header.{Header}
+use Rattle.types.specs.declared.Located.{Located}
 use Rattle.types.specs.declared.Round.{Round}
 use Rattle.lists.specs.Places.{zeros8}
 use Rattle.rules.specs.Answer.{unlessRefused}
@@ -16,7 +18,7 @@ use Rattle.formats.specs.RoundFile.{
   badFile,
   challengeWidth,
   countField,
-  recordPart,
+  recordLength,
   recordStart,
   roundAt,
 }
@@ -48,9 +50,15 @@ countAfter before h f =
 unfoldable pub checkAfter : List Rule → Header → List ℕ → ℕ → ℕ
 checkAfter before h f k = lowest (before ++ roundRules h f k)
 
--- after the rules of the sheet: the part of the file that is round k, empty where it is refused
-unfoldable pub partAfter : List Rule → Header → List ℕ → ℕ → List ℕ
-partAfter before h f k = unlessRefused (checkAfter before h f k) (recordPart (challengeWidth f) h f k) []
+-- after the rules of the sheet: where round k stands in the file, of no bytes where it is refused
+unfoldable pub locateAfter : List Rule → Header → List ℕ → ℕ → Located
+locateAfter before h f k =
+    let refusal : ℕ = checkAfter before h f k in
+    record {
+      offset = unlessRefused refusal (recordStart (challengeWidth f) h k) 0;
+      length = unlessRefused refusal (recordLength (challengeWidth f) h) 0;
+      refusal = refusal;
+    }
 
 -- after the rules of the sheet: round k's values, which are not tested
 unfoldable pub fetchAfter : List Rule → Header → List ℕ → ℕ → Fetched
@@ -69,9 +77,13 @@ countRounds sheet f = countAfter (loadRules sheet) (headerOf sheet) f
 unfoldable pub checkRound : List ℕ → List ℕ → ℕ → ℕ
 checkRound sheet f k = checkAfter (loadRules sheet) (headerOf sheet) f k
 
--- the call that gives a round as a part of the caller's own file
+-- where a round stands in the caller's own file
+unfoldable pub locateRound : List ℕ → List ℕ → ℕ → Located
+locateRound sheet f k = locateAfter (loadRules sheet) (headerOf sheet) f k
+
+-- the call that gives a round as a part of the caller's own file, empty where it is refused
 unfoldable pub partOfRound : List ℕ → List ℕ → ℕ → List ℕ
-partOfRound sheet f k = partAfter (loadRules sheet) (headerOf sheet) f k
+partOfRound sheet f k = take (locateRound sheet f k .length) (drop (locateRound sheet f k .offset) f)
 
 -- the call that reads a round's values
 unfoldable pub fetchRound : List ℕ → List ℕ → ℕ → Fetched

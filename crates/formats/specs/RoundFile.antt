@@ -5,7 +5,7 @@ use Prim.Native.Nat.{ℕ, _+_, _*_}
 use mathlib.Core.Bool.{Bool, not, _||_}
 use mathlib.Core.List.{List, _++_}
 use lib.Dec.{eqb, ltb}
-use lib.ListN.{length, take, drop}
+use lib.ListN.{length, take}
 use Rattle.types.specs.declared.Header.{Header}
 use Rattle.types.specs.declared.Round.{Round}
 use Rattle.encoding.specs.Bytes.{numberAt, bytesOf, bytesOfEach}
@@ -50,10 +50,6 @@ unfoldable pub recordBytes : ℕ → Header → Round → List ℕ
 recordBytes width h round =
     bytesOfEach 4 (places (h .rows) (round .commitment)) ++ bytesOf width (round .challenge) ++
     bytesOfEach 4 (places (h .columns) (round .response))
-
--- the part of the file that is record k
-unfoldable pub recordPart : ℕ → Header → List ℕ → ℕ → List ℕ
-recordPart width h f k = take (recordLength width h) (drop (recordStart width h k) f)
 
 -- the values of the record that begins at `at`
 unfoldable pub roundAt : ℕ → Header → List ℕ → ℕ → Round

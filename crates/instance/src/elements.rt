@@ -1,4 +1,5 @@
 // The group elements of a sheet: its entries, row by row, and its statement (01, "Turned back", 10 and 11).
+use crate::shape::FIXED_FIELDS;
 use crate::shape::entry_count;
 use fields::read_words;
 use modular::first_non_element;
@@ -21,7 +22,7 @@ fn read_rows(sheet: &[u8], columns: usize, n: usize) -> [[u32; 8]; 8]
 {
     let mut rows = [[0u32; 8]; 8];
     for i in 0..n {
-        let row = read_words(sheet, 20 + 4 * columns * i, columns);
+        let row = read_words(sheet, FIXED_FIELDS + 4 * columns * i, columns);
         rows[i] = row;
     }
     rows
@@ -43,7 +44,7 @@ pub fn read_statement(sheet: &[u8], h: Header) -> [u32; 8]
     requires { ⌜ Shaped (now sheet) h ⌝ }
     ensures { λ r. ⌜ r ≡ statementOf (now (sheet .entry)) h ⌝ }
 {
-    read_words(sheet, 20 + 4 * entry_count(h), h.rows as usize)
+    read_words(sheet, FIXED_FIELDS + 4 * entry_count(h), h.rows as usize)
 }
 
 // The first row with an entry that is no group element, or the count of the rows where there is none, as in kind 2.

@@ -8,6 +8,7 @@ pub use elements::element_refusal;
 pub use loading::entries;
 pub use loading::load;
 pub use loading::loaded_entries;
+pub use shape::FIXED_FIELDS;
 pub use shape::MARK;
 pub use shape::header_refusal;
 pub use shape::sheet_length;

@@ -16,7 +16,6 @@ fn refused(refusal: u32) -> Loaded
     ensures { λ r. ⌜ r ≡ record { refusal = refusal; header = noHeader; statement = zeros8 } ⌝ }
 {
     Loaded {
-        refusal,
         header: Header {
             kind: 0,
             modulus: 0,
@@ -26,6 +25,7 @@ fn refused(refusal: u32) -> Loaded
             columns: 0,
         },
         statement: [0u32; 8],
+        refusal,
     }
 }
 
@@ -34,20 +34,20 @@ pub fn load(sheet: &[u8]) -> Loaded
     ensures { λ r. ⌜ r ≡ load (now (sheet .entry)) ⌝ }
 {
     let shape = shape_refusal(sheet);
-    if shape > 0 {
+    if shape != 0 {
         return refused(shape);
     }
     let h = header(sheet);
     let entries = read_entries(sheet, h);
     let statement = read_statement(sheet, h);
     let elements = element_refusal(h, entries, statement);
-    if elements > 0 {
+    if elements != 0 {
         return refused(elements);
     }
     Loaded {
-        refusal: 0,
         header: h,
         statement,
+        refusal: 0,
     }
 }
 
@@ -65,7 +65,7 @@ pub fn entries(sheet: &[u8]) -> [[u32; 8]; 8]
     ensures { λ r. ⌜ r ≡ loadEntries (now (sheet .entry)) ⌝ }
 {
     let loaded = load(sheet);
-    if loaded.refusal > 0 {
+    if loaded.refusal != 0 {
         return [[0u32; 8]; 8];
     }
     let h = loaded.header;

@@ -17,6 +17,12 @@ ghost use Rattle.formats.specs.Load.{shapeRules};
 // The three bytes that a sheet begins with.
 pub const MARK: [u8; 3] = *b"HOM";
 
+// How many bytes the fixed fields of a sheet have, the mark and the version with them.
+pub const FIXED_FIELDS: usize = 20;
+
+// How large a challenge count can be.
+pub const MOST_CHALLENGES: u32 = 65536;
+
 // The fixed fields of a sheet that has at least 20 bytes.
 pub fn header(sheet: &[u8]) -> Header
     requires { ⌜ 20 ≤ length (now sheet) ⌝ }
@@ -71,7 +77,7 @@ fn bad_count(h: Header) -> bool
     if h.challenges < 2 {
         return true;
     }
-    if h.challenges > 65536 {
+    if h.challenges > MOST_CHALLENGES {
         return true;
     }
     match first_divisor(h.order, h.challenges) {
@@ -122,14 +128,14 @@ pub fn sheet_length(h: Header) -> usize
     ensures value { λ r. ⌜ r ≡ sheetLength h ⌝ }
     ensures most { λ r. ⌜ r ≤ 308 ⌝ }
 {
-    20 + 4 * entry_count(h) + 4 * h.rows as usize
+    FIXED_FIELDS + 4 * entry_count(h) + 4 * h.rows as usize
 }
 
 // The number that a sheet's shape is refused with, from 2 to 9, or 0.
 pub fn shape_refusal(sheet: &[u8]) -> u32
     ensures { λ r. ⌜ r ≡ lowest (shapeRules (now (sheet .entry))) ⌝ }
 {
-    if sheet.len() < 20 {
+    if sheet.len() < FIXED_FIELDS {
         return 2;
     }
     if !has_mark(sheet, MARK) {
@@ -139,9 +145,9 @@ pub fn shape_refusal(sheet: &[u8]) -> u32
         return 3;
     }
     let h = header(sheet);
-    let refused = header_refusal(h);
-    if refused > 0 {
-        return refused;
+    let refusal = header_refusal(h);
+    if refusal != 0 {
+        return refusal;
     }
     if sheet.len() != sheet_length(h) {
         return 9;

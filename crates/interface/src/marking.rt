@@ -1,4 +1,5 @@
 // The marker's text.
+use report::LONGEST;
 ghost use mathlib.Core.Path.{_≡_};
 ghost use lib.ListN.{length};
 ghost use lib.Seq.{sets};
@@ -8,7 +9,7 @@ ghost use Rattle.runs.specs.Marker.{markerText};
 // changed. A refused sheet gives the one line `sheet N` and a refused file `file N`; else the text has the count, a line for
 // each round, and `pass` or `fail`.
 #[no_mangle]
-pub extern "C" fn dimkhoros_mark(sheet: &[u8], file: &[u8], text: &mut [u8; 7696]) -> usize
+pub extern "C" fn dimkhoros_mark(sheet: &[u8], file: &[u8], text: &mut [u8; LONGEST]) -> usize
     ensures answer { λ r. ⌜ r ≡ length (markerText (now (sheet .entry)) (now (file .entry))) ⌝ }
     ensures bytes { λ _. ⌜ now (text .exit) ≡ sets (now (text .entry)) 0 (markerText (now (sheet .entry)) (now (file .entry))) ⌝ }
 {

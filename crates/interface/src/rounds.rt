@@ -1,6 +1,5 @@
 // The calls on round files.
-use crate::Part;
-use crate::place::part_place;
+use tables::Part;
 use types::Counted;
 use types::Fetched;
 use types::Round;
@@ -8,7 +7,7 @@ use types::Written;
 ghost use mathlib.Core.Path.{_≡_};
 ghost use Rattle.formats.specs.Append.{append, emptyFile};
 ghost use Rattle.formats.specs.RoundCalls.{checkRound, countRounds, fetchRound};
-ghost use Rattle.interface.specs.RoundPlace.{partPlace};
+ghost use Rattle.tables.specs.RoundPlace.{partPlace};
 
 // How many rounds a file has; 0 beside the number, 2 to 12, where the sheet or the file is refused.
 #[no_mangle]
@@ -31,7 +30,7 @@ pub extern "C" fn dimkhoros_check(sheet: &[u8], file: &[u8], number: usize) -> u
 pub extern "C" fn dimkhoros_part(sheet: &[u8], file: &[u8], number: usize) -> Part
     ensures { λ r. ⌜ r ≡ partPlace (now (sheet .entry)) (now (file .entry)) number ⌝ }
 {
-    part_place(sheet, file, number)
+    tables::part_place(sheet, file, number)
 }
 
 // The values of the round of this number, which are not tested; zeros beside the number, 2 to 13, where it is refused.

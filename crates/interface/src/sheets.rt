@@ -1,6 +1,4 @@
 // The calls on sheets.
-use crate::table::flat;
-use crate::table::square;
 use types::Header;
 use types::Loaded;
 use types::Written;
@@ -8,7 +6,7 @@ ghost use mathlib.Core.Path.{_≡_};
 ghost use Rattle.formats.specs.Encode.{encode};
 ghost use Rattle.formats.specs.Load.{load, loadRefusal};
 ghost use Rattle.formats.specs.Pattern.{fromPattern};
-ghost use Rattle.interface.specs.Flat.{flatInstance, flatUnlessRefused};
+ghost use Rattle.tables.specs.Flat.{flatInstance, flatUnlessRefused};
 
 // Loads a sheet: its fixed fields and its statement, and zeros beside the number of one that is refused.
 #[no_mangle]
@@ -25,15 +23,7 @@ pub extern "C" fn dimkhoros_entries(sheet: &[u8], entries: &mut [u32; 64]) -> u3
     ensures answer { λ r. ⌜ r ≡ loadRefusal (now (sheet .entry)) ⌝ }
     ensures numbers { λ _. ⌜ now (entries .exit) ≡ flatUnlessRefused (now (sheet .entry)) (now (entries .entry)) ⌝ }
 {
-    let loaded = instance::load(sheet);
-    let refusal = loaded.refusal;
-    if refusal != 0 {
-        return refusal;
-    }
-    let h = loaded.header;
-    let numbers = flat(instance::loaded_entries(sheet, h));
-    *entries = numbers;
-    0
+    tables::store_entries(sheet, entries)
 }
 
 // The second writer: puts the sheet of these values at the start of buffer and answers its length, or the number that they
@@ -51,7 +41,7 @@ pub extern "C" fn dimkhoros_encode(
     ensures bytes { λ _. ⌜ now (buffer .exit) ≡
         encode (flatInstance header (now (entries .entry)) (now (statement .entry))) (now (buffer .entry)) .buffer ⌝ }
 {
-    writer::encode(header, square(entries), *statement, buffer)
+    writer::encode(header, tables::square(entries), *statement, buffer)
 }
 
 // The sheet maker: puts the sheet of the pattern of this number, over the public values and the statement, at the start of

@@ -1,2 +1,3 @@
 -- Definitions of the report: the marker's lines on loaded values.
 pub mod Lines
+pub mod Front

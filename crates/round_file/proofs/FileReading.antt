@@ -1,13 +1,14 @@
 -- The calls that read a round file, return by return. `tested` is what the test before the return answered.
 -- Assumes nothing.
 use Prim.Native.Nat.{ℕ, _+_, _-_, _≤_, _<_}
-use mathlib.Core.Path.{_≡_, refl, sym, _∙_}
+use mathlib.Core.Path.{_≡_, refl, sym, ap, _∙_}
 use mathlib.Core.List.{List, [], _∷_}
 use mathlib.Core.Logic.{_≢_}
 use native.Mathlib.Omega.{arith}
 use lib.ListN.{length, take, drop}
 use borrow.Author.Tests.{le-leb}
 use Rattle.types.specs.declared.Header.{Header}
+use Rattle.types.specs.declared.Located.{Located}
 use Rattle.types.specs.declared.Round.{Round}
 use Rattle.rules.specs.Rule.{_when_, lowest}
 use Rattle.rules.proofs.Lowest.{lowest-append-zero, lowest-earlier, lowest-later-zero, stop}
@@ -20,13 +21,15 @@ use Rattle.formats.specs.RoundCalls.{
   fetchAfter,
   fileRules,
   noRound,
-  partAfter,
+  partOfRound,
+  locateAfter,
+  locateRound,
   roundRules,
 }
-use Rattle.formats.specs.RoundFile.{challengeWidth, countField, recordLength, recordPart, recordStart, roundAt, widthOf}
+use Rattle.formats.specs.RoundFile.{challengeWidth, countField, recordLength, recordStart, roundAt, widthOf}
 use Rattle.formats.proofs.Files.{file-width, number-passes}
 use Rattle.formats.proofs.Growing.{file-long}
-use Rattle.formats.proofs.Part.{record-inside}
+use Rattle.formats.proofs.Part.{place-inside, record-inside}
 use Rattle.round_file.proofs.FileTest.{file-clear}
 
 module _ (h : Header) (f : List ℕ) {n : ℕ} (tested : n ≡ lowest (fileRules h f)) where
@@ -76,33 +79,68 @@ module _ (h : Header) (f : List ℕ) (k : ℕ) {n : ℕ} (tested : n ≡ checkAf
       let (file, inside) = round-there e in
       (omega (arith, file .few), rw (← file-width file) (record-inside file k inside))
 
-  -- so does the record of the file's own width
-  pub record-fits : {start : ℕ} → n ≡ 0 → start ≡ recordStart (widthOf 1) h k → start + recordLength (challengeWidth f) h ≤ length f
-  record-fits e is-start =
-      let (file, inside) = round-there e in
-      rw (is-start, ← file-width file) (record-inside file k inside)
+  -- a refused round has no place
+  pub place-none : n ≢ 0 → record { offset = 0; length = 0; refusal = n } ≡ locateAfter [] h f k
+  unfolding locateAfter
+  place-none some =
+      rw (
+        ← tested,
+        unlessRefused-positive (recordStart (challengeWidth f) h k) 0 n (omega arith),
+        unlessRefused-positive (recordLength (challengeWidth f) h) 0 n (omega arith),
+      )
 
-  -- a refused round has an empty part
-  pub part-none : n ≢ 0 → [] ≡ partAfter [] h f k
-  unfolding partAfter
-  part-none some = rw (← tested) (sym (unlessRefused-positive _ [] n (omega arith)))
+  -- the place of a round that passes is its record's
+  pub place-record : {start size : ℕ} → n ≡ 0 → start ≡ recordStart (widthOf 1) h k → size ≡ recordLength (widthOf 1) h
+      → record { offset = start; length = size; refusal = 0 } ≡ locateAfter [] h f k
+  unfolding locateAfter
+  place-record e is-start is-size =
+      rw (
+        ← tested,
+        e,
+        is-start,
+        is-size,
+        file-width (round-there e .0),
+        unlessRefused-zero (recordStart (widthOf 1) h k) 0,
+        unlessRefused-zero (recordLength (widthOf 1) h) 0,
+      )
 
-  -- the part of a round that passes is its record
-  pub part-record : {start size : ℕ} → n ≡ 0 → start ≡ recordStart (widthOf 1) h k → size ≡ recordLength (widthOf 1) h
-      → take (start + size - start) (drop start f) ≡ partAfter [] h f k
-  unfolding partAfter recordPart
-  part-record {start} {size} e is-start is-size =
-      let same : start + size - start ≡ size = omega arith in
-      let width = file-width (round-there e .0) in
-      rw (← tested, e, unlessRefused-zero, same, is-start, is-size, width)
+module _ (h : Header) (f : List ℕ) (k : ℕ) {place : Located} (found : place ≡ locateAfter [] h f k) where
+  -- a place's number is the check's
+  place-number : place .refusal ≡ checkAfter [] h f k
+  unfolding locateAfter
+  place-number = ap (λ (p : Located). p .refusal) found
+
+  -- the place of a round that passes begins where its record does
+  place-start : place .refusal ≡ 0 → place .offset ≡ recordStart (challengeWidth f) h k
+  unfolding locateAfter
+  place-start e = ap (λ (p : Located). p .offset) found ∙ rw (← place-number, e, unlessRefused-zero {A = ℕ})
+
+  -- its record lies inside the file
+  pub record-fits : place .refusal ≡ 0 → place .offset + recordLength (challengeWidth f) h ≤ length f
+  record-fits e =
+      let (file, inside) = round-there h f k place-number e in
+      rw (place-start e) (record-inside file k inside)
 
   -- a refused round is read as zeros
-  pub fetch-none : {round : Round} → n ≢ 0 → round ≡ noRound → record { refusal = n; round = round } ≡ fetchAfter [] h f k
+  pub fetch-none : {round : Round} → place .refusal ≢ 0 → round ≡ noRound
+      → record { round = round; refusal = place .refusal } ≡ fetchAfter [] h f k
   unfolding fetchAfter
-  fetch-none some is-none = rw (← tested, is-none, unlessRefused-positive _ noRound n (omega arith))
+  fetch-none some is-none = rw (← place-number, is-none, unlessRefused-positive _ noRound (place .refusal) (omega arith))
 
   -- a round that passes is read from its record
-  pub fetch-record : {start : ℕ} {round : Round} → n ≡ 0 → start ≡ recordStart (widthOf 1) h k
-      → round ≡ roundAt (challengeWidth f) h f start → record { refusal = 0; round = round } ≡ fetchAfter [] h f k
+  pub fetch-record : {round : Round} → place .refusal ≡ 0 → round ≡ roundAt (challengeWidth f) h f (place .offset)
+      → record { round = round; refusal = 0 } ≡ fetchAfter [] h f k
   unfolding fetchAfter
-  fetch-record e is-start is-round = rw (← tested, e, is-round, is-start, ← file-width (round-there e .0), unlessRefused-zero)
+  fetch-record e is-round = rw (← place-number, e, is-round, place-start e, unlessRefused-zero)
+
+module _ (s f : List ℕ) (k : ℕ) {place : Located} (found : place ≡ locateRound s f k) where
+  -- a round's place lies inside the file
+  pub place-within : place .offset + place .length ≤ length f
+  place-within = rw found (place-inside s f k)
+
+  -- what stands there is the part
+  pub part-placed : take (place .offset + place .length - place .offset) (drop (place .offset) f) ≡ partOfRound s f k
+  unfolding partOfRound
+  part-placed =
+      let same : place .offset + place .length - place .offset ≡ place .length = omega arith in
+      rw (same, found)

@@ -1,14 +1,15 @@
 // The calls on a sheet and a round file (01, "A round"): each loads the sheet, and a refused sheet's number is its answer.
 use crate::reading::check_in;
 use crate::reading::count_in;
+use crate::reading::locate_in;
 use crate::reading::no_round;
-use crate::reading::part_in;
 use crate::reading::read_in;
 use instance::load;
 use types::Counted;
 use types::Fetched;
+use types::Located;
 ghost use mathlib.Core.Path.{_≡_};
-ghost use Rattle.formats.specs.RoundCalls.{countRounds, checkRound, partOfRound, fetchRound};
+ghost use Rattle.formats.specs.RoundCalls.{countRounds, checkRound, locateRound, partOfRound, fetchRound};
 
 // How many rounds a file has; 0 beside the number, 2 to 12, where the sheet or the file is refused.
 pub fn count(sheet: &[u8], file: &[u8]) -> Counted
@@ -17,7 +18,7 @@ pub fn count(sheet: &[u8], file: &[u8]) -> Counted
     let loaded = load(sheet);
     let refusal = loaded.refusal;
     if refusal != 0 {
-        return Counted { refusal, count: 0 };
+        return Counted { count: 0, refusal };
     }
     let h = loaded.header;
     count_in(h, file)
@@ -36,17 +37,31 @@ pub fn check(sheet: &[u8], file: &[u8], k: usize) -> u32
     check_in(h, file, k)
 }
 
-// The part of a file that is round k, empty where it is refused; `check` of the same inputs gives the number.
-pub fn part<'a, 'b>(sheet: &'b [u8], file: &'a [u8], k: usize) -> &'a [u8]
-    ensures { λ r. ⌜ now r ≡ partOfRound (now (sheet .entry)) (now (file .entry)) k ⌝ }
+// Where round k stands in a file; no bytes, at 0, beside the number, 2 to 13, where it is refused.
+pub fn locate(sheet: &[u8], file: &[u8], k: usize) -> Located
+    ensures { λ r. ⌜ r ≡ locateRound (now (sheet .entry)) (now (file .entry)) k ⌝ }
 {
     let loaded = load(sheet);
     let refusal = loaded.refusal;
     if refusal != 0 {
-        return &file[0..0];
+        return Located {
+            offset: 0,
+            length: 0,
+            refusal,
+        };
     }
     let h = loaded.header;
-    part_in(h, file, k)
+    locate_in(h, file, k)
+}
+
+// The part of a file that is round k, empty where it is refused; `check` of the same inputs gives the number.
+pub fn part<'a, 'b>(sheet: &'b [u8], file: &'a [u8], k: usize) -> &'a [u8]
+    ensures { λ r. ⌜ now r ≡ partOfRound (now (sheet .entry)) (now (file .entry)) k ⌝ }
+{
+    let found = locate(sheet, file, k);
+    let start = found.offset;
+    let end = start + found.length;
+    &file[start..end]
 }
 
 // The values of round k of a file, which are not tested; zeros beside the number, 2 to 13, where it is refused.
@@ -57,8 +72,8 @@ pub fn read(sheet: &[u8], file: &[u8], k: usize) -> Fetched
     let refusal = loaded.refusal;
     if refusal != 0 {
         return Fetched {
-            refusal,
             round: no_round(),
+            refusal,
         };
     }
     let h = loaded.header;

@@ -11,6 +11,12 @@ ghost use Rattle.formats.specs.RoundCalls.{fileRules};
 // The three bytes that a round file begins with.
 pub const MARK: [u8; 3] = *b"RND";
 
+// How many bytes stand before the records: the mark, the version and the count.
+pub const START: usize = 7;
+
+// How many rounds a file can have.
+pub const MOST_ROUNDS: u32 = 512;
+
 // How many bytes a record has.
 pub fn record_length(h: Header) -> usize
     requires rows { ⌜ h .rows ≤ 8 ⌝ }
@@ -29,7 +35,7 @@ pub fn record_start(h: Header, k: usize) -> usize
     ensures value { λ r. ⌜ r ≡ recordStart (widthOf 1) h k ⌝ }
     ensures small { λ r. ⌜ r ≤ 34823 ⌝ }
 {
-    7 + k * record_length(h)
+    START + k * record_length(h)
 }
 
 // The number that a round file is refused with, 12 or 0.
@@ -38,7 +44,7 @@ pub fn file_refusal(h: Header, file: &[u8]) -> u32
     requires columns { ⌜ h .columns ≤ 8 ⌝ }
     ensures { λ r. ⌜ r ≡ lowest (fileRules h (now (file .entry))) ⌝ }
 {
-    if file.len() < 7 {
+    if file.len() < START {
         return 12;
     }
     if !has_mark(file, MARK) {
@@ -48,7 +54,7 @@ pub fn file_refusal(h: Header, file: &[u8]) -> u32
         return 12;
     }
     let count = read_u16(file, 5);
-    if count > 512 {
+    if count > MOST_ROUNDS {
         return 12;
     }
     if file.len() != record_start(h, count as usize) {

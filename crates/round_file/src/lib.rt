@@ -6,9 +6,12 @@ mod reading; // reading.rt: reading for loaded fixed fields
 
 pub use calls::check;
 pub use calls::count;
+pub use calls::locate;
 pub use calls::part;
 pub use calls::read;
 pub use layout::MARK;
+pub use layout::MOST_ROUNDS;
+pub use layout::START;
 pub use layout::file_refusal;
 pub use layout::record_length;
 pub use layout::record_start;

@@ -8,13 +8,14 @@ use fields::read_words;
 use types::Counted;
 use types::Fetched;
 use types::Header;
+use types::Located;
 use types::Round;
 ghost use Prim.Native.Nat.{_+_, _≤_};
 ghost use mathlib.Core.Path.{_≡_};
 ghost use mathlib.Core.List.{[]};
 ghost use lib.ListN.{length};
 ghost use Rattle.formats.specs.RoundFile.{challengeWidth, recordLength, roundAt};
-ghost use Rattle.formats.specs.RoundCalls.{noRound, countAfter, checkAfter, partAfter, fetchAfter};
+ghost use Rattle.formats.specs.RoundCalls.{noRound, countAfter, checkAfter, locateAfter, fetchAfter};
 
 // How many rounds a file has; 0 beside the number where it is refused.
 pub fn count_in(h: Header, file: &[u8]) -> Counted
@@ -24,11 +25,11 @@ pub fn count_in(h: Header, file: &[u8]) -> Counted
 {
     let refusal = file_refusal(h, file);
     if refusal != 0 {
-        return Counted { refusal, count: 0 };
+        return Counted { count: 0, refusal };
     }
     Counted {
-        refusal: 0,
         count: read_u16(file, 5),
+        refusal: 0,
     }
 }
 
@@ -49,18 +50,25 @@ pub fn check_in(h: Header, file: &[u8], k: usize) -> u32
     0
 }
 
-// The part of a file that is round k, empty where it is refused.
-pub fn part_in<'a>(h: Header, file: &'a [u8], k: usize) -> &'a [u8]
+// Where round k stands in a file; no bytes, at 0, beside the number where it is refused.
+pub fn locate_in(h: Header, file: &[u8], k: usize) -> Located
     requires rows { ⌜ h .rows ≤ 8 ⌝ }
     requires columns { ⌜ h .columns ≤ 8 ⌝ }
-    ensures { λ r. ⌜ now r ≡ partAfter [] h (now (file .entry)) k ⌝ }
+    ensures { λ r. ⌜ r ≡ locateAfter [] h (now (file .entry)) k ⌝ }
 {
-    if check_in(h, file, k) != 0 {
-        return &file[0..0];
+    let refusal = check_in(h, file, k);
+    if refusal != 0 {
+        return Located {
+            offset: 0,
+            length: 0,
+            refusal,
+        };
     }
-    let start = record_start(h, k);
-    let end = start + record_length(h);
-    &file[start..end]
+    Located {
+        offset: record_start(h, k),
+        length: record_length(h),
+        refusal: 0,
+    }
 }
 
 // The values of the record that begins at index at of a file.
@@ -100,14 +108,14 @@ pub fn read_in(h: Header, file: &[u8], k: usize) -> Fetched
     requires columns { ⌜ h .columns ≤ 8 ⌝ }
     ensures { λ r. ⌜ r ≡ fetchAfter [] h (now (file .entry)) k ⌝ }
 {
-    let refusal = check_in(h, file, k);
+    let place = locate_in(h, file, k);
+    let refusal = place.refusal;
     if refusal != 0 {
         return Fetched {
-            refusal,
             round: no_round(),
+            refusal,
         };
     }
-    let start = record_start(h, k);
-    let round = round_at(h, file, start);
-    Fetched { refusal: 0, round }
+    let round = round_at(h, file, place.offset);
+    Fetched { round, refusal: 0 }
 }

@@ -15,7 +15,7 @@ pub fn append(sheet: &[u8], buffer: &mut [u8], used: usize, round: Round) -> Wri
     let loaded = load(sheet);
     let refusal = loaded.refusal;
     if refusal != 0 {
-        return Written { refusal, length: 0 };
+        return Written { length: 0, refusal };
     }
     let h = loaded.header;
     append_in(h, buffer, used, round)

@@ -6,6 +6,8 @@ use fields::write_u16;
 use fields::write_u32;
 use fields::write_words;
 use round_file::MARK;
+use round_file::MOST_ROUNDS;
+use round_file::START;
 use round_file::file_refusal;
 use round_file::record_length;
 use types::Header;
@@ -26,18 +28,18 @@ pub fn empty(buffer: &mut [u8]) -> Written
     ensures answer { λ r. ⌜ r ≡ emptyFile (now (buffer .entry)) .answer ⌝ }
     ensures bytes { λ _. ⌜ now (buffer .exit) ≡ emptyFile (now (buffer .entry)) .buffer ⌝ }
 {
-    if buffer.len() < 7 {
+    if buffer.len() < START {
         return Written {
-            refusal: 22,
             length: 0,
+            refusal: 22,
         };
     }
     write_mark(buffer, MARK);
     write_u16(buffer, 3, 1);
     write_u16(buffer, 5, 0);
     Written {
+        length: START,
         refusal: 0,
-        length: 7,
     }
 }
 
@@ -70,7 +72,7 @@ fn append_refusal(h: Header, buffer: &[u8], used: usize) -> u32
     if file_refusal(h, file) != 0 {
         return 12;
     }
-    if read_u16(file, 5) >= 512 {
+    if read_u16(file, 5) >= MOST_ROUNDS {
         return 12;
     }
     if buffer.len() - used < record_length(h) {
@@ -89,11 +91,11 @@ pub fn append_in(h: Header, buffer: &mut [u8], used: usize, round: Round) -> Wri
 {
     let refusal = append_refusal(h, buffer, used);
     if refusal != 0 {
-        return Written { refusal, length: 0 };
+        return Written { length: 0, refusal };
     }
     let count = read_u16(buffer, 5);
     let length = used + record_length(h);
     write_record(&mut buffer[used..], h, round);
     write_u16(buffer, 5, count + 1);
-    Written { refusal: 0, length }
+    Written { length, refusal: 0 }
 }

@@ -5,6 +5,7 @@ use lines::length;
 use lines::line;
 use lines::loading;
 use lines::store;
+use round_file::MOST_ROUNDS;
 use round_file::check;
 use round_file::count;
 use round_file::read;
@@ -73,7 +74,7 @@ fn append_one(sheet: &[u8], file: &mut [u8], used: usize, number: u32) -> Writte
 // Makes a file of no rounds, appends 512 rounds, one by one, and answers how many bytes are in use.
 fn append_all(sheet: &[u8], file: &mut [u8]) -> usize {
     let mut used = empty(file).length;
-    for number in 0..512 {
+    for number in 0..MOST_ROUNDS {
         used = append_one(sheet, file, used, number).length;
     }
     used
@@ -94,7 +95,7 @@ fn full(sheet: &[u8], file: &[u8]) {
 fn beyond(sheet: &[u8], file: &mut [u8], used: usize) {
     line(
         b"one round more: ",
-        append_one(sheet, file, used, 512).refusal,
+        append_one(sheet, file, used, MOST_ROUNDS).refusal,
     );
     store(file, 6, 1);
     line(b"513 rounds: ", count(sheet, file).refusal);

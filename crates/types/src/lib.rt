@@ -53,6 +53,13 @@ pub struct Counted {
     pub refusal: u32,
 }
 
+// Where a round stands in a round file: its first byte and how many bytes it has.
+pub struct Located {
+    pub offset: usize,
+    pub length: usize,
+    pub refusal: u32,
+}
+
 // A round as it stands in a round file.
 #[repr(C)]
 pub struct Fetched {

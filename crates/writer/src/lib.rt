@@ -26,8 +26,8 @@ fn refused(number: u32) -> Written
     ensures { λ r. ⌜ r ≡ record { refusal = number; length = 0 } ⌝ }
 {
     Written {
-        refusal: number,
         length: 0,
+        refusal: number,
     }
 }
 
@@ -38,11 +38,11 @@ pub fn encode(h: Header, entries: [[u32; 8]; 8], statement: [u32; 8], buffer: &m
     ensures left { λ _. ⌜ now (buffer .exit) ≡ encode (instanceWith h entries statement) (now (buffer .entry)) .buffer ⌝ }
 {
     let fields = header_refusal(h);
-    if fields > 0 {
+    if fields != 0 {
         return refused(fields);
     }
     let elements = element_refusal(h, entries, statement);
-    if elements > 0 {
+    if elements != 0 {
         return refused(elements);
     }
     let length = sheet_length(h);
@@ -50,7 +50,7 @@ pub fn encode(h: Header, entries: [[u32; 8]; 8], statement: [u32; 8], buffer: &m
         return refused(22);
     }
     write_sheet(buffer, h, entries, statement);
-    Written { refusal: 0, length }
+    Written { length, refusal: 0 }
 }
 
 // The sheet maker: writes the sheet of the pattern with this number over the public values and the statement and answers

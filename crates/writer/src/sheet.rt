@@ -4,6 +4,7 @@ use fields::write_u8;
 use fields::write_u16;
 use fields::write_u32;
 use fields::write_words;
+use instance::FIXED_FIELDS;
 use instance::MARK;
 use types::Header;
 ghost use Prim.Native.Nat.{_+_, _*_, _≤_};
@@ -38,7 +39,7 @@ fn write_entries(buffer: &mut [u8], h: Header, entries: [[u32; 8]; 8]) -> usize
     ensures { λ r. ⌜ r ≡ 20 + 4 * entryCount h ⌝ }
     ensures { λ _. ⌜ now (buffer .exit) ≡ sets (now (buffer .entry)) 20 (entriesBytes h entries) ⌝ }
 {
-    let mut at: usize = 20;
+    let mut at: usize = FIXED_FIELDS;
     if h.kind != 1 {
         return at;
     }

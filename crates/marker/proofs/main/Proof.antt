@@ -1,6 +1,5 @@
 -- `marker::main` is safe and ends: each part that it lends lies inside its buffer.
 -- Assumes nothing.
-use native.Mathlib.Omega.{arith}
 use borrow.Author.Needs.{needs}
 use Rattle.io.proofs.Counting.{counts}
 use Rattle.marker.proofs.main.Statement.{statement}
@@ -24,26 +23,14 @@ slice-aggregate-read-file-4 c = search needs
 read-file-requires-2 : tie.Need-read-file-requires-2
 read-file-requires-2 c κs = search needs
 
-array-share-prefix-sheet : tie.Need-array-share-prefix-sheet
-array-share-prefix-sheet c = search needs
-
-slice-aggregate-mark : tie.Need-slice-aggregate-mark
-slice-aggregate-mark c = search needs
-
-array-share-prefix-rounds : tie.Need-array-share-prefix-rounds
-array-share-prefix-rounds c = search needs
-
-slice-aggregate-mark-2 : tie.Need-slice-aggregate-mark-2
-slice-aggregate-mark-2 c = search needs
-
-mark-requires : tie.Need-mark-requires
-mark-requires c κs = search needs
+mark-files-requires : tie.Need-mark-files-requires
+mark-files-requires c κs = search needs
 
 array-share-prefix-text : tie.Need-array-share-prefix-text
-array-share-prefix-text c = omega arith
+array-share-prefix-text c = search needs
 
 slice-aggregate-write-all : tie.Need-slice-aggregate-write-all
-slice-aggregate-write-all c = counts _ _ (c .before .mark .ensures .0) .1
+slice-aggregate-write-all c = counts _ _ (c .before .mark-files .ensures .0) .1
 
 write-all-requires : tie.Need-write-all-requires
 write-all-requires c κs = search needs
@@ -61,11 +48,7 @@ main-spec =
     slice-aggregate-read-file-3
     slice-aggregate-read-file-4
     read-file-requires-2
-    array-share-prefix-sheet
-    slice-aggregate-mark
-    array-share-prefix-rounds
-    slice-aggregate-mark-2
-    mark-requires
+    mark-files-requires
     array-share-prefix-text
     slice-aggregate-write-all
     write-all-requires

@@ -28,7 +28,7 @@ refused-requires : tie.Need-refused-requires
 refused-requires c κs = search needs
 
 returns : tie.Need-returns
-returns c = encode-fields _ _ (c .refused .ensures) (c .before .before .header-refusal .ensures) (c .before .if1 .taken)
+returns c = encode-fields _ _ (c .refused .ensures) (c .before .before .header-refusal .ensures) (omega (arith, c .before .if1 .taken))
 
 element-refusal-requires : tie.Need-element-refusal-requires
 element-refusal-requires c κs = header-passes _ (fields c)

@@ -28,7 +28,7 @@ returns : tie.Need-returns
 returns c =
     let tested = c .before in
     let number = tested .before .shape-refusal .ensures in
-    c .refused .ensures ∙ refused-answer _ (number ∙ shape-first _ (omega arith)) (tested .if1 .taken)
+    c .refused .ensures ∙ refused-answer _ (number ∙ shape-first _ (omega arith)) (omega (arith, tested .if1 .taken))
 
 -- past the first test the shape has no number
 shaped : (c : tie.Else1) → lowest (shapeRules (c .before .before .before .args .sheet .now)) ≡ 0

@@ -1,0 +1,3 @@
+-- The forms in which a table and a part cross.
+pub mod Flat
+pub mod RoundPlace
