@@ -24,8 +24,8 @@ ghost use Rattle.runs.specs.Verifier.{takeCommitmentAfter, takeChallengeAfter, 
 // Whether a commitment, read in s places, has a value that is no group element.
 fn bad_commitment(h: Header, commitment: [u32; 8]) -> bool
     requires { ⌜ (0 < h .modulus) × (h .rows ≤ 8) ⌝ }
-    ensures { λ r. ⌜ ((entries : List (List ℕ)) (statement : List ℕ) → r ≡ badCommitment (instanceWith h entries statement)
-        (places (h .rows) commitment)) ⌝ }
+    ensures { λ r. ⌜ ((entries : List (List ℕ)) (statement : List ℕ)
+        → r ≡ badCommitment (instanceWith h entries statement) (places (h .rows) commitment)) ⌝ }
 {
     let rows = h.rows as usize;
     some_non_element(h, commitment, rows)
@@ -35,8 +35,8 @@ fn bad_commitment(h: Header, commitment: [u32; 8]) -> bool
 // Waiting.
 fn commitment_refusal(h: Header, session: Verifier, commitment: [u32; 8]) -> u32
     requires { ⌜ (0 < h .modulus) × (h .rows ≤ 8) ⌝ }
-    ensures { λ r. ⌜ ((entries : List (List ℕ)) (statement : List ℕ) → r ≡ lowest (takeCommitmentRules (instanceWith h entries statement)
-        session (places (h .rows) commitment))) ⌝ }
+    ensures { λ r. ⌜ ((entries : List (List ℕ)) (statement : List ℕ)
+        → r ≡ lowest (takeCommitmentRules (instanceWith h entries statement) session (places (h .rows) commitment))) ⌝ }
 {
     if bad_commitment(h, commitment) {
         return 14;
@@ -52,8 +52,8 @@ fn commitment_refusal(h: Header, session: Verifier, commitment: [u32; 8]) -> u32
 // commitment has a value that is no group element.
 fn challenge_refusal(h: Header, session: Verifier, challenge: u32) -> u32
     requires { ⌜ (0 < h .modulus) × (h .rows ≤ 8) ⌝ }
-    ensures { λ r. ⌜ ((entries : List (List ℕ)) (statement : List ℕ) → r ≡ lowest (takeChallengeRules (instanceWith h entries statement)
-        session challenge)) ⌝ }
+    ensures { λ r. ⌜ ((entries : List (List ℕ)) (statement : List ℕ)
+        → r ≡ lowest (takeChallengeRules (instanceWith h entries statement) session challenge)) ⌝ }
 {
     if challenge >= h.challenges {
         return 15;
@@ -73,8 +73,8 @@ fn challenge_refusal(h: Header, session: Verifier, challenge: u32) -> u32
 // whose commitment has a value that is no group element or whose challenge is K or more.
 fn response_refusal(h: Header, session: Verifier, response: [u32; 8]) -> u32
     requires { ⌜ (0 < h .modulus) × (h .rows ≤ 8) × (h .columns ≤ 8) ⌝ }
-    ensures { λ r. ⌜ ((entries : List (List ℕ)) (statement : List ℕ) → r ≡ lowest (takeResponseRules (instanceWith h entries statement)
-        session (places (h .columns) response))) ⌝ }
+    ensures { λ r. ⌜ ((entries : List (List ℕ)) (statement : List ℕ)
+        → r ≡ lowest (takeResponseRules (instanceWith h entries statement) session (places (h .columns) response))) ⌝ }
 {
     let columns = h.columns as usize;
     if some_non_coordinate(h, response, columns) {
@@ -97,8 +97,8 @@ fn response_refusal(h: Header, session: Verifier, response: [u32; 8]) -> u32
 // Brings a commitment: its s places are stored, and a Waiting session is Holding; the challenge that it holds is kept.
 pub fn take_commitment_loaded(h: Header, session: Verifier, commitment: [u32; 8]) -> VerifierStep
     requires { ⌜ (0 < h .modulus) × (h .rows ≤ 8) ⌝ }
-    ensures { λ r. ⌜ ((entries : List (List ℕ)) (statement : List ℕ) → r ≡ takeCommitmentAfter [] (instanceWith h entries statement)
-        session commitment) ⌝ }
+    ensures { λ r. ⌜ ((entries : List (List ℕ)) (statement : List ℕ)
+        → r ≡ takeCommitmentAfter [] (instanceWith h entries statement) session commitment) ⌝ }
 {
     let refusal = commitment_refusal(h, session, commitment);
     if refusal != 0 {
@@ -117,8 +117,8 @@ pub fn take_commitment_loaded(h: Header, session: Verifier, commitment: [u32; 8]
 // Brings a challenge: it is stored, and a Holding session is Asked; the commitment that it holds is kept in all eight places.
 pub fn take_challenge_loaded(h: Header, session: Verifier, challenge: u32) -> VerifierStep
     requires { ⌜ (0 < h .modulus) × (h .rows ≤ 8) ⌝ }
-    ensures { λ r. ⌜ ((entries : List (List ℕ)) (statement : List ℕ) → r ≡ takeChallengeAfter [] (instanceWith h entries statement)
-        session challenge) ⌝ }
+    ensures { λ r. ⌜ ((entries : List (List ℕ)) (statement : List ℕ)
+        → r ≡ takeChallengeAfter [] (instanceWith h entries statement) session challenge) ⌝ }
 {
     let refusal = challenge_refusal(h, session, challenge);
     if refusal != 0 {
