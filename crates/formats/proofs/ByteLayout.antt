@@ -32,7 +32,6 @@ use Rattle.formats.specs.RoundFile.{
   countField,
   fileVersion,
   recordLength,
-  recordPart,
   recordStart,
   roundAt,
   roundMark,
@@ -150,7 +149,7 @@ round-read h f at few narrow = record {
 module _ (s f : List ℕ) where
   -- a file that reads
   pub file-layout : countRounds s f .refusal ≡ 0 → FileLayout s f
-  unfolding countField fileVersion roundMark ascii recordStart recordLength recordPart challengeWidth widthOf instanceOf
+  unfolding countField fileVersion roundMark ascii recordStart recordLength challengeWidth widthOf instanceOf
   file-layout e =
       let (l, r) = count-runs s f .0 e in
       let h = headerOf s in
