@@ -73,7 +73,7 @@ module _ (i : Instance) (f : List ℕ) where
   none-placed l at = record { stored = refl; behind = omega arith }
 
   -- and none of them fails
-  pub none-fails : false ≡ failsIn i f 0
+  pub none-fails : failsIn i f 0 ≡ false
   unfolding failsIn any find
   none-fails = refl
 
