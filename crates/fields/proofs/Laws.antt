@@ -1,7 +1,7 @@
 -- What the functions on fields leave to show, over plain values: two stores that are one field, one word more of a run,
 -- and the bytes of a mark.
 -- Assumes nothing.
-use Prim.Native.Nat.{ℕ, _+_, _*_, _/_, _^_}
+use Prim.Native.Nat.{ℕ, _+_, _*_, _/_, _%_, _^_}
 use mathlib.Core.Path.{_≡_, refl, sym, ap, _∙_}
 use mathlib.Core.Bool.{Bool, true, false, not, _&&_}
 use mathlib.Core.List.{List, [], _∷_}
@@ -14,9 +14,13 @@ use Rattle.numbers.specs.Search.{find, any}
 use Rattle.lists.specs.Places.{places}
 use Rattle.lists.proofs.Places.{length-places}
 use Rattle.encoding.specs.Bytes.{bytesOf, bytesOfEach}
-use Rattle.encoding.proofs.Bytes.{length-bytesOf, length-bytesOfEach, bytesOf-join, bytesOfEach-places}
+use Rattle.encoding.proofs.Bytes.{length-bytesOf, length-bytesOfEach, bytesOf-join, bytesOf-one, bytesOfEach-places}
 use Rattle.encoding.proofs.Replaced.{sets-sets}
 use Rattle.fields.specs.Mark.{hasMark}
+
+-- the byte of a number stored at an index
+pub byte-stored : (l : List ℕ) (i at v : ℕ) → i ≡ at → set l i (v % 256) ≡ sets l at (bytesOf 1 v)
+byte-stored l i at v e = rw (e, bytesOf-one)
 
 -- the upper bytes of a number stored, and then its lower ones straight behind, are the whole number stored
 pub field-stored : (a b v : ℕ) (l : List ℕ) (at : ℕ)

@@ -5,14 +5,21 @@ use Prim.Native.Nat.{ℕ, _<_}
 use mathlib.Core.Path.{_≡_}
 use mathlib.Core.List.{List, []}
 use Rattle.types.specs.declared.Header.{Header}
+use Rattle.types.specs.declared.Located.{Located}
 use Rattle.types.specs.declared.Round.{Round}
+use Rattle.rules.specs.Answer.{unlessRefused}
 use Rattle.rules.specs.Rule.{Rule, lowest, Clear}
 use Rattle.rules.proofs.Lowest.{lowest-later, lowest-earlier}
 use Rattle.sigma.proofs.Answer.{unlessRefused-positive}
 use Rattle.formats.specs.Append.{appendAfter, appendRules}
 use Rattle.formats.specs.RoundCalls.{countAfter, checkAfter, locateAfter, fetchAfter, noRound, fileRules, roundRules}
-use Rattle.formats.specs.RoundFile.{challengeWidth, recordLength, recordStart}
 use Rattle.formats.specs.Write.{written}
+
+-- where a refusal has a number, no place is answered
+pub nowhere : (start size n : ℕ) → 0 < n
+    → _≡_ {A = Located} (record { offset = unlessRefused n start 0; length = unlessRefused n size 0; refusal = n })
+    (record { offset = 0; length = 0; refusal = n })
+nowhere start size n some = rw (unlessRefused-positive start 0 n some, unlessRefused-positive size 0 n some)
 
 module _ (before : List Rule) (h : Header) where
   -- ---- no rule of the sheet applies
@@ -61,11 +68,7 @@ module _ (before : List Rule) (h : Header) where
       → locateAfter before h f k ≡ record { offset = 0; length = 0; refusal = lowest before }
   unfolding locateAfter
   locateAfter-refused some f k =
-      rw (checkAfter-refused some f k) (λ j. record {
-        offset = unlessRefused-positive (recordStart (challengeWidth f) h k) 0 (lowest before) some j;
-        length = unlessRefused-positive (recordLength (challengeWidth f) h) 0 (lowest before) some j;
-        refusal = lowest before;
-      })
+      rw (checkAfter-refused some f k) (nowhere _ _ (lowest before) some)
 
   -- reading
   pub fetchAfter-refused : 0 < lowest before → (f : List ℕ) (k : ℕ)

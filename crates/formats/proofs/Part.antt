@@ -11,12 +11,13 @@ use lib.Seq.{length-take-le}
 use Rattle.types.specs.declared.Header.{Header}
 use Rattle.encoding.specs.Bytes.{AllBytes}
 use Rattle.lists.proofs.Places.{getD-tabulate}
-use Rattle.sigma.proofs.Answer.{unlessRefused-zero, unlessRefused-positive}
+use Rattle.sigma.proofs.Answer.{unlessRefused-zero}
 use Rattle.formats.specs.Meaning.{IsRoundFile}
 use Rattle.formats.specs.RoundCalls.{checkRound, fetchRound, noRound, partOfRound, locateAfter, locateRound}
 use Rattle.formats.specs.RoundFile.{challengeWidth, countField, recordBytes, recordLength, recordStart, roundAt, widthOf}
 use Rattle.formats.specs.Rounds.{roundsOf}
 use Rattle.formats.specs.Sheet.{headerOf}
+use Rattle.formats.proofs.After.{nowhere}
 use Rattle.formats.proofs.Files.{check-runs, fetch-given}
 use Rattle.formats.proofs.Records.{recordBytes-roundAt, recordStart-later}
 
@@ -40,11 +41,7 @@ module _ (s f : List ℕ) (k : ℕ) where
   -- where it gives a number, the place is of no bytes
   pub place-refused : 0 < checkRound s f k → locateRound s f k ≡ record { offset = 0; length = 0; refusal = checkRound s f k }
   unfolding locateRound locateAfter checkRound
-  place-refused some = λ j. record {
-    offset = unlessRefused-positive (recordStart (challengeWidth f) (headerOf s) k) 0 (checkRound s f k) some j;
-    length = unlessRefused-positive (recordLength (challengeWidth f) (headerOf s)) 0 (checkRound s f k) some j;
-    refusal = checkRound s f k;
-  }
+  place-refused some = nowhere _ _ (checkRound s f k) some
 
   -- the place lies inside the file
   pub place-inside : locateRound s f k .offset + locateRound s f k .length ≤ length f

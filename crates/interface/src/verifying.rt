@@ -25,7 +25,8 @@ pub extern "C" fn dimkhoros_verifier_commitment(
     session: VerifierSession,
     commitment: &[u32; 8],
 ) -> VerifierAnswer
-    ensures { λ r. ⌜ r ≡ verifierAnswer session (takeCommitment (now (sheet .entry)) (verifierOf session) (now (commitment .entry))) ⌝ }
+    ensures { λ r. ⌜ r ≡
+        verifierAnswer session (takeCommitment (now (sheet .entry)) (verifierOf session) (now (commitment .entry))) ⌝ }
 {
     verifier_answer(
         session,
@@ -55,7 +56,8 @@ pub extern "C" fn dimkhoros_verifier_response(
     session: VerifierSession,
     response: &[u32; 8],
 ) -> VerifierJudgement
-    ensures { λ r. ⌜ r ≡ verifierJudgement session (takeResponse (now (sheet .entry)) (verifierOf session) (now (response .entry))) ⌝ }
+    ensures { λ r. ⌜ r ≡
+        verifierJudgement session (takeResponse (now (sheet .entry)) (verifierOf session) (now (response .entry))) ⌝ }
 {
     verifier_judgement(
         session,

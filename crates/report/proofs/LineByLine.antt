@@ -7,6 +7,7 @@ use mathlib.Core.List.{List, [], _∷_, _++_, append-nil, flatten}
 use native.Mathlib.Decide.{decLt}
 use native.Mathlib.Numerals.{add-one}
 use native.Mathlib.Omega.{arith}
+use lib.Dec.{T}
 use lib.ListN.{length, length-append}
 use Rattle.types.specs.declared.Verdict.{Verdict}
 use Rattle.numbers.specs.Search.{any, find}
@@ -73,9 +74,9 @@ module _ (i : Instance) (f : List ℕ) where
   none-placed l at = record { stored = refl; behind = omega arith }
 
   -- and none of them fails
-  pub none-fails : false ≡ failsIn i f 0
+  pub none-fails : (failed : Bool) → T (not failed) → failed ≡ failsIn i f 0
   unfolding failsIn any find
-  none-fails = refl
+  none-fails false e = refl
 
   module _ {l m : List ℕ} {at x : ℕ} (k : ℕ) (lines : Placed l at (linesIn i f k) m x) where
     -- the line of round k behind those before it

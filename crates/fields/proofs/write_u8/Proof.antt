@@ -2,7 +2,7 @@
 -- Assumes nothing.
 use native.Mathlib.Omega.{arith}
 use lib.ListN.{length-set}
-use Rattle.encoding.proofs.Bytes.{bytesOf-one}
+use Rattle.fields.proofs.Laws.{byte-stored}
 use Rattle.fields.proofs.write_u8.Statement.{statement}
 use Rattle.fields.proofs.write_u8.Tie as tie
 
@@ -16,7 +16,7 @@ same-length : tie.Need-same-length
 same-length c = simp length-set
 
 returns : tie.Need-returns
-returns c = rw bytesOf-one
+returns c = byte-stored _ _ _ _ (omega arith)
 
 pub write-u8-spec : {M : Type 1} → statement M
 write-u8-spec = tie.close (tie.spec cast-s slice-write-s same-length returns)

@@ -23,7 +23,7 @@ abbrev μ-loop : tie.MeasureT-loop
 μ-loop text₀ at h entries statement file count next₀ failed₀ k₀ text next failed k = count - k
 
 loop-holds : tie.Need-loop-holds Inv-loop μ-loop
-loop-holds c = (none-placed _ _ _ _, none-fails _ _, omega arith, refl)
+loop-holds c = (none-placed _ _ _ _, none-fails _ _ _ tt, omega arith, refl)
 
 verdict-at-requires : tie.Need-verdict-at-requires Inv-loop μ-loop
 verdict-at-requires c κs =
