@@ -5,27 +5,28 @@ use mathlib.Core.Path.{_≡_, refl, ap, _∙_, subst}
 use mathlib.Core.Logic.{_≢_}
 use mathlib.Core.List.{List, []}
 use native.Mathlib.Omega.{arith}
-use lib.ListN.{length, take, drop, length-append, length-replicate, List·getD-eq-default}
+use lib.ListN.{length, getD, take, drop, length-append, length-replicate, List·getD-eq-default}
 use Rattle.types.specs.declared.Counted.{Counted}
 use Rattle.types.specs.declared.Header.{Header}
-use Rattle.types.specs.declared.Loaded.{Loaded}
 use Rattle.encoding.specs.Bytes.{numberAt}
 use Rattle.encoding.specs.Text.{ascii}
+use Rattle.encoding.proofs.Bytes.{numberAt-one}
 use Rattle.lists.specs.Places.{itemsAt, pad8, zeros8}
 use Rattle.lists.proofs.Places.{getD-itemsAt, getD-pad8, getD-pad8-inside, length-itemsAt}
 use Rattle.sigma.proofs.ByKind.{exponent-kind, root-kind}
 use Rattle.formats.specs.ByteLayout.{
   ExponentLayout,
   FileLayout,
+  HighByteFirst,
   Layout,
+  LoadedLayout,
   RootLayout,
   RoundAt,
   SheetLayout,
   WordsAt,
   recordSize,
 }
-use Rattle.formats.specs.Load.{load, loadEntries, loadRefusal}
-use Rattle.formats.specs.Meaning.{Loads}
+use Rattle.formats.specs.Load.{load, loadRefusal}
 use Rattle.formats.specs.RoundCalls.{countRounds}
 use Rattle.formats.specs.RoundFile.{
   challengeWidth,
@@ -50,7 +51,7 @@ use Rattle.formats.specs.Sheet.{
 }
 use Rattle.formats.proofs.Entries.{entryCount-exponent, entryCount-root}
 use Rattle.formats.proofs.Files.{check-runs, count-given, count-runs, fetch-given}
-use Rattle.formats.proofs.Loads.{entries-given, load-given, loads, loads-few}
+use Rattle.formats.proofs.Loads.{loaded-given, loads, loads-few}
 use Rattle.formats.proofs.Part.{part-given}
 
 -- ---- arrays of eight places
@@ -84,16 +85,15 @@ module _ (s : List ℕ) where
       (words-at s (20 + 4 * entryCount (headerOf s)) (headerOf s .rows) few)
 
   -- kind 1
-  exponent-layout : Loads s → headerOf s .kind ≡ 1 → loadEntries s ≡ entriesOf s (headerOf s)
-      → load s .statement ≡ statementOf s (headerOf s) → ExponentLayout s (headerOf s)
-  unfolding entriesOf sheetLength zeros8
-  exponent-layout l e entries statement =
+  exponent-layout : headerOf s .kind ≡ 1 → headerOf s .rows ≤ 8 → headerOf s .columns ≤ 8
+      → ExponentLayout s (instanceOf s) (headerOf s .rows) (headerOf s .columns)
+  unfolding instanceOf entriesOf zeros8
+  exponent-layout e few narrow =
       let h = headerOf s in
-      let (few, narrow) = loads-few s l in
       let row : ℕ → List ℕ = λ at. pad8 0 (itemsAt (numberAt 4 s) at 4 (h .columns)) in
       let rows = itemsAt row 20 (4 * h .columns) (h .rows) in
       let count = length-itemsAt row 20 (4 * h .columns) (h .rows) in
-      let are : loadEntries s ≡ pad8 zeros8 rows = rw (entries, exponent-kind h e) in
+      let are : instanceOf s .entries ≡ pad8 zeros8 rows = rw (exponent-kind h e) in
       record {
         rows = rw are (length-padded zeros8 rows (omega arith));
         entries = λ i b.
@@ -101,38 +101,40 @@ module _ (s : List ℕ) where
             (subst (λ (at : ℕ). WordsAt s at (h .columns) (row (20 + 4 * h .columns * i))) (omega arith)
             (words-at s (20 + 4 * h .columns * i) (h .columns) narrow));
         beyond = λ i b. rw are (getD-pad8 zeros8 rows i ∙ List·getD-eq-default rows zeros8 (omega arith));
-        statement = rw statement (statement-words few _ (entryCount-exponent h e));
-        size = l .exact ∙ ap (λ (n : ℕ). 20 + 4 * n + 4 * h .rows) (entryCount-exponent h e);
+        statement = statement-words few _ (entryCount-exponent h e);
       }
 
   -- kind 2
-  root-layout : Loads s → headerOf s .kind ≡ 2 → loadEntries s ≡ entriesOf s (headerOf s)
-      → load s .statement ≡ statementOf s (headerOf s) → RootLayout s (headerOf s)
-  unfolding entriesOf sheetLength zeros64 zeros8
-  root-layout l e entries statement =
-      let h = headerOf s in
-      let (few, narrow) = loads-few s l in
-      let other : h .kind ≢ 1 = λ one. omega arith in
-      record {
-        entries = rw (entries, root-kind h other);
-        statement = rw statement (statement-words few 0 (entryCount-root h other));
-        size = l .exact ∙ ap (λ (n : ℕ). 20 + 4 * n + 4 * h .rows) (entryCount-root h other);
-      }
+  root-layout : headerOf s .kind ≢ 1 → headerOf s .rows ≤ 8 → RootLayout s (instanceOf s) (headerOf s .rows)
+  unfolding instanceOf entriesOf zeros64 zeros8
+  root-layout other few = record {
+    entries = rw (root-kind (headerOf s) other);
+    statement = statement-words few 0 (entryCount-root (headerOf s) other);
+  }
+
+  -- any bytes
+  sheet-layout : SheetLayout s
+  unfolding instanceOf headerOf versionOf
+  sheet-layout = record {
+    version = refl;
+    fields = refl;
+    header = refl;
+    exponent = exponent-layout;
+    root = root-layout;
+  }
 
   -- a sheet that loads
-  pub sheet-layout : loadRefusal s ≡ 0 → SheetLayout s
-  unfolding instanceOf headerOf versionOf sheetMark ascii
-  sheet-layout e =
+  loaded-layout : loadRefusal s ≡ 0 → LoadedLayout s
+  unfolding versionOf sheetMark sheetLength ascii
+  loaded-layout e =
       let l = loads s .0 e in
-      let given = load-given s e in
-      let header = ap (λ (answer : Loaded). answer .header) given in
-      let statement = ap (λ (answer : Loaded). answer .statement) given in
+      let h = headerOf s in
       record {
         mark = l .mark;
         version = l .version;
-        fields = header;
-        exponent = λ k. rw header (exponent-layout l k (entries-given s e) statement);
-        root = λ k. rw header (root-layout l k (entries-given s e) statement);
+        exponent = λ k. l .exact ∙ ap (λ (n : ℕ). 20 + 4 * n + 4 * h .rows) (entryCount-exponent h k);
+        root = λ k. l .exact ∙ ap (λ (n : ℕ). 20 + 4 * n + 4 * h .rows) (entryCount-root h k);
+        values = loaded-given s e;
       }
 
 -- ---- round files
@@ -148,28 +150,44 @@ round-read h f at few narrow = record {
 
 module _ (s f : List ℕ) where
   -- a file that reads
-  pub file-layout : countRounds s f .refusal ≡ 0 → FileLayout s f
-  unfolding countField fileVersion roundMark ascii recordStart recordLength challengeWidth widthOf instanceOf
+  file-layout : countRounds s f .refusal ≡ 0 → FileLayout s f
+  unfolding countField fileVersion roundMark ascii recordStart recordLength challengeWidth widthOf
   file-layout e =
       let (l, r) = count-runs s f .0 e in
       let h = headerOf s in
       let (few, narrow) = loads-few s l in
-      let header = ap (λ (answer : Loaded). answer .header) (load-given s (loads s .1 l)) in
       let width : 4 * h .rows + 4 + 4 * h .columns ≡ recordSize h = omega arith in
       record {
         mark = r .mark;
         version = r .version;
         count = ap (λ (c : Counted). c .count) (count-given s f e);
-        size = rw header (r .exact ∙ ap (λ (n : ℕ). 7 + countField f * n) width);
+        size = r .exact ∙ ap (λ (n : ℕ). 7 + countField f * n) width;
         rounds = λ k b.
-            rw (header, fetch-given s f k (check-runs s f k .1 (l, r, b)))
+            rw (fetch-given s f k (check-runs s f k .1 (l, r, b)))
             (subst (λ (n : ℕ). RoundAt h f (7 + k * n) (roundAt 4 h f (7 + k * (4 * h .rows + 4 + 4 * h .columns)))) width
             (round-read h f _ few narrow));
         parts = λ k b.
-            rw header
-            (part-given s f k (check-runs s f k .1 (l, r, b)) ∙ ap (λ (n : ℕ). take n (drop (7 + k * n) f)) width);
+            part-given s f k (check-runs s f k .1 (l, r, b)) ∙ ap (λ (n : ℕ). take n (drop (7 + k * n) f)) width;
       }
 
--- both
+-- ---- numbers
+
+-- the high byte stands first
+high-byte-first : HighByteFirst
+unfolding numberAt
+high-byte-first = record {
+  one = numberAt-one;
+  two = λ s at. let first : getD s (at + 0) 0 ≡ getD s at 0 = ap (λ (k : ℕ). getD s k 0) (omega arith) in omega (arith, first);
+  four = λ s at. let first : getD s (at + 0) 0 ≡ getD s at 0 = ap (λ (k : ℕ). getD s k 0) (omega arith) in omega (arith, first);
+}
+
+-- all of it
 pub layout : Layout
-layout = record { sheets = sheet-layout; files = file-layout }
+unfolding load
+layout = record {
+  numbers = high-byte-first;
+  sheets = sheet-layout;
+  number = λ s. refl;
+  loading = loaded-layout;
+  files = file-layout;
+}

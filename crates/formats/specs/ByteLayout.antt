@@ -1,14 +1,24 @@
--- Where the values that the calls give stand in the bytes of a sheet and of a round file (01, "The sheet" and "A round").
+-- Where the values of a sheet and of a round file stand in their bytes (01, "The sheet" and "A round").
 -- Assumes nothing.
-use Prim.Native.Nat.{ℕ, _+_, _*_, _<_, _≤_}
+use Prim.Native.Nat.{ℕ, _+_, _*_, _^_, _<_, _≤_}
 use mathlib.Core.Path.{_≡_}
+use mathlib.Core.Logic.{_≢_}
 use mathlib.Core.List.{List, [], _∷_}
 use lib.ListN.{length, getD, take, drop, replicate}
 use Rattle.types.specs.declared.Header.{Header}
 use Rattle.types.specs.declared.Round.{Round}
 use Rattle.encoding.specs.Bytes.{numberAt}
-use Rattle.formats.specs.Load.{load, loadEntries, loadRefusal}
+use Rattle.sigma.specs.Instance.{Instance}
+use Rattle.formats.specs.Load.{load, loadRefusal, loaded}
 use Rattle.formats.specs.RoundCalls.{countRounds, fetchRound, partOfRound}
+use Rattle.formats.specs.Sheet.{headerOf, instanceOf, versionOf}
+
+-- numbers are unsigned and have their high byte first
+pub record HighByteFirst : Type 0 where
+  pub one : (s : List ℕ) (at : ℕ) → numberAt 1 s at ≡ getD s at 0
+  pub two : (s : List ℕ) (at : ℕ) → numberAt 2 s at ≡ getD s at 0 * 256 + getD s (at + 1) 0
+  pub four : (s : List ℕ) (at : ℕ)
+      → numberAt 4 s at ≡ getD s at 0 * 256 ^ 3 + getD s (at + 1) 0 * 256 ^ 2 + getD s (at + 2) 0 * 256 + getD s (at + 3) 0
 
 -- an array of eight places holds the n words of 32 bits that stand from byte `at` on, and 0 beyond them
 pub record WordsAt (bytes : List ℕ) (at n : ℕ) (array : List ℕ) : Type 0 where
@@ -17,24 +27,21 @@ pub record WordsAt (bytes : List ℕ) (at n : ℕ) (array : List ℕ) : Type 0 w
   pub beyond : (j : ℕ) → n ≤ j → getD array j 0 ≡ 0
 
 -- the body of a sheet of kind 1: s × n entries from byte 20 on, row by row, then the statement; rows beyond s are zeros
-pub record ExponentLayout (sheet : List ℕ) (h : Header) : Type 0 where
-  pub rows : length (loadEntries sheet) ≡ 8
-  pub entries : (i : ℕ) → i < h .rows → WordsAt sheet (20 + 4 * (h .columns * i)) (h .columns) (getD (loadEntries sheet) i [])
-  pub beyond : (i : ℕ) → h .rows ≤ i → getD (loadEntries sheet) i (replicate 8 0) ≡ replicate 8 0
-  pub statement : WordsAt sheet (20 + 4 * (h .rows * h .columns)) (h .rows) (load sheet .statement)
-  pub size : length sheet ≡ 20 + 4 * (h .rows * h .columns) + 4 * h .rows
+pub record ExponentLayout (sheet : List ℕ) (inst : Instance) (s n : ℕ) : Type 0 where
+  pub rows : length (inst .entries) ≡ 8
+  pub entries : (i : ℕ) → i < s → WordsAt sheet (20 + 4 * (n * i)) n (getD (inst .entries) i [])
+  pub beyond : (i : ℕ) → s ≤ i → getD (inst .entries) i (replicate 8 0) ≡ replicate 8 0
+  pub statement : WordsAt sheet (20 + 4 * (s * n)) s (inst .statement)
 
--- the body of a sheet of kind 2: the statement alone; all entries are given as 0
-pub record RootLayout (sheet : List ℕ) (h : Header) : Type 0 where
-  pub entries : loadEntries sheet ≡ replicate 8 (replicate 8 0)
-  pub statement : WordsAt sheet 20 (h .rows) (load sheet .statement)
-  pub size : length sheet ≡ 20 + 4 * h .rows
+-- the body of a sheet of kind 2: the statement alone; all entries are 0
+pub record RootLayout (sheet : List ℕ) (inst : Instance) (s : ℕ) : Type 0 where
+  pub entries : inst .entries ≡ replicate 8 (replicate 8 0)
+  pub statement : WordsAt sheet 20 s (inst .statement)
 
--- a sheet that loads
+-- the values of any bytes: fixed fields, and the body where they have at most eight rows and columns
 pub record SheetLayout (sheet : List ℕ) : Type 0 where
-  pub mark : take 3 sheet ≡ 0x48 ∷ 0x4F ∷ 0x4D ∷ []
-  pub version : numberAt 2 sheet 3 ≡ 1
-  pub fields : load sheet .header
+  pub version : versionOf sheet ≡ numberAt 2 sheet 3
+  pub fields : headerOf sheet
       ≡ record {
         kind = numberAt 1 sheet 5;
         modulus = numberAt 4 sheet 6;
@@ -43,8 +50,19 @@ pub record SheetLayout (sheet : List ℕ) : Type 0 where
         rows = numberAt 1 sheet 18;
         columns = numberAt 1 sheet 19;
       }
-  pub exponent : numberAt 1 sheet 5 ≡ 1 → ExponentLayout sheet (load sheet .header)
-  pub root : numberAt 1 sheet 5 ≡ 2 → RootLayout sheet (load sheet .header)
+  pub header : instanceOf sheet .header ≡ headerOf sheet
+  pub exponent : headerOf sheet .kind ≡ 1 → headerOf sheet .rows ≤ 8 → headerOf sheet .columns ≤ 8
+      → ExponentLayout sheet (instanceOf sheet) (headerOf sheet .rows) (headerOf sheet .columns)
+  pub root : headerOf sheet .kind ≢ 1 → headerOf sheet .rows ≤ 8 → RootLayout sheet (instanceOf sheet) (headerOf sheet .rows)
+
+-- a sheet that loads: its mark and length, and the loader gives these values
+pub record LoadedLayout (sheet : List ℕ) : Type 0 where
+  pub mark : take 3 sheet ≡ 0x48 ∷ 0x4F ∷ 0x4D ∷ []
+  pub version : numberAt 2 sheet 3 ≡ 1
+  pub exponent : headerOf sheet .kind ≡ 1
+      → length sheet ≡ 20 + 4 * (headerOf sheet .rows * headerOf sheet .columns) + 4 * headerOf sheet .rows
+  pub root : headerOf sheet .kind ≢ 1 → length sheet ≡ 20 + 4 * headerOf sheet .rows
+  pub values : loaded sheet ≡ instanceOf sheet
 
 -- the bytes of a record: t, c, r in 4(s + n + 1) bytes
 abbrev pub recordSize : Header → ℕ
@@ -61,13 +79,16 @@ pub record FileLayout (sheet file : List ℕ) : Type 0 where
   pub mark : take 3 file ≡ 0x52 ∷ 0x4E ∷ 0x44 ∷ []
   pub version : numberAt 2 file 3 ≡ 1
   pub count : countRounds sheet file .count ≡ numberAt 2 file 5
-  pub size : length file ≡ 7 + numberAt 2 file 5 * recordSize (load sheet .header)
+  pub size : length file ≡ 7 + numberAt 2 file 5 * recordSize (headerOf sheet)
   pub rounds : (k : ℕ) → k < numberAt 2 file 5
-      → RoundAt (load sheet .header) file (7 + k * recordSize (load sheet .header)) (fetchRound sheet file k .round)
+      → RoundAt (headerOf sheet) file (7 + k * recordSize (headerOf sheet)) (fetchRound sheet file k .round)
   pub parts : (k : ℕ) → k < numberAt 2 file 5
-      → partOfRound sheet file k
-      ≡ take (recordSize (load sheet .header)) (drop (7 + k * recordSize (load sheet .header)) file)
+      → partOfRound sheet file k ≡ take (recordSize (headerOf sheet)) (drop (7 + k * recordSize (headerOf sheet)) file)
 
 pub record Layout : Type 0 where
-  pub sheets : (sheet : List ℕ) → loadRefusal sheet ≡ 0 → SheetLayout sheet
+  pub numbers : HighByteFirst
+  pub sheets : (sheet : List ℕ) → SheetLayout sheet
+  -- whether a sheet loads is what the loader's number says
+  pub number : (sheet : List ℕ) → load sheet .refusal ≡ loadRefusal sheet
+  pub loading : (sheet : List ℕ) → loadRefusal sheet ≡ 0 → LoadedLayout sheet
   pub files : (sheet file : List ℕ) → countRounds sheet file .refusal ≡ 0 → FileLayout sheet file

@@ -42,8 +42,9 @@ pub record PatternImages (m ℓ K : ℕ) : Type 0 where
   pub schnorr : (h x : ℕ) → madeImage 1 m ℓ K (h ∷ []) (x ∷ []) ≡ h ^ x % m ∷ []
   pub okamoto : (h1 h2 x1 x2 : ℕ) → madeImage 2 m ℓ K (h1 ∷ h2 ∷ []) (x1 ∷ x2 ∷ []) ≡ h1 ^ x1 * h2 ^ x2 % m ∷ []
   pub equality : (h1 h2 x : ℕ) → madeImage 3 m ℓ K (h1 ∷ h2 ∷ []) (x ∷ []) ≡ h1 ^ x % m ∷ h2 ^ x % m ∷ []
-  -- Diffie-Hellman, with B = h^b: A = h^a and the shared key h^(ab)
-  pub diffie-hellman : (h a b : ℕ)
+  pub diffie-hellman : (h B x : ℕ) → madeImage 4 m ℓ K (h ∷ B ∷ []) (x ∷ []) ≡ h ^ x % m ∷ B ^ x % m ∷ []
+  -- where B = h^b, that is A = h^a and the shared key h^(ab)
+  pub diffie-hellman-key : (h a b : ℕ)
       → madeImage 4 m ℓ K (h ∷ h ^ b % m ∷ []) (a ∷ []) ≡ h ^ a % m ∷ h ^ (a * b) % m ∷ []
   -- the product, rows (g h 1) and (B 1 h)
   pub product : (g h B x1 x2 x3 : ℕ)
