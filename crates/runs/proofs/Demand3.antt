@@ -121,7 +121,7 @@ module _ (sheet : List ℕ) (loaded : loadRefusal sheet ≡ 0) where
     -- ---- the simulator
 
     -- the simulator's answer
-    simulated-given : (r : List ℕ) → Choice (instanceOf sheet) r
+    pub simulated-given : (r : List ℕ) → Choice (instanceOf sheet) r
         → simulateCommitment sheet c r ≡ record { refusal = 0; values = pad8 0 (simulated (instanceOf sheet) c r) }
     unfolding simulatedOn
     simulated-given r slots = simulate-loaded sheet loaded c r ∙ simulate-answer valid c below r slots

@@ -1,39 +1,56 @@
 -- A sheet that loads is a homomorphism with a statement, over which the calls run Maurer's main protocol.
 -- Assumes nothing.
-use Prim.Native.Nat.{ℕ}
+use Prim.Native.Nat.{ℕ, _<_}
 use mathlib.Core.Path.{_≡_, refl, sym, ap, _∙_}
-use mathlib.Core.Logic.{Iff·trans}
-use mathlib.Core.List.{List}
+use mathlib.Core.Logic.{_↔_, _≢_, Iff·trans}
+use mathlib.Core.List.{List, []}
+use native.Mathlib.Omega.{arith}
+use lib.IntN.{ℤ}
+use lib.ListN.{replicate, length-replicate, getD-replicate}
 use lib.Seq.{ext-getD}
 use Rattle.types.specs.declared.ProverStep.{ProverStep}
-use Rattle.groups.specs.Transcript.{honestResponse}
+use Rattle.types.specs.declared.Verdict.the-variants.{Accepted}
+use Rattle.types.specs.declared.Verifier.{Verifier}
+use Rattle.types.specs.declared.VerifierPhase.the-variants.{Holding, Asked}
+use Rattle.types.specs.declared.VerifierStep.{VerifierStep}
+use Rattle.groups.specs.Transcript.{Accepting, Bezout, honestResponse, simulatedCommitment, witnessFormula}
 use Rattle.groups.specs.Vector.{vectorGroup, value-of-product}
-use Rattle.lists.specs.Places.{pad8}
-use Rattle.lists.proofs.Each.{each-length, each-places}
-use Rattle.lists.proofs.Places.{places-whole}
+use Rattle.lists.specs.Places.{pad8, places}
+use Rattle.lists.proofs.Each.{each-at, each-length, each-places}
+use Rattle.lists.proofs.Places.{getD-pad8, places-pad8, places-whole}
+use Rattle.rules.proofs.Lowest.{lowest-clear}
 use Rattle.formats.specs.Load.{loadRules, loadRefusal}
 use Rattle.formats.specs.Sheet.{instanceOf}
 use Rattle.formats.proofs.Loads.{loads-valid}
-use Rattle.sigma.specs.Domain.{Domain}
+use Rattle.sigma.specs.Domain.{Domain, Codomain}
 use Rattle.sigma.specs.Instance.{Instance, tableOf}
 use Rattle.sigma.specs.Knowledge.{Witness}
 use Rattle.sigma.specs.Reads.{roundOf}
 use Rattle.sigma.specs.Round.{response}
+use Rattle.sigma.specs.Simulator.{simulated}
 use Rattle.sigma.specs.Valid.{Valid}
 use Rattle.sigma.proofs.Calls.{valid-judge-accepted}
 use Rattle.sigma.proofs.ElementGroup.{elementGroup}
+use Rattle.sigma.proofs.Formula.{baseSlot-exponent, baseSlot-root}
+use Rattle.sigma.proofs.FormulaValue.{baseOf, baseOf-at, base-image, formula-value}
 use Rattle.sigma.proofs.Homomorphism.{elementsOf, domainGroup, codomainGroup, imageOf, imageOf-at, homomorphism}
-use Rattle.sigma.proofs.Maurer.{product-slot, response-value, statementVector}
+use Rattle.sigma.proofs.Maurer.{product-slot, response-value, simulated-value, statementVector, statementVector-at}
 use Rattle.sigma.proofs.Transfer.{judge-accepts}
-use Rattle.sigma.proofs.Values.{length-response}
+use Rattle.sigma.proofs.Valid.{valid-kind}
+use Rattle.sigma.proofs.Values.{length-response, length-simulated}
+use Rattle.runs.specs.Calls.{judgeRound, extractWitness}
 use Rattle.runs.specs.JointRun.{jointRun}
 use Rattle.runs.specs.MainProtocol.{MainProtocol}
 use Rattle.runs.specs.OnSheet.{Below}
 use Rattle.runs.specs.Prover.{newProver, commit, respond}
-use Rattle.runs.proofs.After.{commitAfter-clear}
-use Rattle.runs.proofs.Demand3.{honest-run}
+use Rattle.runs.specs.Verifier.{newVerifier, takeCommitment, takeChallenge, takeResponse}
+use Rattle.runs.proofs.After.{commitAfter-clear, takeCommitmentAfter-clear, takeChallengeAfter-clear}
+use Rattle.runs.proofs.Demand3.{honest-run, read-alone, sheet-extraction, simulated-given}
 use Rattle.runs.proofs.JointRun.{joint-commit}
 use Rattle.runs.proofs.Loaded.{accepts-loaded, sheet-clear}
+use Rattle.runs.proofs.Verdicts.{takeResponse-judged}
+use Rattle.runs.proofs.VerifierSteps.{takeCommitmentAfter-runs, takeCommitmentAfter-given}
+use Rattle.runs.proofs.VerifierSteps.{takeChallengeAfter-runs, takeChallengeAfter-given}
 
 module _ (sheet : List ℕ) (loaded : loadRefusal sheet ≡ 0) where
   -- the sheet's values, which are Valid
@@ -42,6 +59,8 @@ module _ (sheet : List ℕ) (loaded : loadRefusal sheet ≡ 0) where
 
   valid : Valid (instanceOf sheet)
   valid = loads-valid sheet loaded
+
+  -- ---- Peggy
 
   -- committing in a new session answers the image
   committed : (k : Domain (tableOf (instanceOf sheet)))
@@ -80,6 +99,106 @@ module _ (sheet : List ℕ) (loaded : loadRefusal sheet ≡ 0) where
       let (a, b, t, r) = honest-run sheet loaded c below (x .0) (carried-witness x e) (k .0) (k .1) in
       (b, r ∙ ap (pad8 0) (response-same x k c))
 
+  -- ---- Vic
+
+  -- the places that are read of s values are these values
+  values-read : (t : Codomain (tableOf (instanceOf sheet))) → places (instanceOf sheet .header .rows) (t .0) ≡ t .0
+  values-read t = places-whole (values .header .rows) (t .0) (each-length _ _ (t .0) (t .1))
+
+  -- what is read of s held values are these values
+  held-read : (t : Codomain (tableOf (instanceOf sheet))) → places (instanceOf sheet .header .rows) (pad8 0 (t .0)) ≡ t .0
+  held-read t = places-pad8 (values .header .rows) (t .0) ∙ values-read t
+
+  -- he holds a commitment that he is brought
+  held : (t : Codomain (tableOf (instanceOf sheet)))
+      → takeCommitment sheet newVerifier (t .0) .session ≡ record { phase = Holding; commitment = pad8 0 (t .0); challenge = 0 }
+  unfolding takeCommitment newVerifier
+  held t =
+      let elements = each-at _ _ (t .0) (t .1) in
+      let runs = takeCommitmentAfter-runs [] values newVerifier (t .0) tt .1
+      (lowest-clear [] tt, record { commitment = rw (values-read t) elements; phase = refl }) in
+      ap (λ (step : VerifierStep). step .session)
+      (takeCommitmentAfter-clear (loadRules sheet) values (sheet-clear sheet loaded) newVerifier (t .0)
+      ∙ rw (values-read t) at (takeCommitmentAfter-given [] values newVerifier (t .0) runs))
+
+  -- and then a challenge
+  asked : (t : Codomain (tableOf (instanceOf sheet))) (c : ℕ) → Below sheet c
+      → takeChallenge sheet (takeCommitment sheet newVerifier (t .0) .session) c .session
+      ≡ record { phase = Asked; commitment = pad8 0 (t .0); challenge = c }
+  unfolding takeChallenge
+  asked t c below =
+      let v : Verifier = record { phase = Holding; commitment = pad8 0 (t .0); challenge = 0 } in
+      let elements = each-at _ _ (t .0) (t .1) in
+      let runs = takeChallengeAfter-runs [] values v c tt .1
+      (lowest-clear [] tt, record { challenge = below; phase = refl; held = rw (held-read t) elements }) in
+      rw (held t)
+      (ap (λ (step : VerifierStep). step .session)
+      (takeChallengeAfter-clear (loadRules sheet) values (sheet-clear sheet loaded) v c ∙ takeChallengeAfter-given [] values v c runs))
+
+  -- and his verdict on a response is the judging call's
+  verified : (t : Codomain (tableOf (instanceOf sheet))) (c : ℕ) (r : Domain (tableOf (instanceOf sheet))) → Below sheet c
+      → takeResponse sheet (takeChallenge sheet (takeCommitment sheet newVerifier (t .0) .session) c .session) (r .0) .verdict
+      ≡ judgeRound sheet (roundOf (t .0) c (r .0))
+  verified t c r below =
+      let v : Verifier = record { phase = Asked; commitment = pad8 0 (t .0); challenge = c } in
+      let elements = each-at _ _ (t .0) (t .1) in
+      rw (asked t c below)
+      (takeResponse-judged sheet v (record { phase = refl; held = rw (held-read t) elements; challenge = below }) (r .0)
+      ∙ read-alone sheet .judged (roundOf (pad8 0 (t .0)) c (r .0)) (roundOf (t .0) c (r .0))
+      (record { commitment = λ i h. getD-pad8 0 (t .0) i; challenge = refl; response = λ j h. refl }))
+
+  -- a round is accepted exactly where the paper's verifier accepts it
+  accepted : (t : Codomain (tableOf (instanceOf sheet))) (c : ℕ) (r : Domain (tableOf (instanceOf sheet))) → Below sheet c
+      → (judgeRound sheet (roundOf (t .0) c (r .0)) ≡ Accepted) ↔ Accepting (homomorphism (valid .table)) (statementVector valid) t c r
+  accepted t c r below =
+      Iff·trans (accepts-loaded sheet loaded (roundOf (t .0) c (r .0)))
+      (judge-accepts valid (record { commitment = t; challenge = c; response = r }) below)
+
+  -- ---- simulator and extractor
+
+  -- the simulated commitment is the paper's
+  simulated-same : (c : ℕ) (r : Domain (tableOf (instanceOf sheet)))
+      → simulated (instanceOf sheet) c (r .0) ≡ (simulatedCommitment (homomorphism (valid .table)) (statementVector valid) c r) .0
+  simulated-same c r =
+      let paper = simulatedCommitment (homomorphism (valid .table)) (statementVector valid) c r in
+      let here = length-simulated values c (r .0) in
+      ext-getD 0 _ _ (here ∙ sym (each-length _ _ (paper .0) (paper .1)))
+      (λ i h. sym (simulated-value valid c r i (rw here at h)))
+
+  -- u is zeros in kind 1
+  base-zeros : instanceOf sheet .header .kind ≡ 1 → (baseOf valid) .0 ≡ replicate (instanceOf sheet .header .columns) 0
+  base-zeros e =
+      let n = values .header .columns in
+      let base = baseOf valid in
+      let long = each-length _ _ (base .0) (base .1) in
+      ext-getD 0 _ _ (long ∙ sym (length-replicate n 0)) (λ j h.
+      let b : j < n = omega arith in
+      baseOf-at valid j b ∙ baseSlot-exponent (values .header) e _ ∙ sym (getD-replicate n j 0 0 b))
+
+  -- and z in kind 2
+  base-statement : instanceOf sheet .header .kind ≢ 1 → (baseOf valid) .0 ≡ (statementVector valid) .0
+  base-statement other =
+      let base = baseOf valid in
+      let z = statementVector valid in
+      let long = each-length _ _ (base .0) (base .1) in
+      let square = valid .table .square (valid-kind (valid .table) other) in
+      ext-getD 0 _ _ (long ∙ sym square ∙ sym (each-length _ _ (z .0) (z .1))) (λ j h.
+      baseOf-at valid j (omega arith) ∙ baseSlot-root (values .header) other _ ∙ sym (statementVector-at valid j (omega arith)))
+
+  -- the extracted witness is the paper's
+  extracted-same : (t : Codomain (tableOf (instanceOf sheet))) (c c′ : ℕ) (r r′ : Domain (tableOf (instanceOf sheet)))
+      → judgeRound sheet (roundOf (t .0) c (r .0)) ≡ Accepted → judgeRound sheet (roundOf (t .0) c′ (r′ .0)) ≡ Accepted → c ≢ c′
+      → (a b : ℤ) → Bezout (instanceOf sheet .header .order) c c′ a b
+      → extractWitness sheet (roundOf (t .0) c (r .0)) (roundOf (t .0) c′ (r′ .0))
+      ≡ record { refusal = 0; values = pad8 0 ((witnessFormula (domainGroup (valid .table)) (baseOf valid) a b r r′) .0) }
+  extracted-same t c c′ r r′ first second other a b fit =
+      let x = sheet-extraction sheet loaded (roundOf (t .0) c (r .0)) (roundOf (t .0) c′ (r′ .0))
+      (record { first-accepted = first; second-accepted = second; commitments = λ i h. refl; challenges = other }) in
+      x .answer
+      ∙ ap (λ (y : List ℕ). record { refusal = 0; values = pad8 0 y }) (sym (x .any-integers a b fit) ∙ sym (formula-value valid a b r r′))
+
+  -- ---- the whole
+
   -- a sheet that loads runs the main protocol
   pub main-protocol : MainProtocol sheet
   unfolding vectorGroup elementsOf elementGroup homomorphism statementVector
@@ -96,10 +215,18 @@ module _ (sheet : List ℕ) (loaded : loadRefusal sheet ≡ 0) where
         stated = refl;
         commits = committed;
         responds = responded;
-        accepts = λ t c r below.
-            Iff·trans (accepts-loaded sheet loaded (roundOf (t .0) c (r .0)))
-            (judge-accepts valid (record { commitment = t; challenge = c; response = r }) below);
+        accepts = accepted;
+        verifies = verified;
         no-other = λ round e.
             let (fits, holds) = valid-judge-accepted values round valid .0 (accepts-loaded sheet loaded round .0 e) in
             (each-places _ _ (round .commitment) (fits .commitment), fits .challenge, each-places _ _ (round .response) (fits .response));
+        simulates = λ c r below.
+            simulated-given sheet loaded c below (r .0) (r .1)
+            ∙ ap (λ (y : List ℕ). record { refusal = 0; values = pad8 0 y }) (simulated-same c r);
+        base = baseOf valid;
+        based = base-image valid;
+        base-exponent = base-zeros;
+        base-root = base-statement;
+        extracts = λ t c c′ r r′ below below′ other first second.
+            extracted-same t c c′ r r′ (accepted t c r below .1 first) (accepted t c′ r′ below′ .1 second) other;
       }

@@ -1,16 +1,17 @@
 -- Demand 2 (00) in the words of Maurer's paper (004, section 5): a sheet that loads is a homomorphism of commutative groups with
--- a statement, and the calls run the paper's main protocol over it.
+-- a statement, and the calls run the paper's main protocol, its simulator and its extractor over it.
 -- Assumes nothing.
 use Prim.Native.Nat.{ℕ, _*_, _%_, _<_}
 use mathlib.Core.Path.{_≡_}
-use mathlib.Core.Logic.{_↔_}
+use mathlib.Core.Logic.{_↔_, _≢_}
 use mathlib.Core.List.{List}
-use lib.ListN.{getD}
+use lib.IntN.{ℤ, pos}
+use lib.ListN.{getD, replicate}
 use Rattle.types.specs.declared.Round.{Round}
 use Rattle.types.specs.declared.Verdict.the-variants.{Accepted}
-use Rattle.groups.specs.Group.{Group}
+use Rattle.groups.specs.Group.{Group, groupPower}
 use Rattle.groups.specs.Homomorphism.{Homomorphism}
-use Rattle.groups.specs.Transcript.{Accepting, honestResponse}
+use Rattle.groups.specs.Transcript.{Accepting, Bezout, honestResponse, simulatedCommitment, witnessFormula}
 use Rattle.lists.specs.Each.{Each}
 use Rattle.lists.specs.Places.{pad8}
 use Rattle.formats.specs.Sheet.{instanceOf}
@@ -19,9 +20,10 @@ use Rattle.sigma.specs.Element.{Element, Coordinate, combine}
 use Rattle.sigma.specs.Image.{rowImage}
 use Rattle.sigma.specs.Instance.{Table, tableOf}
 use Rattle.sigma.specs.Reads.{roundOf}
-use Rattle.runs.specs.Calls.{judgeRound}
+use Rattle.runs.specs.Calls.{judgeRound, simulateCommitment, extractWitness}
 use Rattle.runs.specs.OnSheet.{Below, readSlots, readValues}
 use Rattle.runs.specs.Prover.{newProver, commit, respond}
+use Rattle.runs.specs.Verifier.{newVerifier, takeCommitment, takeChallenge, takeResponse}
 
 -- the table of a sheet
 abbrev pub tableIn : List ℕ → Table
@@ -53,8 +55,27 @@ pub record MainProtocol (sheet : List ℕ) : Type 0 where
   -- the round (t, c, r) is accepted exactly where [r] = t · z^c
   pub accepts : (t : Codomain (tableIn sheet)) (c : ℕ) (r : Domain (tableIn sheet)) → Below sheet c
       → (judgeRound sheet (roundOf (t .0) c (r .0)) ≡ Accepted) ↔ Accepting table statement t c r
+  -- which is the verdict of Vic's session on t, then c, then r
+  pub verifies : (t : Codomain (tableIn sheet)) (c : ℕ) (r : Domain (tableIn sheet)) → Below sheet c
+      → takeResponse sheet (takeChallenge sheet (takeCommitment sheet newVerifier (t .0) .session) c .session) (r .0) .verdict
+      ≡ judgeRound sheet (roundOf (t .0) c (r .0))
   -- and no other round is accepted
   pub no-other : (round : Round) → judgeRound sheet round ≡ Accepted
       → Each (Element (tableIn sheet .header)) (tableIn sheet .header .rows) (readValues sheet (round .commitment))
       × Below sheet (round .challenge)
       × Each (Coordinate (tableIn sheet .header)) (tableIn sheet .header .columns) (readSlots sheet (round .response))
+  -- the simulated commitment for c and r is [r] · z^(−c)
+  pub simulates : (c : ℕ) (r : Domain (tableIn sheet)) → Below sheet c
+      → simulateCommitment sheet c (r .0) ≡ record { refusal = 0; values = pad8 0 ((simulatedCommitment table statement c r) .0) }
+  -- u of the extractor's formula has [u] = z^ℓ: it is zeros in kind 1 and z in kind 2
+  pub base : Domain (tableIn sheet)
+  pub based : table .map base ≡ groupPower codomain statement (pos (tableIn sheet .header .order))
+  pub base-exponent : tableIn sheet .header .kind ≡ 1 → base .0 ≡ replicate (tableIn sheet .header .columns) 0
+  pub base-root : tableIn sheet .header .kind ≢ 1 → base .0 ≡ statement .0
+  -- from two accepted rounds with one commitment and different challenges the extractor gives u^a · (r/r′)^b, for all integers a
+  -- and b with ℓa + (c − c′)b = 1
+  pub extracts : (t : Codomain (tableIn sheet)) (c c′ : ℕ) (r r′ : Domain (tableIn sheet)) → Below sheet c → Below sheet c′
+      → c ≢ c′ → Accepting table statement t c r → Accepting table statement t c′ r′
+      → (a b : ℤ) → Bezout (tableIn sheet .header .order) c c′ a b
+      → extractWitness sheet (roundOf (t .0) c (r .0)) (roundOf (t .0) c′ (r′ .0))
+      ≡ record { refusal = 0; values = pad8 0 ((witnessFormula domain base a b r r′) .0) }
