@@ -11,6 +11,7 @@ use Rattle.runs.proofs.Protocol.{protocol}
 use Rattle.runs.proofs.Sessions.{sessions}
 use Rattle.sigma.proofs.Answer.{verdict-outcomes}
 use Rattle.demands.specs.Demands.{Demands}
+use Rattle.demands.proofs.Arithmetic.{arithmetic}
 use Rattle.demands.proofs.MarksFiles.{marks-files}
 use Rattle.demands.proofs.ReadsBack.{reads-back}
 
@@ -20,6 +21,7 @@ demands = record {
   sessions = sessions;
   main-protocol = main-protocol;
   protocol = protocol;
+  arithmetic = arithmetic;
   outcomes = verdict-outcomes;
   layout = layout;
   writers = writers;

@@ -1,4 +1,5 @@
 -- The demands hold.
+pub mod Arithmetic
 pub mod ReadsBack
 pub mod MarksFiles
 pub mod Demands

@@ -1,7 +1,7 @@
 -- The marker's text is what the verdicts of the rounds make it, letter by letter.
 -- Assumes nothing.
 use Prim.Native.Nat.{ℕ}
-use mathlib.Core.Path.{_≡_, refl, ap, _∙_}
+use mathlib.Core.Path.{_≡_, ap, _∙_}
 use mathlib.Core.List.{List, _++_, append-assoc, flatten}
 use Rattle.types.specs.declared.Verdict.{Verdict}
 use Rattle.types.specs.declared.Verdict.the-variants.{Accepted, Rejected, Refused}
@@ -9,7 +9,7 @@ use Rattle.lists.specs.Places.{tabulate}
 use Rattle.lists.proofs.Places.{tabulate-agree}
 use Rattle.encoding.specs.Text.{ascii, digits, decimal}
 use Rattle.formats.specs.RoundFile.{countField}
-use Rattle.runs.specs.Marker.{newline, wordLine, verdictText, verdictLine, verdictOn, roundLine, markerText}
+use Rattle.runs.specs.Marker.{newline, wordLine, verdictText, verdictLine, verdictOn, roundLine}
 use Rattle.runs.proofs.Marker.{sheet-line, file-line, round-lines, pass-line, fail-line, round-refusal}
 use Rattle.demands.specs.MarksFiles.{printed, textEnding, MarksFiles}
 
@@ -24,14 +24,14 @@ line-printed k (Refused number) = simp append-assoc
 lines-printed : (sheet f word : List ℕ)
     → wordLine (ascii "rounds") (countField f) ++ flatten (tabulate (countField f) (roundLine sheet f)) ++ word ++ newline
     ≡ textEnding sheet f (word ++ newline)
-unfolding wordLine roundLine newline ascii
+unfolding wordLine roundLine newline ascii verdictOn countField
 lines-printed sheet f word =
     append-assoc (wordLine (ascii "rounds") (countField f) ++ flatten (tabulate (countField f) (roundLine sheet f))) word newline
     ∙ ap (λ (lines : List (List ℕ)). wordLine (ascii "rounds") (countField f) ++ flatten lines ++ (word ++ newline))
     (tabulate-agree (countField f) _ _ (λ k h. line-printed k (verdictOn sheet f k)))
 
 pub marks-files : MarksFiles
-unfolding wordLine newline ascii decimal digits
+unfolding wordLine newline ascii decimal digits verdictOn countField
 marks-files = record {
   refused-sheet = sheet-line;
   refused-file = file-line;

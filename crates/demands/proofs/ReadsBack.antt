@@ -7,6 +7,7 @@ use Rattle.sigma.specs.Instance.{Instance}
 use Rattle.formats.specs.Outcome.{Puts}
 use Rattle.formats.specs.Write.{Writing}
 use Rattle.formats.proofs.FilesByCalls.{rewritten, appended-read}
+use Rattle.formats.proofs.Growing.{append-grows}
 use Rattle.formats.proofs.Loads.{loads}
 use Rattle.formats.proofs.Making.{make-loads}
 use Rattle.formats.proofs.SheetRoundTrip.{encode-loads, load-encodes}
@@ -28,5 +29,6 @@ reads-back = record {
       front-loads put (none, same);
   sheet-again = λ sheet buffer bytes e fits. load-encodes sheet bytes e buffer fits;
   appended = λ sheet buffer e. appended-read sheet buffer (loads sheet .0 e);
+  grown = append-grows;
   file-again = rewritten;
 }

@@ -16,6 +16,7 @@ use Rattle.runs.specs.MainProtocol.{MainProtocol}
 use Rattle.runs.specs.Protocol.{Protocol}
 use Rattle.runs.specs.Sessions.{Sessions}
 use Rattle.sigma.specs.Answer.{VerdictOutcomes}
+use Rattle.demands.specs.Arithmetic.{Arithmetic}
 use Rattle.demands.specs.MarksFiles.{MarksFiles}
 use Rattle.demands.specs.ReadsBack.{ReadsBack}
 
@@ -30,6 +31,8 @@ pub record Demands : Type 0 where
   pub main-protocol : (sheet : List ℕ) → loadRefusal sheet ≡ 0 → MainProtocol sheet
   -- which is, row by row and slot by slot, what 01 says of commitments, responses and verdicts
   pub protocol : (sheet : List ℕ) → loadRefusal sheet ≡ 0 → Protocol sheet
+  -- what the arithmetic and the numerals in these statements mean
+  pub arithmetic : Arithmetic
   -- an answer that is an enum stands for these numbers and values
   pub outcomes : VerdictOutcomes
   -- where each value stands in the bytes of sheets and round files
@@ -40,7 +43,7 @@ pub record Demands : Type 0 where
   pub patterns : PatternsMean
   -- what is written reads back as what it was, and what reads is written back byte by byte
   pub files : ReadsBack
-  -- the marker's text on a sheet and a round file is what these verdicts make it, letter by letter
+  -- the marker's text on a sheet and a round file is what these verdicts make it, word for word
   pub marker : MarksFiles
   -- 3: the extractor gives a witness, and simulated and honest rounds are exactly the accepted ones, each met once, for every
   -- sheet that loads

@@ -11,7 +11,7 @@ use Rattle.lists.specs.Places.{tabulate}
 use Rattle.encoding.specs.Bytes.{AllBytes}
 use Rattle.sigma.specs.Instance.{Instance}
 use Rattle.sigma.specs.Reads.{paddedRound}
-use Rattle.formats.specs.Append.{emptyFile}
+use Rattle.formats.specs.Append.{append, emptyFile}
 use Rattle.formats.specs.Encode.{encode}
 use Rattle.formats.specs.Load.{loadRefusal, loaded}
 use Rattle.formats.specs.Meaning.{readInstance}
@@ -19,7 +19,7 @@ use Rattle.formats.specs.Outcome.{Puts}
 use Rattle.formats.specs.Pattern.{fromPattern, made}
 use Rattle.formats.specs.RoundCalls.{countRounds, fetchRound, noRound}
 use Rattle.formats.specs.RoundFile.{recordStart, widthOf}
-use Rattle.formats.specs.Rounds.{Words, appendEach}
+use Rattle.formats.specs.Rounds.{Grows, Words, appendEach}
 use Rattle.formats.specs.Sheet.{headerOf}
 use Rattle.formats.specs.Write.{Writing}
 
@@ -52,6 +52,9 @@ pub record ReadsBack : Type 0 where
       → (countRounds sheet (front w) ≡ record { refusal = 0; count = length rounds })
       × ((k : ℕ) → k < length rounds
       → fetchRound sheet (front w) k ≡ record { refusal = 0; round = getD (map (paddedRound (headerOf sheet)) rounds) k noRound })
+  -- a round appended to any round file is the file's last
+  pub grown : (sheet buffer : List ℕ) (used : ℕ) (round : Round) → append sheet buffer used round .answer .refusal ≡ 0
+      → Grows (headerOf sheet) (take used buffer) round (front (append sheet buffer used round))
   -- a round file that reads is written back as the same bytes from what the read call gives
   pub file-again : (sheet file buffer : List ℕ) → AllBytes file → countRounds sheet file .refusal ≡ 0 → length file ≤ length buffer
       → Puts file buffer
