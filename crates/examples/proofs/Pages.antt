@@ -152,8 +152,7 @@ use Rattle.examples.specs.Corners.{
   changed,
   rootBytes,
   making,
-  makingIn,
-  encodingIn,
+  writingIn,
   zerosFile,
   noBytes,
   counting,
@@ -162,7 +161,6 @@ use Rattle.examples.specs.Corners.{
   extracting,
   simulating,
   peggy,
-  held,
   committing,
   responding,
   dropping,
@@ -170,15 +168,10 @@ use Rattle.examples.specs.Corners.{
   hearing,
   asking,
   telling,
-  sheetCorners,
-  fileCorners,
-  roundCorners,
-  sessionCorners,
-  corners,
   EveryCorner,
 }
 use Rattle.examples.specs.MarkerExample.{exampleFile, exampleText, noRoundsText, refusedSheetText, refusedFileText}
-use Rattle.examples.specs.Pages.{array, smallRound, run, bothWays, judgedNumber, pages, EveryPage}
+use Rattle.examples.specs.Pages.{array, smallRound, run, bothWays, judging, EveryPage}
 use Rattle.examples.specs.Sheets.{
   smallSheet,
   schnorrSheet,
@@ -205,13 +198,51 @@ unfolding euclid gcd residue quotient power bezoutRight bezoutLeft inverse produ
     proverIn newProver proverStep commitRules commitAfter unfitProver respondRules respondAfter commit respond
     verifierState verifierIn newVerifier verifierStep unfitCommitment takeCommitmentRules takeCommitmentAfter
     takeChallengeRules takeChallengeAfter takeResponseRules takeResponseAfter takeCommitment takeChallenge
-    takeResponse jointRun exampleFile exampleText array smallRound run bothWays judgedNumber pages smallSheet
+    takeResponse jointRun exampleFile exampleText array smallRound run bothWays judging smallSheet
     schnorrSheet madeSheet okamotoSheet diffieHellmanSheet productSheet rootSheet flatten noRoundsText refusedSheetText
-    refusedFileText unitSheet onesSheet manyChallenges changed rootBytes making makingIn encodingIn zerosFile noBytes
-    counting appending startingIn extracting simulating peggy held committing responding dropping vic hearing asking
-    telling sheetCorners fileCorners roundCorners sessionCorners corners noRounds badInUse appendRules recordBytes
+    refusedFileText unitSheet onesSheet manyChallenges changed rootBytes making writingIn zerosFile noBytes
+    counting appending startingIn extracting simulating peggy committing responding dropping vic hearing asking
+    telling noRounds badInUse appendRules recordBytes
     appended appendAfter append emptyFile noHeader load loadEntries encodeRules encode dropRules dropSession checkRound
 worked-examples = (
-  record { letters = refl; holds = refl },
-  record { numbered = refl; inside = refl; outside = refl },
+  record {
+    A = refl;
+    B = refl;
+    C = refl;
+    D = refl;
+    E = refl;
+    F = refl;
+    G = refl;
+    H = refl;
+    I = refl;
+    J = refl;
+    marker = refl;
+    no-rounds = refl;
+    no-sheet = refl;
+    no-file = refl;
+  },
+  record {
+    refusal1 = (refl, refl);
+    refusal2 = (refl, refl);
+    refusal3 = (refl, refl);
+    refusal4 = (refl, refl);
+    refusal5 = (refl, refl);
+    refusal6 = (refl, refl);
+    refusal7 = (refl, refl);
+    refusal8 = (refl, refl);
+    refusal9 = (refl, refl);
+    refusal10 = (refl, refl);
+    refusal11 = (refl, refl);
+    refusal12 = (refl, refl);
+    refusal13 = (refl, refl);
+    refusal14 = (refl, refl);
+    refusal15 = (refl, refl);
+    refusal16 = (refl, refl);
+    refusal17 = (refl, refl);
+    refusal18 = (refl, refl);
+    refusal19 = (refl, refl);
+    refusal20 = (refl, refl);
+    refusal21 = (refl, refl);
+    refusal22 = (refl, refl);
+  },
 )

@@ -1,7 +1,6 @@
 -- The starred pages and texts of the marker as one table: what the definitions give beside what 01 prints.
 -- Assumes nothing.
 use Prim.Native.Nat.{ℕ}
-use Prim.Native.String.{String}
 use mathlib.Core.Path.{_≡_}
 use mathlib.Core.List.{List, [], _∷_, _++_, map}
 use lib.ListN.{replicate, take}
@@ -25,12 +24,6 @@ use Rattle.runs.specs.Prover.{newProver, commit}
 use Rattle.sigma.specs.Answer.{outcome}
 use Rattle.sigma.specs.Reads.{roundOf}
 
--- a page's letter, what the definitions give, and what the page prints
-pub record Page : Type 0 where
-  pub letter : String
-  pub given : List ℕ
-  pub printed : List ℕ
-
 -- an array of eight places; those beyond the values hold 99, which no call may read
 unfoldable pub array : List ℕ → List ℕ
 array values = take 8 (values ++ replicate 8 99)
@@ -52,63 +45,27 @@ bothWays sheet first second =
     places (headerOf sheet .columns) (extractWitness sheet first second .values) ++
     places (headerOf sheet .columns) (extractWitness sheet second first .values)
 
--- the number that judging a round is refused with, 0 where it is not
-unfoldable pub judgedNumber : List ℕ → Round → ℕ
-judgedNumber sheet round = outcome (judgeRound sheet round) .number
+-- the number that judging the round (t, c, r) is refused with, 0 where it is not
+unfoldable pub judging : List ℕ → ℕ → ℕ → ℕ → ℕ
+judging sheet t c r = outcome (judgeRound sheet (smallRound t c r)) .number
 
--- the starred pages, A to J, and texts of the marker
-unfoldable pub pages : List Page
-pages =
-    record { letter = "A"; given = run schnorrSheet (7 ∷ []) (5 ∷ []) 3; printed = 9 ∷ 4 ∷ 1 ∷ [] } ∷
-    record { letter = "B"; given = bothWays schnorrSheet (smallRound 9 3 4) (smallRound 9 1 1); printed = 7 ∷ 7 ∷ [] } ∷
-    record {
-      letter = "C";
-      given = places 1 (simulateCommitment schnorrSheet 3 (array (0 ∷ [])) .values);
-      printed = 2 ∷ [];
-    } ∷
-    record {
-      letter = "D";
-      given = run okamotoSheet (1 ∷ 2 ∷ []) (0 ∷ 0 ∷ []) 1 ++ run okamotoSheet (6 ∷ 0 ∷ []) (6 ∷ 2 ∷ []) 1;
-      printed = 1 ∷ 1 ∷ 2 ∷ 1 ∷ 1 ∷ 1 ∷ 2 ∷ 1 ∷ [];
-    } ∷
-    record { letter = "E"; given = run diffieHellmanSheet (7 ∷ []) (5 ∷ []) 3; printed = 9 ∷ 6 ∷ 4 ∷ 1 ∷ [] } ∷
-    record {
-      letter = "F";
-      given = places 2 (commit productSheet newProver (array (2 ∷ 1 ∷ 0 ∷ [])) .values);
-      printed = 12 ∷ 9 ∷ [];
-    } ∷
-    record {
-      letter = "G";
-      given = run rootSheet (2 ∷ []) (3 ∷ []) 1 ++ run rootSheet (2 ∷ []) (3 ∷ []) 3;
-      printed = 33 ∷ 6 ∷ 1 ∷ 33 ∷ 24 ∷ 1 ∷ [];
-    } ∷
-    record { letter = "H"; given = bothWays rootSheet (smallRound 33 1 6) (smallRound 33 3 24); printed = 2 ∷ 2 ∷ [] } ∷
-    record {
-      letter = "I";
-      given =
-          loadRefusal (smallSheet 23 11 11 2 13) ∷ loadRefusal (smallSheet 23 11 12 2 13) ∷
-          loadRefusal (smallSheet 31 15 3 1 1) ∷ loadRefusal (smallSheet 31 15 4 1 1) ∷ [];
-      printed = 0 ∷ 8 ∷ 0 ∷ 8 ∷ [];
-    } ∷
-    record {
-      letter = "J";
-      given =
-          judgedNumber schnorrSheet (smallRound 5 0 0) ∷ judgedNumber schnorrSheet (smallRound 9 0 10) ∷
-          judgedNumber schnorrSheet (smallRound 9 0 11) ∷ [];
-      printed = 14 ∷ 0 ∷ 16 ∷ [];
-    } ∷
-    record { letter = "marker"; given = markerText schnorrSheet exampleFile; printed = exampleText } ∷
-    record {
-      letter = "no rounds";
-      given = markerText schnorrSheet (take 5 exampleFile ++ 0 ∷ 0 ∷ []);
-      printed = noRoundsText;
-    } ∷
-    record { letter = "no sheet"; given = markerText [] exampleFile; printed = refusedSheetText } ∷
-    record { letter = "no file"; given = markerText schnorrSheet []; printed = refusedFileText } ∷ []
-
--- the table has every page, and what the definitions give is what 01 prints
+-- the starred pages, A to J, and texts of the marker: what the definitions give is what 01 prints
 pub record EveryPage : Type 0 where
-  pub letters :
-      map (λ (page : Page). page .letter) pages
-      ≡ "A" ∷ "B" ∷ "C" ∷ "D" ∷ "E" ∷ "F" ∷ "G" ∷ "H" ∷ "I" ∷ "J" ∷ "marker" ∷ "no rounds" ∷ "no sheet" ∷ "no file" ∷ []
-  pub holds : map (λ (page : Page). page .given) pages ≡ map (λ (page : Page). page .printed) pages
+  pub A : run schnorrSheet (7 ∷ []) (5 ∷ []) 3 ≡ 9 ∷ 4 ∷ 1 ∷ []
+  pub B : bothWays schnorrSheet (smallRound 9 3 4) (smallRound 9 1 1) ≡ 7 ∷ 7 ∷ []
+  pub C : places 1 (simulateCommitment schnorrSheet 3 (array (0 ∷ [])) .values) ≡ 2 ∷ []
+  pub D :
+      run okamotoSheet (1 ∷ 2 ∷ []) (0 ∷ 0 ∷ []) 1 ++ run okamotoSheet (6 ∷ 0 ∷ []) (6 ∷ 2 ∷ []) 1
+      ≡ 1 ∷ 1 ∷ 2 ∷ 1 ∷ 1 ∷ 1 ∷ 2 ∷ 1 ∷ []
+  pub E : run diffieHellmanSheet (7 ∷ []) (5 ∷ []) 3 ≡ 9 ∷ 6 ∷ 4 ∷ 1 ∷ []
+  pub F : places 2 (commit productSheet newProver (array (2 ∷ 1 ∷ 0 ∷ [])) .values) ≡ 12 ∷ 9 ∷ []
+  pub G : run rootSheet (2 ∷ []) (3 ∷ []) 1 ++ run rootSheet (2 ∷ []) (3 ∷ []) 3 ≡ 33 ∷ 6 ∷ 1 ∷ 33 ∷ 24 ∷ 1 ∷ []
+  pub H : bothWays rootSheet (smallRound 33 1 6) (smallRound 33 3 24) ≡ 2 ∷ 2 ∷ []
+  pub I :
+      map loadRefusal (smallSheet 23 11 11 2 13 ∷ smallSheet 23 11 12 2 13 ∷ smallSheet 31 15 3 1 1 ∷ smallSheet 31 15 4 1 1 ∷ [])
+      ≡ 0 ∷ 8 ∷ 0 ∷ 8 ∷ []
+  pub J : judging schnorrSheet 5 0 0 ∷ judging schnorrSheet 9 0 10 ∷ judging schnorrSheet 9 0 11 ∷ [] ≡ 14 ∷ 0 ∷ 16 ∷ []
+  pub marker : markerText schnorrSheet exampleFile ≡ exampleText
+  pub no-rounds : markerText schnorrSheet (take 5 exampleFile ++ 0 ∷ 0 ∷ []) ≡ noRoundsText
+  pub no-sheet : markerText [] exampleFile ≡ refusedSheetText
+  pub no-file : markerText schnorrSheet [] ≡ refusedFileText
