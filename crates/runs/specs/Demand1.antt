@@ -11,10 +11,11 @@ use Rattle.types.specs.declared.ProverStep.{ProverStep}
 use Rattle.types.specs.declared.Round.{Round}
 use Rattle.types.specs.declared.Verdict.the-variants.{Refused}
 use Rattle.types.specs.declared.Verifier.{Verifier}
+use Rattle.lists.specs.Member.{EachOnce}
 use Rattle.lists.specs.Places.{tabulate, zeros8}
 use Rattle.rules.specs.AnswersBy.{Refuses}
 use Rattle.rules.specs.Condition.{Condition}
-use Rattle.rules.specs.Order.{refusalOrder, sheetNumbers, isSublist, isDistinct}
+use Rattle.rules.specs.Order.{refusalOrder, sheetNumbers, isSublist}
 use Rattle.formats.specs.Append.{append, emptyFile}
 use Rattle.formats.specs.Encode.{encode}
 use Rattle.formats.specs.Load.{load, loadEntries, noHeader}
@@ -125,7 +126,7 @@ pub record VerifierRefusals : Type 0 where
 -- lines name what is refused
 pub record Demand1 : Type 0 where
   -- 01's numbers 1 to 22 stand in its order in rising order, and none twice: the first of a call's numbers is the lowest
-  pub order : (isSublist (tabulate 22 suc) refusalOrder ≡ true) × (isDistinct refusalOrder ≡ true)
+  pub order : (isSublist (tabulate 22 suc) refusalOrder ≡ true) × EachOnce refusalOrder
   -- each call's numbers, the conditions that fix which of them is answered, and what a refused call leaves
   pub sheets : SheetRefusals
   pub files : FileRefusals

@@ -17,7 +17,7 @@ use Rattle.runs.specs.ProverCalls.{ProverCall, ProverMoves, proverAfter,
 use Rattle.runs.specs.Reads.{SameProver, SameVerifier}
 use Rattle.runs.specs.Run.{Leads}
 use Rattle.runs.specs.Verifier.{newVerifier, verifierState, takeCommitment, takeChallenge, takeResponse}
-use Rattle.runs.specs.VerifierCalls.{VerifierCall, VerifierMoves, sessionOf, verifierAfter, verifierTrace}
+use Rattle.runs.specs.VerifierCalls.{VerifierCall, VerifierMoves, verifierAfter, verifierTrace}
 
 -- Peggy's steps
 pub record OneAnswer : Type 0 where
@@ -39,7 +39,7 @@ pub record StepsInOrder : Type 0 where
   pub new : newVerifier ≡ record { phase = Waiting; commitment = zeros8; challenge = 0 }
   -- the calls that are carried out lead from the session to the one at the end, each as 01 has it; a refused call changes nothing
   pub in-order : (calls : List VerifierCall) (v : Verifier)
-      → Leads sessionOf VerifierMoves v (verifierTrace calls v) (verifierAfter calls v)
+      → Leads (λ step. step .session) VerifierMoves v (verifierTrace calls v) (verifierAfter calls v)
   -- each of them leads one state on, so that there is at most one commitment, one challenge and one verdict
   pub next : (calls : List VerifierCall) (v : Verifier)
       → verifierState (verifierAfter calls v .phase) ≡ verifierState (v .phase) + length (verifierTrace calls v)
