@@ -102,7 +102,7 @@ use Rattle.formats.specs.Sheet.{
 }
 use Rattle.formats.specs.Write.{short, written, writtenAtStart}
 use Rattle.runs.specs.Calls.{judgeRound, simulateCommitment, extractWitness}
-use Rattle.runs.specs.JointRun.{jointRun}
+use Rattle.runs.specs.Knowledge.{honestRound}
 use Rattle.runs.specs.Marker.{
   newline,
   wordLine,
@@ -198,7 +198,7 @@ unfolding euclid gcd residue quotient power bezoutRight bezoutLeft inverse produ
     proverIn newProver proverStep commitRules commitAfter unfitProver respondRules respondAfter commit respond
     verifierState verifierIn newVerifier verifierStep unfitCommitment takeCommitmentRules takeCommitmentAfter
     takeChallengeRules takeChallengeAfter takeResponseRules takeResponseAfter takeCommitment takeChallenge
-    takeResponse jointRun exampleFile exampleText array smallRound run bothWays judging smallSheet
+    takeResponse honestRound exampleFile exampleText array smallRound run bothWays judging smallSheet
     schnorrSheet madeSheet okamotoSheet diffieHellmanSheet productSheet rootSheet flatten noRoundsText refusedSheetText
     refusedFileText unitSheet onesSheet manyChallenges changed rootBytes making writingIn zerosFile noBytes
     counting appending startingIn extracting simulating peggy committing responding dropping vic hearing asking

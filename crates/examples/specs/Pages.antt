@@ -18,7 +18,8 @@ use Rattle.examples.specs.Sheets.{
 use Rattle.formats.specs.Load.{loadRefusal}
 use Rattle.formats.specs.Sheet.{headerOf}
 use Rattle.runs.specs.Calls.{judgeRound, simulateCommitment, extractWitness}
-use Rattle.runs.specs.JointRun.{JointRun, jointRun}
+use Rattle.runs.specs.JointRun.{told}
+use Rattle.runs.specs.Knowledge.{honestRound}
 use Rattle.runs.specs.Marker.{markerText}
 use Rattle.runs.specs.Prover.{newProver, commit}
 use Rattle.sigma.specs.Answer.{outcome}
@@ -35,9 +36,9 @@ smallRound t c r = roundOf (array (t ∷ [])) c (array (r ∷ []))
 -- what a run of both sessions gives: the commitment, the response and the verdict's values, of which the last 1 is accepted
 unfoldable pub run : List ℕ → List ℕ → List ℕ → ℕ → List ℕ
 run sheet witness nonce c =
-    let calls : JointRun = jointRun sheet (array witness) c (array nonce) in
-    places (headerOf sheet .rows) (calls .committed .values) ++ places (headerOf sheet .columns) (calls .answered .values) ++
-    outcome (calls .told .verdict) .values
+    let round : Round = honestRound sheet (array witness) c (array nonce) in
+    places (headerOf sheet .rows) (round .commitment) ++ places (headerOf sheet .columns) (round .response) ++
+    outcome (told sheet round .verdict) .values
 
 -- the witness that two rounds give, and that the same rounds give when swapped
 unfoldable pub bothWays : List ℕ → Round → Round → List ℕ

@@ -33,11 +33,10 @@ use Rattle.sigma.proofs.Unread.{same-commitment, same-response, judgeAfter-same
 use Rattle.sigma.proofs.Values.{length-image, length-response, length-simulated}
 use Rattle.runs.specs.Calls.{judgeRound, simulateCommitment, extractWitness}
 use Rattle.runs.specs.Demand3.{ReadAlone, Demand3}
-use Rattle.runs.specs.JointRun.{JointRun, jointRun}
 use Rattle.runs.specs.Knowledge.{Accepts, honestRound, simulatedRound}
 use Rattle.runs.specs.OnSheet.{Below}
 use Rattle.runs.specs.Prover.{newProver, commit, respond}
-use Rattle.runs.proofs.JointRun.{joint-steps}
+use Rattle.runs.proofs.JointRun.{JointSteps, jointSteps, joint-steps}
 use Rattle.runs.proofs.Loaded.{accepts-loaded, simulate-loaded, extract-loaded}
 use Rattle.runs.proofs.Unread.{commitAfter-same, respondAfter-same}
 
@@ -153,30 +152,30 @@ module _ (sheet : List ℕ) (loaded : loadRefusal sheet ≡ 0) where
 
       -- what Peggy gives for x, c and a nonce, in a run with Vic
       pub honest-run : (k : List ℕ) → Choice (instanceOf sheet) k
-          → (jointRun sheet x c k .committed .refusal ≡ 0) × (jointRun sheet x c k .answered .refusal ≡ 0)
-          × (jointRun sheet x c k .committed .values ≡ pad8 0 (image (tableOf (instanceOf sheet)) k))
-          × (jointRun sheet x c k .answered .values ≡ pad8 0 (response (instanceOf sheet .header) k c x))
+          → (jointSteps sheet x c k .committed .refusal ≡ 0) × (jointSteps sheet x c k .answered .refusal ≡ 0)
+          × (jointSteps sheet x c k .committed .values ≡ pad8 0 (image (tableOf (instanceOf sheet)) k))
+          × (jointSteps sheet x c k .answered .values ≡ pad8 0 (response (instanceOf sheet .header) k c x))
       honest-run k slots =
           let n = values .header .columns in
           let read = places-whole n x (each-length _ _ x (w .slots)) in
           let read′ = places-whole n k (each-length _ _ k slots) in
           let same = rw (read, read′) at (joint-steps sheet loaded x k c (rw read w) (rw read′ slots) below) in (
-            ap (λ (r : JointRun). r .committed .refusal) same,
-            ap (λ (r : JointRun). r .answered .refusal) same,
-            ap (λ (r : JointRun). r .committed .values) same,
-            ap (λ (r : JointRun). r .answered .values) same,
+            ap (λ (r : JointSteps). r .committed .refusal) same,
+            ap (λ (r : JointSteps). r .answered .refusal) same,
+            ap (λ (r : JointSteps). r .committed .values) same,
+            ap (λ (r : JointSteps). r .answered .values) same,
           )
 
       -- neither committing nor responding is refused
       pub sheet-honest-runs : (k : List ℕ) → Choice (instanceOf sheet) k
           → (commit sheet newProver k .refusal ≡ 0) × (respond sheet (commit sheet newProver k .session) c x .refusal ≡ 0)
-      unfolding jointRun
+      unfolding jointSteps
       sheet-honest-runs k slots = let (a, b, t, r) = honest-run k slots in (a, b)
 
       -- the honest round, in eight places
       honest-is : (k : List ℕ) → Choice (instanceOf sheet) k
           → honestRound sheet x c k ≡ padded (image (tableOf (instanceOf sheet)) k) c (response (instanceOf sheet .header) k c x)
-      unfolding honestRound jointRun
+      unfolding honestRound jointSteps
       honest-is k slots = let (a, b, t, r) = honest-run k slots in λ i. roundOf (t i) c (r i)
 
       -- the honest rounds are exactly the accepted rounds with challenge c, each met once

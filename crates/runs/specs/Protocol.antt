@@ -18,7 +18,7 @@ use Rattle.sigma.specs.Knowledge.{Choice, Witness}
 use Rattle.sigma.specs.Meaning.{Holds, FailsFirst}
 use Rattle.sigma.specs.Reads.{roundOf}
 use Rattle.runs.specs.Calls.{judgeRound}
-use Rattle.runs.specs.JointRun.{jointRun, Succeeds}
+use Rattle.runs.specs.JointRun.{JointRun}
 use Rattle.runs.specs.OnSheet.{readSlots, Below}
 use Rattle.runs.specs.Prover.{commit, respond}
 use Rattle.runs.specs.Verifier.{takeResponse}
@@ -68,4 +68,4 @@ pub record Protocol (sheet : List ℕ) : Type 0 where
   -- both boxes together: for a witness, a nonce of domain slots and a challenge below K no call is refused and Vic accepts
   pub joint-run : (x k : List ℕ) (c : ℕ) → Witness (instanceOf sheet) (readSlots sheet x)
       → Choice (instanceOf sheet) (readSlots sheet k) → Below sheet c
-      → Succeeds (jointRun sheet x c k)
+      → JointRun sheet x c k
