@@ -31,7 +31,6 @@ use Rattle.sigma.specs.Extractor.{
   slotFormula,
   formula,
   extracted,
-  pairRules,
   extractRules,
   extractAfter,
 }
@@ -187,7 +186,7 @@ pub worked-examples : EveryPage × EveryCorner
 unfolding euclid gcd residue quotient power bezoutRight bezoutLeft inverse product find any itemsAt tabulate places
     pad8 zeros8 unlessRefused lowest numberAt bytesOf bytesOfEach ascii digits decimal firstDivisor badKind badModulus
     badOrder badSize badCount badEntries badStatement headerRules elementRules outcome isAccepted judged eightPlaces
-    computed firstDifference differ compareSides isElement someNonElement isCoordinate someNonCoordinate slotFormula formula extracted pairRules extractRules extractAfter rowImage image isExponent entry statementAt judgeRules
+    computed firstDifference differ compareSides isElement someNonElement isCoordinate someNonCoordinate slotFormula formula extracted extractRules extractAfter rowImage image isExponent entry statementAt judgeRules
     judgeAfter responseCoordinate response expectedImage verdict badCommitment badChallenge badCoordinates badWitness
     simulated simulateRules simulateAfter headerBytes storedEntries sheetOf badStart badVersion badLength shapeRules loadRules
     loadRefusal patterns patternOf entryOf patternEntries madeHeader made badPattern badValues makeRules fromPattern

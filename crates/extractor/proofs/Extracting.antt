@@ -21,7 +21,7 @@ use Rattle.rules.specs.Rule.{Rule, _when_, lowest, positive}
 use Rattle.rules.proofs.Lowest.{stop, lowest-clear, lowest-earlier, lowest-later-zero}
 use Rattle.rules.proofs.Says.{says-false}
 use Rattle.sigma.specs.Answer.{isAccepted, computed}
-use Rattle.sigma.specs.Extractor.{formula, pairRules, extractRules, extractAfter, extract}
+use Rattle.sigma.specs.Extractor.{formula, extractRules, extractAfter, extract}
 use Rattle.sigma.specs.Instance.{Instance, statementAt}
 use Rattle.sigma.specs.Knowledge.{AcceptedRound, AcceptedPair}
 use Rattle.sigma.specs.Meaning.{Extracts}
@@ -72,7 +72,7 @@ module _ (inst : Instance) (first second : Round) where
 
   -- the numbers of these rules are above 0
   pair-positive : T (positive (rulesOfPair inst first second))
-  unfolding pairRules
+  unfolding extractRules
   pair-positive = tt
 
   module _ (none : 0 ≡ lowest (rulesOfPair inst first second)) where

@@ -21,7 +21,7 @@ use Rattle.sigma.specs.Answer.{isAccepted}
 use Rattle.sigma.specs.Round.{badCommitment, badChallenge, badCoordinates, verdict}
 use Rattle.sigma.specs.Judge.{judgeRules, judgeAfter, judge}
 use Rattle.sigma.specs.Simulator.{simulated, simulateRules, simulateAfter, simulate}
-use Rattle.sigma.specs.Extractor.{extracted, pairRules, extractRules, extractAfter, extract}
+use Rattle.sigma.specs.Extractor.{extracted, extractRules, extractAfter, extract}
 use Rattle.sigma.proofs.Calculus.{says-passes, both-fail}
 use Rattle.sigma.proofs.Comparison.{differ-false}
 use Rattle.sigma.proofs.Tests.{says-accepted}
@@ -63,7 +63,7 @@ module _ (i : Instance) where
   -- extracting: both rounds fit and are accepted, with the same commitment and different challenges
   pub extract-clear : (t : List ℕ) (c : ℕ) (r t′ : List ℕ) (c′ : ℕ) (r′ : List ℕ)
       → Clear (extractRules i t c r t′ c′ r′) ↔ Extracts i (roundOf t c r) (roundOf t′ c′ r′)
-  unfolding extractRules pairRules judgeRules
+  unfolding extractRules judgeRules
   extract-clear t c r t′ c′ r′ =
       let elements = both-fail (badCommitment i t) (badCommitment i t′) in
       let below = both-fail (badChallenge i c) (badChallenge i c′) in

@@ -9,7 +9,7 @@ use Rattle.sigma.specs.Instance.{Instance}
 use Rattle.sigma.specs.Admission.{headerRules, elementRules}
 use Rattle.sigma.specs.Judge.{judgeRules}
 use Rattle.sigma.specs.Simulator.{simulateRules}
-use Rattle.sigma.specs.Extractor.{pairRules, extractRules}
+use Rattle.sigma.specs.Extractor.{extractRules}
 
 -- the numbers of the fixed fields' rules are positive
 pub header-positive : (h : Header) → T (positive (headerRules h))
@@ -34,5 +34,5 @@ simulate-positive i c r = tt
 -- the numbers of extracting are positive
 pub extract-positive : (i : Instance) (t : List ℕ) (c : ℕ) (r t′ : List ℕ) (c′ : ℕ) (r′ : List ℕ)
     → T (positive (extractRules i t c r t′ c′ r′))
-unfolding extractRules pairRules
+unfolding extractRules
 extract-positive i t c r t′ c′ r′ = tt

@@ -17,7 +17,7 @@ use Rattle.sigma.specs.Admission.{headerRules, elementRules}
 use Rattle.sigma.specs.Answer.{isAccepted}
 use Rattle.sigma.specs.Comparison.{differ}
 use Rattle.sigma.specs.Element.{Element, Coordinate}
-use Rattle.sigma.specs.Extractor.{pairRules, extractRules}
+use Rattle.sigma.specs.Extractor.{extractRules}
 use Rattle.sigma.specs.Image.{rowImage, image}
 use Rattle.sigma.specs.Instance.{Instance, Table, tableOf, statementAt}
 use Rattle.sigma.specs.Judge.{judgeRules}
@@ -121,7 +121,7 @@ pub extract-tests : {i : Instance} → Valid i → (first second : Round)
     (extractRules i (places (i .header .rows) (first .commitment)) (first .challenge) (places (i .header .columns) (first .response))
     (places (i .header .rows) (second .commitment)) (second .challenge) (places (i .header .columns) (second .response)))
     (extractConditions i first second)
-unfolding extractRules pairRules
+unfolding extractRules
 extract-tests {i} v first second = (
   refl,
   says-or (commitment-read i (first .commitment)) (commitment-read i (second .commitment)),
