@@ -8,7 +8,7 @@ use mathlib.Core.List.{List, [], _∷_}
 use mathlib.Core.Logic.{_⊎_, inl, inr, ⊎-elim}
 use lib.Dec.{eqb}
 use borrow.Author.Tests.{eqb-true, eq-eqb, ne-eqb}
-use Rattle.rules.specs.AnswersBy.{conditionNumbers}
+use Rattle.rules.specs.Refuses.{conditionNumbers}
 use Rattle.rules.specs.Condition.{Condition, _if_, Given, Applies}
 use Rattle.rules.specs.Order.{refusalOrder, isSublist, positionIn}
 use Rattle.lists.specs.Member.{Member, EachOnce}

@@ -13,9 +13,9 @@ use Rattle.numbers.proofs.Search.{any-of}
 use Rattle.lists.specs.Member.{Member}
 use Rattle.lists.specs.Places.{itemsAt, tabulate, places}
 use Rattle.encoding.specs.Text.{ascii, digits, decimal}
-use Rattle.rules.specs.AnswersBy.{conditionNumbers}
+use Rattle.rules.specs.Refuses.{conditionNumbers}
 use Rattle.rules.specs.Rule.{_when_, lowest}
-use Rattle.rules.proofs.AnswersBy.{given-among}
+use Rattle.rules.proofs.Refuses.{given-among}
 use Rattle.rules.proofs.Condition.{given}
 use Rattle.rules.proofs.Lowest.{clear-lowest, lowest-later-zero}
 use Rattle.rules.proofs.Says.{says-not}
