@@ -156,7 +156,6 @@ use Rattle.examples.specs.Corners.{
   noBytes,
   counting,
   appending,
-  startingIn,
   extracting,
   simulating,
   peggy,
@@ -200,7 +199,7 @@ unfolding euclid gcd residue quotient power bezoutRight bezoutLeft inverse produ
     takeResponse honestRound exampleFile exampleText array smallRound run bothWays judging smallSheet
     schnorrSheet madeSheet okamotoSheet diffieHellmanSheet productSheet rootSheet flatten noRoundsText refusedSheetText
     refusedFileText unitSheet onesSheet manyChallenges changed rootBytes making writingIn zerosFile noBytes
-    counting appending startingIn extracting simulating peggy committing responding dropping vic hearing asking
+    counting appending extracting simulating peggy committing responding dropping vic hearing asking
     telling noRounds badInUse appendRules recordBytes
     appended appendAfter append emptyFile noHeader load loadEntries encodeRules encode dropRules dropSession checkRound
 worked-examples = (

@@ -87,10 +87,6 @@ counting file = countRounds schnorrSheet file .refusal
 unfoldable pub appending : ℕ → ℕ → ℕ → ℕ → ℕ
 appending high low bytes used = append schnorrSheet (zerosFile high low bytes) used (smallRound 9 3 4) .answer .refusal
 
--- the number that making an empty file in so many bytes is refused with
-unfoldable pub startingIn : ℕ → ℕ
-startingIn size = emptyFile (replicate size 0) .answer .refusal
-
 -- ---- rounds and sessions of page A's sheet, and of page G's where a sheet is named
 
 -- the extractor's number for the rounds (9, 3, 4) and (t, c, r)
@@ -210,5 +206,5 @@ pub record EveryCorner : Type 0 where
       map (telling 4) (vic Waiting 9 3 ∷ vic Holding 9 3 ∷ vic Judged 9 3 ∷ vic Asked 5 3 ∷ vic Asked 9 11 ∷ []))
   -- buffers
   pub refusal22 :
-      Corner 22 (writingIn 28 ++ startingIn 7 ∷ appending 0 0 12 7 ∷ [])
-      (writingIn 27 ++ startingIn 6 ∷ appending 0 0 11 7 ∷ [])
+      Corner 22 (writingIn 28 ++ emptyFile (replicate 7 0) .answer .refusal ∷ appending 0 0 12 7 ∷ [])
+      (writingIn 27 ++ emptyFile (replicate 6 0) .answer .refusal ∷ appending 0 0 11 7 ∷ [])
