@@ -145,7 +145,6 @@ use Rattle.runs.specs.Verifier.{
   takeResponse,
 }
 use Rattle.examples.specs.Corners.{
-  unitSheet,
   onesSheet,
   manyChallenges,
   changed,
@@ -168,7 +167,7 @@ use Rattle.examples.specs.Corners.{
   telling,
   EveryCorner,
 }
-use Rattle.examples.specs.MarkerExample.{exampleFile, exampleText, noRoundsText, refusedSheetText, refusedFileText}
+use Rattle.examples.specs.MarkerExample.{exampleFile, exampleText}
 use Rattle.examples.specs.Pages.{array, smallRound, run, bothWays, judging, EveryPage}
 use Rattle.examples.specs.Sheets.{
   smallSheet,
@@ -183,25 +182,26 @@ use Rattle.examples.specs.Sheets.{
 -- both tables hold
 pub worked-examples : EveryPage × EveryCorner
 unfolding euclid gcd residue quotient power bezoutRight bezoutLeft inverse product find any itemsAt tabulate places
-    pad8 zeros8 unlessRefused lowest numberAt bytesOf bytesOfEach ascii digits decimal firstDivisor badKind badModulus
-    badOrder badSize badCount badEntries badStatement headerRules elementRules outcome isAccepted judged eightPlaces
-    computed firstDifference differ compareSides isElement someNonElement isCoordinate someNonCoordinate slotFormula formula extracted extractRules extractAfter rowImage image isExponent entry statementAt judgeRules
-    judgeAfter responseCoordinate response expectedImage verdict badCommitment badChallenge badCoordinates badWitness
-    simulated simulateRules simulateAfter headerBytes storedEntries sheetOf badStart badVersion badLength shapeRules loadRules
-    loadRefusal patterns patternOf entryOf patternEntries madeHeader made badPattern badValues makeRules fromPattern
-    fileRules badNumber roundRules noRound countAfter checkAfter fetchAfter countRounds fetchRound roundMark
-    fileVersion countField widthOf challengeWidth recordLength recordStart roundAt badFile sheetMark versionOf headerOf
-    entryCount sheetLength zeros64 entriesOf statementOf instanceOf short written writtenAtStart judgeRound
-    simulateCommitment extractWitness newline wordLine verdictText verdictLine resultLine verdictOn roundLine roundLines markerText proverState
-    proverIn newProver proverStep commitRules commitAfter unfitProver respondRules respondAfter commit respond
-    verifierState verifierIn newVerifier verifierStep unfitCommitment takeCommitmentRules takeCommitmentAfter
-    takeChallengeRules takeChallengeAfter takeResponseRules takeResponseAfter takeCommitment takeChallenge
-    takeResponse honestRound exampleFile exampleText array smallRound run bothWays judging smallSheet
-    schnorrSheet madeSheet okamotoSheet diffieHellmanSheet productSheet rootSheet flatten noRoundsText refusedSheetText
-    refusedFileText unitSheet onesSheet manyChallenges changed rootBytes making writingIn zerosFile noBytes
-    counting appending extracting simulating peggy committing responding dropping vic hearing asking
-    telling noRounds badInUse appendRules recordBytes
-    appended appendAfter append emptyFile noHeader load loadEntries encodeRules encode dropRules dropSession checkRound
+    pad8 zeros8 unlessRefused lowest numberAt bytesOf bytesOfEach ascii digits decimal firstDivisor badKind
+    badModulus badOrder badSize badCount badEntries badStatement headerRules elementRules outcome isAccepted judged
+    eightPlaces computed firstDifference differ compareSides isElement someNonElement isCoordinate someNonCoordinate
+    slotFormula formula extracted extractRules extractAfter rowImage image isExponent entry statementAt judgeRules
+    judgeAfter responseCoordinate response expectedImage verdict badCommitment badChallenge badCoordinates
+    badWitness simulated simulateRules simulateAfter headerBytes storedEntries sheetOf badStart badVersion badLength
+    shapeRules loadRules loadRefusal patterns patternOf entryOf patternEntries madeHeader made badPattern badValues
+    makeRules fromPattern fileRules badNumber roundRules noRound countAfter checkAfter fetchAfter countRounds
+    fetchRound roundMark fileVersion countField widthOf challengeWidth recordLength recordStart roundAt badFile
+    sheetMark versionOf headerOf entryCount sheetLength zeros64 entriesOf statementOf instanceOf short written
+    writtenAtStart judgeRound simulateCommitment extractWitness newline wordLine verdictText verdictLine resultLine
+    verdictOn roundLine roundLines markerText proverState proverIn newProver proverStep commitRules commitAfter
+    unfitProver respondRules respondAfter commit respond verifierState verifierIn newVerifier verifierStep
+    unfitCommitment takeCommitmentRules takeCommitmentAfter takeChallengeRules takeChallengeAfter takeResponseRules
+    takeResponseAfter takeCommitment takeChallenge takeResponse honestRound exampleFile exampleText array smallRound
+    run bothWays judging smallSheet schnorrSheet madeSheet okamotoSheet diffieHellmanSheet productSheet rootSheet
+    flatten onesSheet manyChallenges changed rootBytes making writingIn zerosFile noBytes counting appending
+    extracting simulating peggy committing responding dropping vic hearing asking telling noRounds badInUse
+    appendRules recordBytes appended appendAfter append emptyFile noHeader load loadEntries encodeRules encode
+    dropRules dropSession checkRound
 worked-examples = (
   record {
     A = refl;

@@ -35,10 +35,6 @@ Corner number inside outside = (inside ≡ replicate (length inside) 0) × (outs
 abbrev pub SheetCorner : ℕ → List (List ℕ) → List (List ℕ) → Type 0
 SheetCorner number inside outside = Corner number (map loadRefusal inside) (map loadRefusal outside)
 
--- a sheet of kind 1 with one row and one column, whose entry and statement are 1, for fixed fields below 256
-unfoldable pub unitSheet : ℕ → ℕ → ℕ → List ℕ
-unitSheet modulus order challenges = smallSheet modulus order challenges 1 1
-
 -- a sheet of the given kind, rows and columns that goes on with so many words, all 1
 unfoldable pub onesSheet : ℕ → ℕ → ℕ → ℕ → List ℕ
 onesSheet kind rows columns words =
@@ -47,7 +43,7 @@ onesSheet kind rows columns words =
 
 -- the sheet m 3, q 65,537, entry and z 1, with a challenge count of 65,536 + more: 65,537 is a prime
 unfoldable pub manyChallenges : ℕ → List ℕ
-manyChallenges more = sets (sets (unitSheet 3 1 0) 10 (0 ∷ 1 ∷ 0 ∷ 1 ∷ [])) 14 (0 ∷ 1 ∷ 0 ∷ more ∷ [])
+manyChallenges more = sets (sets (smallSheet 3 1 0 1 1) 10 (0 ∷ 1 ∷ 0 ∷ 1 ∷ [])) 14 (0 ∷ 1 ∷ 0 ∷ more ∷ [])
 
 -- a sheet or file with one byte changed
 unfoldable pub changed : List ℕ → ℕ → ℕ → List ℕ
@@ -140,15 +136,15 @@ pub record EveryCorner : Type 0 where
   pub refusal3 :
       SheetCorner 3 (schnorrSheet ∷ []) (changed schnorrSheet 4 0 ∷ changed schnorrSheet 4 2 ∷ changed schnorrSheet 3 1 ∷ [])
   pub refusal4 : SheetCorner 4 (schnorrSheet ∷ rootBytes ∷ []) (map (changed schnorrSheet 5) (0 ∷ 3 ∷ []))
-  pub refusal5 : SheetCorner 5 (unitSheet 3 11 11 ∷ []) (unitSheet 2 11 11 ∷ unitSheet 0 11 11 ∷ [])
-  pub refusal6 : SheetCorner 6 (unitSheet 23 2 2 ∷ []) (unitSheet 23 1 2 ∷ unitSheet 23 0 2 ∷ [])
+  pub refusal5 : SheetCorner 5 (smallSheet 3 11 11 1 1 ∷ []) (smallSheet 2 11 11 1 1 ∷ smallSheet 0 11 11 1 1 ∷ [])
+  pub refusal6 : SheetCorner 6 (smallSheet 23 2 2 1 1 ∷ []) (smallSheet 23 1 2 1 1 ∷ smallSheet 23 0 2 1 1 ∷ [])
   pub refusal7 :
       SheetCorner 7 (onesSheet 1 8 1 16 ∷ onesSheet 1 1 8 9 ∷ onesSheet 2 1 1 1 ∷ onesSheet 2 8 8 8 ∷ [])
       (onesSheet 1 0 1 0 ∷ onesSheet 1 1 0 1 ∷ onesSheet 1 9 1 18 ∷
       onesSheet 1 1 9 10 ∷ onesSheet 2 1 2 1 ∷ onesSheet 2 2 1 2 ∷ [])
   pub refusal8 :
-      SheetCorner 8 (unitSheet 23 11 2 ∷ unitSheet 23 11 11 ∷ unitSheet 31 15 3 ∷ manyChallenges 0 ∷ [])
-      (unitSheet 23 11 1 ∷ unitSheet 23 11 12 ∷ unitSheet 31 15 4 ∷ manyChallenges 1 ∷ [])
+      SheetCorner 8 (smallSheet 23 11 2 1 1 ∷ smallSheet 23 11 11 1 1 ∷ smallSheet 31 15 3 1 1 ∷ manyChallenges 0 ∷ [])
+      (smallSheet 23 11 1 1 1 ∷ smallSheet 23 11 12 1 1 ∷ smallSheet 31 15 4 1 1 ∷ manyChallenges 1 ∷ [])
   pub refusal9 :
       SheetCorner 9 (schnorrSheet ∷ rootBytes ∷ onesSheet 1 2 3 8 ∷ [])
       (take 27 schnorrSheet ∷ (schnorrSheet ++ 0 ∷ []) ∷ take 20 schnorrSheet ∷

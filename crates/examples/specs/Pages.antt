@@ -1,4 +1,4 @@
--- The starred pages and texts of the marker as one table: what the definitions give beside what 01 prints.
+-- The starred pages and texts of the marker: what the definitions give is what 01 prints.
 -- Assumes nothing.
 use Prim.Native.Nat.{ℕ}
 use mathlib.Core.Path.{_≡_}
@@ -6,7 +6,7 @@ use mathlib.Core.List.{List, [], _∷_, _++_, map}
 use lib.ListN.{replicate, take}
 use Rattle.types.specs.declared.Round.{Round}
 use Rattle.lists.specs.Places.{places}
-use Rattle.examples.specs.MarkerExample.{exampleFile, exampleText, noRoundsText, refusedSheetText, refusedFileText}
+use Rattle.examples.specs.MarkerExample.{exampleFile, exampleText}
 use Rattle.examples.specs.Sheets.{
   smallSheet,
   schnorrSheet,
@@ -66,7 +66,11 @@ pub record EveryPage : Type 0 where
       map loadRefusal (smallSheet 23 11 11 2 13 ∷ smallSheet 23 11 12 2 13 ∷ smallSheet 31 15 3 1 1 ∷ smallSheet 31 15 4 1 1 ∷ [])
       ≡ 0 ∷ 8 ∷ 0 ∷ 8 ∷ []
   pub J : judging schnorrSheet 5 0 0 ∷ judging schnorrSheet 9 0 10 ∷ judging schnorrSheet 9 0 11 ∷ [] ≡ 14 ∷ 0 ∷ 16 ∷ []
+  -- the marker's example; on a file of no rounds it prints rounds 0 and pass, on a sheet of no bytes sheet 2, on a file of no
+  -- bytes file 12
   pub marker : markerText schnorrSheet exampleFile ≡ exampleText
-  pub no-rounds : markerText schnorrSheet (take 5 exampleFile ++ 0 ∷ 0 ∷ []) ≡ noRoundsText
-  pub no-sheet : markerText [] exampleFile ≡ refusedSheetText
-  pub no-file : markerText schnorrSheet [] ≡ refusedFileText
+  pub no-rounds :
+      markerText schnorrSheet (take 5 exampleFile ++ 0 ∷ 0 ∷ [])
+      ≡ 0x72 ∷ 0x6F ∷ 0x75 ∷ 0x6E ∷ 0x64 ∷ 0x73 ∷ 0x20 ∷ 0x30 ∷ 0x0A ∷ 0x70 ∷ 0x61 ∷ 0x73 ∷ 0x73 ∷ 0x0A ∷ []
+  pub no-sheet : markerText [] exampleFile ≡ 0x73 ∷ 0x68 ∷ 0x65 ∷ 0x65 ∷ 0x74 ∷ 0x20 ∷ 0x32 ∷ 0x0A ∷ []
+  pub no-file : markerText schnorrSheet [] ≡ 0x66 ∷ 0x69 ∷ 0x6C ∷ 0x65 ∷ 0x20 ∷ 0x31 ∷ 0x32 ∷ 0x0A ∷ []
