@@ -57,5 +57,5 @@ extractAfter before inst first second =
     (extracted inst (first .challenge) r (second .challenge) r′)
 
 -- the witness from two rounds of a Valid instance, for callers that have loaded the sheet
-unfoldable pub extract : Instance → Round → Round → Computed
-extract inst first second = extractAfter [] inst first second
+unfoldable pub extractLoaded : Instance → Round → Round → Computed
+extractLoaded inst first second = extractAfter [] inst first second
