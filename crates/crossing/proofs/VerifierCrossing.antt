@@ -12,7 +12,7 @@ use Rattle.sigma.proofs.Answer.{unlessRefused-positive}
 use Rattle.runs.specs.Run.{sessionAfter}
 use Rattle.runs.specs.Verifier.{verifierState}
 use Rattle.runs.specs.VerifierCalls.{VerifierCall, Commitment, Challenge, Response, callVerifier}
-use Rattle.runs.specs.VerifierCalls.{refusalOf, sessionOf, verifierAfter}
+use Rattle.runs.specs.VerifierCalls.{verifierAfter}
 use Rattle.runs.proofs.VerifierCalls.{verifier-kept, judged-refuses}
 use Rattle.crossing.specs.Calls.{answeredRefusal, answeredSession}
 use Rattle.crossing.specs.OfFour.{ofFour}
@@ -50,16 +50,16 @@ in-and-out s few = rw (state-of-phase (s .phase) few)
 -- ---- the calls
 
 -- the number in an answer is that of the call
-pub answered-refusal : (call : VerifierCall) (s : VerifierSession) → answeredRefusal call s ≡ refusalOf (callVerifier call (verifierOf s))
-unfolding answeredRefusal refusalOf callVerifier verifierAnswer verifierJudgement judgement
+pub answered-refusal : (call : VerifierCall) (s : VerifierSession) → answeredRefusal call s ≡ callVerifier call (verifierOf s) .refusal
+unfolding answeredRefusal callVerifier verifierAnswer verifierJudgement judgement
 answered-refusal (Commitment sheet t) s = refl
 answered-refusal (Challenge sheet c) s = refl
 answered-refusal (Response sheet r) s = refl
 
 -- the session in an answer is that after the call, or the one that was handed in
 answered-session : (call : VerifierCall) (s : VerifierSession) → answeredSession call s
-    ≡ unlessRefused (refusalOf (callVerifier call (verifierOf s))) (verifierSession (sessionOf (callVerifier call (verifierOf s)))) s
-unfolding answeredSession refusalOf sessionOf callVerifier verifierAnswer verifierJudgement
+    ≡ unlessRefused (callVerifier call (verifierOf s) .refusal) (verifierSession (callVerifier call (verifierOf s) .session)) s
+unfolding answeredSession callVerifier verifierAnswer verifierJudgement
 answered-session (Commitment sheet t) s = refl
 answered-session (Challenge sheet c) s = refl
 answered-session (Response sheet r) s = refl
@@ -70,7 +70,7 @@ module _ (call : VerifierCall) (s : VerifierSession) where
   refused-kept refused = rw (answered-session call s) (unlessRefused-positive _ s _ (rw answered-refusal at refused))
 
   -- the session handed back is the one after the call
-  pub handed-on : verifierOf (answeredSession call s) ≡ sessionOf (callVerifier call (verifierOf s))
+  pub handed-on : verifierOf (answeredSession call s) ≡ callVerifier call (verifierOf s) .session
   handed-on =
       rw (answered-session call s)
       (handed-back verifierOf verifierSession out-and-in _ s _ (verifier-kept call (verifierOf s)))
@@ -87,4 +87,4 @@ module _ (call : VerifierCall) (s : VerifierSession) where
 pub handed-on-all : (calls : List VerifierCall) (s : VerifierSession)
     → verifierOf (sessionAfter answeredSession (λ form. form) calls s) ≡ verifierAfter calls (verifierOf s)
 unfolding verifierAfter
-handed-on-all = handed-on-after answeredSession (λ form. form) callVerifier sessionOf verifierOf handed-on
+handed-on-all = handed-on-after answeredSession (λ form. form) callVerifier (λ step. step .session) verifierOf handed-on

@@ -31,7 +31,6 @@ use Rattle.sigma.specs.Extractor.{
   slotFormula,
   formula,
   extracted,
-  pairRules,
   extractRules,
   extractAfter,
 }
@@ -102,7 +101,7 @@ use Rattle.formats.specs.Sheet.{
 }
 use Rattle.formats.specs.Write.{short, written, writtenAtStart}
 use Rattle.runs.specs.Calls.{judgeRound, simulateCommitment, extractWitness}
-use Rattle.runs.specs.JointRun.{jointRun}
+use Rattle.runs.specs.Knowledge.{honestRound}
 use Rattle.runs.specs.Marker.{
   newline,
   wordLine,
@@ -146,23 +145,19 @@ use Rattle.runs.specs.Verifier.{
   takeResponse,
 }
 use Rattle.examples.specs.Corners.{
-  unitSheet,
   onesSheet,
   manyChallenges,
   changed,
   rootBytes,
   making,
-  makingIn,
-  encodingIn,
+  writingIn,
   zerosFile,
   noBytes,
   counting,
   appending,
-  startingIn,
   extracting,
   simulating,
   peggy,
-  held,
   committing,
   responding,
   dropping,
@@ -170,15 +165,10 @@ use Rattle.examples.specs.Corners.{
   hearing,
   asking,
   telling,
-  sheetCorners,
-  fileCorners,
-  roundCorners,
-  sessionCorners,
-  corners,
   EveryCorner,
 }
-use Rattle.examples.specs.MarkerExample.{exampleFile, exampleText, noRoundsText, refusedSheetText, refusedFileText}
-use Rattle.examples.specs.Pages.{array, smallRound, run, bothWays, judgedNumber, pages, EveryPage}
+use Rattle.examples.specs.MarkerExample.{exampleFile, exampleText}
+use Rattle.examples.specs.Pages.{array, smallRound, run, bothWays, judging, EveryPage}
 use Rattle.examples.specs.Sheets.{
   smallSheet,
   schnorrSheet,
@@ -192,26 +182,65 @@ use Rattle.examples.specs.Sheets.{
 -- both tables hold
 pub worked-examples : EveryPage × EveryCorner
 unfolding euclid gcd residue quotient power bezoutRight bezoutLeft inverse product find any itemsAt tabulate places
-    pad8 zeros8 unlessRefused lowest numberAt bytesOf bytesOfEach ascii digits decimal firstDivisor badKind badModulus
-    badOrder badSize badCount badEntries badStatement headerRules elementRules outcome isAccepted judged eightPlaces
-    computed firstDifference differ compareSides isElement someNonElement isCoordinate someNonCoordinate slotFormula formula extracted pairRules extractRules extractAfter rowImage image isExponent entry statementAt judgeRules
-    judgeAfter responseCoordinate response expectedImage verdict badCommitment badChallenge badCoordinates badWitness
-    simulated simulateRules simulateAfter headerBytes storedEntries sheetOf badStart badVersion badLength shapeRules loadRules
-    loadRefusal patterns patternOf entryOf patternEntries madeHeader made badPattern badValues makeRules fromPattern
-    fileRules badNumber roundRules noRound countAfter checkAfter fetchAfter countRounds fetchRound roundMark
-    fileVersion countField widthOf challengeWidth recordLength recordStart roundAt badFile sheetMark versionOf headerOf
-    entryCount sheetLength zeros64 entriesOf statementOf instanceOf short written writtenAtStart judgeRound
-    simulateCommitment extractWitness newline wordLine verdictText verdictLine resultLine verdictOn roundLine roundLines markerText proverState
-    proverIn newProver proverStep commitRules commitAfter unfitProver respondRules respondAfter commit respond
-    verifierState verifierIn newVerifier verifierStep unfitCommitment takeCommitmentRules takeCommitmentAfter
-    takeChallengeRules takeChallengeAfter takeResponseRules takeResponseAfter takeCommitment takeChallenge
-    takeResponse jointRun exampleFile exampleText array smallRound run bothWays judgedNumber pages smallSheet
-    schnorrSheet madeSheet okamotoSheet diffieHellmanSheet productSheet rootSheet flatten noRoundsText refusedSheetText
-    refusedFileText unitSheet onesSheet manyChallenges changed rootBytes making makingIn encodingIn zerosFile noBytes
-    counting appending startingIn extracting simulating peggy held committing responding dropping vic hearing asking
-    telling sheetCorners fileCorners roundCorners sessionCorners corners noRounds badInUse appendRules recordBytes
-    appended appendAfter append emptyFile noHeader load loadEntries encodeRules encode dropRules dropSession checkRound
+    pad8 zeros8 unlessRefused lowest numberAt bytesOf bytesOfEach ascii digits decimal firstDivisor badKind
+    badModulus badOrder badSize badCount badEntries badStatement headerRules elementRules outcome isAccepted judged
+    eightPlaces computed firstDifference differ compareSides isElement someNonElement isCoordinate someNonCoordinate
+    slotFormula formula extracted extractRules extractAfter rowImage image isExponent entry statementAt judgeRules
+    judgeAfter responseCoordinate response expectedImage verdict badCommitment badChallenge badCoordinates
+    badWitness simulated simulateRules simulateAfter headerBytes storedEntries sheetOf badStart badVersion badLength
+    shapeRules loadRules loadRefusal patterns patternOf entryOf patternEntries madeHeader made badPattern badValues
+    makeRules fromPattern fileRules badNumber roundRules noRound countAfter checkAfter fetchAfter countRounds
+    fetchRound roundMark fileVersion countField widthOf challengeWidth recordLength recordStart roundAt badFile
+    sheetMark versionOf headerOf entryCount sheetLength zeros64 entriesOf statementOf instanceOf short written
+    writtenAtStart judgeRound simulateCommitment extractWitness newline wordLine verdictText verdictLine resultLine
+    verdictOn roundLine roundLines markerText proverState proverIn newProver proverStep commitRules commitAfter
+    unfitProver respondRules respondAfter commit respond verifierState verifierIn newVerifier verifierStep
+    unfitCommitment takeCommitmentRules takeCommitmentAfter takeChallengeRules takeChallengeAfter takeResponseRules
+    takeResponseAfter takeCommitment takeChallenge takeResponse honestRound exampleFile exampleText array smallRound
+    run bothWays judging smallSheet schnorrSheet madeSheet okamotoSheet diffieHellmanSheet productSheet rootSheet
+    flatten onesSheet manyChallenges changed rootBytes making writingIn zerosFile noBytes counting appending
+    extracting simulating peggy committing responding dropping vic hearing asking telling noRounds badInUse
+    appendRules recordBytes appended appendAfter append emptyFile noHeader load loadEntries encodeRules encode
+    dropRules dropSession checkRound
 worked-examples = (
-  record { letters = refl; holds = refl },
-  record { numbered = refl; inside = refl; outside = refl },
+  record {
+    A = refl;
+    B = refl;
+    C = refl;
+    D = refl;
+    E = refl;
+    F = refl;
+    G = refl;
+    H = refl;
+    I = refl;
+    J = refl;
+    marker = refl;
+    no-rounds = refl;
+    no-sheet = refl;
+    no-file = refl;
+  },
+  record {
+    refusal1 = (refl, refl);
+    refusal2 = (refl, refl);
+    refusal3 = (refl, refl);
+    refusal4 = (refl, refl);
+    refusal5 = (refl, refl);
+    refusal6 = (refl, refl);
+    refusal7 = (refl, refl);
+    refusal8 = (refl, refl);
+    refusal9 = (refl, refl);
+    refusal10 = (refl, refl);
+    refusal11 = (refl, refl);
+    refusal12 = (refl, refl);
+    refusal13 = (refl, refl);
+    refusal14 = (refl, refl);
+    refusal15 = (refl, refl);
+    refusal16 = (refl, refl);
+    refusal17 = (refl, refl);
+    refusal18 = (refl, refl);
+    refusal19 = (refl, refl);
+    refusal20 = (refl, refl);
+    refusal21 = (refl, refl);
+    refusal22 = (refl, refl);
+  },
 )

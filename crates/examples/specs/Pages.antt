@@ -1,13 +1,12 @@
--- The starred pages and texts of the marker as one table: what the definitions give beside what 01 prints.
+-- The starred pages and texts of the marker: what the definitions give is what 01 prints.
 -- Assumes nothing.
 use Prim.Native.Nat.{ℕ}
-use Prim.Native.String.{String}
 use mathlib.Core.Path.{_≡_}
 use mathlib.Core.List.{List, [], _∷_, _++_, map}
 use lib.ListN.{replicate, take}
 use Rattle.types.specs.declared.Round.{Round}
 use Rattle.lists.specs.Places.{places}
-use Rattle.examples.specs.MarkerExample.{exampleFile, exampleText, noRoundsText, refusedSheetText, refusedFileText}
+use Rattle.examples.specs.MarkerExample.{exampleFile, exampleText}
 use Rattle.examples.specs.Sheets.{
   smallSheet,
   schnorrSheet,
@@ -19,17 +18,12 @@ use Rattle.examples.specs.Sheets.{
 use Rattle.formats.specs.Load.{loadRefusal}
 use Rattle.formats.specs.Sheet.{headerOf}
 use Rattle.runs.specs.Calls.{judgeRound, simulateCommitment, extractWitness}
-use Rattle.runs.specs.JointRun.{JointRun, jointRun}
+use Rattle.runs.specs.JointRun.{told}
+use Rattle.runs.specs.Knowledge.{honestRound}
 use Rattle.runs.specs.Marker.{markerText}
 use Rattle.runs.specs.Prover.{newProver, commit}
 use Rattle.sigma.specs.Answer.{outcome}
 use Rattle.sigma.specs.Reads.{roundOf}
-
--- a page's letter, what the definitions give, and what the page prints
-pub record Page : Type 0 where
-  pub letter : String
-  pub given : List ℕ
-  pub printed : List ℕ
 
 -- an array of eight places; those beyond the values hold 99, which no call may read
 unfoldable pub array : List ℕ → List ℕ
@@ -42,9 +36,9 @@ smallRound t c r = roundOf (array (t ∷ [])) c (array (r ∷ []))
 -- what a run of both sessions gives: the commitment, the response and the verdict's values, of which the last 1 is accepted
 unfoldable pub run : List ℕ → List ℕ → List ℕ → ℕ → List ℕ
 run sheet witness nonce c =
-    let calls : JointRun = jointRun sheet (array witness) c (array nonce) in
-    places (headerOf sheet .rows) (calls .committed .values) ++ places (headerOf sheet .columns) (calls .answered .values) ++
-    outcome (calls .told .verdict) .values
+    let round : Round = honestRound sheet (array witness) c (array nonce) in
+    places (headerOf sheet .rows) (round .commitment) ++ places (headerOf sheet .columns) (round .response) ++
+    outcome (told sheet round .verdict) .values
 
 -- the witness that two rounds give, and that the same rounds give when swapped
 unfoldable pub bothWays : List ℕ → Round → Round → List ℕ
@@ -52,63 +46,31 @@ bothWays sheet first second =
     places (headerOf sheet .columns) (extractWitness sheet first second .values) ++
     places (headerOf sheet .columns) (extractWitness sheet second first .values)
 
--- the number that judging a round is refused with, 0 where it is not
-unfoldable pub judgedNumber : List ℕ → Round → ℕ
-judgedNumber sheet round = outcome (judgeRound sheet round) .number
+-- the number that judging the round (t, c, r) is refused with, 0 where it is not
+unfoldable pub judging : List ℕ → ℕ → ℕ → ℕ → ℕ
+judging sheet t c r = outcome (judgeRound sheet (smallRound t c r)) .number
 
--- the starred pages, A to J, and texts of the marker
-unfoldable pub pages : List Page
-pages =
-    record { letter = "A"; given = run schnorrSheet (7 ∷ []) (5 ∷ []) 3; printed = 9 ∷ 4 ∷ 1 ∷ [] } ∷
-    record { letter = "B"; given = bothWays schnorrSheet (smallRound 9 3 4) (smallRound 9 1 1); printed = 7 ∷ 7 ∷ [] } ∷
-    record {
-      letter = "C";
-      given = places 1 (simulateCommitment schnorrSheet 3 (array (0 ∷ [])) .values);
-      printed = 2 ∷ [];
-    } ∷
-    record {
-      letter = "D";
-      given = run okamotoSheet (1 ∷ 2 ∷ []) (0 ∷ 0 ∷ []) 1 ++ run okamotoSheet (6 ∷ 0 ∷ []) (6 ∷ 2 ∷ []) 1;
-      printed = 1 ∷ 1 ∷ 2 ∷ 1 ∷ 1 ∷ 1 ∷ 2 ∷ 1 ∷ [];
-    } ∷
-    record { letter = "E"; given = run diffieHellmanSheet (7 ∷ []) (5 ∷ []) 3; printed = 9 ∷ 6 ∷ 4 ∷ 1 ∷ [] } ∷
-    record {
-      letter = "F";
-      given = places 2 (commit productSheet newProver (array (2 ∷ 1 ∷ 0 ∷ [])) .values);
-      printed = 12 ∷ 9 ∷ [];
-    } ∷
-    record {
-      letter = "G";
-      given = run rootSheet (2 ∷ []) (3 ∷ []) 1 ++ run rootSheet (2 ∷ []) (3 ∷ []) 3;
-      printed = 33 ∷ 6 ∷ 1 ∷ 33 ∷ 24 ∷ 1 ∷ [];
-    } ∷
-    record { letter = "H"; given = bothWays rootSheet (smallRound 33 1 6) (smallRound 33 3 24); printed = 2 ∷ 2 ∷ [] } ∷
-    record {
-      letter = "I";
-      given =
-          loadRefusal (smallSheet 23 11 11 2 13) ∷ loadRefusal (smallSheet 23 11 12 2 13) ∷
-          loadRefusal (smallSheet 31 15 3 1 1) ∷ loadRefusal (smallSheet 31 15 4 1 1) ∷ [];
-      printed = 0 ∷ 8 ∷ 0 ∷ 8 ∷ [];
-    } ∷
-    record {
-      letter = "J";
-      given =
-          judgedNumber schnorrSheet (smallRound 5 0 0) ∷ judgedNumber schnorrSheet (smallRound 9 0 10) ∷
-          judgedNumber schnorrSheet (smallRound 9 0 11) ∷ [];
-      printed = 14 ∷ 0 ∷ 16 ∷ [];
-    } ∷
-    record { letter = "marker"; given = markerText schnorrSheet exampleFile; printed = exampleText } ∷
-    record {
-      letter = "no rounds";
-      given = markerText schnorrSheet (take 5 exampleFile ++ 0 ∷ 0 ∷ []);
-      printed = noRoundsText;
-    } ∷
-    record { letter = "no sheet"; given = markerText [] exampleFile; printed = refusedSheetText } ∷
-    record { letter = "no file"; given = markerText schnorrSheet []; printed = refusedFileText } ∷ []
-
--- the table has every page, and what the definitions give is what 01 prints
+-- the starred pages, A to J, and texts of the marker: what the definitions give is what 01 prints
 pub record EveryPage : Type 0 where
-  pub letters :
-      map (λ (page : Page). page .letter) pages
-      ≡ "A" ∷ "B" ∷ "C" ∷ "D" ∷ "E" ∷ "F" ∷ "G" ∷ "H" ∷ "I" ∷ "J" ∷ "marker" ∷ "no rounds" ∷ "no sheet" ∷ "no file" ∷ []
-  pub holds : map (λ (page : Page). page .given) pages ≡ map (λ (page : Page). page .printed) pages
+  pub A : run schnorrSheet (7 ∷ []) (5 ∷ []) 3 ≡ 9 ∷ 4 ∷ 1 ∷ []
+  pub B : bothWays schnorrSheet (smallRound 9 3 4) (smallRound 9 1 1) ≡ 7 ∷ 7 ∷ []
+  pub C : places 1 (simulateCommitment schnorrSheet 3 (array (0 ∷ [])) .values) ≡ 2 ∷ []
+  pub D :
+      run okamotoSheet (1 ∷ 2 ∷ []) (0 ∷ 0 ∷ []) 1 ++ run okamotoSheet (6 ∷ 0 ∷ []) (6 ∷ 2 ∷ []) 1
+      ≡ 1 ∷ 1 ∷ 2 ∷ 1 ∷ 1 ∷ 1 ∷ 2 ∷ 1 ∷ []
+  pub E : run diffieHellmanSheet (7 ∷ []) (5 ∷ []) 3 ≡ 9 ∷ 6 ∷ 4 ∷ 1 ∷ []
+  pub F : places 2 (commit productSheet newProver (array (2 ∷ 1 ∷ 0 ∷ [])) .values) ≡ 12 ∷ 9 ∷ []
+  pub G : run rootSheet (2 ∷ []) (3 ∷ []) 1 ++ run rootSheet (2 ∷ []) (3 ∷ []) 3 ≡ 33 ∷ 6 ∷ 1 ∷ 33 ∷ 24 ∷ 1 ∷ []
+  pub H : bothWays rootSheet (smallRound 33 1 6) (smallRound 33 3 24) ≡ 2 ∷ 2 ∷ []
+  pub I :
+      map loadRefusal (smallSheet 23 11 11 2 13 ∷ smallSheet 23 11 12 2 13 ∷ smallSheet 31 15 3 1 1 ∷ smallSheet 31 15 4 1 1 ∷ [])
+      ≡ 0 ∷ 8 ∷ 0 ∷ 8 ∷ []
+  pub J : judging schnorrSheet 5 0 0 ∷ judging schnorrSheet 9 0 10 ∷ judging schnorrSheet 9 0 11 ∷ [] ≡ 14 ∷ 0 ∷ 16 ∷ []
+  -- the marker's example; on a file of no rounds it prints rounds 0 and pass, on a sheet of no bytes sheet 2, on a file of no
+  -- bytes file 12
+  pub marker : markerText schnorrSheet exampleFile ≡ exampleText
+  pub no-rounds :
+      markerText schnorrSheet (take 5 exampleFile ++ 0 ∷ 0 ∷ [])
+      ≡ 0x72 ∷ 0x6F ∷ 0x75 ∷ 0x6E ∷ 0x64 ∷ 0x73 ∷ 0x20 ∷ 0x30 ∷ 0x0A ∷ 0x70 ∷ 0x61 ∷ 0x73 ∷ 0x73 ∷ 0x0A ∷ []
+  pub no-sheet : markerText [] exampleFile ≡ 0x73 ∷ 0x68 ∷ 0x65 ∷ 0x65 ∷ 0x74 ∷ 0x20 ∷ 0x32 ∷ 0x0A ∷ []
+  pub no-file : markerText schnorrSheet [] ≡ 0x66 ∷ 0x69 ∷ 0x6C ∷ 0x65 ∷ 0x20 ∷ 0x31 ∷ 0x32 ∷ 0x0A ∷ []

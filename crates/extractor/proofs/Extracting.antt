@@ -17,11 +17,11 @@ use Rattle.types.proofs.Verdict.{the-type}
 use Rattle.lists.specs.Places.{places, pad8, zeros8}
 use Rattle.numbers.specs.Inverse.{inverse}
 use Rattle.numbers.proofs.Coprime.{coprime-below}
-use Rattle.rules.specs.Rule.{Rule, _when_, lowest, positive}
+use Rattle.rules.specs.Rule.{Rule, _when_, lowest, allPositive}
 use Rattle.rules.proofs.Lowest.{stop, lowest-clear, lowest-earlier, lowest-later-zero}
 use Rattle.rules.proofs.Says.{says-false}
 use Rattle.sigma.specs.Answer.{isAccepted, computed}
-use Rattle.sigma.specs.Extractor.{formula, pairRules, extractRules, extractAfter, extract}
+use Rattle.sigma.specs.Extractor.{formula, extractRules, extractAfter, extractLoaded}
 use Rattle.sigma.specs.Instance.{Instance, statementAt}
 use Rattle.sigma.specs.Knowledge.{AcceptedRound, AcceptedPair}
 use Rattle.sigma.specs.Meaning.{Extracts}
@@ -53,42 +53,42 @@ module _ (inst : Instance) (first second : Round) where
   verdictRules = (20 when (not (isAccepted (judgedRound inst first)) || not (isAccepted (judgedRound inst second)))) ∷ []
 
   -- the number is that of the rules before judging, or 20
-  refusal-split : extract inst first second .refusal ≡ lowest (rulesOfPair inst first second ++ verdictRules)
+  refusal-split : extractLoaded inst first second .refusal ≡ lowest (rulesOfPair inst first second ++ verdictRules)
   unfolding extractRules
   refusal-split = extract-refusal inst first second
 
   -- where the number is above 0 it is the whole answer
-  refused-with : (n : ℕ) → 0 < n → extract inst first second .refusal ≡ n
-      → record { refusal = n; values = zeros8 } ≡ extract inst first second
-  unfolding extract extractAfter computed
+  refused-with : (n : ℕ) → 0 < n → extractLoaded inst first second .refusal ≡ n
+      → record { refusal = n; values = zeros8 } ≡ extractLoaded inst first second
+  unfolding extractLoaded extractAfter computed
   refused-with n some e = rw (sym e) (sym (computed-positive _ _ (rw e some)))
 
   -- a rule before judging gives the answer
   pub pair-refused : {n : ℕ} → n ≡ lowest (rulesOfPair inst first second) → n ≢ 0
-      → record { refusal = n; values = zeros8 } ≡ extract inst first second
+      → record { refusal = n; values = zeros8 } ≡ extractLoaded inst first second
   pair-refused {n} is-lowest other =
       let some : 0 < n = omega arith in
       refused-with n some (refusal-split ∙ lowest-earlier _ _ (rw (sym is-lowest) some) ∙ sym is-lowest)
 
   -- the numbers of these rules are above 0
-  pair-positive : T (positive (rulesOfPair inst first second))
-  unfolding pairRules
+  pair-positive : T (allPositive (rulesOfPair inst first second))
+  unfolding extractRules
   pair-positive = tt
 
   module _ (none : 0 ≡ lowest (rulesOfPair inst first second)) where
     -- behind them 20 is left
-    verdicts-left : extract inst first second .refusal ≡ lowest verdictRules
+    verdicts-left : extractLoaded inst first second .refusal ≡ lowest verdictRules
     verdicts-left = refusal-split ∙ lowest-later-zero _ _ pair-positive (sym none)
 
     -- a first round that is not accepted is 20
     pub first-rejected : {answer : Verdict} → answer ≡ judgedRound inst first → answer ≢ Accepted
-        → record { refusal = 20; values = zeros8 } ≡ extract inst first second
+        → record { refusal = 20; values = zeros8 } ≡ extractLoaded inst first second
     first-rejected {answer} is-answer other =
         refused-with 20 (omega arith) (verdicts-left ∙ stop 20 [] (rw (sym is-answer, says-false (says-accepted answer) .1 other)))
 
     -- so is a second one
     pub second-rejected : {answer : Verdict} → answer ≡ judgedRound inst second → answer ≢ Accepted
-        → record { refusal = 20; values = zeros8 } ≡ extract inst first second
+        → record { refusal = 20; values = zeros8 } ≡ extractLoaded inst first second
     second-rejected {answer} is-answer other =
         refused-with 20 (omega arith) (verdicts-left ∙ stop 20 [] (rw (sym is-answer, says-false (says-accepted answer) .1 other, or-true)))
 
@@ -145,7 +145,7 @@ module _ {inst : Instance} (v : Valid inst) (first second : Round) (x : Extracts
       (is-values : values ≡ pad8 0 (formula inst (negℤ (pos (leftCoefficient (inst .header .order) (first .challenge - second .challenge))))
       (pos (inverse (inst .header .order) (first .challenge - second .challenge))) (first .response) (second .response))) where
     -- the formula's value is the answer
-    pub witness-given : record { refusal = 0; values = values } ≡ extract inst first second
+    pub witness-given : record { refusal = 0; values = values } ≡ extractLoaded inst first second
     witness-given =
         let e = extraction v first second pair in
         let delta = first .challenge - second .challenge in
@@ -154,5 +154,5 @@ module _ {inst : Instance} (v : Valid inst) (first second : Round) (x : Extracts
         rw is-values (ap (λ (y : List ℕ). record { refusal = 0; values = pad8 0 y }) (e .any-integers _ _ fit) ∙ sym (e .answer))
 
     -- and the answer with the rounds swapped
-    pub witness-swapped : record { refusal = 0; values = values } ≡ extract inst second first
+    pub witness-swapped : record { refusal = 0; values = values } ≡ extractLoaded inst second first
     witness-swapped = witness-given ∙ sym (extraction v first second pair .swapped)

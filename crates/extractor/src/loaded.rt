@@ -20,7 +20,7 @@ ghost use lib.IntN.{pos, negℤ};
 ghost use Rattle.lists.specs.Places.{pad8};
 ghost use Rattle.numbers.specs.Inverse.{inverse};
 ghost use Rattle.rules.specs.Rule.{lowest};
-ghost use Rattle.sigma.specs.Extractor.{slotFormula, formula, extract};
+ghost use Rattle.sigma.specs.Extractor.{slotFormula, formula, extractLoaded};
 ghost use Rattle.sigma.specs.Valid.{Valid};
 ghost use Rattle.sigma.specs.Instance.{instanceWith};
 ghost use Rattle.extractor.specs.Coefficients.{leftCoefficient, SlotFits, WitnessFits};
@@ -109,7 +109,7 @@ pub fn extract_loaded(
     second: Round,
 ) -> Computed
     requires { ⌜ Valid (instanceWith h entries statement) ⌝ }
-    ensures { λ answer. ⌜ answer ≡ extract (instanceWith h entries statement) first second ⌝ }
+    ensures { λ answer. ⌜ answer ≡ extractLoaded (instanceWith h entries statement) first second ⌝ }
 {
     let refusal = pair_refusal(h, first, second);
     if refusal != 0 {

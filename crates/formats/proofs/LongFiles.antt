@@ -15,7 +15,7 @@ use lib.Seq.{append-snoc, getD-take, length-take-le, take-all}
 use Rattle.types.specs.declared.Header.{Header}
 use Rattle.encoding.proofs.Bytes.{numberAt-take}
 use Rattle.lists.specs.Places.{zeros8}
-use Rattle.rules.specs.Rule.{Rule, _when_, lowest, Clear, positive}
+use Rattle.rules.specs.Rule.{Rule, _when_, lowest, Clear, allPositive}
 use Rattle.rules.proofs.Lowest.{clear-lowest, lowest-earlier, lowest-later, stop}
 use Rattle.rules.proofs.Says.{says-decides, says-iff, says-same}
 use Rattle.sigma.specs.Admission.{headerRules, elementRules}
@@ -69,7 +69,7 @@ load-early s =
     (append-snoc (headerRules (headerOf s)) (9 when badLength s) (elementRules (instanceOf s)))
 
 -- they have positive numbers
-early-positive : (s : List ℕ) → T (positive (earlyRules s))
+early-positive : (s : List ℕ) → T (allPositive (earlyRules s))
 unfolding headerRules
 early-positive s = tt
 

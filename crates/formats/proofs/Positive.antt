@@ -4,7 +4,7 @@ use Prim.Native.Nat.{ℕ}
 use mathlib.Core.List.{List, _++_}
 use lib.Dec.{T}
 use Rattle.types.specs.declared.Header.{Header}
-use Rattle.rules.specs.Rule.{positive}
+use Rattle.rules.specs.Rule.{allPositive}
 use Rattle.sigma.specs.Admission.{headerRules, elementRules}
 use Rattle.sigma.specs.Instance.{Instance}
 use Rattle.formats.specs.Append.{appendRules}
@@ -14,33 +14,33 @@ use Rattle.formats.specs.Pattern.{makeRules}
 use Rattle.formats.specs.RoundCalls.{fileRules, roundRules}
 
 -- loading a sheet
-pub load-positive : (s : List ℕ) → T (positive (loadRules s))
+pub load-positive : (s : List ℕ) → T (allPositive (loadRules s))
 unfolding loadRules shapeRules headerRules elementRules
 load-positive s = tt
 
 -- the second writer
-pub encode-positive : (i : Instance) (buffer : List ℕ) → T (positive (encodeRules i buffer))
+pub encode-positive : (i : Instance) (buffer : List ℕ) → T (allPositive (encodeRules i buffer))
 unfolding encodeRules headerRules elementRules
 encode-positive i buffer = tt
 
 -- the sheet maker
 pub make-positive : (number : ℕ) (values statement : List ℕ) (i : Instance) (buffer : List ℕ)
-    → T (positive (makeRules number values statement i buffer))
+    → T (allPositive (makeRules number values statement i buffer))
 unfolding makeRules
 make-positive number values statement i buffer = tt
 
 -- counting rounds
-pub count-positive : (s : List ℕ) (h : Header) (f : List ℕ) → T (positive (loadRules s ++ fileRules h f))
+pub count-positive : (s : List ℕ) (h : Header) (f : List ℕ) → T (allPositive (loadRules s ++ fileRules h f))
 unfolding loadRules shapeRules headerRules elementRules fileRules
 count-positive s h f = tt
 
 -- checking, giving and reading a round
-pub check-positive : (s : List ℕ) (h : Header) (f : List ℕ) (k : ℕ) → T (positive (loadRules s ++ roundRules h f k))
+pub check-positive : (s : List ℕ) (h : Header) (f : List ℕ) (k : ℕ) → T (allPositive (loadRules s ++ roundRules h f k))
 unfolding loadRules shapeRules headerRules elementRules roundRules fileRules
 check-positive s h f k = tt
 
 -- the record writer, after the rules of the sheet
 pub record-positive : (s : List ℕ) (h : Header) (buffer : List ℕ) (used : ℕ)
-    → T (positive (loadRules s ++ appendRules h buffer used))
+    → T (allPositive (loadRules s ++ appendRules h buffer used))
 unfolding loadRules shapeRules headerRules elementRules appendRules
 record-positive s h buffer used = tt

@@ -11,7 +11,7 @@ use Rattle.rules.specs.Rule.{lowest, Clear}
 use Rattle.rules.proofs.Lowest.{lowest-clear}
 use Rattle.sigma.specs.Image.{rowImage}
 use Rattle.sigma.specs.Instance.{Instance, tableOf, statementAt}
-use Rattle.sigma.specs.Simulator.{simulated, simulateRules, simulateAfter, simulate}
+use Rattle.sigma.specs.Simulator.{simulated, simulateRules, simulateAfter, simulateLoaded}
 use Rattle.sigma.specs.Valid.{Valid}
 use Rattle.sigma.proofs.Answer.{computed-zero, computed-positive}
 use Rattle.sigma.proofs.Unread.{rowImage-agree}
@@ -33,12 +33,12 @@ simulated-rows inst v c r =
 module _ (inst : Instance) (c : ℕ) (r : List ℕ) where
   -- a number above 0 that the rules give is the whole answer
   pub simulate-refused : (n : ℕ) → 0 < n → lowest (simulateRules inst c (places (inst .header .columns) r)) ≡ n
-      → record { refusal = n; values = zeros8 } ≡ simulate inst c r
-  unfolding simulate simulateAfter
+      → record { refusal = n; values = zeros8 } ≡ simulateLoaded inst c r
+  unfolding simulateLoaded simulateAfter
   simulate-refused n some given = rw given (sym (computed-positive n _ some))
 
   -- where no rule applies the simulated commitment is given
   pub simulate-passed : Clear (simulateRules inst c (places (inst .header .columns) r)) → {values : List ℕ}
-      → values ≡ pad8 0 (simulated inst c (places (inst .header .columns) r)) → record { refusal = 0; values = values } ≡ simulate inst c r
-  unfolding simulate simulateAfter
+      → values ≡ pad8 0 (simulated inst c (places (inst .header .columns) r)) → record { refusal = 0; values = values } ≡ simulateLoaded inst c r
+  unfolding simulateLoaded simulateAfter
   simulate-passed none is-values = rw (lowest-clear _ none, is-values) (sym (computed-zero _))

@@ -13,8 +13,8 @@ use types::Verdict;
 ghost use mathlib.Core.Path.{_≡_};
 ghost use Prim.Native.Nat.{_<_};
 ghost use Rattle.lists.specs.Places.{pad8, places};
-ghost use Rattle.sigma.specs.Judge.{judge};
-ghost use Rattle.sigma.specs.Simulator.{simulated, simulate};
+ghost use Rattle.sigma.specs.Judge.{judgeLoaded};
+ghost use Rattle.sigma.specs.Simulator.{simulated, simulateLoaded};
 ghost use Rattle.sigma.specs.Valid.{Valid};
 ghost use Rattle.sigma.specs.Instance.{instanceWith};
 
@@ -22,7 +22,7 @@ ghost use Rattle.sigma.specs.Instance.{instanceWith};
 // value that is no group element, 15 for a challenge of K or more, 16 for a response slot that is no domain slot.
 pub fn judge_loaded(h: Header, entries: [[u32; 8]; 8], statement: [u32; 8], round: Round) -> Verdict
     requires { ⌜ Valid (instanceWith h entries statement) ⌝ }
-    ensures { λ r. ⌜ r ≡ judge (instanceWith h entries statement) round ⌝ }
+    ensures { λ r. ⌜ r ≡ judgeLoaded (instanceWith h entries statement) round ⌝ }
 {
     let commitment = round.commitment;
     let response = round.response;
@@ -73,7 +73,7 @@ pub fn simulate_loaded(
     r: [u32; 8],
 ) -> Computed
     requires { ⌜ Valid (instanceWith h entries statement) ⌝ }
-    ensures { λ answer. ⌜ answer ≡ simulate (instanceWith h entries statement) c r ⌝ }
+    ensures { λ answer. ⌜ answer ≡ simulateLoaded (instanceWith h entries statement) c r ⌝ }
 {
     let columns = h.columns as usize;
     if c >= h.challenges {

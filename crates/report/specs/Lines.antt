@@ -8,13 +8,13 @@ use Rattle.numbers.specs.Search.{any}
 use Rattle.lists.specs.Places.{tabulate}
 use Rattle.sigma.specs.Answer.{isAccepted}
 use Rattle.sigma.specs.Instance.{Instance}
-use Rattle.sigma.specs.Judge.{judge}
+use Rattle.sigma.specs.Judge.{judgeLoaded}
 use Rattle.formats.specs.RoundFile.{challengeWidth, recordStart, roundAt}
 use Rattle.runs.specs.Marker.{resultLine, verdictLine}
 
 -- the verdict on the values in record k
 unfoldable pub verdictIn : Instance → List ℕ → ℕ → Verdict
-verdictIn inst f k = judge inst (roundAt (challengeWidth f) (inst .header) f (recordStart (challengeWidth f) (inst .header) k))
+verdictIn inst f k = judgeLoaded inst (roundAt (challengeWidth f) (inst .header) f (recordStart (challengeWidth f) (inst .header) k))
 
 -- the lines of the first n records
 unfoldable pub linesIn : Instance → List ℕ → ℕ → List ℕ

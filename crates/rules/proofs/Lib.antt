@@ -3,4 +3,4 @@ pub mod Says
 pub mod Lowest
 pub mod Order
 pub mod Condition
-pub mod AnswersBy
+pub mod Refuses

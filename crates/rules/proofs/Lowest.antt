@@ -7,7 +7,7 @@ use mathlib.Core.List.{List, [], _∷_, _++_}
 use mathlib.Core.Logic.{_↔_}
 use native.Mathlib.Omega.{arith}
 use lib.Dec.{T, ltb, ltb→lt}
-use Rattle.rules.specs.Rule.{Rule, _when_, lowest, Clear, positive}
+use Rattle.rules.specs.Rule.{Rule, _when_, lowest, Clear, allPositive}
 
 -- a rule that does not apply is passed over
 pub pass : (n : ℕ) (rules : List Rule) {b : Bool} → b ≡ false → lowest ((n when b) ∷ rules) ≡ lowest rules
@@ -26,22 +26,22 @@ lowest-clear [] c = refl
 lowest-clear ((n when b) ∷ rules) c = pass n rules (c .0) ∙ lowest-clear rules (c .1)
 
 -- a positive number and a list of positive numbers, out of their test
-positive-parts : (n : ℕ) (rules : List Rule) → T (ltb 0 n && positive rules) → (0 < n) × T (positive rules)
+positive-parts : (n : ℕ) (rules : List Rule) → T (ltb 0 n && allPositive rules) → (0 < n) × T (allPositive rules)
 positive-parts n rules = parts (ltb 0 n) (ltb→lt 0 n)
   where
-    parts : (a : Bool) → (T a → 0 < n) → T (a && positive rules) → (0 < n) × T (positive rules)
+    parts : (a : Bool) → (T a → 0 < n) → T (a && allPositive rules) → (0 < n) × T (allPositive rules)
     parts true f p = (f tt, p)
     parts false f p = absurd p
 
 -- where the numbers are positive and 0 is given, no rule applies
-pub clear-lowest : (rules : List Rule) → T (positive rules) → lowest rules ≡ 0 → Clear rules
+pub clear-lowest : (rules : List Rule) → T (allPositive rules) → lowest rules ≡ 0 → Clear rules
 unfolding lowest
 clear-lowest [] p e = tt
 clear-lowest ((n when true) ∷ rules) p e = let h : 0 < n = positive-parts n rules p .0 in absurd (omega arith)
 clear-lowest ((n when false) ∷ rules) p e = (refl, clear-lowest rules (positive-parts n rules p .1) e)
 
 -- so rules with positive numbers give 0 exactly where none applies
-pub lowest-zero : (rules : List Rule) → T (positive rules) → (lowest rules ≡ 0) ↔ Clear rules
+pub lowest-zero : (rules : List Rule) → T (allPositive rules) → (lowest rules ≡ 0) ↔ Clear rules
 lowest-zero rules p = (clear-lowest rules p, lowest-clear rules)
 
 -- ---- lists joined
@@ -52,7 +52,7 @@ lowest-later [] ys c = refl
 lowest-later ((n when b) ∷ xs) ys c = pass n (xs ++ ys) (c .0) ∙ lowest-later xs ys (c .1)
 
 -- where the first list gives 0, the second gives the number
-pub lowest-later-zero : (xs ys : List Rule) → T (positive xs) → lowest xs ≡ 0 → lowest (xs ++ ys) ≡ lowest ys
+pub lowest-later-zero : (xs ys : List Rule) → T (allPositive xs) → lowest xs ≡ 0 → lowest (xs ++ ys) ≡ lowest ys
 lowest-later-zero xs ys p e = lowest-later xs ys (clear-lowest xs p e)
 
 -- a number above 0 of the first list is the number of both together
@@ -77,16 +77,16 @@ clear-append ((n when b) ∷ xs) ys =
     (λ c. ((c .0, rest .0 (c .1) .0), rest .0 (c .1) .1), λ c. (c .0 .0, rest .1 (c .0 .1, c .1)))
 
 -- two lists of positive numbers joined
-pub positive-append : (xs ys : List Rule) → T (positive xs) → T (positive ys) → T (positive (xs ++ ys))
+pub positive-append : (xs ys : List Rule) → T (allPositive xs) → T (allPositive ys) → T (allPositive (xs ++ ys))
 positive-append [] ys p q = q
 positive-append ((n when b) ∷ xs) ys p q = join (ltb 0 n) (λ r. positive-append xs ys r q) p
   where
-    join : (a : Bool) → (T (positive xs) → T (positive (xs ++ ys))) → T (a && positive xs) → T (a && positive (xs ++ ys))
+    join : (a : Bool) → (T (allPositive xs) → T (allPositive (xs ++ ys))) → T (a && allPositive xs) → T (a && allPositive (xs ++ ys))
     join true f r = f r
     join false f r = r
 
 -- two lists of positive numbers joined give 0 exactly where the first gives 0 and no rule of the second applies
-pub lowest-append-zero : (xs ys : List Rule) → T (positive xs) → T (positive ys)
+pub lowest-append-zero : (xs ys : List Rule) → T (allPositive xs) → T (allPositive ys)
     → (lowest (xs ++ ys) ≡ 0) ↔ ((lowest xs ≡ 0) × Clear ys)
 lowest-append-zero xs ys p q =
     let both = clear-append xs ys in (

@@ -3,24 +3,44 @@
 -- Assumes nothing.
 use Prim.Native.Nat.{ℕ, suc, _≤_, zero-le, suc-le-suc}
 use mathlib.Core.Path.{_≡_, refl, _∙_, subst}
-use mathlib.Core.Bool.{true, false≢true}
+use mathlib.Core.Bool.{Bool, true, false, not, _&&_, _||_, false≢true}
 use mathlib.Core.List.{List, [], _∷_}
 use mathlib.Core.Logic.{_⊎_, inl, inr, ⊎-elim}
 use lib.Dec.{eqb}
 use borrow.Author.Tests.{eqb-true, eq-eqb, ne-eqb}
-use Rattle.rules.specs.AnswersBy.{conditionNumbers}
+use Rattle.rules.specs.Refuses.{conditionNumbers}
 use Rattle.rules.specs.Condition.{Condition, _if_, Given, Applies}
-use Rattle.rules.specs.Order.{refusalOrder, isSublist, isMember, isDistinct, positionIn}
-use Rattle.lists.specs.Member.{Member}
+use Rattle.rules.specs.Order.{refusalOrder, isSublist, positionIn}
+use Rattle.lists.specs.Member.{Member, EachOnce}
 use Rattle.lists.specs.Places.{itemsAt, tabulate}
 use Rattle.rules.specs.Says.{Says}
 use Rattle.rules.proofs.Says.{says-true, says-equal, says-or, says-and, says-not, says-cond}
 
+-- ---- lists without repetition
+
+-- whether n is one of the numbers of a list
+unfoldable isMember : ℕ → List ℕ → Bool
+isMember n [] = false
+isMember n (m ∷ ms) = eqb n m || isMember n ms
+
+-- whether no number stands twice in a list
+unfoldable isDistinct : List ℕ → Bool
+isDistinct [] = true
+isDistinct (n ∷ ns) = not (isMember n ns) && isDistinct ns
+
 -- the test of membership says it
-pub says-member : (n : ℕ) (ns : List ℕ) → Says (isMember n ns) (Member n ns)
+says-member : (n : ℕ) (ns : List ℕ) → Says (isMember n ns) (Member n ns)
 unfolding isMember
 says-member n [] = record { sound = λ e. false≢true e; complete = λ m. absurd m }
 says-member n (m ∷ ms) = says-or (says-equal n m) (says-member n ms)
+
+-- so does the test of repetition
+says-distinct : (ns : List ℕ) → Says (isDistinct ns) (EachOnce ns)
+unfolding isDistinct
+says-distinct [] = record { sound = λ e. tt; complete = λ m. refl }
+says-distinct (n ∷ ns) = says-and (says-not (says-member n ns)) (says-distinct ns)
+
+-- ---- sublists
 
 -- the first number of what is left stands at the head of the list or in its rest
 sublist-cases : (x y : ℕ) (xs ys : List ℕ) → isSublist (x ∷ xs) (y ∷ ys) ≡ true
@@ -44,10 +64,7 @@ sublist-member n (x ∷ xs) (y ∷ ys) s m =
     choose f g (inl c) (inr t) = inr (f (c .1) t)
     choose f g (inr c) t = inr (g c t)
 
--- the head and the rest of a list without repetition
-distinct-parts : (y : ℕ) (ys : List ℕ) → isDistinct (y ∷ ys) ≡ true → (¬ Member y ys) × (isDistinct ys ≡ true)
-unfolding isDistinct
-distinct-parts y ys = says-and (says-not (says-member y ys)) (says-true (isDistinct ys)) .sound
+-- ---- places in an order
 
 -- a number of the rest that is not the head stands one place later than in the rest
 position-rest : (y : ℕ) (ys : List ℕ) (n : ℕ) → ¬ Member y ys → Member n ys → positionIn (y ∷ ys) n ≡ suc (positionIn ys n)
@@ -95,14 +112,13 @@ earlier-rest y ys conditions k n u s h g a =
 -- where the conditions' numbers stand in the order of a list without repetition, the number given stands in that list at or
 -- before every number that applies
 pub given-earliest : (order : List ℕ) (conditions : List Condition) (k n : ℕ)
-    → isDistinct order ≡ true → isSublist (conditionNumbers conditions) order ≡ true → Given conditions k → Applies conditions n
+    → EachOnce order → isSublist (conditionNumbers conditions) order ≡ true → Given conditions k → Applies conditions n
     → positionIn order k ≤ positionIn order n
 unfolding isSublist conditionNumbers
 given-earliest order [] k n d s g a = absurd a
 given-earliest [] ((m if P) ∷ conditions) k n d s g a = absurd (false≢true s)
 given-earliest (y ∷ ys) ((m if P) ∷ conditions) k n d s g a =
-    let p = distinct-parts y ys d in
-    choose (p .0) (given-earliest ys conditions k n (p .1)) (given-earliest ys ((m if P) ∷ conditions) k n (p .1))
+    choose (d .0) (given-earliest ys conditions k n (d .1)) (given-earliest ys ((m if P) ∷ conditions) k n (d .1))
     (sublist-cases m y (conditionNumbers conditions) ys s) g a
   where
     choose : ¬ Member y ys → Earlier ys conditions k n → Earlier ys ((m if P) ∷ conditions) k n
@@ -119,6 +135,6 @@ unfolding isSublist refusalOrder tabulate itemsAt
 order-rises = refl
 
 -- no number stands twice in 01's order
-pub order-distinct : isDistinct refusalOrder ≡ true
+pub order-distinct : EachOnce refusalOrder
 unfolding isDistinct isMember refusalOrder
-order-distinct = refl
+order-distinct = says-distinct refusalOrder .sound refl

@@ -4,4 +4,4 @@ pub mod Order
 pub mod Answer
 pub mod Says
 pub mod Condition
-pub mod AnswersBy
+pub mod Refuses

@@ -1,6 +1,6 @@
 -- The order of 01's numbers: "lowest" is the earliest there, and each call's rules are a sublist.
 -- Assumes nothing.
-use mathlib.Core.Bool.{Bool, true, false, cond, not, _&&_, _||_}
+use mathlib.Core.Bool.{Bool, true, false, cond}
 use mathlib.Core.List.{List, [], _∷_}
 use Prim.Native.Nat.{ℕ, suc}
 use lib.Dec.{eqb}
@@ -19,16 +19,6 @@ unfoldable pub isSublist : List ℕ → List ℕ → Bool
 isSublist [] ys = true
 isSublist (x ∷ xs) [] = false
 isSublist (x ∷ xs) (y ∷ ys) = cond (eqb x y) (isSublist xs ys) (isSublist (x ∷ xs) ys)
-
--- whether n is one of the numbers of a list
-unfoldable pub isMember : ℕ → List ℕ → Bool
-isMember n [] = false
-isMember n (m ∷ ms) = eqb n m || isMember n ms
-
--- whether no number stands twice in a list
-unfoldable pub isDistinct : List ℕ → Bool
-isDistinct [] = true
-isDistinct (n ∷ ns) = not (isMember n ns) && isDistinct ns
 
 -- how many numbers of a list stand before the first n, all of them where n is none of them
 unfoldable pub positionIn : List ℕ → ℕ → ℕ

@@ -22,6 +22,6 @@ Clear [] = Unit {0}
 Clear ((n when broken) ∷ rules) = (broken ≡ false) × Clear rules
 
 -- every rule has a number above 0, so that 0 can stand for "no rule applies"
-abbrev pub positive : List Rule → Bool
-positive [] = true
-positive ((n when broken) ∷ rules) = ltb 0 n && positive rules
+abbrev pub allPositive : List Rule → Bool
+allPositive [] = true
+allPositive ((n when broken) ∷ rules) = ltb 0 n && allPositive rules

@@ -9,7 +9,7 @@ use lib.ListN.{length}
 use Rattle.types.specs.declared.Computed.{Computed}
 use Rattle.types.specs.declared.Header.{Header}
 use Rattle.types.specs.declared.Round.{Round}
-use Rattle.lists.specs.Places.{pad8}
+use Rattle.lists.specs.Places.{pad8, places}
 use Rattle.lists.proofs.Each.{each-length}
 use Rattle.lists.proofs.Places.{getD-pad8, places-pad8, places-whole}
 use Rattle.formats.specs.Load.{loadRules, loadRefusal}
@@ -20,7 +20,7 @@ use Rattle.sigma.specs.Instance.{Instance, tableOf}
 use Rattle.sigma.specs.Knowledge.{AcceptedRound, Choice, Witness, honestOn, simulatedOn}
 use Rattle.sigma.specs.Knowledge.{MeetsEachOnce, AcceptedPair, Extraction}
 use Rattle.sigma.specs.Listed.{allChoices, ListsAccepted}
-use Rattle.sigma.specs.Reads.{roundOf, SameRound, paddedRound}
+use Rattle.sigma.specs.Reads.{roundOf, readRound, SameRound, paddedRound}
 use Rattle.sigma.specs.Round.{response}
 use Rattle.sigma.specs.Simulator.{simulated}
 use Rattle.sigma.specs.Valid.{Valid}
@@ -29,17 +29,16 @@ use Rattle.sigma.proofs.Lists.{all-choices-member, all-choices-once, lists-acce
 use Rattle.sigma.proofs.Prover.{honest-rounds}
 use Rattle.sigma.proofs.Restated.{meets-alike, pair-alike, extraction-alike}
 use Rattle.sigma.proofs.Simulator.{simulated-rounds, simulate-answer}
-use Rattle.sigma.proofs.Unread.{same-commitment, same-response, judgeAfter-same, simulateAfter-same, extractAfter-same}
+use Rattle.sigma.proofs.Unread.{same-round-of-read, same-round-sym, same-commitment, same-response, judgeAfter-same, simulateAfter-same, extractAfter-same}
 use Rattle.sigma.proofs.Values.{length-image, length-response, length-simulated}
 use Rattle.runs.specs.Calls.{judgeRound, simulateCommitment, extractWitness}
 use Rattle.runs.specs.Demand3.{ReadAlone, Demand3}
-use Rattle.runs.specs.JointRun.{JointRun, jointRun}
 use Rattle.runs.specs.Knowledge.{Accepts, honestRound, simulatedRound}
 use Rattle.runs.specs.OnSheet.{Below}
 use Rattle.runs.specs.Prover.{newProver, commit, respond}
-use Rattle.runs.proofs.JointRun.{joint-steps}
+use Rattle.runs.proofs.JointRun.{JointSteps, jointSteps, joint-steps}
 use Rattle.runs.proofs.Loaded.{accepts-loaded, simulate-loaded, extract-loaded}
-use Rattle.runs.proofs.Unread.{commitAfter-same, respondAfter-same}
+use Rattle.runs.proofs.Unread.{read-agrees, commitAfter-same, respondAfter-same}
 
 -- ---- rounds in eight places
 
@@ -71,12 +70,19 @@ unfolding honestRound judgeRound simulateCommitment extractWitness commit respon
 read-alone sheet =
     let before = loadRules sheet in
     let inst = instanceOf sheet in
+    let slots = read-agrees (inst .header .columns) in
+    let read : (round : Round) → SameRound (inst .header) round (readRound (inst .header) round) =
+    λ round. same-round-sym (same-round-of-read (inst .header) round) in
     record {
-      honest = λ x x′ c k k′ a b.
-          rw (commitAfter-same before inst newProver k k′ b, respondAfter-same before inst _ c x x′ a);
-      simulated = simulateAfter-same before inst;
-      judged = λ round round′ s. judgeAfter-same before inst s;
-      extracted = λ first first′ second second′ s t. extractAfter-same before inst s t;
+      honest = λ x c k.
+          let k′ = places (inst .header .columns) k in
+          rw (
+            commitAfter-same before inst newProver k k′ (slots k),
+            respondAfter-same before inst _ c x (places (inst .header .columns) x) (slots x),
+          );
+      simulated = λ c r. simulateAfter-same before inst c r _ (slots r);
+      judged = λ round. judgeAfter-same before inst (read round);
+      extracted = λ first second. extractAfter-same before inst (read first) (read second);
     }
 
 module _ (sheet : List ℕ) (loaded : loadRefusal sheet ≡ 0) where
@@ -153,30 +159,30 @@ module _ (sheet : List ℕ) (loaded : loadRefusal sheet ≡ 0) where
 
       -- what Peggy gives for x, c and a nonce, in a run with Vic
       pub honest-run : (k : List ℕ) → Choice (instanceOf sheet) k
-          → (jointRun sheet x c k .committed .refusal ≡ 0) × (jointRun sheet x c k .answered .refusal ≡ 0)
-          × (jointRun sheet x c k .committed .values ≡ pad8 0 (image (tableOf (instanceOf sheet)) k))
-          × (jointRun sheet x c k .answered .values ≡ pad8 0 (response (instanceOf sheet .header) k c x))
+          → (jointSteps sheet x c k .committed .refusal ≡ 0) × (jointSteps sheet x c k .answered .refusal ≡ 0)
+          × (jointSteps sheet x c k .committed .values ≡ pad8 0 (image (tableOf (instanceOf sheet)) k))
+          × (jointSteps sheet x c k .answered .values ≡ pad8 0 (response (instanceOf sheet .header) k c x))
       honest-run k slots =
           let n = values .header .columns in
           let read = places-whole n x (each-length _ _ x (w .slots)) in
           let read′ = places-whole n k (each-length _ _ k slots) in
           let same = rw (read, read′) at (joint-steps sheet loaded x k c (rw read w) (rw read′ slots) below) in (
-            ap (λ (r : JointRun). r .committed .refusal) same,
-            ap (λ (r : JointRun). r .answered .refusal) same,
-            ap (λ (r : JointRun). r .committed .values) same,
-            ap (λ (r : JointRun). r .answered .values) same,
+            ap (λ (r : JointSteps). r .committed .refusal) same,
+            ap (λ (r : JointSteps). r .answered .refusal) same,
+            ap (λ (r : JointSteps). r .committed .values) same,
+            ap (λ (r : JointSteps). r .answered .values) same,
           )
 
       -- neither committing nor responding is refused
       pub sheet-honest-runs : (k : List ℕ) → Choice (instanceOf sheet) k
           → (commit sheet newProver k .refusal ≡ 0) × (respond sheet (commit sheet newProver k .session) c x .refusal ≡ 0)
-      unfolding jointRun
+      unfolding jointSteps
       sheet-honest-runs k slots = let (a, b, t, r) = honest-run k slots in (a, b)
 
       -- the honest round, in eight places
       honest-is : (k : List ℕ) → Choice (instanceOf sheet) k
           → honestRound sheet x c k ≡ padded (image (tableOf (instanceOf sheet)) k) c (response (instanceOf sheet .header) k c x)
-      unfolding honestRound jointRun
+      unfolding honestRound jointSteps
       honest-is k slots = let (a, b, t, r) = honest-run k slots in λ i. roundOf (t i) c (r i)
 
       -- the honest rounds are exactly the accepted rounds with challenge c, each met once

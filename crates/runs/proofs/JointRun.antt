@@ -1,16 +1,19 @@
 -- Peggy and Vic together, for a witness x, a nonce k and a challenge c below K: no call is refused and Vic accepts.
 -- Assumes nothing.
 use Prim.Native.Nat.{ℕ, _<_}
-use mathlib.Core.Path.{_≡_, refl, _∙_}
+use mathlib.Core.Path.{_≡_, refl, ap, _∙_}
 use mathlib.Core.List.{List, []}
 use native.Mathlib.Omega.{arith}
 use lib.ListN.{length}
 use Rattle.types.specs.declared.Prover.{Prover}
 use Rattle.types.specs.declared.ProverPhase.the-variants.{Committed, Answered}
+use Rattle.types.specs.declared.ProverStep.{ProverStep}
 use Rattle.types.specs.declared.Verdict.the-variants.{Accepted}
 use Rattle.types.specs.declared.Verifier.{Verifier}
 use Rattle.types.specs.declared.VerifierPhase.{VerifierPhase}
 use Rattle.types.specs.declared.VerifierPhase.the-variants.{Holding, Asked, Judged}
+use Rattle.types.specs.declared.VerifierStep.{VerifierStep}
+use Rattle.types.specs.declared.VerifierVerdict.{VerifierVerdict}
 use Rattle.lists.specs.Places.{pad8, places, zeros8}
 use Rattle.lists.proofs.Each.{each-at}
 use Rattle.lists.proofs.Places.{places-pad8, places-places, places-whole}
@@ -28,7 +31,8 @@ use Rattle.sigma.proofs.Calls.{valid-judge-accepted}
 use Rattle.sigma.proofs.Prover.{honest-accepted}
 use Rattle.sigma.proofs.Verdict.{verdict-accepted}
 use Rattle.sigma.proofs.Values.{length-image, length-response}
-use Rattle.runs.specs.JointRun.{jointRun, Succeeds}
+use Rattle.runs.specs.JointRun.{JointRun}
+use Rattle.runs.specs.Knowledge.{honestRound}
 use Rattle.runs.specs.OnSheet.{readSlots, Below}
 use Rattle.runs.specs.Prover.{newProver, commitAfter, commit, respondAfter, respond}
 use Rattle.runs.specs.Verifier.{newVerifier, takeCommitmentAfter, takeChallengeAfter, takeResponseAfter}
@@ -152,11 +156,34 @@ module _ (inst : Instance) (x k : List ℕ) (c : ℕ) where
 
 -- ---- the run
 
+-- what the five calls gave
+pub record JointSteps : Type 0 where
+  pub committed : ProverStep
+  pub held : VerifierStep
+  pub asked : VerifierStep
+  pub answered : ProverStep
+  pub told : VerifierVerdict
+
+-- the calls for witness x, challenge c and nonce k
+unfoldable pub jointSteps : List ℕ → List ℕ → ℕ → List ℕ → JointSteps
+jointSteps sheet x c k =
+    let committed : ProverStep = commit sheet newProver k in
+    let held : VerifierStep = takeCommitment sheet newVerifier (committed .values) in
+    let asked : VerifierStep = takeChallenge sheet (held .session) c in
+    let answered : ProverStep = respond sheet (committed .session) c x in
+    record {
+      committed = committed;
+      held = held;
+      asked = asked;
+      answered = answered;
+      told = takeResponse sheet (asked .session) (answered .values);
+    }
+
 module _ (sheet : List ℕ) (loaded : loadRefusal sheet ≡ 0) (x k : List ℕ) (c : ℕ)
     (witness : Witness (instanceOf sheet) (readSlots sheet x)) (nonce : Choice (instanceOf sheet) (readSlots sheet k))
     (below : Below sheet c) where
   -- what each call gives, for a witness, a nonce of domain slots and a challenge below K
-  pub joint-steps : jointRun sheet x c k
+  pub joint-steps : jointSteps sheet x c k
       ≡ record {
         committed =
             record {
@@ -174,7 +201,7 @@ module _ (sheet : List ℕ) (loaded : loadRefusal sheet ≡ 0) (x k : List ℕ) 
             };
         told = record { verdict = Accepted; session = verifierHolding Judged (instanceOf sheet) k c };
       }
-  unfolding jointRun commit respond takeCommitment takeChallenge takeResponse honestOn
+  unfolding jointSteps commit respond takeCommitment takeChallenge takeResponse honestOn
   joint-steps =
       let inst = instanceOf sheet in
       let none = sheet-clear sheet loaded in
@@ -196,5 +223,12 @@ module _ (sheet : List ℕ) (loaded : loadRefusal sheet ≡ 0) (x k : List ℕ) 
       )
 
   -- none of the calls is refused, and Vic accepts
-  pub sheet-joint-run : Succeeds (jointRun sheet x c k)
-  sheet-joint-run = rw joint-steps (record { committed = refl; held = refl; asked = refl; answered = refl; accepted = refl })
+  pub sheet-joint-run : JointRun sheet x c k
+  unfolding jointSteps honestRound
+  sheet-joint-run = record {
+    committed = ap (λ (steps : JointSteps). steps .committed .refusal) joint-steps;
+    held = ap (λ (steps : JointSteps). steps .held .refusal) joint-steps;
+    challenged = ap (λ (steps : JointSteps). steps .asked .refusal) joint-steps;
+    responded = ap (λ (steps : JointSteps). steps .answered .refusal) joint-steps;
+    accepted = ap (λ (steps : JointSteps). steps .told .verdict) joint-steps;
+  }

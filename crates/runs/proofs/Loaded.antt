@@ -9,10 +9,10 @@ use Rattle.rules.specs.Rule.{Clear}
 use Rattle.formats.specs.Load.{loadRules, loadRefusal}
 use Rattle.formats.specs.Sheet.{instanceOf}
 use Rattle.formats.proofs.Loads.{load-clear, loads}
-use Rattle.sigma.specs.Extractor.{extract}
-use Rattle.sigma.specs.Judge.{judge}
+use Rattle.sigma.specs.Extractor.{extractLoaded}
+use Rattle.sigma.specs.Judge.{judgeLoaded}
 use Rattle.sigma.specs.Knowledge.{AcceptedRound}
-use Rattle.sigma.specs.Simulator.{simulate}
+use Rattle.sigma.specs.Simulator.{simulateLoaded}
 use Rattle.sigma.proofs.After.{judgeAfter-clear, simulateAfter-clear, extractAfter-clear}
 use Rattle.runs.specs.Calls.{judgeRound, simulateCommitment, extractWitness}
 use Rattle.runs.specs.Knowledge.{Accepts}
@@ -23,7 +23,7 @@ module _ (sheet : List ℕ) (loaded : loadRefusal sheet ≡ 0) where
   sheet-clear = load-clear sheet .1 (loads sheet .0 loaded)
 
   -- judging
-  pub judge-loaded : (round : Round) → judgeRound sheet round ≡ judge (instanceOf sheet) round
+  pub judge-loaded : (round : Round) → judgeRound sheet round ≡ judgeLoaded (instanceOf sheet) round
   unfolding judgeRound
   judge-loaded = judgeAfter-clear (loadRules sheet) (instanceOf sheet) sheet-clear
 
@@ -32,11 +32,11 @@ module _ (sheet : List ℕ) (loaded : loadRefusal sheet ≡ 0) where
   accepts-loaded round = (λ e. sym (judge-loaded round) ∙ e, λ e. judge-loaded round ∙ e)
 
   -- simulating
-  pub simulate-loaded : (c : ℕ) (r : List ℕ) → simulateCommitment sheet c r ≡ simulate (instanceOf sheet) c r
+  pub simulate-loaded : (c : ℕ) (r : List ℕ) → simulateCommitment sheet c r ≡ simulateLoaded (instanceOf sheet) c r
   unfolding simulateCommitment
   simulate-loaded = simulateAfter-clear (loadRules sheet) (instanceOf sheet) sheet-clear
 
   -- extracting
-  pub extract-loaded : (first second : Round) → extractWitness sheet first second ≡ extract (instanceOf sheet) first second
+  pub extract-loaded : (first second : Round) → extractWitness sheet first second ≡ extractLoaded (instanceOf sheet) first second
   unfolding extractWitness
   extract-loaded = extractAfter-clear (loadRules sheet) (instanceOf sheet) sheet-clear

@@ -39,14 +39,13 @@ use Rattle.sigma.proofs.Transfer.{judge-accepts}
 use Rattle.sigma.proofs.Valid.{valid-kind}
 use Rattle.sigma.proofs.Values.{length-response, length-simulated}
 use Rattle.runs.specs.Calls.{judgeRound, extractWitness}
-use Rattle.runs.specs.JointRun.{jointRun}
 use Rattle.runs.specs.MainProtocol.{MainProtocol}
 use Rattle.runs.specs.OnSheet.{Below}
 use Rattle.runs.specs.Prover.{newProver, commit, respond}
 use Rattle.runs.specs.Verifier.{newVerifier, takeCommitment, takeChallenge, takeResponse}
 use Rattle.runs.proofs.After.{commitAfter-clear, takeCommitmentAfter-clear, takeChallengeAfter-clear}
 use Rattle.runs.proofs.Demand3.{honest-run, read-alone, sheet-extraction, simulated-given}
-use Rattle.runs.proofs.JointRun.{joint-commit}
+use Rattle.runs.proofs.JointRun.{jointSteps, joint-commit}
 use Rattle.runs.proofs.Loaded.{accepts-loaded, sheet-clear}
 use Rattle.runs.proofs.Verdicts.{takeResponse-judged}
 use Rattle.runs.proofs.VerifierSteps.{takeCommitmentAfter-runs, takeCommitmentAfter-given}
@@ -94,7 +93,7 @@ module _ (sheet : List ℕ) (loaded : loadRefusal sheet ≡ 0) where
       → (respond sheet (commit sheet newProver (k .0) .session) c (x .0) .refusal ≡ 0)
       × (respond sheet (commit sheet newProver (k .0) .session) c (x .0) .values
       ≡ pad8 0 ((honestResponse (domainGroup (valid .table)) x c k) .0))
-  unfolding jointRun
+  unfolding jointSteps
   responded x k c e below =
       let (a, b, t, r) = honest-run sheet loaded c below (x .0) (carried-witness x e) (k .0) (k .1) in
       (b, r ∙ ap (pad8 0) (response-same x k c))

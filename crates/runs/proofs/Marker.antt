@@ -13,9 +13,9 @@ use Rattle.numbers.proofs.Search.{any-of}
 use Rattle.lists.specs.Member.{Member}
 use Rattle.lists.specs.Places.{itemsAt, tabulate, places}
 use Rattle.encoding.specs.Text.{ascii, digits, decimal}
-use Rattle.rules.specs.AnswersBy.{conditionNumbers}
+use Rattle.rules.specs.Refuses.{conditionNumbers}
 use Rattle.rules.specs.Rule.{_when_, lowest}
-use Rattle.rules.proofs.AnswersBy.{given-among}
+use Rattle.rules.proofs.Refuses.{given-among}
 use Rattle.rules.proofs.Condition.{given}
 use Rattle.rules.proofs.Lowest.{clear-lowest, lowest-later-zero}
 use Rattle.rules.proofs.Says.{says-not}
@@ -27,7 +27,7 @@ use Rattle.formats.proofs.Files.{count-runs, count-given, check-runs, fetch-giv
 use Rattle.formats.proofs.Loads.{load-clear, loads}
 use Rattle.formats.proofs.Positive.{load-positive}
 use Rattle.sigma.specs.Answer.{isAccepted}
-use Rattle.sigma.specs.Judge.{judgeRules, judge}
+use Rattle.sigma.specs.Judge.{judgeRules, judgeLoaded}
 use Rattle.sigma.specs.Refusals.{judgeConditions}
 use Rattle.sigma.proofs.After.{judgeAfter-clear}
 use Rattle.sigma.proofs.Answer.{unlessRefused-zero, unlessRefused-positive}
@@ -82,7 +82,7 @@ module _ (sheet f : List ℕ) where
   -- the verdict on a round is what judging gives for the values in its record
   pub verdict-on-record : countRounds sheet f .refusal ≡ 0 → (k : ℕ) → k < countField f
       → verdictOn sheet f k
-      ≡ judge (instanceOf sheet) (roundAt (challengeWidth f) (headerOf sheet) f (recordStart (challengeWidth f) (headerOf sheet) k))
+      ≡ judgeLoaded (instanceOf sheet) (roundAt (challengeWidth f) (headerOf sheet) f (recordStart (challengeWidth f) (headerOf sheet) k))
   unfolding verdictOn judgeRound
   verdict-on-record e k h =
       let (sheet-loads, file) = count-runs sheet f .0 e in

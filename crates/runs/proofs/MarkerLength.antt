@@ -19,9 +19,9 @@ use Rattle.lists.proofs.Rows.{flatten-append}
 use Rattle.encoding.specs.Text.{ascii, decimal}
 use Rattle.encoding.proofs.Text.{decimal-length}
 use Rattle.numbers.specs.Search.{any}
-use Rattle.rules.specs.AnswersBy.{conditionNumbers}
+use Rattle.rules.specs.Refuses.{conditionNumbers}
 use Rattle.rules.specs.Rule.{lowest}
-use Rattle.rules.proofs.AnswersBy.{given-among}
+use Rattle.rules.proofs.Refuses.{given-among}
 use Rattle.rules.proofs.Condition.{given}
 use Rattle.formats.specs.Load.{loadRules, loadRefusal}
 use Rattle.formats.specs.Refusals.{loadConditions}

@@ -17,6 +17,7 @@ use Rattle.formats.specs.Load.{loadRules, loadRefusal}
 use Rattle.formats.specs.Sheet.{instanceOf}
 use Rattle.formats.proofs.Loads.{loads-valid}
 use Rattle.sigma.specs.Answer.{eightPlaces, outcome}
+use Rattle.sigma.specs.Image.{rowImage}
 use Rattle.sigma.specs.Instance.{Instance, tableOf}
 use Rattle.sigma.specs.Judge.{judgeAfter}
 use Rattle.sigma.specs.Meaning.{Holds, FailsFirst, Fits}
@@ -28,7 +29,7 @@ use Rattle.sigma.proofs.Unread.{rowImage-agree}
 use Rattle.sigma.proofs.Values.{length-image, length-response, image-at, response-at}
 use Rattle.sigma.proofs.Verdict.{verdict-not-refused}
 use Rattle.runs.specs.Calls.{judgeRound}
-use Rattle.runs.specs.Protocol.{CommitsToImage, RespondsBySlot, JudgesByRows, Protocol}
+use Rattle.runs.specs.Protocol.{JudgesByRows, Protocol}
 use Rattle.runs.specs.Prover.{proverStep, commitAfter, commit, respondAfter, respond}
 use Rattle.runs.proofs.JointRun.{sheet-joint-run}
 use Rattle.runs.proofs.Loaded.{judge-loaded}
@@ -49,18 +50,16 @@ module _ (sheet : List ℕ) (loaded : loadRefusal sheet ≡ 0) where
 
   -- ---- Peggy
 
-  -- the commitment is the image of the nonce
-  pub commitments : CommitsToImage sheet
-  unfolding commit commitAfter proverStep
-  commitments = record {
-    rows = λ p k e i h.
-        let n = values .header .columns in
-        ap (λ (step : ProverStep). getD (step .values) i 0) (commitAfter-given (loadRules sheet) values p k e)
-        ∙ getD-pad8 0 _ i
-        ∙ image-at (tableOf values) (places n k) i h
-        ∙ rowImage-agree (loads-valid sheet loaded .table) (places n k) k (getD-places n k) i h;
-    beyond = λ p k i h. eight-beyond _ _ i (rw length-image h);
-  }
+  -- a row of the commitment
+  commitment-row : (p : Prover) (k : List ℕ) → commit sheet p k .refusal ≡ 0 → (i : ℕ) → i < instanceOf sheet .header .rows
+      → getD (commit sheet p k .values) i 0 ≡ rowImage (tableOf (instanceOf sheet)) k i
+  unfolding commit
+  commitment-row p k e i h =
+      let n = values .header .columns in
+      ap (λ (step : ProverStep). getD (step .values) i 0) (commitAfter-given (loadRules sheet) values p k e)
+      ∙ getD-pad8 0 _ i
+      ∙ image-at (tableOf values) (places n k) i h
+      ∙ rowImage-agree (loads-valid sheet loaded .table) (places n k) k (getD-places n k) i h
 
   -- a slot of the response, in either kind
   response-slot : (p : Prover) (c : ℕ) (x : List ℕ) → respond sheet p c x .refusal ≡ 0
@@ -73,17 +72,6 @@ module _ (sheet : List ℕ) (loaded : loadRefusal sheet ≡ 0) where
       ∙ getD-pad8 0 _ j
       ∙ response-at (values .header) (places n (p .nonce)) c (places n x) j h
       ∙ rw (getD-places n (p .nonce) j h, getD-places n x j h)
-
-  -- the response is k + c·x mod q or k·x^c mod m, slot by slot
-  pub responses : RespondsBySlot sheet
-  unfolding respond respondAfter proverStep
-  responses = record {
-    exponent = λ kind p c x e j h. response-slot p c x e j h ∙ responseCoordinate-exponent (values .header) kind _ c _;
-    root = λ kind p c x e j h.
-        let other : values .header .kind ≢ 1 = λ one. omega arith in
-        response-slot p c x e j h ∙ responseCoordinate-root (values .header) other _ c _;
-    beyond = λ p c x j h. eight-beyond _ _ j (rw length-response h);
-  }
 
   -- ---- Vic
 
@@ -125,9 +113,15 @@ module _ (sheet : List ℕ) (loaded : loadRefusal sheet ≡ 0) where
 
   -- the protocol holds of every sheet that loads
   pub protocol : Protocol sheet
+  unfolding commit commitAfter respond respondAfter proverStep
   protocol = record {
-    commitments = commitments;
-    responses = responses;
+    commitment = commitment-row;
+    exponent-response = λ kind p c x e j h. response-slot p c x e j h ∙ responseCoordinate-exponent (values .header) kind _ c _;
+    root-response = λ kind p c x e j h.
+        let other : values .header .kind ≢ 1 = λ one. omega arith in
+        response-slot p c x e j h ∙ responseCoordinate-root (values .header) other _ c _;
+    beyond-rows = λ p k i h. eight-beyond _ _ i (rw length-image h);
+    beyond-columns = λ p c x j h. eight-beyond _ _ j (rw length-response h);
     verdicts = verdicts;
     verifier = takeResponse-given sheet;
     joint-run = sheet-joint-run sheet loaded;

@@ -12,7 +12,7 @@ use Rattle.types.specs.declared.Prover.{Prover}
 use Rattle.types.specs.declared.ProverPhase.the-variants.{New, Committed, Answered, Dropped}
 use Rattle.lists.specs.Places.{pad8, places, zeros8}
 use Rattle.lists.proofs.Places.{length-places}
-use Rattle.rules.specs.Rule.{Rule, lowest, Clear, positive}
+use Rattle.rules.specs.Rule.{Rule, lowest, Clear, allPositive}
 use Rattle.rules.proofs.Says.{says-or}
 use Rattle.rules.proofs.Lowest.{lowest-zero, lowest-append-zero}
 use Rattle.sigma.specs.Image.{image}
@@ -98,7 +98,7 @@ module _ (before : List Rule) (inst : Instance) (p : Prover) (nonce : List ℕ) 
   commitAfter-refusal = refl
 
   -- committing is not refused exactly in New, for a nonce of domain slots
-  pub commitAfter-runs : T (positive before)
+  pub commitAfter-runs : T (allPositive before)
       → (commitAfter before inst p nonce .refusal ≡ 0)
       ↔ ((lowest before ≡ 0) × Commits inst p (places (inst .header .columns) nonce))
   commitAfter-runs safe =
@@ -140,7 +140,7 @@ module _ (before : List Rule) (inst : Instance) (p : Prover) (c : ℕ) (witness 
   respondAfter-refusal = refl
 
   -- responding is not refused exactly in Committed, with held values that fit, for a challenge below K and a witness
-  pub respondAfter-runs : T (positive before)
+  pub respondAfter-runs : T (allPositive before)
       → (respondAfter before inst p c witness .refusal ≡ 0)
       ↔ ((lowest before ≡ 0) × Responds inst p c (places (inst .header .columns) witness))
   respondAfter-runs safe =

@@ -2,20 +2,24 @@
 -- Assumes nothing.
 use Prim.Native.Nat.{ℕ, zero, suc}
 use mathlib.Core.Path.{_≡_, refl, sym, ap, _∙_}
+use mathlib.Core.Logic.{_⊎_}
 use Rattle.types.specs.declared.Prover.{Prover}
 use Rattle.types.specs.declared.ProverPhase.{ProverPhase}
 use Rattle.types.specs.declared.ProverPhase.the-variants.{New, Committed, Answered, Dropped}
 use Rattle.types.specs.declared.Verifier.{Verifier}
 use Rattle.types.specs.declared.VerifierPhase.{VerifierPhase}
 use Rattle.types.specs.declared.VerifierPhase.the-variants.{Waiting, Holding, Asked, Judged}
+use Rattle.lists.specs.Places.{pad8}
 use Rattle.rules.specs.Says.{Says}
 use Rattle.rules.proofs.Says.{says-equal, says-or, says-iff}
-use Rattle.sigma.specs.Instance.{Instance}
+use Rattle.sigma.specs.Image.{image}
+use Rattle.sigma.specs.Instance.{Instance, tableOf}
+use Rattle.sigma.specs.Reads.{Differ}
+use Rattle.sigma.specs.Refusals.{Refusal14, Refusal16}
 use Rattle.sigma.specs.Valid.{Valid}
 use Rattle.sigma.proofs.Comparison.{says-differ}
 use Rattle.sigma.proofs.Refusals.{commitment-read, coordinates-read, image-read}
 use Rattle.runs.specs.Prover.{proverState, proverIn, unfitProver}
-use Rattle.runs.specs.Refusals.{UnfitProver, UnfitCommitment}
 use Rattle.runs.specs.Verifier.{verifierState, verifierIn, unfitCommitment}
 
 -- ---- states
@@ -67,12 +71,14 @@ says-verifier state v =
 -- ---- held values (21)
 
 -- what Peggy holds does not fit the instance
-pub says-unfitProver : {inst : Instance} → Valid inst → (p : Prover) → Says (unfitProver inst p) (UnfitProver inst p)
+pub says-unfitProver : {inst : Instance} → Valid inst → (p : Prover)
+    → Says (unfitProver inst p)
+    (Refusal16 inst (p .nonce) ⊎ Differ 8 (pad8 0 (image (tableOf inst) (p .nonce))) (p .commitment))
 unfolding unfitProver
 says-unfitProver {inst} v p =
     rw (image-read (v .table) (p .nonce)) (says-or (coordinates-read inst (p .nonce)) (says-differ 8 _ (p .commitment)))
 
 -- the commitment that Vic holds does not fit the instance
-pub says-unfitCommitment : (inst : Instance) (v : Verifier) → Says (unfitCommitment inst v) (UnfitCommitment inst v)
+pub says-unfitCommitment : (inst : Instance) (v : Verifier) → Says (unfitCommitment inst v) (Refusal14 inst (v .commitment))
 unfolding unfitCommitment
 says-unfitCommitment inst v = commitment-read inst (v .commitment)

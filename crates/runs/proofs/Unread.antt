@@ -3,9 +3,11 @@
 use Prim.Native.Nat.{ℕ}
 use mathlib.Core.Path.{_≡_, sym, _∙_}
 use mathlib.Core.List.{List}
+use Rattle.types.specs.declared.Header.{Header}
 use Rattle.types.specs.declared.Prover.{Prover}
 use Rattle.types.specs.declared.Verifier.{Verifier}
-use Rattle.lists.proofs.Places.{places-agree}
+use Rattle.lists.specs.Places.{places}
+use Rattle.lists.proofs.Places.{getD-places, places-agree}
 use Rattle.rules.specs.Rule.{Rule}
 use Rattle.rules.proofs.Says.{says-iff, says-same}
 use Rattle.sigma.specs.Comparison.{differ}
@@ -13,9 +15,12 @@ use Rattle.sigma.specs.Instance.{Instance}
 use Rattle.sigma.specs.Reads.{Agree}
 use Rattle.sigma.proofs.Comparison.{says-differ}
 use Rattle.runs.specs.Prover.{proverIn, proverStep, unfitProver, respondRules, commitAfter, respondAfter}
-use Rattle.runs.specs.Reads.{SameProver, SameVerifier}
 use Rattle.runs.specs.Verifier.{verifierIn, verifierStep, unfitCommitment, takeChallengeRules, takeResponseRules}
 use Rattle.runs.specs.Verifier.{takeCommitmentAfter, takeChallengeAfter, takeResponseAfter}
+
+-- an array agrees with what is read of it
+pub read-agrees : (n : ℕ) (xs : List ℕ) → Agree n xs (places n xs)
+read-agrees n xs j h = sym (getD-places n xs j h)
 
 -- ---- what a call brings
 
@@ -46,6 +51,12 @@ module _ (before : List Rule) (inst : Instance) where
 
 -- ---- what Peggy holds
 
+-- two of Peggy's sessions agree in what is read: the state, n places of the nonce and all eight of the commitment
+pub record SameProver (h : Header) (p p′ : Prover) : Type 0 where
+  pub phase : p .phase ≡ p′ .phase
+  pub nonce : Agree (h .columns) (p .nonce) (p′ .nonce)
+  pub commitment : Agree 8 (p .commitment) (p′ .commitment)
+
 -- a list's difference from another is that from any list that agrees with the other there
 differ-same : (n : ℕ) (xs ys ys′ : List ℕ) → Agree n ys ys′ → differ n xs ys ≡ differ n xs ys′
 differ-same n xs ys ys′ a =
@@ -71,6 +82,12 @@ module _ (before : List Rule) (inst : Instance) (p p′ : Prover) where
       (rw (unfitProver-same inst p p′ s, s .phase), rw (unfitProver-same inst p p′ s, nonce, s .phase))
 
 -- ---- what Vic holds
+
+-- two of Vic's sessions agree in what is read: the state, s places of the commitment and the challenge
+pub record SameVerifier (h : Header) (v v′ : Verifier) : Type 0 where
+  pub phase : v .phase ≡ v′ .phase
+  pub commitment : Agree (h .rows) (v .commitment) (v′ .commitment)
+  pub challenge : v .challenge ≡ v′ .challenge
 
 -- whether the commitment that Vic holds fits depends on s places of it
 pub unfitCommitment-same : (inst : Instance) (v v′ : Verifier) → Agree (inst .header .rows) (v .commitment) (v′ .commitment)

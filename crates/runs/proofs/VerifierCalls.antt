@@ -11,7 +11,7 @@ use Rattle.formats.specs.Load.{loadRules}
 use Rattle.formats.specs.Sheet.{instanceOf}
 use Rattle.formats.proofs.Positive.{load-positive}
 use Rattle.runs.specs.Verifier.{verifierState, takeCommitment, takeChallenge, takeResponse}
-use Rattle.runs.specs.VerifierCalls.{VerifierCall, Commitment, Challenge, Response, VerifierOutcome, refusalOf, sessionOf}
+use Rattle.runs.specs.VerifierCalls.{VerifierCall, Commitment, Challenge, Response}
 use Rattle.runs.specs.VerifierCalls.{callVerifier, VerifierMoves}
 use Rattle.runs.proofs.VerifierSteps.{takeCommitmentAfter-runs, takeCommitmentAfter-given, takeCommitmentAfter-kept}
 use Rattle.runs.proofs.VerifierSteps.{takeChallengeAfter-runs, takeChallengeAfter-given, takeChallengeAfter-kept}
@@ -20,8 +20,8 @@ use Rattle.runs.proofs.VerifierSteps.{takeResponseAfter-runs, takeRespo
 -- ---- a refused call
 
 -- a refused call hands back the same session
-pub verifier-kept : (call : VerifierCall) (v : Verifier) → 0 < refusalOf (callVerifier call v) → sessionOf (callVerifier call v) ≡ v
-unfolding callVerifier refusalOf sessionOf takeCommitment takeChallenge takeResponse
+pub verifier-kept : (call : VerifierCall) (v : Verifier) → 0 < callVerifier call v .refusal → callVerifier call v .session ≡ v
+unfolding callVerifier takeCommitment takeChallenge takeResponse
 verifier-kept (Commitment sheet t) v h =
     ap (λ (step : VerifierStep). step .session) (takeCommitmentAfter-kept (loadRules sheet) (instanceOf sheet) v t h)
 verifier-kept (Challenge sheet c) v h =
@@ -32,8 +32,8 @@ verifier-kept (Response sheet r) v h =
 -- ---- any other call
 
 -- a call that is not refused moves the session as 01 says
-pub verifier-moves : (call : VerifierCall) (v : Verifier) → refusalOf (callVerifier call v) ≡ 0 → VerifierMoves v call (callVerifier call v)
-unfolding callVerifier refusalOf sessionOf takeCommitment takeChallenge takeResponse
+pub verifier-moves : (call : VerifierCall) (v : Verifier) → callVerifier call v .refusal ≡ 0 → VerifierMoves v call (callVerifier call v)
+unfolding callVerifier takeCommitment takeChallenge takeResponse
 verifier-moves (Commitment sheet t) v e = (
   takeCommitmentAfter-runs (loadRules sheet) (instanceOf sheet) v t (load-positive sheet) .0 e .1 .phase,
   ap (λ (step : VerifierStep). step .session) (takeCommitmentAfter-given (loadRules sheet) (instanceOf sheet) v t e),
@@ -54,17 +54,17 @@ abbrev pub stateOf : Verifier → ℕ
 stateOf v = verifierState (v .phase)
 
 -- a call that moves the session leads to the next state, which is at most the last
-pub next-state : (v : Verifier) (call : VerifierCall) (answer : VerifierOutcome) → VerifierMoves v call answer
-    → (stateOf (sessionOf answer) ≡ suc (stateOf v)) × (stateOf (sessionOf answer) ≤ 3)
+pub next-state : (v : Verifier) (call : VerifierCall) (step : VerifierStep) → VerifierMoves v call step
+    → (stateOf (step .session) ≡ suc (stateOf v)) × (stateOf (step .session) ≤ 3)
 unfolding verifierState
-next-state v (Commitment sheet t) answer m = omega (arith, ap verifierState (m .0), ap stateOf (m .1))
-next-state v (Challenge sheet c) answer m = omega (arith, ap verifierState (m .0), ap stateOf (m .1))
-next-state v (Response sheet r) answer m = omega (arith, ap verifierState (m .0), ap stateOf (m .1))
+next-state v (Commitment sheet t) step m = omega (arith, ap verifierState (m .0), ap stateOf (m .1))
+next-state v (Challenge sheet c) step m = omega (arith, ap verifierState (m .0), ap stateOf (m .1))
+next-state v (Response sheet r) step m = omega (arith, ap verifierState (m .0), ap stateOf (m .1))
 
 -- so every call on a Judged session is refused
-pub judged-refuses : (call : VerifierCall) (v : Verifier) → v .phase ≡ Judged → 0 < refusalOf (callVerifier call v)
+pub judged-refuses : (call : VerifierCall) (v : Verifier) → v .phase ≡ Judged → 0 < callVerifier call v .refusal
 unfolding verifierState
 judged-refuses call v e =
-    let never : ¬ (refusalOf (callVerifier call v) ≡ 0) =
+    let never : ¬ (callVerifier call v .refusal ≡ 0) =
     λ z. omega (arith, ap verifierState e, next-state v call _ (verifier-moves call v z)) in
     omega arith

@@ -11,7 +11,7 @@ use Rattle.types.specs.declared.Verdict.the-variants.{Refused}
 use Rattle.types.specs.declared.Verifier.{Verifier}
 use Rattle.types.specs.declared.VerifierPhase.the-variants.{Waiting, Holding, Asked, Judged}
 use Rattle.lists.specs.Places.{pad8, places}
-use Rattle.rules.specs.Rule.{Rule, lowest, Clear, positive}
+use Rattle.rules.specs.Rule.{Rule, lowest, Clear, allPositive}
 use Rattle.rules.proofs.Lowest.{lowest-append-zero}
 use Rattle.sigma.specs.Answer.{outcome}
 use Rattle.sigma.specs.Instance.{Instance}
@@ -102,7 +102,7 @@ module _ (before : List Rule) (inst : Instance) (v : Verifier) (commitment : Lis
   takeCommitmentAfter-refusal = refl
 
   -- a commitment is taken exactly in Waiting, if it is of group elements
-  pub takeCommitmentAfter-runs : T (positive before)
+  pub takeCommitmentAfter-runs : T (allPositive before)
       → (takeCommitmentAfter before inst v commitment .refusal ≡ 0)
       ↔ ((lowest before ≡ 0) × TakesCommitment inst v (places (inst .header .rows) commitment))
   takeCommitmentAfter-runs safe =
@@ -142,7 +142,7 @@ module _ (before : List Rule) (inst : Instance) (v : Verifier) (c : ℕ) where
   takeChallengeAfter-refusal = refl
 
   -- a challenge is taken exactly in Holding, with a held commitment that fits, if it is below K
-  pub takeChallengeAfter-runs : T (positive before)
+  pub takeChallengeAfter-runs : T (allPositive before)
       → (takeChallengeAfter before inst v c .refusal ≡ 0) ↔ ((lowest before ≡ 0) × TakesChallenge inst v c)
   takeChallengeAfter-runs safe =
       rw takeChallengeAfter-refusal
@@ -172,7 +172,7 @@ module _ (before : List Rule) (inst : Instance) (v : Verifier) (response : List 
   takeResponseAfter-refusal = judged-number _ _ (verdict-not-refused inst _ _ _)
 
   -- a verdict is given exactly in Asked, with held values that fit, for a response of domain slots
-  pub takeResponseAfter-runs : T (positive before)
+  pub takeResponseAfter-runs : T (allPositive before)
       → (outcome (takeResponseAfter before inst v response .verdict) .number ≡ 0)
       ↔ ((lowest before ≡ 0) × TakesResponse inst v (places (inst .header .columns) response))
   takeResponseAfter-runs safe =

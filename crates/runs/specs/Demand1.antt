@@ -11,10 +11,11 @@ use Rattle.types.specs.declared.ProverStep.{ProverStep}
 use Rattle.types.specs.declared.Round.{Round}
 use Rattle.types.specs.declared.Verdict.the-variants.{Refused}
 use Rattle.types.specs.declared.Verifier.{Verifier}
+use Rattle.lists.specs.Member.{EachOnce}
 use Rattle.lists.specs.Places.{tabulate, zeros8}
-use Rattle.rules.specs.AnswersBy.{Refuses}
+use Rattle.rules.specs.Refuses.{Refuses}
 use Rattle.rules.specs.Condition.{Condition}
-use Rattle.rules.specs.Order.{refusalOrder, sheetNumbers, isSublist, isDistinct}
+use Rattle.rules.specs.Order.{refusalOrder, sheetNumbers, isSublist}
 use Rattle.formats.specs.Append.{append, emptyFile}
 use Rattle.formats.specs.Encode.{encode}
 use Rattle.formats.specs.Load.{load, loadEntries, noHeader}
@@ -37,8 +38,16 @@ use Rattle.runs.specs.Verifier.{takeCommitment, takeChallenge, takeRespo
 abbrev pub RefusesOn : List ℕ → List ℕ → List Condition → ℕ → Type 0 → Type 0
 RefusesOn sheet numbers conditions n Left = Refuses (sheetNumbers ++ numbers) (loadConditions sheet ++ conditions) n Left
 
--- the calls that load and make sheets
-pub record SheetRefusals : Type 0 where
+-- a call hands back Peggy's session p as it was, and zeros
+abbrev pub Unmoved : Prover → ProverStep → Type 0
+Unmoved p step = (step .session ≡ p) × (step .values ≡ zeros8)
+
+-- demand 1: every call but the two that make a new session, which take nothing and refuse nothing, and the marker's, whose
+-- lines name what is refused
+pub record Demand1 : Type 0 where
+  -- 01's numbers 1 to 22 stand in its order in rising order, and none twice: the first of a call's numbers is the lowest
+  pub order : (isSublist (tabulate 22 suc) refusalOrder ≡ true) × EachOnce refusalOrder
+  -- ---- the calls that load and make sheets
   -- loading; a refused sheet gives zeros beside the number
   pub loading : (sheet : List ℕ)
       → Refuses sheetNumbers (loadConditions sheet) (load sheet .refusal)
@@ -53,9 +62,7 @@ pub record SheetRefusals : Type 0 where
   pub encoding : (inst : Instance) (buffer : List ℕ)
       → Refuses (4 ∷ 5 ∷ 6 ∷ 7 ∷ 8 ∷ 10 ∷ 11 ∷ 22 ∷ []) (encodeConditions inst buffer) (encode inst buffer .answer .refusal)
       (Keeps buffer (encode inst buffer))
-
--- the calls that read and write round files
-pub record FileRefusals : Type 0 where
+  -- ---- the calls that read and write round files
   -- counting the rounds; a refused file has count 0
   pub counting : (sheet file : List ℕ)
       → RefusesOn sheet (12 ∷ []) (fileConditions (headerOf sheet) file) (countRounds sheet file .refusal)
@@ -77,9 +84,7 @@ pub record FileRefusals : Type 0 where
   pub appending : (sheet buffer : List ℕ) (used : ℕ) (round : Round)
       → RefusesOn sheet (12 ∷ 22 ∷ []) (appendConditions (headerOf sheet) buffer used)
       (append sheet buffer used round .answer .refusal) (Keeps buffer (append sheet buffer used round))
-
--- the calls on rounds
-pub record RoundRefusals : Type 0 where
+  -- ---- the calls on rounds
   -- judging; a refused round's verdict is the number
   pub judging : (sheet : List ℕ) (round : Round)
       → RefusesOn sheet (14 ∷ 15 ∷ 16 ∷ []) (judgeConditions (instanceOf sheet) round)
@@ -92,13 +97,7 @@ pub record RoundRefusals : Type 0 where
   pub extracting : (sheet : List ℕ) (first second : Round)
       → RefusesOn sheet (14 ∷ 15 ∷ 16 ∷ 18 ∷ 19 ∷ 20 ∷ []) (extractConditions (instanceOf sheet) first second)
       (extractWitness sheet first second .refusal) (extractWitness sheet first second .values ≡ zeros8)
-
--- a call hands back Peggy's session p as it was, and zeros
-abbrev pub Unmoved : Prover → ProverStep → Type 0
-Unmoved p step = (step .session ≡ p) × (step .values ≡ zeros8)
-
--- the calls on Peggy's session; a refused call hands back the same session, and zeros beside the number
-pub record ProverRefusals : Type 0 where
+  -- ---- the calls on Peggy's session; a refused call hands back the same session, and zeros beside the number
   pub committing : (sheet : List ℕ) (p : Prover) (k : List ℕ)
       → RefusesOn sheet (16 ∷ 21 ∷ []) (commitConditions (instanceOf sheet) p k)
       (commit sheet p k .refusal) (Unmoved p (commit sheet p k))
@@ -106,29 +105,15 @@ pub record ProverRefusals : Type 0 where
       → RefusesOn sheet (15 ∷ 16 ∷ 17 ∷ 21 ∷ []) (respondConditions (instanceOf sheet) p c x)
       (respond sheet p c x .refusal) (Unmoved p (respond sheet p c x))
   pub dropping : (p : Prover) → Refuses (21 ∷ []) (dropConditions p) (dropSession p .refusal) (Unmoved p (dropSession p))
-
--- the calls on Vic's session; a refused call hands back the same session
-pub record VerifierRefusals : Type 0 where
-  pub commitment : (sheet : List ℕ) (v : Verifier) (t : List ℕ)
+  -- ---- the calls on Vic's session; a refused call hands back the same session
+  pub taking-commitment : (sheet : List ℕ) (v : Verifier) (t : List ℕ)
       → RefusesOn sheet (14 ∷ 21 ∷ []) (takeCommitmentConditions (instanceOf sheet) v t)
       (takeCommitment sheet v t .refusal) (takeCommitment sheet v t .session ≡ v)
-  pub challenge : (sheet : List ℕ) (v : Verifier) (c : ℕ)
+  pub taking-challenge : (sheet : List ℕ) (v : Verifier) (c : ℕ)
       → RefusesOn sheet (15 ∷ 21 ∷ []) (takeChallengeConditions (instanceOf sheet) v c)
       (takeChallenge sheet v c .refusal) (takeChallenge sheet v c .session ≡ v)
-  -- the verdict is then the number
-  pub response : (sheet : List ℕ) (v : Verifier) (r : List ℕ)
+  -- and the verdict is the number
+  pub taking-response : (sheet : List ℕ) (v : Verifier) (r : List ℕ)
       → RefusesOn sheet (16 ∷ 21 ∷ []) (takeResponseConditions (instanceOf sheet) v r)
       (outcome (takeResponse sheet v r .verdict) .number)
       (takeResponse sheet v r ≡ record { verdict = Refused (outcome (takeResponse sheet v r .verdict) .number); session = v })
-
--- demand 1: every call but the two that make a new session, which take nothing and refuse nothing, and the marker's, whose
--- lines name what is refused
-pub record Demand1 : Type 0 where
-  -- 01's numbers 1 to 22 stand in its order in rising order, and none twice: the first of a call's numbers is the lowest
-  pub order : (isSublist (tabulate 22 suc) refusalOrder ≡ true) × (isDistinct refusalOrder ≡ true)
-  -- each call's numbers, the conditions that fix which of them is answered, and what a refused call leaves
-  pub sheets : SheetRefusals
-  pub files : FileRefusals
-  pub rounds : RoundRefusals
-  pub prover : ProverRefusals
-  pub verifier : VerifierRefusals

@@ -12,17 +12,17 @@ use Rattle.sigma.specs.Listed.{allChoices, ListsAccepted}
 use Rattle.sigma.specs.Reads.{paddedRound}
 use Rattle.runs.specs.Calls.{judgeRound, simulateCommitment, extractWitness}
 use Rattle.runs.specs.Knowledge.{Accepts, honestRound, simulatedRound}
-use Rattle.runs.specs.OnSheet.{SameSlots, Same, Below}
+use Rattle.runs.specs.OnSheet.{readSlots, readIn, Below}
 use Rattle.runs.specs.Prover.{newProver, commit, respond}
 
--- unread places are no part of a nonce, witness, response or round: no answer depends on them
+-- unread places are no part of a nonce, witness, response or round: a call answers what it answers to the places that are read
 pub record ReadAlone (sheet : List ℕ) : Type 0 where
-  pub honest : (x x′ : List ℕ) (c : ℕ) (k k′ : List ℕ) → SameSlots sheet x x′ → SameSlots sheet k k′
-      → honestRound sheet x c k ≡ honestRound sheet x′ c k′
-  pub simulated : (c : ℕ) (r r′ : List ℕ) → SameSlots sheet r r′ → simulateCommitment sheet c r ≡ simulateCommitment sheet c r′
-  pub judged : (round round′ : Round) → Same sheet round round′ → judgeRound sheet round ≡ judgeRound sheet round′
-  pub extracted : (first first′ second second′ : Round) → Same sheet first first′ → Same sheet second second′
-      → extractWitness sheet first second ≡ extractWitness sheet first′ second′
+  pub honest : (x : List ℕ) (c : ℕ) (k : List ℕ)
+      → honestRound sheet x c k ≡ honestRound sheet (readSlots sheet x) c (readSlots sheet k)
+  pub simulated : (c : ℕ) (r : List ℕ) → simulateCommitment sheet c r ≡ simulateCommitment sheet c (readSlots sheet r)
+  pub judged : (round : Round) → judgeRound sheet round ≡ judgeRound sheet (readIn sheet round)
+  pub extracted : (first second : Round)
+      → extractWitness sheet first second ≡ extractWitness sheet (readIn sheet first) (readIn sheet second)
 
 -- demand 3 of a sheet
 pub record Demand3 (sheet : List ℕ) : Type 0 where

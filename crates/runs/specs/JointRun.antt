@@ -3,40 +3,30 @@
 use Prim.Native.Nat.{ℕ}
 use mathlib.Core.Path.{_≡_}
 use mathlib.Core.List.{List}
-use Rattle.types.specs.declared.ProverStep.{ProverStep}
+use Rattle.types.specs.declared.Round.{Round}
 use Rattle.types.specs.declared.Verdict.the-variants.{Accepted}
 use Rattle.types.specs.declared.VerifierStep.{VerifierStep}
 use Rattle.types.specs.declared.VerifierVerdict.{VerifierVerdict}
+use Rattle.runs.specs.Knowledge.{honestRound}
 use Rattle.runs.specs.Prover.{newProver, commit, respond}
 use Rattle.runs.specs.Verifier.{newVerifier, takeCommitment, takeChallenge, takeResponse}
 
--- what the five calls gave
-pub record JointRun : Type 0 where
-  pub committed : ProverStep
-  pub held : VerifierStep
-  pub asked : VerifierStep
-  pub answered : ProverStep
-  pub told : VerifierVerdict
+-- Vic takes a round's commitment in a new session
+abbrev pub holding : List ℕ → Round → VerifierStep
+holding sheet round = takeCommitment sheet newVerifier (round .commitment)
 
--- the calls for witness x, challenge c and nonce k
-unfoldable pub jointRun : List ℕ → List ℕ → ℕ → List ℕ → JointRun
-jointRun sheet x c k =
-    let committed : ProverStep = commit sheet newProver k in
-    let held : VerifierStep = takeCommitment sheet newVerifier (committed .values) in
-    let asked : VerifierStep = takeChallenge sheet (held .session) c in
-    let answered : ProverStep = respond sheet (committed .session) c x in
-    record {
-      committed = committed;
-      held = held;
-      asked = asked;
-      answered = answered;
-      told = takeResponse sheet (asked .session) (answered .values);
-    }
+-- then its challenge
+abbrev pub asked : List ℕ → Round → VerifierStep
+asked sheet round = takeChallenge sheet (holding sheet round .session) (round .challenge)
 
--- none of the calls is refused, and Vic accepts
-pub record Succeeds (run : JointRun) : Type 0 where
-  pub committed : run .committed .refusal ≡ 0
-  pub held : run .held .refusal ≡ 0
-  pub asked : run .asked .refusal ≡ 0
-  pub answered : run .answered .refusal ≡ 0
-  pub accepted : run .told .verdict ≡ Accepted
+-- and gives the verdict on its response
+abbrev pub told : List ℕ → Round → VerifierVerdict
+told sheet round = takeResponse sheet (asked sheet round .session) (round .response)
+
+-- for witness x, challenge c and nonce k none of Peggy's and Vic's calls is refused, and Vic accepts
+pub record JointRun (sheet x : List ℕ) (c : ℕ) (k : List ℕ) : Type 0 where
+  pub committed : commit sheet newProver k .refusal ≡ 0
+  pub held : holding sheet (honestRound sheet x c k) .refusal ≡ 0
+  pub challenged : asked sheet (honestRound sheet x c k) .refusal ≡ 0
+  pub responded : respond sheet (commit sheet newProver k .session) c x .refusal ≡ 0
+  pub accepted : told sheet (honestRound sheet x c k) .verdict ≡ Accepted

@@ -4,7 +4,6 @@ pub mod OnSheet
 pub mod Prover
 pub mod Verifier
 pub mod Refusals
-pub mod Reads
 pub mod Meaning
 pub mod Run
 pub mod ProverCalls

@@ -1,11 +1,14 @@
--- What a sheet's bytes say of arrays, rounds and challenges (01, "The sheet"): the places that are read, and the count K.
+-- What a sheet's bytes say of arrays, rounds, sessions and challenges (01, "The sheet"): the places that are read (those beyond
+-- s or n are not, save those of Peggy's held commitment by 21), and the count K.
 -- Assumes nothing.
 use Prim.Native.Nat.{ℕ, _<_}
 use mathlib.Core.List.{List}
+use Rattle.types.specs.declared.Prover.{Prover}
 use Rattle.types.specs.declared.Round.{Round}
+use Rattle.types.specs.declared.Verifier.{Verifier}
 use Rattle.lists.specs.Places.{places}
 use Rattle.formats.specs.Sheet.{instanceOf}
-use Rattle.sigma.specs.Reads.{Agree, SameRound}
+use Rattle.sigma.specs.Reads.{readRound}
 
 -- what is read of a commitment: s places
 abbrev pub readValues : List ℕ → List ℕ → List ℕ
@@ -15,17 +18,17 @@ readValues sheet t = places (instanceOf sheet .header .rows) t
 abbrev pub readSlots : List ℕ → List ℕ → List ℕ
 readSlots sheet x = places (instanceOf sheet .header .columns) x
 
--- two commitments agree in what is read
-abbrev pub SameValues : List ℕ → List ℕ → List ℕ → Type 0
-SameValues sheet t t′ = Agree (instanceOf sheet .header .rows) t t′
+-- what is read of a round
+abbrev pub readIn : List ℕ → Round → Round
+readIn sheet round = readRound (instanceOf sheet .header) round
 
--- two nonces, witnesses or responses agree in what is read
-abbrev pub SameSlots : List ℕ → List ℕ → List ℕ → Type 0
-SameSlots sheet x x′ = Agree (instanceOf sheet .header .columns) x x′
+-- what is read of Peggy's session: the state, n places of the nonce and all eight of the commitment
+abbrev pub readProver : List ℕ → Prover → Prover
+readProver sheet p = record { phase = p .phase; nonce = readSlots sheet (p .nonce); commitment = places 8 (p .commitment) }
 
--- two rounds are the same
-abbrev pub Same : List ℕ → Round → Round → Type 0
-Same sheet round round′ = SameRound (instanceOf sheet .header) round round′
+-- what is read of Vic's session: the state, s places of the commitment and the challenge
+abbrev pub readVerifier : List ℕ → Verifier → Verifier
+readVerifier sheet v = record { phase = v .phase; commitment = readValues sheet (v .commitment); challenge = v .challenge }
 
 -- a challenge is below K
 abbrev pub Below : List ℕ → ℕ → Type 0

@@ -18,33 +18,10 @@ use Rattle.sigma.specs.Knowledge.{Choice, Witness}
 use Rattle.sigma.specs.Meaning.{Holds, FailsFirst}
 use Rattle.sigma.specs.Reads.{roundOf}
 use Rattle.runs.specs.Calls.{judgeRound}
-use Rattle.runs.specs.JointRun.{jointRun, Succeeds}
+use Rattle.runs.specs.JointRun.{JointRun}
 use Rattle.runs.specs.OnSheet.{readSlots, Below}
 use Rattle.runs.specs.Prover.{commit, respond}
 use Rattle.runs.specs.Verifier.{takeResponse}
-
--- Peggy's commitment to a nonce k in a session p
-pub record CommitsToImage (sheet : List ℕ) : Type 0 where
-  -- t = [k], row by row
-  pub rows : (p : Prover) (k : List ℕ) → commit sheet p k .refusal ≡ 0 → (i : ℕ) → i < instanceOf sheet .header .rows
-      → getD (commit sheet p k .values) i 0 ≡ rowImage (tableOf (instanceOf sheet)) k i
-  -- places beyond s are 0
-  pub beyond : (p : Prover) (k : List ℕ) (i : ℕ) → instanceOf sheet .header .rows ≤ i
-      → getD (commit sheet p k .values) i 0 ≡ 0
-
--- Peggy's response to a challenge c with a witness x in a session p
-pub record RespondsBySlot (sheet : List ℕ) : Type 0 where
-  -- slot by slot k + c·x mod q in kind 1
-  pub exponent : instanceOf sheet .header .kind ≡ 1 → (p : Prover) (c : ℕ) (x : List ℕ) → respond sheet p c x .refusal ≡ 0
-      → (j : ℕ) → j < instanceOf sheet .header .columns
-      → getD (respond sheet p c x .values) j 0 ≡ (getD (p .nonce) j 0 + c * getD x j 0) % instanceOf sheet .header .order
-  -- and k·x^c mod m in kind 2
-  pub root : instanceOf sheet .header .kind ≡ 2 → (p : Prover) (c : ℕ) (x : List ℕ) → respond sheet p c x .refusal ≡ 0
-      → (j : ℕ) → j < instanceOf sheet .header .columns
-      → getD (respond sheet p c x .values) j 0 ≡ getD (p .nonce) j 0 * getD x j 0 ^ c % instanceOf sheet .header .modulus
-  -- places beyond n are 0
-  pub beyond : (p : Prover) (c : ℕ) (x : List ℕ) (j : ℕ) → instanceOf sheet .header .columns ≤ j
-      → getD (respond sheet p c x .values) j 0 ≡ 0
 
 -- the verdict on a round that is not refused
 pub record JudgesByRows (sheet : List ℕ) (round : Round) : Type 0 where
@@ -57,9 +34,22 @@ pub record JudgesByRows (sheet : List ℕ) (round : Round) : Type 0 where
 
 -- the protocol on a sheet
 pub record Protocol (sheet : List ℕ) : Type 0 where
-  -- Peggy's commitments and responses
-  pub commitments : CommitsToImage sheet
-  pub responses : RespondsBySlot sheet
+  -- Peggy's commitment to a nonce k in a session p is [k], row by row
+  pub commitment : (p : Prover) (k : List ℕ) → commit sheet p k .refusal ≡ 0 → (i : ℕ) → i < instanceOf sheet .header .rows
+      → getD (commit sheet p k .values) i 0 ≡ rowImage (tableOf (instanceOf sheet)) k i
+  -- her response to a challenge c with a witness x in a session p is, slot by slot, k + c·x mod q in kind 1
+  pub exponent-response : instanceOf sheet .header .kind ≡ 1 → (p : Prover) (c : ℕ) (x : List ℕ) → respond sheet p c x .refusal ≡ 0
+      → (j : ℕ) → j < instanceOf sheet .header .columns
+      → getD (respond sheet p c x .values) j 0 ≡ (getD (p .nonce) j 0 + c * getD x j 0) % instanceOf sheet .header .order
+  -- and k·x^c mod m in kind 2
+  pub root-response : instanceOf sheet .header .kind ≡ 2 → (p : Prover) (c : ℕ) (x : List ℕ) → respond sheet p c x .refusal ≡ 0
+      → (j : ℕ) → j < instanceOf sheet .header .columns
+      → getD (respond sheet p c x .values) j 0 ≡ getD (p .nonce) j 0 * getD x j 0 ^ c % instanceOf sheet .header .modulus
+  -- places beyond s and beyond n are 0
+  pub beyond-rows : (p : Prover) (k : List ℕ) (i : ℕ) → instanceOf sheet .header .rows ≤ i
+      → getD (commit sheet p k .values) i 0 ≡ 0
+  pub beyond-columns : (p : Prover) (c : ℕ) (x : List ℕ) (j : ℕ) → instanceOf sheet .header .columns ≤ j
+      → getD (respond sheet p c x .values) j 0 ≡ 0
   -- the verdicts of the call that judges rounds
   pub verdicts : (round : Round) → outcome (judgeRound sheet round) .number ≡ 0 → JudgesByRows sheet round
   -- Vic's verdict is what judging answers on the held commitment, the held challenge and the response
@@ -68,4 +58,4 @@ pub record Protocol (sheet : List ℕ) : Type 0 where
   -- both boxes together: for a witness, a nonce of domain slots and a challenge below K no call is refused and Vic accepts
   pub joint-run : (x k : List ℕ) (c : ℕ) → Witness (instanceOf sheet) (readSlots sheet x)
       → Choice (instanceOf sheet) (readSlots sheet k) → Below sheet c
-      → Succeeds (jointRun sheet x c k)
+      → JointRun sheet x c k

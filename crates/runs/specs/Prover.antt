@@ -37,11 +37,7 @@ newProver = record { phase = New; nonce = zeros8; commitment = zeros8 }
 -- the outcome of a call: the changed session and eight values, or the number, the same session and zeros
 unfoldable pub proverStep : ℕ → Prover → Prover → List ℕ → ProverStep
 proverStep refusal before after xs =
-    record {
-      refusal = refusal;
-      session = unlessRefused refusal after before;
-      values = eightPlaces refusal xs;
-    }
+    record { refusal = refusal; session = unlessRefused refusal after before; values = eightPlaces refusal xs }
 
 -- the rules of a nonce and the state
 unfoldable pub commitRules : Instance → Prover → List ℕ → List Rule

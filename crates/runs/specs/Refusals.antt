@@ -1,6 +1,6 @@
 -- The conditions of 01's refusal 21 as facts, and which conditions each call on a session asks, in order.
 -- Assumes nothing.
-use Prim.Native.Nat.{ℕ}
+use Prim.Native.Nat.{ℕ, _<_}
 use mathlib.Core.Logic.{_⊎_, _≢_}
 use mathlib.Core.List.{List, [], _∷_}
 use Rattle.types.specs.declared.Prover.{Prover}
@@ -9,30 +9,24 @@ use Rattle.types.specs.declared.Verifier.{Verifier}
 use Rattle.types.specs.declared.VerifierPhase.the-variants.{Waiting, Holding, Asked}
 use Rattle.lists.specs.Places.{pad8}
 use Rattle.rules.specs.Condition.{Condition, _if_}
-use Rattle.sigma.specs.Image.{image}
-use Rattle.sigma.specs.Instance.{Instance, tableOf}
+use Rattle.sigma.specs.Image.{rowImage, image}
+use Rattle.sigma.specs.Instance.{Instance, tableOf, statementAt}
 use Rattle.sigma.specs.Reads.{Differ}
-use Rattle.sigma.specs.Refusals.{Refusal14, Refusal15, Refusal16, Refusal17}
-
--- a held nonce slot is no domain slot, or the nonce's image, 0 beyond s, is not the held commitment in all eight places
-abbrev pub UnfitProver : Instance → Prover → Type 0
-UnfitProver inst p = Refusal16 inst (p .nonce) ⊎ Differ 8 (pad8 0 (image (tableOf inst) (p .nonce))) (p .commitment)
-
--- a held commitment value is no group element
-abbrev pub UnfitCommitment : Instance → Verifier → Type 0
-UnfitCommitment inst v = Refusal14 inst (v .commitment)
+use Rattle.sigma.specs.Refusals.{Refusal14, Refusal15, Refusal16}
 
 -- committing
 abbrev pub commitConditions : Instance → Prover → List ℕ → List Condition
 commitConditions inst p k = (16 if Refusal16 inst k) ∷ (21 if (p .phase ≢ New)) ∷ []
 
--- responding
+-- responding; 17: the witness's image is not the statement; 21: besides the state, a held nonce slot is no domain slot, or the
+-- nonce's image, 0 beyond s, is not the held commitment in all eight places
 abbrev pub respondConditions : Instance → Prover → ℕ → List ℕ → List Condition
 respondConditions inst p c x =
     (15 if Refusal15 inst c) ∷
     (16 if Refusal16 inst x) ∷
-    (17 if Refusal17 inst x) ∷
-    (21 if ((p .phase ≢ Committed) ⊎ UnfitProver inst p)) ∷ []
+    (17 if ((i : ℕ) × (i < inst .header .rows) × (rowImage (tableOf inst) x i ≢ statementAt inst i))) ∷
+    (21 if ((p .phase ≢ Committed) ⊎ Refusal16 inst (p .nonce) ⊎
+    Differ 8 (pad8 0 (image (tableOf inst) (p .nonce))) (p .commitment))) ∷ []
 
 -- dropping
 abbrev pub dropConditions : Prover → List Condition
@@ -42,13 +36,13 @@ dropConditions p = (21 if ((p .phase ≢ New) × (p .phase ≢ Committed))) ∷ 
 abbrev pub takeCommitmentConditions : Instance → Verifier → List ℕ → List Condition
 takeCommitmentConditions inst v t = (14 if Refusal14 inst t) ∷ (21 if (v .phase ≢ Waiting)) ∷ []
 
--- Vic's challenge
+-- Vic's challenge; 21: besides the state, a held commitment value is no group element
 abbrev pub takeChallengeConditions : Instance → Verifier → ℕ → List Condition
 takeChallengeConditions inst v c =
-    (15 if Refusal15 inst c) ∷ (21 if ((v .phase ≢ Holding) ⊎ UnfitCommitment inst v)) ∷ []
+    (15 if Refusal15 inst c) ∷ (21 if ((v .phase ≢ Holding) ⊎ Refusal14 inst (v .commitment))) ∷ []
 
--- Vic's response
+-- Vic's response; 21: likewise, or the held challenge is K or more
 abbrev pub takeResponseConditions : Instance → Verifier → List ℕ → List Condition
 takeResponseConditions inst v r =
     (16 if Refusal16 inst r) ∷
-    (21 if ((v .phase ≢ Asked) ⊎ UnfitCommitment inst v ⊎ Refusal15 inst (v .challenge))) ∷ []
+    (21 if ((v .phase ≢ Asked) ⊎ Refusal14 inst (v .commitment) ⊎ Refusal15 inst (v .challenge))) ∷ []

@@ -10,14 +10,12 @@ use Rattle.types.specs.declared.ProverPhase.the-variants.{New}
 use Rattle.types.specs.declared.Verifier.{Verifier}
 use Rattle.types.specs.declared.VerifierPhase.the-variants.{Waiting, Judged}
 use Rattle.lists.specs.Places.{zeros8}
-use Rattle.formats.specs.Sheet.{instanceOf}
-use Rattle.runs.specs.OnSheet.{SameSlots, SameValues}
+use Rattle.runs.specs.OnSheet.{readSlots, readValues, readProver, readVerifier}
 use Rattle.runs.specs.Prover.{newProver, commit, respond}
 use Rattle.runs.specs.ProverCalls.{ProverCall, ProverMoves, proverAfter, proverTrace, answered, Ended}
-use Rattle.runs.specs.Reads.{SameProver, SameVerifier}
 use Rattle.runs.specs.Run.{Leads}
 use Rattle.runs.specs.Verifier.{newVerifier, verifierState, takeCommitment, takeChallenge, takeResponse}
-use Rattle.runs.specs.VerifierCalls.{VerifierCall, VerifierMoves, sessionOf, verifierAfter, verifierTrace}
+use Rattle.runs.specs.VerifierCalls.{VerifierCall, VerifierMoves, verifierAfter, verifierTrace}
 
 -- Peggy's steps
 pub record OneAnswer : Type 0 where
@@ -39,7 +37,7 @@ pub record StepsInOrder : Type 0 where
   pub new : newVerifier ≡ record { phase = Waiting; commitment = zeros8; challenge = 0 }
   -- the calls that are carried out lead from the session to the one at the end, each as 01 has it; a refused call changes nothing
   pub in-order : (calls : List VerifierCall) (v : Verifier)
-      → Leads sessionOf VerifierMoves v (verifierTrace calls v) (verifierAfter calls v)
+      → Leads (λ step. step .session) VerifierMoves v (verifierTrace calls v) (verifierAfter calls v)
   -- each of them leads one state on, so that there is at most one commitment, one challenge and one verdict
   pub next : (calls : List VerifierCall) (v : Verifier)
       → verifierState (verifierAfter calls v .phase) ≡ verifierState (v .phase) + length (verifierTrace calls v)
@@ -52,21 +50,20 @@ pub record StepsInOrder : Type 0 where
   pub ended : (calls : List VerifierCall) (v : Verifier) → v .phase ≡ Judged
       → (verifierTrace calls v ≡ []) × (verifierAfter calls v ≡ v)
 
--- unread places are no part of a nonce, witness, commitment or response, brought or held
+-- unread places are no part of a nonce, witness, commitment or response, brought or held: a call answers what it answers to
+-- the places that are read
 pub record SessionsReadAlone (sheet : List ℕ) : Type 0 where
-  pub committed : (p : Prover) (k k′ : List ℕ) → SameSlots sheet k k′ → commit sheet p k ≡ commit sheet p k′
-  pub responded : (p : Prover) (c : ℕ) (x x′ : List ℕ) → SameSlots sheet x x′
-      → respond sheet p c x ≡ respond sheet p c x′
-  pub responded-held : (p p′ : Prover) (c : ℕ) (x : List ℕ) → SameProver (instanceOf sheet .header) p p′
-      → (respond sheet p c x .refusal ≡ respond sheet p′ c x .refusal) × (respond sheet p c x .values ≡ respond sheet p′ c x .values)
-  pub commitment : (v : Verifier) (t t′ : List ℕ) → SameValues sheet t t′
-      → takeCommitment sheet v t ≡ takeCommitment sheet v t′
-  pub challenge-held : (v v′ : Verifier) (c : ℕ) → SameVerifier (instanceOf sheet .header) v v′
-      → takeChallenge sheet v c .refusal ≡ takeChallenge sheet v′ c .refusal
-  pub response : (v : Verifier) (r r′ : List ℕ) → SameSlots sheet r r′
-      → takeResponse sheet v r ≡ takeResponse sheet v r′
-  pub response-held : (v v′ : Verifier) (r : List ℕ) → SameVerifier (instanceOf sheet .header) v v′
-      → takeResponse sheet v r .verdict ≡ takeResponse sheet v′ r .verdict
+  pub committed : (p : Prover) (k : List ℕ) → commit sheet p k ≡ commit sheet p (readSlots sheet k)
+  pub responded : (p : Prover) (c : ℕ) (x : List ℕ) → respond sheet p c x ≡ respond sheet p c (readSlots sheet x)
+  pub responded-held : (p : Prover) (c : ℕ) (x : List ℕ)
+      → (respond sheet p c x .refusal ≡ respond sheet (readProver sheet p) c x .refusal)
+      × (respond sheet p c x .values ≡ respond sheet (readProver sheet p) c x .values)
+  pub commitment : (v : Verifier) (t : List ℕ) → takeCommitment sheet v t ≡ takeCommitment sheet v (readValues sheet t)
+  pub challenge-held : (v : Verifier) (c : ℕ)
+      → takeChallenge sheet v c .refusal ≡ takeChallenge sheet (readVerifier sheet v) c .refusal
+  pub response : (v : Verifier) (r : List ℕ) → takeResponse sheet v r ≡ takeResponse sheet v (readSlots sheet r)
+  pub response-held : (v : Verifier) (r : List ℕ)
+      → takeResponse sheet v r .verdict ≡ takeResponse sheet (readVerifier sheet v) r .verdict
 
 -- both sessions
 pub record Sessions : Type 0 where

@@ -75,11 +75,8 @@ takeResponseAfter before inst v response =
     let r : List ℕ = places (inst .header .columns) response in
     let refusal : ℕ = lowest (before ++ takeResponseRules inst v r) in
     record {
-      verdict =
-          judged refusal (verdict inst (places (inst .header .rows) (v .commitment)) (v .challenge) r);
-      session =
-          unlessRefused refusal
-          (record { phase = Judged; commitment = v .commitment; challenge = v .challenge }) v;
+      verdict = judged refusal (verdict inst (places (inst .header .rows) (v .commitment)) (v .challenge) r);
+      session = unlessRefused refusal (record { phase = Judged; commitment = v .commitment; challenge = v .challenge }) v;
     }
 
 -- the call that brings the commitment

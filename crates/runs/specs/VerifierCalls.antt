@@ -19,43 +19,30 @@ pub data VerifierCall : Type 0 where
   Challenge : List ℕ → ℕ → VerifierCall
   Response : List ℕ → List ℕ → VerifierCall
 
--- what a call answers: a step, or a verdict
-pub data VerifierOutcome : Type 0 where
-  Step : VerifierStep → VerifierOutcome
-  Told : VerifierVerdict → VerifierOutcome
-
--- the number that an answer is refused with, 0 for none
-unfoldable pub refusalOf : VerifierOutcome → ℕ
-refusalOf (Step step) = step .refusal
-refusalOf (Told told) = outcome (told .verdict) .number
-
--- the session that an answer hands back
-unfoldable pub sessionOf : VerifierOutcome → Verifier
-sessionOf (Step step) = step .session
-sessionOf (Told told) = told .session
-
--- what a call on a session gives
-unfoldable pub callVerifier : VerifierCall → Verifier → VerifierOutcome
-callVerifier (Commitment sheet t) v = Step (takeCommitment sheet v t)
-callVerifier (Challenge sheet c) v = Step (takeChallenge sheet v c)
-callVerifier (Response sheet r) v = Told (takeResponse sheet v r)
+-- what a call on a session gives: the number that it is refused with, 0 for none, and the session that it hands back
+unfoldable pub callVerifier : VerifierCall → Verifier → VerifierStep
+callVerifier (Commitment sheet t) v = takeCommitment sheet v t
+callVerifier (Challenge sheet c) v = takeChallenge sheet v c
+callVerifier (Response sheet r) v =
+    let told : VerifierVerdict = takeResponse sheet v r in
+    record { refusal = outcome (told .verdict) .number; session = told .session }
 
 -- the session after a list of calls
 unfoldable pub verifierAfter : List VerifierCall → Verifier → Verifier
-verifierAfter calls v = sessionAfter callVerifier sessionOf calls v
+verifierAfter calls v = sessionAfter callVerifier (λ step. step .session) calls v
 
 -- the calls of a list that are carried out, each with what it answered
-unfoldable pub verifierTrace : List VerifierCall → Verifier → List (VerifierCall × VerifierOutcome)
-verifierTrace calls v = trace callVerifier sessionOf refusalOf calls v
+unfoldable pub verifierTrace : List VerifierCall → Verifier → List (VerifierCall × VerifierStep)
+verifierTrace calls v = trace callVerifier (λ step. step .session) (λ step. step .refusal) calls v
 
 -- in which state a call is carried out, and what it hands back: a commitment leads from Waiting to Holding, a challenge from
 -- Holding to Asked, and a response from Asked to Judged; what came before is kept, and no response is
-abbrev pub VerifierMoves : Verifier → VerifierCall → VerifierOutcome → Type 0
-VerifierMoves v (Commitment sheet t) answer =
+abbrev pub VerifierMoves : Verifier → VerifierCall → VerifierStep → Type 0
+VerifierMoves v (Commitment sheet t) step =
     (v .phase ≡ Waiting) ×
-    (sessionOf answer ≡ record { phase = Holding; commitment = pad8 0 (readValues sheet t); challenge = v .challenge })
-VerifierMoves v (Challenge sheet c) answer =
-    (v .phase ≡ Holding) × (sessionOf answer ≡ record { phase = Asked; commitment = v .commitment; challenge = c })
-VerifierMoves v (Response sheet r) answer =
+    (step .session ≡ record { phase = Holding; commitment = pad8 0 (readValues sheet t); challenge = v .challenge })
+VerifierMoves v (Challenge sheet c) step =
+    (v .phase ≡ Holding) × (step .session ≡ record { phase = Asked; commitment = v .commitment; challenge = c })
+VerifierMoves v (Response sheet r) step =
     (v .phase ≡ Asked) ×
-    (sessionOf answer ≡ record { phase = Judged; commitment = v .commitment; challenge = v .challenge })
+    (step .session ≡ record { phase = Judged; commitment = v .commitment; challenge = v .challenge })

@@ -9,27 +9,27 @@ use Rattle.lists.specs.Places.{zeros8}
 use Rattle.rules.specs.Rule.{Rule, lowest, Clear}
 use Rattle.rules.proofs.Lowest.{lowest-later, lowest-earlier}
 use Rattle.sigma.specs.Instance.{Instance}
-use Rattle.sigma.specs.Judge.{judgeAfter, judge}
-use Rattle.sigma.specs.Simulator.{simulateAfter, simulate}
-use Rattle.sigma.specs.Extractor.{extractAfter, extract}
+use Rattle.sigma.specs.Judge.{judgeAfter, judgeLoaded}
+use Rattle.sigma.specs.Simulator.{simulateAfter, simulateLoaded}
+use Rattle.sigma.specs.Extractor.{extractAfter, extractLoaded}
 use Rattle.sigma.proofs.Answer.{judged-positive, computed-positive}
 
 module _ (before : List Rule) (i : Instance) where
   -- ---- no rule of the sheet applies
 
   -- judging
-  pub judgeAfter-clear : Clear before → (round : Round) → judgeAfter before i round ≡ judge i round
-  unfolding judge judgeAfter
+  pub judgeAfter-clear : Clear before → (round : Round) → judgeAfter before i round ≡ judgeLoaded i round
+  unfolding judgeLoaded judgeAfter
   judgeAfter-clear none round = rw (lowest-later before _ none)
 
   -- simulating
-  pub simulateAfter-clear : Clear before → (c : ℕ) (response : List ℕ) → simulateAfter before i c response ≡ simulate i c response
-  unfolding simulate simulateAfter
+  pub simulateAfter-clear : Clear before → (c : ℕ) (response : List ℕ) → simulateAfter before i c response ≡ simulateLoaded i c response
+  unfolding simulateLoaded simulateAfter
   simulateAfter-clear none c response = rw (lowest-later before _ none)
 
   -- extracting
-  pub extractAfter-clear : Clear before → (first second : Round) → extractAfter before i first second ≡ extract i first second
-  unfolding extract extractAfter
+  pub extractAfter-clear : Clear before → (first second : Round) → extractAfter before i first second ≡ extractLoaded i first second
+  unfolding extractLoaded extractAfter
   extractAfter-clear none first second = rw (lowest-later before _ none)
 
   -- ---- a rule of the sheet applies

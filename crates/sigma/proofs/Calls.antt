@@ -19,9 +19,9 @@ use Rattle.sigma.specs.Reads.{roundOf, readRound, SameRound}
 use Rattle.sigma.specs.Meaning.{Holds, FailsFirst, Coordinates, Fits, Extracts}
 use Rattle.sigma.specs.Answer.{isAccepted}
 use Rattle.sigma.specs.Round.{badCommitment, badChallenge, badCoordinates, verdict}
-use Rattle.sigma.specs.Judge.{judgeRules, judgeAfter, judge}
-use Rattle.sigma.specs.Simulator.{simulated, simulateRules, simulateAfter, simulate}
-use Rattle.sigma.specs.Extractor.{extracted, pairRules, extractRules, extractAfter, extract}
+use Rattle.sigma.specs.Judge.{judgeRules, judgeAfter, judgeLoaded}
+use Rattle.sigma.specs.Simulator.{simulated, simulateRules, simulateAfter, simulateLoaded}
+use Rattle.sigma.specs.Extractor.{extracted, extractRules, extractAfter, extractLoaded}
 use Rattle.sigma.proofs.Calculus.{says-passes, both-fail}
 use Rattle.sigma.proofs.Comparison.{differ-false}
 use Rattle.sigma.proofs.Tests.{says-accepted}
@@ -63,7 +63,7 @@ module _ (i : Instance) where
   -- extracting: both rounds fit and are accepted, with the same commitment and different challenges
   pub extract-clear : (t : List ℕ) (c : ℕ) (r t′ : List ℕ) (c′ : ℕ) (r′ : List ℕ)
       → Clear (extractRules i t c r t′ c′ r′) ↔ Extracts i (roundOf t c r) (roundOf t′ c′ r′)
-  unfolding extractRules pairRules judgeRules
+  unfolding extractRules judgeRules
   extract-clear t c r t′ c′ r′ =
       let elements = both-fail (badCommitment i t) (badCommitment i t′) in
       let below = both-fail (badChallenge i c) (badChallenge i c′) in
@@ -92,10 +92,10 @@ module _ (i : Instance) where
 
 module _ (i : Instance) (round : Round) where
   -- judging gives a verdict that is no refusal exactly where the round fits and that is the verdict on what is read of it
-  judge-given : (w : Verdict) → ((k : ℕ) → w ≢ Refused k) → (judge i round ≡ w)
+  judge-given : (w : Verdict) → ((k : ℕ) → w ≢ Refused k) → (judgeLoaded i round ≡ w)
       ↔ (Fits i (readRound (i .header) round)
       × (verdict i (places (i .header .rows) (round .commitment)) (round .challenge) (places (i .header .columns) (round .response)) ≡ w))
-  unfolding judge judgeAfter
+  unfolding judgeLoaded judgeAfter
   judge-given w u =
       let t = places (i .header .rows) (round .commitment) in
       let c = round .challenge in
@@ -105,26 +105,26 @@ module _ (i : Instance) (round : Round) where
       (Iff·and (Iff·trans (lowest-zero rules (judge-positive i t c r)) (judge-clear i t c r)) Iff·rfl)
 
   -- judging accepts exactly a round that fits and whose two sides agree in every row
-  pub judge-accepted : (judge i round ≡ Accepted) ↔ (Fits i (readRound (i .header) round) × Holds i (readRound (i .header) round))
+  pub judge-accepted : (judgeLoaded i round ≡ Accepted) ↔ (Fits i (readRound (i .header) round) × Holds i (readRound (i .header) round))
   judge-accepted = Iff·trans (judge-given Accepted accepted-not-refused) (Iff·and Iff·rfl (verdict-accepted i _ _ _))
 
   -- judging rejects exactly a round that fits and whose two sides differ, with the first row in which they do
-  pub judge-rejected : (row : ℕ) → (judge i round ≡ Rejected row)
+  pub judge-rejected : (row : ℕ) → (judgeLoaded i round ≡ Rejected row)
       ↔ (Fits i (readRound (i .header) round) × FailsFirst i (readRound (i .header) round) row)
   judge-rejected row =
       Iff·trans (judge-given (Rejected row) (rejected-not-refused row)) (Iff·and Iff·rfl (verdict-rejected i _ _ _ row))
 
   -- judging refuses with exactly the number above 0 that its rules give
-  pub judge-refused : (n : ℕ) → (judge i round ≡ Refused n)
+  pub judge-refused : (n : ℕ) → (judgeLoaded i round ≡ Refused n)
       ↔ ((0 < n)
       × (lowest
       (judgeRules i (places (i .header .rows) (round .commitment)) (round .challenge) (places (i .header .columns) (round .response)))
       ≡ n))
-  unfolding judge judgeAfter
+  unfolding judgeLoaded judgeAfter
   judge-refused n = judged-refused (lowest _) (verdict i _ _ _) n (verdict-not-refused i _ _ _)
 
   -- of a Valid instance the same holds with the round's own arrays: accepted
-  pub valid-judge-accepted : Valid i → (judge i round ≡ Accepted) ↔ (Fits i round × Holds i round)
+  pub valid-judge-accepted : Valid i → (judgeLoaded i round ≡ Accepted) ↔ (Fits i round × Holds i round)
   valid-judge-accepted v =
       let s : SameRound (i .header) (readRound (i .header) round) round = same-round-of-read (i .header) round in
       let back = same-round-sym s in
@@ -132,7 +132,7 @@ module _ (i : Instance) (round : Round) where
       (λ x. (fits-same i s (x .0), holds-same i s v (x .1)), λ x. (fits-same i back (x .0), holds-same i back v (x .1)))
 
   -- and rejected
-  pub valid-judge-rejected : Valid i → (row : ℕ) → (judge i round ≡ Rejected row) ↔ (Fits i round × FailsFirst i round row)
+  pub valid-judge-rejected : Valid i → (row : ℕ) → (judgeLoaded i round ≡ Rejected row) ↔ (Fits i round × FailsFirst i round row)
   valid-judge-rejected v row =
       let s : SameRound (i .header) (readRound (i .header) round) round = same-round-of-read (i .header) round in
       let back = same-round-sym s in
@@ -143,12 +143,12 @@ module _ (i : Instance) (round : Round) where
 
 module _ (i : Instance) (c : ℕ) (response : List ℕ) where
   -- the simulator's number is what its rules give
-  pub simulate-refusal : simulate i c response .refusal ≡ lowest (simulateRules i c (places (i .header .columns) response))
-  unfolding simulate simulateAfter
+  pub simulate-refusal : simulateLoaded i c response .refusal ≡ lowest (simulateRules i c (places (i .header .columns) response))
+  unfolding simulateLoaded simulateAfter
   simulate-refusal = computed-refusal _ _
 
   -- the simulator runs exactly for a challenge below K and a response of coordinates
-  pub simulate-runs : (simulate i c response .refusal ≡ 0) ↔ ((c < i .header .challenges) × Coordinates i response)
+  pub simulate-runs : (simulateLoaded i c response .refusal ≡ 0) ↔ ((c < i .header .challenges) × Coordinates i response)
   simulate-runs =
       let r = places (i .header .columns) response in
       let same = getD-places (i .header .columns) response in
@@ -158,36 +158,36 @@ module _ (i : Instance) (c : ℕ) (response : List ℕ) where
       (Iff·and Iff·rfl (coordinates-agree i r response same, coordinates-agree i response r (λ j h. sym (same j h))))))
 
   -- what the simulator gives where it runs
-  pub simulate-given : simulate i c response .refusal ≡ 0
-      → simulate i c response ≡ record { refusal = 0; values = pad8 0 (simulated i c (places (i .header .columns) response)) }
-  unfolding simulate simulateAfter
+  pub simulate-given : simulateLoaded i c response .refusal ≡ 0
+      → simulateLoaded i c response ≡ record { refusal = 0; values = pad8 0 (simulated i c (places (i .header .columns) response)) }
+  unfolding simulateLoaded simulateAfter
   simulate-given = computed-given _ _
 
 -- ---- extracting
 
 module _ (i : Instance) (first second : Round) where
   -- the extractor's number is what its rules give
-  pub extract-refusal : extract i first second .refusal
+  pub extract-refusal : extractLoaded i first second .refusal
       ≡ lowest
       (extractRules i (places (i .header .rows) (first .commitment)) (first .challenge) (places (i .header .columns) (first .response))
       (places (i .header .rows) (second .commitment)) (second .challenge) (places (i .header .columns) (second .response)))
-  unfolding extract extractAfter
+  unfolding extractLoaded extractAfter
   extract-refusal = computed-refusal _ _
 
   -- the extractor runs exactly for two rounds that fit and are accepted, with the same commitment and different challenges
-  pub extract-runs : (extract i first second .refusal ≡ 0) ↔ Extracts i (readRound (i .header) first) (readRound (i .header) second)
+  pub extract-runs : (extractLoaded i first second .refusal ≡ 0) ↔ Extracts i (readRound (i .header) first) (readRound (i .header) second)
   extract-runs = rw extract-refusal (Iff·trans (lowest-zero _ (extract-positive i _ _ _ _ _ _)) (extract-clear i _ _ _ _ _ _))
 
   -- of a Valid instance the same holds with the rounds' own arrays
-  pub valid-extract-runs : Valid i → (extract i first second .refusal ≡ 0) ↔ Extracts i first second
+  pub valid-extract-runs : Valid i → (extractLoaded i first second .refusal ≡ 0) ↔ Extracts i first second
   valid-extract-runs v =
       let s : SameRound (i .header) (readRound (i .header) first) first = same-round-of-read (i .header) first in
       let t : SameRound (i .header) (readRound (i .header) second) second = same-round-of-read (i .header) second in
       Iff·trans extract-runs (extracts-same i s t v, extracts-same i (same-round-sym s) (same-round-sym t) v)
 
   -- what the extractor gives where it runs
-  pub extract-given : extract i first second .refusal ≡ 0
-      → extract i first second
+  pub extract-given : extractLoaded i first second .refusal ≡ 0
+      → extractLoaded i first second
       ≡ record {
         refusal = 0;
         values =
@@ -195,5 +195,5 @@ module _ (i : Instance) (first second : Round) where
             (extracted i (first .challenge) (places (i .header .columns) (first .response)) (second .challenge)
             (places (i .header .columns) (second .response)));
       }
-  unfolding extract extractAfter
+  unfolding extractLoaded extractAfter
   extract-given = computed-given _ _

@@ -14,7 +14,7 @@ use Rattle.groups.specs.Vector.{same-vector}
 use Rattle.numbers.specs.Integer.{bezoutLeft, bezoutRight}
 use Rattle.numbers.proofs.Coprime.{bezout-challenges}
 use Rattle.sigma.specs.Instance.{Instance, tableOf}
-use Rattle.sigma.specs.Extractor.{extracted, extract}
+use Rattle.sigma.specs.Extractor.{extracted, extractLoaded}
 use Rattle.sigma.specs.Domain.{Codomain}
 use Rattle.sigma.specs.Knowledge.{AcceptedRound, AcceptedPair, Extraction}
 use Rattle.sigma.specs.Meaning.{Extracts}
@@ -68,13 +68,13 @@ module _ {inst : Instance} (v : Valid inst) (first second : Round)
       (runs .first-fits .challenge) (runs .second-fits .challenge) (p .challenges)
 
   -- the extractor runs
-  gives : extract inst first second ≡ record { refusal = 0; values = pad8 0 (given inst first second) }
+  gives : extractLoaded inst first second ≡ record { refusal = 0; values = pad8 0 (given inst first second) }
   gives = extract-given inst first second (valid-extract-runs inst first second v .1 runs)
 
 module _ {inst : Instance} (v : Valid inst) (first second : Round)
     (p : AcceptedPair (inst .header) (AcceptedRound inst) first second) where
   -- the extractor gives a witness, the same one with the rounds swapped, by 01's formula for all integers that fit
-  pub extraction : Extraction inst (extract inst) first second
+  pub extraction : Extraction inst (extractLoaded inst) first second
   unfolding extracted
   extraction =
       let n = inst .header .columns in

@@ -79,8 +79,8 @@ module _ (i : Instance) where
       ↔ (i .header .kind ≡ 1 → (r c : ℕ) → r < i .header .rows → c < i .header .columns → Element (i .header) (entry (tableOf i) r c))
   entries-pass =
       let fails = says-false (says-badEntries i) in (
-        λ e k r c hr hc. says-stable (says-element (i .header) (entry (tableOf i) r c)) (λ n. fails .0 e (k, (r, hr, (c, hc, n)))),
-        λ f. fails .1 (λ (k, (r, hr, (c, hc, n))). n (f k r c hr hc)),
+        λ e k r c hr hc. says-stable (says-element (i .header) (entry (tableOf i) r c)) (λ n. fails .0 e (k, (r, c, hr, hc, n))),
+        λ f. fails .1 (λ (k, (r, c, hr, hc, n)). n (f k r c hr hc)),
       )
 
   -- not 11: every statement value is a group element

@@ -4,35 +4,35 @@ use Prim.Native.Nat.{ℕ}
 use mathlib.Core.List.{List}
 use lib.Dec.{T}
 use Rattle.types.specs.declared.Header.{Header}
-use Rattle.rules.specs.Rule.{positive}
+use Rattle.rules.specs.Rule.{allPositive}
 use Rattle.sigma.specs.Instance.{Instance}
 use Rattle.sigma.specs.Admission.{headerRules, elementRules}
 use Rattle.sigma.specs.Judge.{judgeRules}
 use Rattle.sigma.specs.Simulator.{simulateRules}
-use Rattle.sigma.specs.Extractor.{pairRules, extractRules}
+use Rattle.sigma.specs.Extractor.{extractRules}
 
 -- the numbers of the fixed fields' rules are positive
-pub header-positive : (h : Header) → T (positive (headerRules h))
+pub header-positive : (h : Header) → T (allPositive (headerRules h))
 unfolding headerRules
 header-positive h = tt
 
 -- the numbers of the elements' rules are positive
-pub element-positive : (i : Instance) → T (positive (elementRules i))
+pub element-positive : (i : Instance) → T (allPositive (elementRules i))
 unfolding elementRules
 element-positive i = tt
 
 -- the numbers of judging are positive
-pub judge-positive : (i : Instance) (t : List ℕ) (c : ℕ) (r : List ℕ) → T (positive (judgeRules i t c r))
+pub judge-positive : (i : Instance) (t : List ℕ) (c : ℕ) (r : List ℕ) → T (allPositive (judgeRules i t c r))
 unfolding judgeRules
 judge-positive i t c r = tt
 
 -- the numbers of simulating are positive
-pub simulate-positive : (i : Instance) (c : ℕ) (r : List ℕ) → T (positive (simulateRules i c r))
+pub simulate-positive : (i : Instance) (c : ℕ) (r : List ℕ) → T (allPositive (simulateRules i c r))
 unfolding simulateRules
 simulate-positive i c r = tt
 
 -- the numbers of extracting are positive
 pub extract-positive : (i : Instance) (t : List ℕ) (c : ℕ) (r t′ : List ℕ) (c′ : ℕ) (r′ : List ℕ)
-    → T (positive (extractRules i t c r t′ c′ r′))
-unfolding extractRules pairRules
+    → T (allPositive (extractRules i t c r t′ c′ r′))
+unfolding extractRules
 extract-positive i t c r t′ c′ r′ = tt

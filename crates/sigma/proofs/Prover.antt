@@ -10,7 +10,7 @@ use Rattle.groups.specs.Vector.{same-vector}
 use Rattle.groups.proofs.Simulation.{honest-transcripts}
 use Rattle.sigma.specs.Instance.{Instance, tableOf}
 use Rattle.sigma.specs.Domain.{Domain}
-use Rattle.sigma.specs.Judge.{judge}
+use Rattle.sigma.specs.Judge.{judgeLoaded}
 use Rattle.sigma.specs.Knowledge.{AcceptedRound, Choice, Witness, honestOn, MeetsEachOnce}
 use Rattle.sigma.specs.Valid.{Valid}
 use Rattle.sigma.proofs.Homomorphism.{elementsOf, imageOf, homomorphism}
@@ -37,5 +37,5 @@ module _ {inst : Instance} (v : Valid inst) (x : List ℕ) (w : Witness inst x) 
         })
 
     -- completeness: the honest round is accepted
-    pub honest-accepted : (k : List ℕ) → Choice inst k → judge inst (honestOn inst x c k) ≡ Accepted
+    pub honest-accepted : (k : List ℕ) → Choice inst k → judgeLoaded inst (honestOn inst x c k) ≡ Accepted
     honest-accepted = honest-rounds .accepted

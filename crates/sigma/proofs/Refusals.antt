@@ -3,7 +3,7 @@
 use Prim.Native.Nat.{ℕ, _<_}
 use mathlib.Core.Path.{_≡_, refl, sym, subst, _∙_}
 use mathlib.Core.Bool.{not}
-use mathlib.Core.Logic.{_↔_}
+use mathlib.Core.Logic.{_↔_, _≢_}
 use mathlib.Core.List.{List}
 use lib.ListN.{getD}
 use Rattle.types.specs.declared.Header.{Header}
@@ -17,12 +17,13 @@ use Rattle.sigma.specs.Admission.{headerRules, elementRules}
 use Rattle.sigma.specs.Answer.{isAccepted}
 use Rattle.sigma.specs.Comparison.{differ}
 use Rattle.sigma.specs.Element.{Element, Coordinate}
-use Rattle.sigma.specs.Extractor.{pairRules, extractRules}
-use Rattle.sigma.specs.Image.{image}
-use Rattle.sigma.specs.Instance.{Instance, Table}
+use Rattle.sigma.specs.Extractor.{extractRules}
+use Rattle.sigma.specs.Image.{rowImage, image}
+use Rattle.sigma.specs.Instance.{Instance, Table, tableOf, statementAt}
 use Rattle.sigma.specs.Judge.{judgeRules}
 use Rattle.sigma.specs.Meaning.{Holds}
-use Rattle.sigma.specs.Refusals.{Refusal14, Refusal16, Refusal17, Refusal18}
+use Rattle.sigma.specs.Reads.{Differ}
+use Rattle.sigma.specs.Refusals.{Refusal14, Refusal16}
 use Rattle.sigma.specs.Refusals.{headerConditions, elementConditions, judgeConditions, simulateConditions, extractConditions}
 use Rattle.sigma.specs.Round.{badCommitment, badCoordinates, badWitness, verdict}
 use Rattle.sigma.specs.Simulator.{simulateRules}
@@ -66,7 +67,7 @@ module _ (i : Instance) where
 
   -- 18
   commitments-read : (t t′ : List ℕ)
-      → Says (differ (i .header .rows) (places (i .header .rows) t) (places (i .header .rows) t′)) (Refusal18 i t t′)
+      → Says (differ (i .header .rows) (places (i .header .rows) t) (places (i .header .rows) t′)) (Differ (i .header .rows) t t′)
   commitments-read t t′ =
       let s = i .header .rows in
       says-iff (says-differ s _ _) (
@@ -83,7 +84,9 @@ image-read {table} v x =
     tabulate-agree (table .header .rows) _ _ (rowImage-agree v (places n x) x (getD-places n x))
 
 -- 17
-pub witness-read : {i : Instance} → Valid i → (x : List ℕ) → Says (badWitness i (places (i .header .columns) x)) (Refusal17 i x)
+pub witness-read : {i : Instance} → Valid i → (x : List ℕ)
+    → Says (badWitness i (places (i .header .columns) x))
+    ((r : ℕ) × (r < i .header .rows) × (rowImage (tableOf i) x r ≢ statementAt i r))
 unfolding badWitness
 witness-read {i} v x = rw (image-read (v .table) x) (says-badWitness i x)
 
@@ -118,7 +121,7 @@ pub extract-tests : {i : Instance} → Valid i → (first second : Round)
     (extractRules i (places (i .header .rows) (first .commitment)) (first .challenge) (places (i .header .columns) (first .response))
     (places (i .header .rows) (second .commitment)) (second .challenge) (places (i .header .columns) (second .response)))
     (extractConditions i first second)
-unfolding extractRules pairRules
+unfolding extractRules
 extract-tests {i} v first second = (
   refl,
   says-or (commitment-read i (first .commitment)) (commitment-read i (second .commitment)),

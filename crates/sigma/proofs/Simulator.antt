@@ -11,7 +11,7 @@ use Rattle.groups.specs.Transcript.{simulatedTranscript}
 use Rattle.groups.proofs.Simulation.{simulated-transcripts}
 use Rattle.sigma.specs.Instance.{Instance}
 use Rattle.sigma.specs.Knowledge.{AcceptedRound, Choice, simulatedOn, MeetsEachOnce}
-use Rattle.sigma.specs.Simulator.{simulated, simulate}
+use Rattle.sigma.specs.Simulator.{simulated, simulateLoaded}
 use Rattle.sigma.specs.Valid.{Valid}
 use Rattle.sigma.proofs.Calls.{simulate-runs, simulate-given}
 use Rattle.sigma.proofs.Homomorphism.{homomorphism}
@@ -32,7 +32,7 @@ module _ {inst : Instance} (v : Valid inst) (c : ℕ) (below : c < inst .header 
 
   -- the simulator's call gives the commitment of the simulated round
   pub simulate-answer : (r : List ℕ) → Choice inst r
-      → simulate inst c r ≡ record { refusal = 0; values = pad8 0 (simulatedOn inst c r .commitment) }
+      → simulateLoaded inst c r ≡ record { refusal = 0; values = pad8 0 (simulatedOn inst c r .commitment) }
   unfolding simulatedOn
   simulate-answer r slots =
       simulate-given inst c r (simulate-runs inst c r .1 (below, each-at _ _ r slots))

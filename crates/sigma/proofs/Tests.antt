@@ -2,7 +2,7 @@
 -- Assumes nothing.
 use Prim.Native.Nat.{ℕ, _-_, _%_, _<_, _≤_, _∣_}
 use mathlib.Core.Path.{_≡_, refl, sym, _∙_}
-use mathlib.Core.Logic.{_≢_}
+use mathlib.Core.Logic.{_≢_, _⊎_}
 use mathlib.Core.Bool.{Bool, true, false, cond, or-assoc, false≢true}
 use mathlib.Core.List.{List}
 use native.Mathlib.Decide.{decLt}
@@ -20,11 +20,11 @@ use Rattle.rules.proofs.Says.{says-less, says-at-most, says-equal, says-or, say
 use Rattle.sigma.specs.Instance.{Instance, tableOf, isExponent, entry, statementAt}
 use Rattle.sigma.specs.Element.{isElement, someNonElement, isCoordinate, someNonCoordinate, Element, Coordinate}
 use Rattle.sigma.specs.Admission.{firstDivisor, badKind, badModulus, badOrder, badSize, badCount, badEntries, badStatement}
-use Rattle.sigma.specs.Image.{image}
+use Rattle.sigma.specs.Image.{rowImage, image}
 use Rattle.sigma.specs.Round.{badCommitment, badChallenge, badCoordinates, badWitness}
 use Rattle.sigma.specs.Answer.{isAccepted}
-use Rattle.sigma.specs.Refusals.{Refusal4, Refusal5, Refusal6, Refusal7, Refusal8, Refusal10, Refusal11}
-use Rattle.sigma.specs.Refusals.{SomeNonElement, Refusal14, Refusal15, Refusal16, Refusal17}
+use Rattle.sigma.specs.Refusals.{Refusal5, Refusal6, Refusal8, Refusal11}
+use Rattle.sigma.specs.Refusals.{SomeNonElement, Refusal14, Refusal15, Refusal16}
 use Rattle.sigma.proofs.Calculus.{says-any, says-divides}
 use Rattle.sigma.proofs.Comparison.{says-differ}
 use Rattle.sigma.proofs.Values.{image-at}
@@ -67,7 +67,7 @@ says-coordinate h x =
 -- ---- the fixed fields (4 to 8)
 
 -- 4: the kind is neither 1 nor 2
-pub says-badKind : (h : Header) → Says (badKind h) (Refusal4 h)
+pub says-badKind : (h : Header) → Says (badKind h) (¬ ((h .kind ≡ 1) ⊎ (h .kind ≡ 2)))
 unfolding badKind
 says-badKind h = says-not (says-or (says-equal (h .kind) 1) (says-equal (h .kind) 2))
 
@@ -82,7 +82,9 @@ unfolding badOrder
 says-badOrder h = says-less (h .order) 2
 
 -- 7: rows or columns lie outside 1 to 8, or differ in kind 2
-pub says-badSize : (h : Header) → Says (badSize h) (Refusal7 h)
+pub says-badSize : (h : Header)
+    → Says (badSize h)
+    ((h .rows < 1) ⊎ (8 < h .rows) ⊎ (h .columns < 1) ⊎ (8 < h .columns) ⊎ ((h .kind ≡ 2) × (h .rows ≢ h .columns)))
 unfolding badSize
 says-badSize h =
     simp or-assoc
@@ -124,11 +126,17 @@ says-badCount h =
 -- ---- the entries and the statement (10 and 11)
 
 -- 10: in kind 1 some entry is no group element
-pub says-badEntries : (i : Instance) → Says (badEntries i) (Refusal10 i)
+pub says-badEntries : (i : Instance)
+    → Says (badEntries i)
+    ((i .header .kind ≡ 1) × ((r : ℕ) × (c : ℕ) × (r < i .header .rows) × (c < i .header .columns) ×
+    (¬ Element (i .header) (entry (tableOf i) r c))))
 unfolding badEntries
 says-badEntries i =
     says-and (says-exponent (i .header))
-    (says-any _ _ _ (λ r. says-any _ _ _ (λ c. says-not (says-element (i .header) (entry (tableOf i) r c)))))
+    (says-iff (says-any _ _ _ (λ r. says-any _ _ _ (λ c. says-not (says-element (i .header) (entry (tableOf i) r c))))) (
+      λ (r, low, (c, low′, fails)). (r, c, low, low′, fails),
+      λ (r, c, low, low′, fails). (r, low, (c, low′, fails)),
+    ))
 
 -- some value among the first n is no group element
 pub says-someNonElement : (h : Header) (n : ℕ) (vs : List ℕ)
@@ -159,7 +167,8 @@ unfolding badCoordinates someNonCoordinate
 says-badCoordinates i x = says-any _ _ _ (λ j. says-not (says-coordinate (i .header) (getD x j 0)))
 
 -- 17: some row of the witness's image is not the statement's value
-pub says-badWitness : (i : Instance) (x : List ℕ) → Says (badWitness i x) (Refusal17 i x)
+pub says-badWitness : (i : Instance) (x : List ℕ)
+    → Says (badWitness i x) ((r : ℕ) × (r < i .header .rows) × (rowImage (tableOf i) x r ≢ statementAt i r))
 unfolding badWitness statementAt
 says-badWitness i x =
     says-iff (says-differ (i .header .rows) (image (tableOf i) x) (i .statement))

@@ -19,7 +19,7 @@ use Rattle.sigma.specs.Valid.{Valid, ValidTable}
 use Rattle.sigma.specs.Image.{rowImage}
 use Rattle.sigma.specs.Reads.{Agree, SameRound, readRound}
 use Rattle.sigma.specs.Meaning.{RowHolds, Holds, FailsFirst, Elements, Coordinates, Fits, Extracts}
-use Rattle.sigma.specs.Judge.{judgeAfter, judge}
+use Rattle.sigma.specs.Judge.{judgeAfter, judgeLoaded}
 use Rattle.sigma.specs.Simulator.{simulateAfter}
 use Rattle.sigma.specs.Extractor.{extractAfter}
 use Rattle.sigma.proofs.Tests.{says-exponent}
@@ -154,6 +154,6 @@ module _ (before : List Rule) (i : Instance) where
       cc (same-commitment s, same-response s, s .challenge, same-commitment t, same-response t, t .challenge)
 
 -- judging a round of a Valid instance
-pub judge-same : (i : Instance) {round round′ : Round} → SameRound (i .header) round round′ → judge i round ≡ judge i round′
-unfolding judge
+pub judge-same : (i : Instance) {round round′ : Round} → SameRound (i .header) round round′ → judgeLoaded i round ≡ judgeLoaded i round′
+unfolding judgeLoaded
 judge-same i s = judgeAfter-same [] i s

@@ -36,19 +36,14 @@ extracted inst c r c′ r′ =
     let delta : ℤ = pos c -ℤ pos c′ in
     formula inst (bezoutLeft (inst .header .order) delta) (bezoutRight (inst .header .order) delta) r r′
 
--- the rules of the rounds (t, c, r) and (t′, c′, r′) before either is judged, each asked of both rounds before the next
-unfoldable pub pairRules : Instance → List ℕ → ℕ → List ℕ → List ℕ → ℕ → List ℕ → List Rule
-pairRules inst t c r t′ c′ r′ =
+-- the rules of the rounds (t, c, r) and (t′, c′, r′), each asked of both rounds before the next
+unfoldable pub extractRules : Instance → List ℕ → ℕ → List ℕ → List ℕ → ℕ → List ℕ → List Rule
+extractRules inst t c r t′ c′ r′ =
     (14 when (badCommitment inst t || badCommitment inst t′)) ∷
     (15 when (badChallenge inst c || badChallenge inst c′)) ∷
     (16 when (badCoordinates inst r || badCoordinates inst r′)) ∷
     (18 when differ (inst .header .rows) t t′) ∷
-    (19 when eqb c c′) ∷ []
-
--- the rules of the two rounds; 20 comes last
-unfoldable pub extractRules : Instance → List ℕ → ℕ → List ℕ → List ℕ → ℕ → List ℕ → List Rule
-extractRules inst t c r t′ c′ r′ =
-    pairRules inst t c r t′ c′ r′ ++
+    (19 when eqb c c′) ∷
     (20 when (not (isAccepted (verdict inst t c r)) || not (isAccepted (verdict inst t′ c′ r′)))) ∷ []
 
 -- the witness from two rounds after the rules of the sheet; s places of each commitment and n of each response are read
@@ -62,5 +57,5 @@ extractAfter before inst first second =
     (extracted inst (first .challenge) r (second .challenge) r′)
 
 -- the witness from two rounds of a Valid instance, for callers that have loaded the sheet
-unfoldable pub extract : Instance → Round → Round → Computed
-extract inst first second = extractAfter [] inst first second
+unfoldable pub extractLoaded : Instance → Round → Round → Computed
+extractLoaded inst first second = extractAfter [] inst first second

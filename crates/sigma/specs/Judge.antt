@@ -22,5 +22,5 @@ judgeAfter before inst round =
     judged (lowest (before ++ judgeRules inst t (round .challenge) r)) (verdict inst t (round .challenge) r)
 
 -- the verdict on a round of a Valid instance, for callers that have loaded the sheet
-unfoldable pub judge : Instance → Round → Verdict
-judge inst round = judgeAfter [] inst round
+unfoldable pub judgeLoaded : Instance → Round → Verdict
+judgeLoaded inst round = judgeAfter [] inst round

@@ -17,7 +17,7 @@ use Rattle.sigma.specs.Instance.{Instance, tableOf}
 use Rattle.sigma.specs.Element.{Coordinate}
 use Rattle.sigma.specs.Extractor.{formula}
 use Rattle.sigma.specs.Image.{image}
-use Rattle.sigma.specs.Judge.{judge}
+use Rattle.sigma.specs.Judge.{judgeLoaded}
 use Rattle.sigma.specs.Reads.{Agree, roundOf, SameRound}
 use Rattle.sigma.specs.Round.{response}
 use Rattle.sigma.specs.Simulator.{simulated}
@@ -33,7 +33,7 @@ pub record Witness (inst : Instance) (x : List ℕ) : Type 0 where
 
 -- the call that judges rounds answers accepted
 abbrev pub AcceptedRound : Instance → Round → Type 0
-AcceptedRound inst round = judge inst round ≡ Accepted
+AcceptedRound inst round = judgeLoaded inst round ≡ Accepted
 
 -- the honest round of witness x, challenge c and nonce k
 unfoldable pub honestOn : Instance → List ℕ → ℕ → List ℕ → Round

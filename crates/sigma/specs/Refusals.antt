@@ -10,14 +10,9 @@ use Rattle.types.specs.declared.Header.{Header}
 use Rattle.types.specs.declared.Round.{Round}
 use Rattle.rules.specs.Condition.{Condition, _if_}
 use Rattle.sigma.specs.Element.{Element, Coordinate}
-use Rattle.sigma.specs.Image.{rowImage}
-use Rattle.sigma.specs.Instance.{Instance, tableOf, entry, statementAt}
+use Rattle.sigma.specs.Instance.{Instance, tableOf, entry}
 use Rattle.sigma.specs.Meaning.{Holds}
 use Rattle.sigma.specs.Reads.{Differ}
-
--- the kind is neither 1 nor 2
-abbrev pub Refusal4 : Header → Type 0
-Refusal4 h = ¬ ((h .kind ≡ 1) ⊎ (h .kind ≡ 2))
 
 -- the modulus is below 3
 abbrev pub Refusal5 : Header → Type 0
@@ -26,12 +21,6 @@ Refusal5 h = h .modulus < 3
 -- ℓ is below 2
 abbrev pub Refusal6 : Header → Type 0
 Refusal6 h = h .order < 2
-
--- rows or columns lie outside 1 to 8, or differ in kind 2
-abbrev pub Refusal7 : Header → Type 0
-Refusal7 h =
-    (h .rows < 1) ⊎ (8 < h .rows) ⊎ (h .columns < 1) ⊎ (8 < h .columns) ⊎
-    ((h .kind ≡ 2) × (h .rows ≢ h .columns))
 
 -- K is below 2 or above 65,536, or some d with 2 ≤ d < K divides ℓ
 abbrev pub Refusal8 : Header → Type 0
@@ -42,13 +31,6 @@ Refusal8 h =
 -- some value among the first n is no group element
 abbrev pub SomeNonElement : Header → ℕ → List ℕ → Type 0
 SomeNonElement h n vs = (i : ℕ) × (i < n) × (¬ Element h (getD vs i 0))
-
--- some entry is no group element; only kind 1 has entries
-abbrev pub Refusal10 : Instance → Type 0
-Refusal10 inst =
-    (inst .header .kind ≡ 1) ×
-    ((i : ℕ) × (i < inst .header .rows) ×
-    ((j : ℕ) × (j < inst .header .columns) × (¬ Element (inst .header) (entry (tableOf inst) i j))))
 
 -- some statement value is no group element
 abbrev pub Refusal11 : Instance → Type 0
@@ -66,22 +48,21 @@ Refusal15 inst c = inst .header .challenges ≤ c
 abbrev pub Refusal16 : Instance → List ℕ → Type 0
 Refusal16 inst x = (j : ℕ) × (j < inst .header .columns) × (¬ Coordinate (inst .header) (getD x j 0))
 
--- the witness's image is not the statement
-abbrev pub Refusal17 : Instance → List ℕ → Type 0
-Refusal17 inst x = (i : ℕ) × (i < inst .header .rows) × (rowImage (tableOf inst) x i ≢ statementAt inst i)
-
--- the two commitments differ
-abbrev pub Refusal18 : Instance → List ℕ → List ℕ → Type 0
-Refusal18 inst t t′ = Differ (inst .header .rows) t t′
-
--- the fixed fields
+-- the fixed fields; 7: rows or columns lie outside 1 to 8, or differ in kind 2
 abbrev pub headerConditions : Header → List Condition
 headerConditions h =
-    (4 if Refusal4 h) ∷ (5 if Refusal5 h) ∷ (6 if Refusal6 h) ∷ (7 if Refusal7 h) ∷ (8 if Refusal8 h) ∷ []
+    (4 if (¬ ((h .kind ≡ 1) ⊎ (h .kind ≡ 2)))) ∷
+    (5 if Refusal5 h) ∷
+    (6 if Refusal6 h) ∷
+    (7 if ((h .rows < 1) ⊎ (8 < h .rows) ⊎ (h .columns < 1) ⊎ (8 < h .columns) ⊎ ((h .kind ≡ 2) × (h .rows ≢ h .columns)))) ∷
+    (8 if Refusal8 h) ∷ []
 
--- the entries and the statement
+-- the entries, which only kind 1 has, and the statement
 abbrev pub elementConditions : Instance → List Condition
-elementConditions inst = (10 if Refusal10 inst) ∷ (11 if Refusal11 inst) ∷ []
+elementConditions inst =
+    (10 if ((inst .header .kind ≡ 1) × ((i : ℕ) × (j : ℕ) × (i < inst .header .rows) × (j < inst .header .columns) ×
+    (¬ Element (inst .header) (entry (tableOf inst) i j))))) ∷
+    (11 if Refusal11 inst) ∷ []
 
 -- judging a round
 abbrev pub judgeConditions : Instance → Round → List Condition
@@ -100,6 +81,6 @@ extractConditions inst first second =
     (14 if (Refusal14 inst (first .commitment) ⊎ Refusal14 inst (second .commitment))) ∷
     (15 if (Refusal15 inst (first .challenge) ⊎ Refusal15 inst (second .challenge))) ∷
     (16 if (Refusal16 inst (first .response) ⊎ Refusal16 inst (second .response))) ∷
-    (18 if Refusal18 inst (first .commitment) (second .commitment)) ∷
+    (18 if Differ (inst .header .rows) (first .commitment) (second .commitment)) ∷
     (19 if (first .challenge ≡ second .challenge)) ∷
     (20 if ((¬ Holds inst first) ⊎ (¬ Holds inst second))) ∷ []

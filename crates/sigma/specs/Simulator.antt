@@ -29,5 +29,5 @@ simulateAfter before inst c response =
     computed (lowest (before ++ simulateRules inst c r)) (simulated inst c r)
 
 -- the simulated commitment of a Valid instance, for callers that have loaded the sheet
-unfoldable pub simulate : Instance → ℕ → List ℕ → Computed
-simulate inst c response = simulateAfter [] inst c response
+unfoldable pub simulateLoaded : Instance → ℕ → List ℕ → Computed
+simulateLoaded inst c response = simulateAfter [] inst c response

@@ -4,9 +4,9 @@ use mathlib.Core.Path.{_≡_, subst}
 use mathlib.Core.Bool.{true}
 use mathlib.Core.List.{List, [], _∷_}
 use mathlib.Core.Logic.{_⊎_, inl, inr, ⊎-elim}
-use Prim.Native.Nat.{ℕ, _≤_}
+use Prim.Native.Nat.{ℕ, _≤_, _<_}
 use Rattle.lists.specs.Member.{Member}
-use Rattle.rules.specs.AnswersBy.{conditionNumbers, AnswersBy}
+use Rattle.rules.specs.Refuses.{conditionNumbers, Refuses}
 use Rattle.rules.specs.Condition.{Condition, _if_, Given, Applies, Tests}
 use Rattle.rules.specs.Order.{refusalOrder, isSublist, position}
 use Rattle.rules.specs.Rule.{Rule, lowest}
@@ -21,29 +21,31 @@ given-among ((m if holds) ∷ conditions) n (inl first) = inr (inl (first .1))
 given-among ((m if holds) ∷ conditions) n (inr later) =
     ⊎-elim (λ none. inl none) (λ found. inr (inr found)) (given-among conditions n (later .1))
 
-module _ (numbers : List ℕ) (conditions : List Condition) (numbered : conditionNumbers conditions ≡ numbers)
+module _ (numbers : List ℕ) (conditions : List Condition) {Left : Type 0} (numbered : conditionNumbers conditions ≡ numbers)
     (ordered : isSublist numbers refusalOrder ≡ true) where
   -- conditions with numbers in 01's order fix the answer
-  pub answers-given : (n : ℕ) → Given conditions n → AnswersBy numbers conditions n
-  answers-given n gives = record {
+  pub refuses-given : (n : ℕ) → Given conditions n → (0 < n → Left) → Refuses numbers conditions n Left
+  refuses-given n gives left = record {
     numbered = numbered;
     ordered = ordered;
     among = subst (λ (ns : List ℕ). (n ≡ 0) ⊎ Member n ns) numbered (given-among conditions n gives);
     given = gives;
+    left = left;
   }
 
   -- so do rules that test them
-  pub answers-tested : (rules : List Rule) → Tests rules conditions → AnswersBy numbers conditions (lowest rules)
-  answers-tested rules tests = answers-given (lowest rules) (given rules conditions tests)
+  pub refuses-tested : (rules : List Rule) → Tests rules conditions → (0 < lowest rules → Left)
+      → Refuses numbers conditions (lowest rules) Left
+  refuses-tested rules tests = refuses-given (lowest rules) (given rules conditions tests)
 
 -- a call ends in a result or in one of 01's numbers
-pub answers-known : {numbers : List ℕ} {conditions : List Condition} {n : ℕ} → AnswersBy numbers conditions n
+pub answers-known : {numbers : List ℕ} {conditions : List Condition} {n : ℕ} {Left : Type 0} → Refuses numbers conditions n Left
     → (n ≡ 0) ⊎ Member n refusalOrder
 answers-known {numbers} {conditions} {n} a =
     ⊎-elim (λ none. inl none) (λ found. inr (sublist-member n numbers refusalOrder (a .ordered) found)) (a .among)
 
 -- of the numbers whose conditions hold, the one given stands first in 01's order
-pub earliest : {numbers : List ℕ} {conditions : List Condition} {n : ℕ} → AnswersBy numbers conditions n
+pub earliest : {numbers : List ℕ} {conditions : List Condition} {n : ℕ} {Left : Type 0} → Refuses numbers conditions n Left
     → (m : ℕ) → Applies conditions m → position n ≤ position m
 unfolding position
 earliest {numbers} {conditions} {n} a m applies =

@@ -16,7 +16,7 @@ conditionNumbers [] = []
 conditionNumbers ((n if holds) ∷ conditions) = n ∷ conditionNumbers conditions
 
 -- a call with these refusals and these conditions answers with the number n, 0 where it is not refused
-pub record AnswersBy (numbers : List ℕ) (conditions : List Condition) (n : ℕ) : Type 0 where
+pub record Refuses (numbers : List ℕ) (conditions : List Condition) (n : ℕ) (Left : Type 0) : Type 0 where
   -- the conditions' numbers are exactly these
   pub numbered : conditionNumbers conditions ≡ numbers
   -- they are some of 01's numbers, in 01's order, so that the first is the lowest
@@ -25,8 +25,5 @@ pub record AnswersBy (numbers : List ℕ) (conditions : List Condition) (n : ℕ
   pub among : (n ≡ 0) ⊎ Member n numbers
   -- n is the number of the first condition that holds, 0 where none does
   pub given : Given conditions n
-
--- a call answers with the number n, fixed by conditions that have these numbers, and Left is what a refused call leaves
-pub record Refuses (numbers : List ℕ) (conditions : List Condition) (n : ℕ) (Left : Type 0) : Type 0 where
-  pub number : AnswersBy numbers conditions n
+  -- what a refused call leaves
   pub left : 0 < n → Left
