@@ -36,6 +36,7 @@ use Rattle.sigma.proofs.FormulaValue.{baseOf, baseOf-at, base-image, formula-va
 use Rattle.sigma.proofs.Homomorphism.{elementsOf, domainGroup, codomainGroup, imageOf, imageOf-at, homomorphism}
 use Rattle.sigma.proofs.Maurer.{product-slot, response-value, simulated-value, statementVector, statementVector-at}
 use Rattle.sigma.proofs.Transfer.{judge-accepts}
+use Rattle.sigma.proofs.Unread.{judge-same}
 use Rattle.sigma.proofs.Valid.{valid-kind}
 use Rattle.sigma.proofs.Values.{length-response, length-simulated}
 use Rattle.runs.specs.Calls.{judgeRound, extractWitness}
@@ -44,9 +45,9 @@ use Rattle.runs.specs.OnSheet.{Below}
 use Rattle.runs.specs.Prover.{newProver, commit, respond}
 use Rattle.runs.specs.Verifier.{newVerifier, takeCommitment, takeChallenge, takeResponse}
 use Rattle.runs.proofs.After.{commitAfter-clear, takeCommitmentAfter-clear, takeChallengeAfter-clear}
-use Rattle.runs.proofs.Demand3.{honest-run, read-alone, sheet-extraction, simulated-given}
+use Rattle.runs.proofs.Demand3.{honest-run, sheet-extraction, simulated-given}
 use Rattle.runs.proofs.JointRun.{jointSteps, joint-commit}
-use Rattle.runs.proofs.Loaded.{accepts-loaded, sheet-clear}
+use Rattle.runs.proofs.Loaded.{accepts-loaded, judge-loaded, sheet-clear}
 use Rattle.runs.proofs.Verdicts.{takeResponse-judged}
 use Rattle.runs.proofs.VerifierSteps.{takeCommitmentAfter-runs, takeCommitmentAfter-given}
 use Rattle.runs.proofs.VerifierSteps.{takeChallengeAfter-runs, takeChallengeAfter-given}
@@ -143,8 +144,9 @@ module _ (sheet : List ℕ) (loaded : loadRefusal sheet ≡ 0) where
       let elements = each-at _ _ (t .0) (t .1) in
       rw (asked t c below)
       (takeResponse-judged sheet v (record { phase = refl; held = rw (held-read t) elements; challenge = below }) (r .0)
-      ∙ read-alone sheet .judged (roundOf (pad8 0 (t .0)) c (r .0)) (roundOf (t .0) c (r .0))
-      (record { commitment = λ i h. getD-pad8 0 (t .0) i; challenge = refl; response = λ j h. refl }))
+      ∙ judge-loaded sheet loaded (roundOf (pad8 0 (t .0)) c (r .0))
+      ∙ judge-same values (record { commitment = λ i h. getD-pad8 0 (t .0) i; challenge = refl; response = λ j h. refl })
+      ∙ sym (judge-loaded sheet loaded (roundOf (t .0) c (r .0))))
 
   -- a round is accepted exactly where the paper's verifier accepts it
   accepted : (t : Codomain (tableOf (instanceOf sheet))) (c : ℕ) (r : Domain (tableOf (instanceOf sheet))) → Below sheet c
