@@ -242,5 +242,7 @@ worked-examples = (
     refusal20 = (refl, refl);
     refusal21 = (refl, refl);
     refusal22 = (refl, refl);
+    no-values = refl;
+    no-round = refl;
   },
 )

@@ -1,5 +1,5 @@
--- 01's refusals at their bounds ("Turned back"): for each number inputs one step inside its condition's bound, which are not
--- refused, and inputs one step outside, which are refused with it.
+-- 01's refusals at their bounds ("Turned back"): for each number inputs just inside its condition's bounds, which are not
+-- refused, and inputs outside, which are refused with it.
 -- Assumes nothing.
 use Prim.Native.Nat.{ℕ}
 use mathlib.Core.Path.{_≡_}
@@ -17,9 +17,9 @@ use Rattle.examples.specs.Pages.{array, judging, smallRound}
 use Rattle.examples.specs.Sheets.{schnorrSheet, smallSheet}
 use Rattle.formats.specs.Append.{append, emptyFile}
 use Rattle.formats.specs.Encode.{encode}
-use Rattle.formats.specs.Load.{loadRefusal, loaded}
+use Rattle.formats.specs.Load.{load, loadRefusal, loaded}
 use Rattle.formats.specs.Pattern.{fromPattern}
-use Rattle.formats.specs.RoundCalls.{checkRound, countRounds}
+use Rattle.formats.specs.RoundCalls.{checkRound, countRounds, fetchRound}
 use Rattle.runs.specs.Calls.{extractWitness, simulateCommitment}
 use Rattle.runs.specs.Prover.{commit, dropSession, respond}
 use Rattle.runs.specs.Verifier.{takeChallenge, takeCommitment, takeResponse}
@@ -150,8 +150,8 @@ pub record EveryCorner : Type 0 where
       (take 27 schnorrSheet ∷ (schnorrSheet ++ 0 ∷ []) ∷ take 20 schnorrSheet ∷
       onesSheet 2 1 1 2 ∷ onesSheet 1 2 3 7 ∷ onesSheet 1 2 3 9 ∷ [])
   pub refusal10 :
-      SheetCorner 10 (map (changed schnorrSheet 23) (1 ∷ 18 ∷ []))
-      (map (changed schnorrSheet 23) (0 ∷ 5 ∷ 23 ∷ 25 ∷ []) ++ changed (onesSheet 1 2 2 6) 35 5 ∷ [])
+      SheetCorner 10 (map (changed schnorrSheet 23) (1 ∷ 18 ∷ []) ++ smallSheet 31 15 3 2 1 ∷ smallSheet 31 15 3 5 1 ∷ [])
+      (map (changed schnorrSheet 23) (0 ∷ 5 ∷ 23 ∷ 25 ∷ []) ++ smallSheet 31 15 3 3 1 ∷ changed (onesSheet 1 2 2 6) 35 5 ∷ [])
   pub refusal11 :
       SheetCorner 11 (changed schnorrSheet 27 1 ∷ changed rootBytes 23 34 ∷ [])
       (map (changed schnorrSheet 27) (0 ∷ 5 ∷ 23 ∷ 36 ∷ []) ++ map (changed rootBytes 23) (35 ∷ 30 ∷ []) ++
@@ -180,9 +180,11 @@ pub record EveryCorner : Type 0 where
   pub refusal16 :
       Corner 16
       (judging schnorrSheet 9 0 10 ∷ simulating schnorrSheet 0 10 ∷ simulating rootBytes 0 34 ∷
-      committing schnorrSheet 10 New ∷ committing rootBytes 34 New ∷ telling 10 (vic Asked 9 3) ∷ [])
+      committing schnorrSheet 10 New ∷ committing rootBytes 34 New ∷ committing (smallSheet 31 15 3 2 1) 14 New ∷
+      telling 10 (vic Asked 9 3) ∷ [])
       (judging schnorrSheet 9 0 11 ∷ simulating schnorrSheet 0 11 ∷ map (simulating rootBytes 0) (35 ∷ 14 ∷ 0 ∷ []) ++
-      committing schnorrSheet 11 New ∷ responding 3 18 (peggy Committed 5 0) ∷ telling 11 (vic Asked 9 3) ∷ extracting 9 1 11 ∷ [])
+      committing schnorrSheet 11 New ∷ committing (smallSheet 31 15 3 2 1) 15 New ∷ responding 3 18 (peggy Committed 5 0) ∷
+      telling 11 (vic Asked 9 3) ∷ extracting 9 1 11 ∷ [])
   pub refusal17 :
       Corner 17 (responding 3 7 (peggy Committed 5 0) ∷ [])
       (responding 3 6 (peggy Committed 5 0) ∷ responding 3 8 (peggy New 5 0) ∷ [])
@@ -204,3 +206,12 @@ pub record EveryCorner : Type 0 where
   pub refusal22 :
       Corner 22 (writingIn 28 ++ emptyFile (replicate 7 0) .answer .refusal ∷ appending 0 0 12 7 ∷ [])
       (writingIn 27 ++ emptyFile (replicate 6 0) .answer .refusal ∷ appending 0 0 11 7 ∷ [])
+  -- beside a refusal stand zeros
+  pub no-values : load []
+      ≡ record {
+        header = record { kind = 0; modulus = 0; order = 0; challenges = 0; rows = 0; columns = 0 };
+        statement = replicate 8 0;
+        refusal = 2;
+      }
+  pub no-round : fetchRound [] [] 0
+      ≡ record { round = record { commitment = replicate 8 0; challenge = 0; response = replicate 8 0 }; refusal = 2 }
