@@ -8,8 +8,8 @@ use lib.Dec.{eqb, ltb}
 use lib.ListN.{length, take}
 use Rattle.types.specs.declared.Header.{Header}
 use Rattle.types.specs.declared.Round.{Round}
-use Rattle.encoding.specs.Bytes.{numberAt, bytesOf, bytesOfEach}
-use Rattle.lists.specs.Places.{itemsAt, places, pad8}
+use Rattle.encoding.specs.Bytes.{numberAt, wordsAt, bytesOf, bytesOfEach}
+use Rattle.lists.specs.Places.{places, pad8}
 use Rattle.encoding.specs.Text.{ascii}
 use Rattle.sigma.specs.Comparison.{differ}
 
@@ -55,9 +55,9 @@ recordBytes width h round =
 unfoldable pub roundAt : ℕ → Header → List ℕ → ℕ → Round
 roundAt width h f at =
     record {
-      commitment = pad8 0 (itemsAt (numberAt 4 f) at 4 (h .rows));
+      commitment = pad8 0 (wordsAt f at (h .rows));
       challenge = numberAt width f (at + 4 * h .rows);
-      response = pad8 0 (itemsAt (numberAt 4 f) (at + 4 * h .rows + width) 4 (h .columns));
+      response = pad8 0 (wordsAt f (at + 4 * h .rows + width) (h .columns));
     }
 
 -- under 7 bytes, another mark, a version other than 1, a count above 512 or a length that does not fit (12)

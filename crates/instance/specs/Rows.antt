@@ -1,23 +1,23 @@
 -- The entries of a sheet by rows: how they are read, and the search for a row with an entry that is no group element.
 -- Assumes nothing.
-use Prim.Native.Nat.{ℕ, _*_}
+use Prim.Native.Nat.{ℕ, _+_, _*_}
 use mathlib.Core.Bool.{Bool, cond}
 use mathlib.Core.List.{List, []}
 use lib.ListN.{getD}
 use Rattle.types.specs.declared.Header.{Header}
 use Rattle.numbers.specs.Search.{find}
-use Rattle.lists.specs.Places.{itemsAt, pad8, zeros8}
+use Rattle.lists.specs.Places.{eightByEight}
 use Rattle.encoding.specs.Bytes.{numberAt}
 use Rattle.sigma.specs.Instance.{isExponent}
 use Rattle.sigma.specs.Element.{someNonElement}
 
--- the row of so many columns that begins at index `at`, in eight places
-unfoldable pub rowAt : List ℕ → ℕ → ℕ → List ℕ
-rowAt s columns at = pad8 0 (itemsAt (numberAt 4 s) at 4 columns)
+-- the entry in row i and column j of so many columns, from byte 20 on
+unfoldable pub entryAt : List ℕ → ℕ → ℕ → ℕ → ℕ
+entryAt s columns i j = numberAt 4 s (20 + 4 * (columns * i + j))
 
--- the first n rows of entries, from byte 20 on, in eight places
+-- the first n rows of entries, in eight places
 unfoldable pub rowsAt : List ℕ → ℕ → ℕ → List (List ℕ)
-rowsAt s columns n = pad8 zeros8 (itemsAt (rowAt s columns) 20 (4 * columns) n)
+rowsAt s columns n = eightByEight n columns (entryAt s columns)
 
 -- whether row i has an entry that is no group element
 unfoldable pub isBadRow : Header → List (List ℕ) → ℕ → Bool
