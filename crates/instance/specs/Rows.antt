@@ -1,11 +1,11 @@
--- The entries of a sheet by rows: how they are read, and the search for a row with an entry that is no group element.
+-- The entries of a sheet by rows: how they are read, and whether an entry is no group element.
 -- Assumes nothing.
 use Prim.Native.Nat.{ℕ, _+_, _*_}
-use mathlib.Core.Bool.{Bool, cond}
+use mathlib.Core.Bool.{Bool, _&&_}
 use mathlib.Core.List.{List, []}
 use lib.ListN.{getD}
 use Rattle.types.specs.declared.Header.{Header}
-use Rattle.numbers.specs.Search.{find}
+use Rattle.numbers.specs.Search.{any}
 use Rattle.lists.specs.Places.{eightByEight}
 use Rattle.encoding.specs.Bytes.{numberAt}
 use Rattle.sigma.specs.Instance.{isExponent}
@@ -23,6 +23,6 @@ rowsAt s columns n = eightByEight n columns (entryAt s columns)
 unfoldable pub isBadRow : Header → List (List ℕ) → ℕ → Bool
 isBadRow h entries i = someNonElement h (h .columns) (getD entries i [])
 
--- the first row with an entry that is no group element, and the count of the rows where there is none, as in kind 2
-unfoldable pub firstBadRow : Header → List (List ℕ) → ℕ
-firstBadRow h entries = cond (isExponent h) (find (isBadRow h entries) 0 (h .rows)) (h .rows)
+-- whether some row has one; in kind 2 none is read
+unfoldable pub someBadEntry : Header → List (List ℕ) → Bool
+someBadEntry h entries = isExponent h && any (h .rows) (isBadRow h entries)
