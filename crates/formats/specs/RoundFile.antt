@@ -25,7 +25,7 @@ fileVersion f = numberAt 2 f 3
 unfoldable pub countField : List ℕ → ℕ
 countField f = numberAt 2 f 5
 
--- the width in bytes of a challenge in a file of the version
+-- the width in bytes of a challenge in a file of the version: 4 in each
 unfoldable pub widthOf : ℕ → ℕ
 widthOf version = 4
 
