@@ -3,11 +3,16 @@
 use Prim.Native.Nat.{ℕ, zero, suc, _+_, _*_, _/_, _%_, _<_}
 use mathlib.Core.List.{List, [], _∷_, _++_}
 use lib.ListN.{getD}
+use Rattle.lists.specs.Places.{itemsAt}
 
 -- the number in the w bytes of s from index `at` on; a place beyond the end counts as 0
 unfoldable pub numberAt : ℕ → List ℕ → ℕ → ℕ
 numberAt zero s at = 0
 numberAt (suc w) s at = numberAt w s at * 256 + getD s (at + w) 0
+
+-- the n numbers of four bytes each from index `at` on
+abbrev pub wordsAt : List ℕ → ℕ → ℕ → List ℕ
+wordsAt s at n = itemsAt (numberAt 4 s) at 4 n
 
 -- the w bytes of the number v
 unfoldable pub bytesOf : ℕ → ℕ → List ℕ

@@ -7,7 +7,7 @@ use Rattle.numbers.specs.Integer.{residue, quotient, power, bezoutRight, bezout
 use Rattle.numbers.specs.Inverse.{inverse}
 use Rattle.numbers.specs.Product.{product}
 use Rattle.numbers.specs.Search.{find, any}
-use Rattle.lists.specs.Places.{itemsAt, tabulate, places, pad8, zeros8}
+use Rattle.lists.specs.Places.{eightByEight, itemsAt, tabulate, places, pad8, zeros8}
 use Rattle.rules.specs.Answer.{unlessRefused}
 use Rattle.rules.specs.Rule.{lowest}
 use Rattle.encoding.specs.Bytes.{numberAt, bytesOf, bytesOfEach}
@@ -182,7 +182,7 @@ use Rattle.examples.specs.Sheets.{
 -- both tables hold
 pub worked-examples : EveryPage × EveryCorner
 unfolding euclid gcd residue quotient power bezoutRight bezoutLeft inverse product find any itemsAt tabulate places
-    pad8 zeros8 unlessRefused lowest numberAt bytesOf bytesOfEach ascii digits decimal firstDivisor badKind
+    pad8 zeros8 eightByEight unlessRefused lowest numberAt bytesOf bytesOfEach ascii digits decimal firstDivisor badKind
     badModulus badOrder badSize badCount badEntries badStatement headerRules elementRules outcome isAccepted judged
     eightPlaces computed firstDifference differ compareSides isElement someNonElement isCoordinate someNonCoordinate
     slotFormula formula extracted extractRules extractAfter rowImage image isExponent entry statementAt judgeRules

@@ -4,8 +4,8 @@ ghost use Prim.Native.Nat.{_+_, _*_, _≤_, _<_};
 ghost use mathlib.Core.Path.{_≡_};
 ghost use lib.ListN.{length};
 ghost use lib.Seq.{sets};
-ghost use Rattle.lists.specs.Places.{itemsAt, places, pad8};
-ghost use Rattle.encoding.specs.Bytes.{numberAt, bytesOf, bytesOfEach};
+ghost use Rattle.lists.specs.Places.{places, pad8};
+ghost use Rattle.encoding.specs.Bytes.{numberAt, wordsAt, bytesOf, bytesOfEach};
 ghost use Rattle.fields.specs.Mark.{hasMark};
 
 // The byte of s at index at, as a number.
@@ -42,7 +42,7 @@ pub fn read_u32(s: &[u8], at: usize) -> u32
 pub fn read_words(s: &[u8], at: usize, n: usize) -> [u32; 8]
     requires count { ⌜ n ≤ 8 ⌝ }
     requires within { ⌜ at + 4 * n ≤ length (now s) ⌝ }
-    ensures value { λ r. ⌜ r ≡ pad8 0 (itemsAt (numberAt 4 (now (s .entry))) at 4 n) ⌝ }
+    ensures value { λ r. ⌜ r ≡ pad8 0 (wordsAt (now (s .entry)) at n) ⌝ }
 {
     let mut words = [0u32; 8];
     for i in 0..n {

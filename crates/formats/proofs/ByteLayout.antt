@@ -11,8 +11,17 @@ use Rattle.types.specs.declared.Header.{Header}
 use Rattle.encoding.specs.Bytes.{numberAt}
 use Rattle.encoding.specs.Text.{ascii}
 use Rattle.encoding.proofs.Bytes.{numberAt-one}
-use Rattle.lists.specs.Places.{itemsAt, pad8, zeros8}
-use Rattle.lists.proofs.Places.{getD-itemsAt, getD-pad8, getD-pad8-inside, length-itemsAt}
+use Rattle.lists.specs.Places.{eightByEight, itemsAt, pad8, tabulate, zeros8}
+use Rattle.lists.proofs.Places.{
+  getD-itemsAt,
+  getD-pad8,
+  getD-pad8-inside,
+  getD-tabulate,
+  itemsAt-tabulate,
+  length-itemsAt,
+  length-tabulate,
+  tabulate-agree,
+}
 use Rattle.sigma.proofs.ByKind.{exponent-kind, root-kind}
 use Rattle.formats.specs.ByteLayout.{
   ExponentLayout,
@@ -87,19 +96,22 @@ module _ (s : List ℕ) where
   -- kind 1
   exponent-layout : headerOf s .kind ≡ 1 → headerOf s .rows ≤ 8 → headerOf s .columns ≤ 8
       → ExponentLayout s (instanceOf s) (headerOf s .rows) (headerOf s .columns)
-  unfolding instanceOf entriesOf zeros8
+  unfolding instanceOf entriesOf eightByEight zeros8
   exponent-layout e few narrow =
       let h = headerOf s in
-      let row : ℕ → List ℕ = λ at. pad8 0 (itemsAt (numberAt 4 s) at 4 (h .columns)) in
-      let rows = itemsAt row 20 (4 * h .columns) (h .rows) in
-      let count = length-itemsAt row 20 (4 * h .columns) (h .rows) in
+      let place : ℕ → ℕ → ℕ = λ i j. numberAt 4 s (20 + 4 * (h .columns * i + j)) in
+      let row : ℕ → List ℕ = λ i. pad8 0 (tabulate (h .columns) (place i)) in
+      let rows = tabulate (h .rows) row in
+      let count = length-tabulate (h .rows) row in
       let are : instanceOf s .entries ≡ pad8 zeros8 rows = rw (exponent-kind h e) in
       record {
         rows = rw are (length-padded zeros8 rows (omega arith));
         entries = λ i b.
-            rw (are, getD-pad8-inside zeros8 rows i [] (omega arith), getD-itemsAt row 20 (4 * h .columns) (h .rows) i [] b)
-            (subst (λ (at : ℕ). WordsAt s at (h .columns) (row (20 + 4 * h .columns * i))) (omega arith)
-            (words-at s (20 + 4 * h .columns * i) (h .columns) narrow));
+            rw (are, getD-pad8-inside zeros8 rows i [] (omega arith), getD-tabulate (h .rows) row i [] b)
+            (subst (λ (words : List ℕ). WordsAt s (20 + 4 * (h .columns * i)) (h .columns) (pad8 0 words))
+            (itemsAt-tabulate (numberAt 4 s) (20 + 4 * (h .columns * i)) 4 (h .columns)
+            ∙ tabulate-agree (h .columns) _ (place i) (λ j _. ap (numberAt 4 s) (omega arith)))
+            (words-at s (20 + 4 * (h .columns * i)) (h .columns) narrow));
         beyond = λ i b. rw are (getD-pad8 zeros8 rows i ∙ List·getD-eq-default rows zeros8 (omega arith));
         statement = statement-words few _ (entryCount-exponent h e);
       }

@@ -11,8 +11,9 @@ use lib.Dec.{eqb, ltb}
 use lib.ListN.{length, getD}
 use borrow.Author.Tests.{eq-eqb, ne-eqb, ltb-false, le-ltb}
 use Rattle.types.specs.declared.Header.{Header}
-use Rattle.lists.specs.Places.{pad8, tabulate, zeros8}
-use Rattle.lists.proofs.Places.{tabulate-agree, places-pad8, places-whole}
+use Rattle.lists.specs.Places.{eightByEight, pad8}
+use Rattle.lists.proofs.Places.{places-pad8, places-whole}
+use Rattle.lists.proofs.Rows.{table-agree}
 use Rattle.rules.specs.Rule.{lowest}
 use Rattle.rules.proofs.Lowest.{clear-lowest, lowest-clear}
 use Rattle.rules.proofs.Says.{says-equal}
@@ -25,7 +26,7 @@ use Rattle.sigma.proofs.Passed.{modulus-passes, order-passes, count-passes, sta
 use Rattle.sigma.proofs.Tests.{says-element}
 use Rattle.formats.specs.Encode.{sheetOf}
 use Rattle.formats.specs.Load.{loadRefusal, loaded}
-use Rattle.formats.specs.Meaning.{Makes, readInstance, readRows}
+use Rattle.formats.specs.Meaning.{Makes, readInstance}
 use Rattle.formats.specs.Outcome.{Keeps, Puts}
 use Rattle.formats.specs.Pattern.{
   badPattern,
@@ -207,20 +208,16 @@ module _ (number modulus order challenges : ℕ) (values statement : List ℕ) w
     | yes e ↦
         let two = made-root number modulus order challenges e in
         let other : inst .header .kind ≢ 1 = λ (one : inst .header .kind ≡ 1). omega arith in
-        ap (λ (b : Bool). cond b (readRows inst) zeros64) (root-kind (inst .header) other)
-        ∙ sym (ap (λ (b : Bool). cond b zeros64 (patternEntries (patternOf number) values)) (eq-eqb number 6 e))
+        rw (root-kind (inst .header) other, eq-eqb number 6 e)
     | no n ↦
         let one = made-exponent number modulus order challenges n in
         let p = patternOf number in
         let rows =
-        tabulate-agree (p .rows) (λ r. pad8 0 (tabulate (p .columns) (entry (tableOf inst) r)))
-        (λ r. pad8 0 (tabulate (p .columns) (λ c. entryOf values (getD (p .digits) (3 * r + c) 0)))) (λ r a.
-        ap (λ (row : List ℕ). pad8 0 row)
-        (tabulate-agree (p .columns) (entry (tableOf inst) r) (λ c. entryOf values (getD (p .digits) (3 * r + c) 0))
-        (λ c b. made-entry number modulus order challenges values statement n r c a b))) in
-        ap (λ (b : Bool). cond b (readRows inst) zeros64) (exponent-kind (inst .header) one)
-        ∙ ap (λ (l : List (List ℕ)). pad8 zeros8 l) rows
-        ∙ sym (ap (λ (b : Bool). cond b zeros64 (patternEntries (patternOf number) values)) (ne-eqb number 6 n))
+        table-agree (p .rows) (p .columns) (entry (tableOf inst)) (λ r c. entryOf values (getD (p .digits) (3 * r + c) 0))
+        (made-entry number modulus order challenges values statement n) in
+        ap (λ (b : Bool). cond b (eightByEight (p .rows) (p .columns) (entry (tableOf inst))) zeros64)
+        (exponent-kind (inst .header) one)
+        ∙ rows ∙ sym (ap (λ (b : Bool). cond b zeros64 (patternEntries p values)) (ne-eqb number 6 n))
   ]
 
   -- a made sheet's values are 0 in the places that are not read

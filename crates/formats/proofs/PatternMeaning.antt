@@ -6,7 +6,7 @@ use mathlib.Core.List.{List, [], _∷_}
 use native.Mathlib.Nat.{mod-lt, mul-assoc, mul-comm, mul-one, one-mul}
 use native.Mathlib.Omega.{arith}
 use lib.Pow.{pow-add}
-use Rattle.lists.specs.Places.{itemsAt, pad8, tabulate}
+use Rattle.lists.specs.Places.{eightByEight, itemsAt, pad8, tabulate}
 use Rattle.numbers.specs.Congruence.{Cong}
 use Rattle.numbers.specs.Product.{product}
 use Rattle.numbers.proofs.Congruence.{
@@ -51,31 +51,36 @@ difference q n ε some =
 module _ (m q K : ℕ) (z : List ℕ) where
   -- 1, Schnorr: h^x
   pub schnorr-image : (h x : ℕ) → image (tableOf (made 1 m q K (h ∷ []) z)) (x ∷ []) ≡ h ^ x % m ∷ []
-  unfolding image rowImage tabulate itemsAt pad8 product made madeHeader patternOf patterns patternEntries entry entryOf isExponent
+  unfolding image rowImage tabulate itemsAt pad8 eightByEight product made madeHeader patternOf patterns patternEntries entry entryOf
+      isExponent
   schnorr-image h x = simp one-mul
 
   -- 2, Okamoto: h1^x1 · h2^x2
   pub okamoto-image : (h1 h2 x1 x2 : ℕ)
       → image (tableOf (made 2 m q K (h1 ∷ h2 ∷ []) z)) (x1 ∷ x2 ∷ []) ≡ h1 ^ x1 * h2 ^ x2 % m ∷ []
-  unfolding image rowImage tabulate itemsAt pad8 product made madeHeader patternOf patterns patternEntries entry entryOf isExponent
+  unfolding image rowImage tabulate itemsAt pad8 eightByEight product made madeHeader patternOf patterns patternEntries entry entryOf
+      isExponent
   okamoto-image h1 h2 x1 x2 = simp one-mul
 
   -- 3, equality: h1^x and h2^x
   pub equality-image : (h1 h2 x : ℕ)
       → image (tableOf (made 3 m q K (h1 ∷ h2 ∷ []) z)) (x ∷ []) ≡ h1 ^ x % m ∷ h2 ^ x % m ∷ []
-  unfolding image rowImage tabulate itemsAt pad8 product made madeHeader patternOf patterns patternEntries entry entryOf isExponent
+  unfolding image rowImage tabulate itemsAt pad8 eightByEight product made madeHeader patternOf patterns patternEntries entry entryOf
+      isExponent
   equality-image h1 h2 x = simp one-mul
 
   -- 4, Diffie-Hellman: h^x and B^x
   pub diffie-hellman-image : (h B x : ℕ)
       → image (tableOf (made 4 m q K (h ∷ B ∷ []) z)) (x ∷ []) ≡ h ^ x % m ∷ B ^ x % m ∷ []
-  unfolding image rowImage tabulate itemsAt pad8 product made madeHeader patternOf patterns patternEntries entry entryOf isExponent
+  unfolding image rowImage tabulate itemsAt pad8 eightByEight product made madeHeader patternOf patterns patternEntries entry entryOf
+      isExponent
   diffie-hellman-image h B x = simp one-mul
 
   -- 5, product: g^x1 · h^x2 and B^x1 · h^x3
   pub product-image : (g h B x1 x2 x3 : ℕ)
       → image (tableOf (made 5 m q K (g ∷ h ∷ B ∷ []) z)) (x1 ∷ x2 ∷ x3 ∷ []) ≡ g ^ x1 * h ^ x2 % m ∷ B ^ x1 * h ^ x3 % m ∷ []
-  unfolding image rowImage tabulate itemsAt pad8 product made madeHeader patternOf patterns patternEntries entry entryOf isExponent
+  unfolding image rowImage tabulate itemsAt pad8 eightByEight product made madeHeader patternOf patterns patternEntries entry entryOf
+      isExponent
   product-image g h B x1 x2 x3 = simp (one-mul, one-pow, mul-one)
 
   -- 6, root: x^e

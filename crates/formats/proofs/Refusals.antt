@@ -1,8 +1,9 @@
 -- Each call's rules test 01's conditions, so that the number it gives is that of the first condition that holds (the law
 -- `given` of the rules).
 -- Assumes nothing.
-use Prim.Native.Nat.{ℕ, _+_}
+use Prim.Native.Nat.{ℕ, _+_, _<_}
 use mathlib.Core.Path.{refl}
+use mathlib.Core.Logic.{_≢_}
 use mathlib.Core.List.{List, [], _∷_, _++_}
 use lib.ListN.{length}
 use Rattle.types.specs.declared.Header.{Header}
@@ -19,10 +20,6 @@ use Rattle.formats.specs.Encode.{encodeRules}
 use Rattle.formats.specs.Load.{badLength, shapeRules, loadRules}
 use Rattle.formats.specs.Pattern.{makeRules}
 use Rattle.formats.specs.Refusals.{
-  Refusal9,
-  Refusal13,
-  Refusal22,
-  shapeConditions,
   loadConditions,
   encodeConditions,
   makeConditions,
@@ -47,21 +44,16 @@ use Rattle.formats.proofs.Tests.{
   says-short,
 }
 
--- 2 to 9 of a sheet's shape
-pub shape-tests : (s : List ℕ) → Tests (shapeRules s) (shapeConditions s)
-unfolding shapeRules
-shape-tests s =
-    let rest =
-    tests-append (headerRules (headerOf s)) ((9 when badLength s) ∷ []) (headerConditions (headerOf s)) ((9 if Refusal9 s) ∷ [])
-    (header-tests (headerOf s)) (refl, says-badLength s, tt) in
-    (refl, says-badStart s, (refl, says-badVersion s, rest))
-
 -- 2 to 11 of loading a sheet
 pub load-tests : (s : List ℕ) → Tests (loadRules s) (loadConditions s)
-unfolding loadRules
+unfolding loadRules shapeRules headerRules
 load-tests s =
-    tests-append (shapeRules s) (elementRules (instanceOf s)) (shapeConditions s) (elementConditions (instanceOf s))
-    (shape-tests s) (element-tests (instanceOf s))
+    let h = headerOf s in
+    let rest =
+    tests-append (headerRules h) ((9 when badLength s) ∷ elementRules (instanceOf s)) (headerConditions h)
+    ((9 if (length s ≢ sheetLength h)) ∷ elementConditions (instanceOf s))
+    (header-tests h) (refl, says-badLength s, element-tests (instanceOf s)) in
+    (refl, says-badStart s, (refl, says-badVersion s, rest))
 
 -- 4 to 8, 10, 11 and 22 of the second writer
 pub encode-tests : (i : Instance) (buffer : List ℕ) → Tests (encodeRules i buffer) (encodeConditions i buffer)
@@ -69,7 +61,7 @@ unfolding encodeRules
 encode-tests i buffer =
     let needed = sheetLength (i .header) in
     tests-append (headerRules (i .header) ++ elementRules i) ((22 when short buffer needed) ∷ [])
-    (headerConditions (i .header) ++ elementConditions i) ((22 if Refusal22 buffer needed) ∷ [])
+    (headerConditions (i .header) ++ elementConditions i) ((22 if (length buffer < needed)) ∷ [])
     (tests-append (headerRules (i .header)) (elementRules i) (headerConditions (i .header)) (elementConditions i)
     (header-tests (i .header)) (element-tests i))
     (refl, says-short buffer needed, tt)
@@ -107,10 +99,8 @@ file-tests h f = (refl, says-badFile h f, tt)
 
 -- 12 and 13 of a round of a file
 pub round-tests : (h : Header) (f : List ℕ) (k : ℕ) → Tests (roundRules h f k) (roundConditions h f k)
-unfolding roundRules
-round-tests h f k =
-    tests-append (fileRules h f) ((13 when badNumber f k) ∷ []) (fileConditions h f) ((13 if Refusal13 f k) ∷ [])
-    (file-tests h f) (refl, says-badNumber f k, tt)
+unfolding roundRules fileRules
+round-tests h f k = (refl, says-badFile h f, (refl, says-badNumber f k, tt))
 
 -- 22 of the empty file
 pub empty-tests : (buffer : List ℕ) → Tests ((22 when short buffer (length noRounds)) ∷ []) (emptyConditions buffer)

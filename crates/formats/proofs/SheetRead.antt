@@ -6,13 +6,13 @@ use mathlib.Core.Logic.{inl, inr}
 use mathlib.Core.List.{List, [], _++_, flatten}
 use native.Mathlib.Nat.{mul-comm}
 use native.Mathlib.Omega.{arith}
-use lib.ListN.{getD, take}
+use lib.ListN.{take}
 use lib.Seq.{take-all}
-use Rattle.encoding.specs.Bytes.{bytesOf, numberAt, AllBytes}
+use Rattle.encoding.specs.Bytes.{bytesOf, numberAt, wordsAt, AllBytes}
 use Rattle.encoding.proofs.Bytes.{take-bytesOf, take-bytesOfEach}
-use Rattle.lists.specs.Places.{itemsAt, pad8, places, tabulate, zeros8}
+use Rattle.lists.specs.Places.{itemsAt, places, tabulate}
 use Rattle.lists.proofs.Places.{length-itemsAt, itemsAt-tabulate, tabulate-agree, places-pad8, places-whole}
-use Rattle.lists.proofs.Rows.{flatten-itemsAt, getD-table}
+use Rattle.lists.proofs.Rows.{flatten-tabulate, getD-table}
 use Rattle.rules.proofs.Says.{says-decides}
 use Rattle.sigma.specs.Instance.{tableOf, entry}
 use Rattle.sigma.proofs.ByKind.{exponent-kind}
@@ -40,40 +40,31 @@ use Rattle.formats.proofs.Entries.{
 module _ (s : List ℕ) where
   -- the entry in row r and column c stands r rows and c entries behind the fixed fields
   pub entry-read : headerOf s .kind ≡ 1 → (r c : ℕ) → r < headerOf s .rows → c < headerOf s .columns
-      → entry (tableOf (instanceOf s)) r c ≡ numberAt 4 s (20 + 4 * headerOf s .columns * r + 4 * c)
+      → entry (tableOf (instanceOf s)) r c ≡ numberAt 4 s (20 + 4 * (headerOf s .columns * r + c))
   unfolding entry instanceOf entriesOf
   entry-read e r c a b =
       let h = headerOf s in
-      let f = numberAt 4 s in
-      let table =
-      itemsAt-tabulate (λ at. pad8 0 (itemsAt f at 4 (h .columns))) 20 (4 * h .columns) (h .rows)
-      ∙ tabulate-agree (h .rows) _ (λ k. pad8 0 (tabulate (h .columns) (λ j. f (20 + 4 * h .columns * k + 4 * j)))) (λ k l.
-      ap (λ (row : List ℕ). pad8 0 row) (itemsAt-tabulate f (20 + 4 * h .columns * k) 4 (h .columns))) in
-      rw (exponent-kind h e)
-      (ap (λ (rows : List (List ℕ)). getD (getD (pad8 zeros8 rows) r []) c 0) table
-      ∙ getD-table (h .rows) (h .columns) (λ k j. f (20 + 4 * h .columns * k + 4 * j)) r c a b)
+      rw (exponent-kind h e) (getD-table (h .rows) (h .columns) (λ i j. numberAt 4 s (20 + 4 * (h .columns * i + j))) r c a b)
 
   -- what is stored of the entries is what was read, one after the other
-  pub storedEntries-read : storedEntries (instanceOf s) ≡ itemsAt (numberAt 4 s) 20 4 (entryCount (headerOf s))
+  pub storedEntries-read : storedEntries (instanceOf s) ≡ wordsAt s 20 (entryCount (headerOf s))
   unfolding instanceOf itemsAt
   storedEntries-read = elim (says-decides (says-exponent (headerOf s))) [
     | inl e ↦
         let h = headerOf s in
-        let f = numberAt 4 s in
+        let f : ℕ → ℕ = λ k. numberAt 4 s (20 + 4 * k) in
         let rows =
-        tabulate-agree (h .rows) (entryRow (instanceOf s)) (λ r. itemsAt f (20 + 4 * h .columns * r) 4 (h .columns)) (λ r a.
-        tabulate-agree (h .columns) (entry (tableOf (instanceOf s)) r) (λ c. f (20 + 4 * h .columns * r + 4 * c)) (λ c b. entry-read e r c a b)
-        ∙ sym (itemsAt-tabulate f (20 + 4 * h .columns * r) 4 (h .columns))) in
-        storedEntries-exponent (instanceOf s) e
-        ∙ ap flatten (rows ∙ sym (itemsAt-tabulate (λ at. itemsAt f at 4 (h .columns)) 20 (4 * h .columns) (h .rows)))
-        ∙ flatten-itemsAt f 20 4 (h .columns) (h .rows)
-        ∙ ap (λ (n : ℕ). itemsAt f 20 4 n) (mul-comm (h .columns) (h .rows) ∙ sym (entryCount-exponent h e))
+        tabulate-agree (h .rows) (entryRow (instanceOf s)) (λ r. tabulate (h .columns) (λ c. f (h .columns * r + c))) (λ r a.
+        tabulate-agree (h .columns) (entry (tableOf (instanceOf s)) r) (λ c. f (h .columns * r + c)) (λ c b. entry-read e r c a b)) in
+        storedEntries-exponent (instanceOf s) e ∙ ap flatten rows ∙ flatten-tabulate f (h .columns) (h .rows)
+        ∙ sym (itemsAt-tabulate (numberAt 4 s) 20 4 (h .columns * h .rows))
+        ∙ ap (wordsAt s 20) (mul-comm (h .columns) (h .rows) ∙ sym (entryCount-exponent h e))
     | inr n ↦ rw (storedEntries-root (instanceOf s) n, entryCount-root (headerOf s) n)
   ]
 
   -- what is stored of the statement is what was read
   pub statement-read : places (headerOf s .rows) (statementOf s (headerOf s))
-      ≡ itemsAt (numberAt 4 s) (20 + 4 * entryCount (headerOf s)) 4 (headerOf s .rows)
+      ≡ wordsAt s (20 + 4 * entryCount (headerOf s)) (headerOf s .rows)
   unfolding statementOf
   statement-read = places-pad8 (headerOf s .rows) _ ∙ places-whole (headerOf s .rows) _ (length-itemsAt _ _ 4 (headerOf s .rows))
 

@@ -5,17 +5,18 @@ use mathlib.Core.Path.{_≡_, refl, sym, ap, _∙_}
 use mathlib.Core.Logic.{inl, inr, ⊎-elim}
 use mathlib.Core.Bool.{cond}
 use mathlib.Core.List.{List, [], _++_, append-assoc, append-nil}
-use native.Mathlib.Nat.{mul-assoc, mul-comm}
+use native.Mathlib.Nat.{mul-comm}
 use native.Mathlib.Omega.{arith}
 use lib.Arith.{digits-lt}
 use lib.ListN.{length, getD, take, length-append}
 use lib.Seq.{take-at}
 use Rattle.types.specs.declared.Header.{Header}
-use Rattle.encoding.specs.Bytes.{bytesOf, bytesOfEach, numberAt}
+use Rattle.encoding.specs.Bytes.{bytesOf, bytesOfEach, numberAt, wordsAt}
 use Rattle.encoding.proofs.Bytes.{length-bytesOf, length-bytesOfEach, number-behind, numbers-behind}
 use Rattle.encoding.proofs.Bounds.{below-places}
-use Rattle.lists.specs.Places.{itemsAt, pad8, places, zeros8}
-use Rattle.lists.proofs.Places.{length-places, tabulate-agree, itemsAt-tabulate, getD-itemsAt}
+use Rattle.lists.specs.Places.{pad8, places}
+use Rattle.lists.proofs.Places.{length-places, getD-itemsAt}
+use Rattle.lists.proofs.Rows.{table-agree}
 use Rattle.rules.proofs.Says.{says-decides}
 use Rattle.sigma.specs.Instance.{Instance, tableOf, isExponent, entry, statementAt}
 use Rattle.sigma.specs.Valid.{Valid}
@@ -26,7 +27,6 @@ use Rattle.formats.specs.Meaning.{readInstance}
 use Rattle.formats.specs.Sheet.{entriesOf, entryCount, headerOf, instanceOf, sheetMark, statementOf, versionOf, zeros64}
 use Rattle.formats.proofs.Entries.{
   entryCount-exponent,
-  entryRow,
   length-storedEntries,
   storedEntries-at,
   below-storedEntries,
@@ -89,7 +89,7 @@ module _ (i : Instance) where
 
   module _ (v : Valid i) (small : i .header .modulus < 2 ^ 32) where
     -- the entries, read one after the other
-    stored-back : itemsAt (numberAt 4 (sheetOf i)) 20 4 (entryCount (i .header)) ≡ storedEntries i
+    stored-back : wordsAt (sheetOf i) 20 (entryCount (i .header)) ≡ storedEntries i
     unfolding sheetOf
     stored-back =
         numbers-behind 4 (storedEntries i) (headerBytes (i .header)) (bytesOfEach 4 (places (i .header .rows) (i .statement)))
@@ -97,14 +97,13 @@ module _ (i : Instance) where
 
     -- an entry, read
     entry-back : i .header .kind ≡ 1 → (r c : ℕ) → r < i .header .rows → c < i .header .columns
-        → numberAt 4 (sheetOf i) (20 + 4 * i .header .columns * r + 4 * c) ≡ entry (tableOf i) r c
+        → numberAt 4 (sheetOf i) (20 + 4 * (i .header .columns * r + c)) ≡ entry (tableOf i) r c
     entry-back e r c a b =
         let h = i .header in
         let f = numberAt 4 (sheetOf i) in
         let inside : h .columns * r + c < entryCount h =
         omega (arith, entryCount-exponent h e, digits-lt a b, mul-comm (h .columns) r) in
-        let place : 20 + 4 * h .columns * r + 4 * c ≡ 20 + 4 * (h .columns * r + c) = omega (arith, mul-assoc 4 (h .columns) r) in
-        ap f place ∙ sym (getD-itemsAt f 20 4 (entryCount h) (h .columns * r + c) 0 inside)
+        sym (getD-itemsAt f 20 4 (entryCount h) (h .columns * r + c) 0 inside)
         ∙ ap (λ (l : List ℕ). getD l (h .columns * r + c) 0) stored-back ∙ storedEntries-at i e r c a b
 
     -- the entries, read as rows
@@ -113,14 +112,8 @@ module _ (i : Instance) where
     sheet-entries = elim (says-decides (says-exponent (i .header))) [
       | inl e ↦
           let h = i .header in
-          let f = numberAt 4 (sheetOf i) in
-          let rows =
-          itemsAt-tabulate (λ at. pad8 0 (itemsAt f at 4 (h .columns))) 20 (4 * h .columns) (h .rows)
-          ∙ tabulate-agree (h .rows) _ (λ r. pad8 0 (entryRow i r)) (λ r a.
-          ap (λ (l : List ℕ). pad8 0 l)
-          (itemsAt-tabulate f (20 + 4 * h .columns * r) 4 (h .columns)
-          ∙ tabulate-agree (h .columns) _ (entry (tableOf i) r) (λ c b. entry-back e r c a b))) in
-          ap (λ (l : List (List ℕ)). cond (isExponent h) (pad8 zeros8 l) zeros64) rows
+          ap (λ (l : List (List ℕ)). cond (isExponent h) l zeros64)
+          (table-agree (h .rows) (h .columns) _ (entry (tableOf i)) (entry-back e))
       | inr n ↦ rw (root-kind (i .header) n)
     ]
 

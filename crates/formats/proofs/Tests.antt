@@ -1,19 +1,21 @@
 -- What each test of bytes says: it is true exactly when 01's condition holds ("Turned back", 1 to 3, 9, 12, 13 and 22).
 -- Assumes nothing.
-use Prim.Native.Nat.{ℕ}
+use Prim.Native.Nat.{ℕ, _<_, _≤_}
+use mathlib.Core.Logic.{_⊎_, _≢_}
 use mathlib.Core.Bool.{or-assoc}
 use mathlib.Core.List.{List}
 use lib.ListN.{length, take}
 use Rattle.types.specs.declared.Header.{Header}
 use Rattle.rules.specs.Says.{Says}
 use Rattle.rules.proofs.Says.{says-less, says-at-most, says-equal, says-or, says-not}
+use Rattle.sigma.specs.Reads.{Differ}
 use Rattle.sigma.specs.Refusals.{SomeNonElement}
 use Rattle.sigma.proofs.Comparison.{says-differ}
 use Rattle.sigma.proofs.Tests.{says-someNonElement}
 use Rattle.formats.specs.Append.{badInUse}
 use Rattle.formats.specs.Load.{badStart, badVersion, badLength}
 use Rattle.formats.specs.Pattern.{patternOf, badPattern, badValues}
-use Rattle.formats.specs.Refusals.{Refusal1, Refusal2, Refusal3, Refusal9, Refusal12, Refusal12InUse, Refusal13, Refusal22}
+use Rattle.formats.specs.Refusals.{Refusal12}
 use Rattle.formats.specs.RoundCalls.{badNumber}
 use Rattle.formats.specs.RoundFile.{badFile, challengeWidth, countField, fileVersion, recordStart, roundMark}
 use Rattle.formats.specs.Sheet.{headerOf, sheetLength, sheetMark, versionOf}
@@ -23,7 +25,8 @@ use Rattle.formats.specs.Write.{short}
 
 -- 1: the pattern number is outside 1 to 6, or a count of values is wrong
 pub says-badPattern : (number : ℕ) (values statement : List ℕ)
-    → Says (badPattern number values statement) (Refusal1 number values statement)
+    → Says (badPattern number values statement)
+    ((number < 1) ⊎ (6 < number) ⊎ (length values ≢ patternOf number .values) ⊎ (length statement ≢ patternOf number .rows))
 unfolding badPattern
 says-badPattern number values statement =
     simp or-assoc
@@ -33,17 +36,17 @@ says-badPattern number values statement =
     (says-not (says-equal (length statement) (patternOf number .rows))))))
 
 -- 2: under 20 bytes, or another mark
-pub says-badStart : (s : List ℕ) → Says (badStart s) (Refusal2 s)
+pub says-badStart : (s : List ℕ) → Says (badStart s) ((length s < 20) ⊎ Differ 3 s sheetMark)
 unfolding badStart
 says-badStart s = says-or (says-less (length s) 20) (says-differ 3 s sheetMark)
 
 -- 3: the version is not 1
-pub says-badVersion : (s : List ℕ) → Says (badVersion s) (Refusal3 s)
+pub says-badVersion : (s : List ℕ) → Says (badVersion s) (versionOf s ≢ 1)
 unfolding badVersion
 says-badVersion s = says-not (says-equal (versionOf s) 1)
 
 -- 9: the length is not exactly what the header gives
-pub says-badLength : (s : List ℕ) → Says (badLength s) (Refusal9 s)
+pub says-badLength : (s : List ℕ) → Says (badLength s) (length s ≢ sheetLength (headerOf s))
 unfolding badLength
 says-badLength s = says-not (says-equal (length s) (sheetLength (headerOf s)))
 
@@ -66,7 +69,9 @@ says-badFile h f =
     (says-not (says-equal (length f) (recordStart (challengeWidth f) h (countField f))))))))
 
 -- 12, for the writer: more bytes in use than the buffer has, no file in those bytes, or 512 rounds already
-pub says-badInUse : (h : Header) (buffer : List ℕ) (used : ℕ) → Says (badInUse h buffer used) (Refusal12InUse h buffer used)
+pub says-badInUse : (h : Header) (buffer : List ℕ) (used : ℕ)
+    → Says (badInUse h buffer used)
+    ((length buffer < used) ⊎ Refusal12 h (take used buffer) ⊎ (512 ≤ countField (take used buffer)))
 unfolding badInUse
 says-badInUse h buffer used =
     simp or-assoc
@@ -74,13 +79,13 @@ says-badInUse h buffer used =
     (says-or (says-badFile h (take used buffer)) (says-at-most 512 (countField (take used buffer)))))
 
 -- 13: the round number is at or beyond the file's count
-pub says-badNumber : (f : List ℕ) (k : ℕ) → Says (badNumber f k) (Refusal13 f k)
+pub says-badNumber : (f : List ℕ) (k : ℕ) → Says (badNumber f k) (countField f ≤ k)
 unfolding badNumber
 says-badNumber f k = says-at-most (countField f) k
 
 -- ---- the lent buffer
 
 -- 22: the buffer is shorter than the result
-pub says-short : (buffer : List ℕ) (needed : ℕ) → Says (short buffer needed) (Refusal22 buffer needed)
+pub says-short : (buffer : List ℕ) (needed : ℕ) → Says (short buffer needed) (length buffer < needed)
 unfolding short
 says-short buffer needed = says-less (length buffer) needed

@@ -7,7 +7,7 @@ use mathlib.Core.Bool.{cond}
 use mathlib.Core.List.{List}
 use lib.ListN.{length, getD, take}
 use Rattle.types.specs.declared.Header.{Header}
-use Rattle.lists.specs.Places.{pad8, places, tabulate, zeros8}
+use Rattle.lists.specs.Places.{eightByEight, pad8, places}
 use Rattle.sigma.specs.Element.{Element}
 use Rattle.sigma.specs.Instance.{Instance, tableOf, entry, isExponent}
 use Rattle.sigma.specs.Reads.{Agree}
@@ -44,16 +44,13 @@ pub record SameInstance (i i′ : Instance) : Type 0 where
       (r c : ℕ) → r < i .header .rows → c < i .header .columns → entry (tableOf i) r c ≡ entry (tableOf i′) r c
   pub statement : Agree (i .header .rows) (i .statement) (i′ .statement)
 
--- the rows that are read of a sheet's entries, with 0 in the places that are not
-abbrev pub readRows : Instance → List (List ℕ)
-readRows i = pad8 zeros8 (tabulate (i .header .rows) (λ r. pad8 0 (tabulate (i .header .columns) (entry (tableOf i) r))))
-
 -- what is read of a sheet's values, with 0 in the places that are not
 unfoldable pub readInstance : Instance → Instance
 readInstance i =
     record {
       header = i .header;
-      entries = cond (isExponent (i .header)) (readRows i) zeros64;
+      entries =
+          cond (isExponent (i .header)) (eightByEight (i .header .rows) (i .header .columns) (entry (tableOf i))) zeros64;
       statement = pad8 0 (places (i .header .rows) (i .statement));
     }
 

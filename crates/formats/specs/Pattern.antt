@@ -7,7 +7,7 @@ use lib.Dec.{eqb, ltb}
 use lib.ListN.{length, getD}
 use Rattle.types.specs.declared.Header.{Header}
 use Rattle.types.specs.declared.Pattern.{Pattern}
-use Rattle.lists.specs.Places.{tabulate, pad8, zeros8}
+use Rattle.lists.specs.Places.{eightByEight, pad8}
 use Rattle.rules.specs.Rule.{Rule, _when_, lowest}
 use Rattle.sigma.specs.Admission.{badModulus, badOrder, badCount, badStatement}
 use Rattle.sigma.specs.Element.{someNonElement}
@@ -26,7 +26,7 @@ patterns =
     record { rows = 2; columns = 3; values = 3; digits = 1 ∷ 2 ∷ 0 ∷ 3 ∷ 0 ∷ 2 ∷ [] } ∷
     record { rows = 1; columns = 1; values = 0; digits = 0 ∷ 0 ∷ 0 ∷ 0 ∷ 0 ∷ 0 ∷ [] } ∷ []
 
--- the pattern of a number from 1 to 6; for any other number 1 is given
+-- the pattern of a number from 1 to 6; 0 gives the first, and a number above 6 a pattern of nothing
 unfoldable pub patternOf : ℕ → Pattern
 patternOf number = getD patterns (number - 1) (record { rows = 0; columns = 0; values = 0; digits = [] })
 
@@ -37,9 +37,7 @@ entryOf values digit = cond (eqb digit 0) 1 (getD values (digit - 1) 0)
 -- the entries of a pattern over its public values
 unfoldable pub patternEntries : Pattern → List ℕ → List (List ℕ)
 patternEntries p values =
-    pad8 zeros8
-    (tabulate (p .rows)
-    (λ i. pad8 0 (tabulate (p .columns) (λ j. entryOf values (getD (p .digits) (3 * i + j) 0)))))
+    eightByEight (p .rows) (p .columns) (λ i j. entryOf values (getD (p .digits) (3 * i + j) 0))
 
 -- the fixed fields of a made sheet; pattern 6 is of kind 2
 unfoldable pub madeHeader : ℕ → ℕ → ℕ → ℕ → Header

@@ -31,83 +31,51 @@ use Rattle.formats.specs.RoundFile.{
 }
 use Rattle.formats.specs.Sheet.{headerOf, instanceOf, sheetLength, sheetMark, versionOf}
 
--- the pattern number is outside 1 to 6, or the count of public or statement values is wrong
-abbrev pub Refusal1 : ℕ → List ℕ → List ℕ → Type 0
-Refusal1 number values statement =
-    (number < 1) ⊎ (6 < number) ⊎ (length values ≢ patternOf number .values) ⊎
-    (length statement ≢ patternOf number .rows)
-
--- the sheet has under 20 bytes or another mark
-abbrev pub Refusal2 : List ℕ → Type 0
-Refusal2 s = (length s < 20) ⊎ Differ 3 s sheetMark
-
--- the sheet's version is not 1
-abbrev pub Refusal3 : List ℕ → Type 0
-Refusal3 s = versionOf s ≢ 1
-
--- the sheet's length is not exactly what its header gives
-abbrev pub Refusal9 : List ℕ → Type 0
-Refusal9 s = length s ≢ sheetLength (headerOf s)
-
 -- the file has under 7 bytes, another mark, a version other than 1, a count above 512 or a length that does not fit
 abbrev pub Refusal12 : Header → List ℕ → Type 0
 Refusal12 h f =
     (length f < 7) ⊎ Differ 3 f roundMark ⊎ (fileVersion f ≢ 1) ⊎ (512 < countField f) ⊎
     (length f ≢ recordStart (challengeWidth f) h (countField f))
 
--- for the writer: more bytes in use than the buffer has, no file in those bytes, or 512 rounds already
-abbrev pub Refusal12InUse : Header → List ℕ → ℕ → Type 0
-Refusal12InUse h buffer used =
-    (length buffer < used) ⊎ Refusal12 h (take used buffer) ⊎ (512 ≤ countField (take used buffer))
-
--- the round number is at or beyond the file's count
-abbrev pub Refusal13 : List ℕ → ℕ → Type 0
-Refusal13 f k = countField f ≤ k
-
--- the lent buffer is shorter than the result
-abbrev pub Refusal22 : List ℕ → ℕ → Type 0
-Refusal22 buffer needed = length buffer < needed
-
--- the shape of a sheet, 2 to 9
-abbrev pub shapeConditions : List ℕ → List Condition
-shapeConditions s =
-    (2 if Refusal2 s) ∷ (3 if Refusal3 s) ∷ (headerConditions (headerOf s) ++ (9 if Refusal9 s) ∷ [])
-
--- loading a sheet
+-- loading a sheet; 2 is for under 20 bytes or another mark, and 9 for a length that is not exactly what the header gives
 abbrev pub loadConditions : List ℕ → List Condition
-loadConditions s = shapeConditions s ++ elementConditions (instanceOf s)
+loadConditions s =
+    (2 if ((length s < 20) ⊎ Differ 3 s sheetMark)) ∷
+    (3 if (versionOf s ≢ 1)) ∷
+    (headerConditions (headerOf s) ++ (9 if (length s ≢ sheetLength (headerOf s))) ∷ elementConditions (instanceOf s))
 
--- the second writer
+-- the second writer; 22 is for a buffer that is shorter than the result
 abbrev pub encodeConditions : Instance → List ℕ → List Condition
 encodeConditions inst buffer =
-    headerConditions (inst .header) ++ elementConditions inst ++
-    (22 if Refusal22 buffer (sheetLength (inst .header))) ∷ []
+    headerConditions (inst .header) ++ elementConditions inst ++ (22 if (length buffer < sheetLength (inst .header))) ∷ []
 
--- the sheet maker
+-- the sheet maker; 1 is for a pattern number outside 1 to 6 or a wrong count of public or statement values
 abbrev pub makeConditions : ℕ → List ℕ → List ℕ → Instance → List ℕ → List Condition
 makeConditions number values statement inst buffer =
-    (1 if Refusal1 number values statement) ∷
+    (1 if
+    ((number < 1) ⊎ (6 < number) ⊎ (length values ≢ patternOf number .values) ⊎
+    (length statement ≢ patternOf number .rows))) ∷
     (5 if Refusal5 (inst .header)) ∷
     (6 if Refusal6 (inst .header)) ∷
     (8 if Refusal8 (inst .header)) ∷
     (10 if SomeNonElement (inst .header) (length values) values) ∷
     (11 if Refusal11 inst) ∷
-    (22 if Refusal22 buffer (sheetLength (inst .header))) ∷ []
+    (22 if (length buffer < sheetLength (inst .header))) ∷ []
 
 -- a round file
 abbrev pub fileConditions : Header → List ℕ → List Condition
 fileConditions h f = (12 if Refusal12 h f) ∷ []
 
--- a round of a file
+-- a round of a file; 13 is for a round number at or beyond the file's count
 abbrev pub roundConditions : Header → List ℕ → ℕ → List Condition
-roundConditions h f k = fileConditions h f ++ (13 if Refusal13 f k) ∷ []
+roundConditions h f k = (12 if Refusal12 h f) ∷ (13 if (countField f ≤ k)) ∷ []
 
 -- the empty file
 abbrev pub emptyConditions : List ℕ → List Condition
-emptyConditions buffer = (22 if Refusal22 buffer (length noRounds)) ∷ []
+emptyConditions buffer = (22 if (length buffer < length noRounds)) ∷ []
 
--- the record writer
+-- the record writer; 12 is for more bytes in use than the buffer has, no file in those bytes, or 512 rounds already
 abbrev pub appendConditions : Header → List ℕ → ℕ → List Condition
 appendConditions h buffer used =
-    (12 if Refusal12InUse h buffer used) ∷
-    (22 if Refusal22 buffer (used + recordLength (widthInUse buffer used) h)) ∷ []
+    (12 if ((length buffer < used) ⊎ Refusal12 h (take used buffer) ⊎ (512 ≤ countField (take used buffer)))) ∷
+    (22 if (length buffer < used + recordLength (widthInUse buffer used) h)) ∷ []

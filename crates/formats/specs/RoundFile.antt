@@ -8,8 +8,8 @@ use lib.Dec.{eqb, ltb}
 use lib.ListN.{length, take}
 use Rattle.types.specs.declared.Header.{Header}
 use Rattle.types.specs.declared.Round.{Round}
-use Rattle.encoding.specs.Bytes.{numberAt, bytesOf, bytesOfEach}
-use Rattle.lists.specs.Places.{itemsAt, places, pad8}
+use Rattle.encoding.specs.Bytes.{numberAt, wordsAt, bytesOf, bytesOfEach}
+use Rattle.lists.specs.Places.{places, pad8}
 use Rattle.encoding.specs.Text.{ascii}
 use Rattle.sigma.specs.Comparison.{differ}
 
@@ -25,7 +25,7 @@ fileVersion f = numberAt 2 f 3
 unfoldable pub countField : List ℕ → ℕ
 countField f = numberAt 2 f 5
 
--- the width in bytes of a challenge in a file of the version
+-- the width in bytes of a challenge in a file of the version: 4 in each
 unfoldable pub widthOf : ℕ → ℕ
 widthOf version = 4
 
@@ -55,9 +55,9 @@ recordBytes width h round =
 unfoldable pub roundAt : ℕ → Header → List ℕ → ℕ → Round
 roundAt width h f at =
     record {
-      commitment = pad8 0 (itemsAt (numberAt 4 f) at 4 (h .rows));
+      commitment = pad8 0 (wordsAt f at (h .rows));
       challenge = numberAt width f (at + 4 * h .rows);
-      response = pad8 0 (itemsAt (numberAt 4 f) (at + 4 * h .rows + width) 4 (h .columns));
+      response = pad8 0 (wordsAt f (at + 4 * h .rows + width) (h .columns));
     }
 
 -- under 7 bytes, another mark, a version other than 1, a count above 512 or a length that does not fit (12)

@@ -5,8 +5,8 @@ use mathlib.Core.Bool.{cond}
 use mathlib.Core.List.{List}
 use lib.ListN.{replicate}
 use Rattle.types.specs.declared.Header.{Header}
-use Rattle.encoding.specs.Bytes.{numberAt}
-use Rattle.lists.specs.Places.{itemsAt, pad8, zeros8}
+use Rattle.encoding.specs.Bytes.{numberAt, wordsAt}
+use Rattle.lists.specs.Places.{eightByEight, pad8, zeros8}
 use Rattle.encoding.specs.Text.{ascii}
 use Rattle.sigma.specs.Instance.{Instance, isExponent}
 
@@ -45,13 +45,11 @@ zeros64 = replicate 8 zeros8
 -- the entries, row by row from byte 20 on; all 0 in kind 2
 unfoldable pub entriesOf : List ℕ → Header → List (List ℕ)
 entriesOf s h =
-    cond (isExponent h)
-    (pad8 zeros8 (itemsAt (λ at. pad8 0 (itemsAt (numberAt 4 s) at 4 (h .columns))) 20 (4 * h .columns) (h .rows)))
-    zeros64
+    cond (isExponent h) (eightByEight (h .rows) (h .columns) (λ i j. numberAt 4 s (20 + 4 * (h .columns * i + j)))) zeros64
 
 -- the statement, behind the entries
 unfoldable pub statementOf : List ℕ → Header → List ℕ
-statementOf s h = pad8 0 (itemsAt (numberAt 4 s) (20 + 4 * entryCount h) 4 (h .rows))
+statementOf s h = pad8 0 (wordsAt s (20 + 4 * entryCount h) (h .rows))
 
 -- the values of a sheet
 unfoldable pub instanceOf : List ℕ → Instance

@@ -1,69 +1,78 @@
 -- The number of a sheet's entries and statement, 10 and 11, test by test.
 -- Assumes nothing.
-use Prim.Native.Nat.{ℕ, _-_, _≤_, _<_}
-use mathlib.Core.Path.{_≡_, refl, sym, _∙_}
-use mathlib.Core.Bool.{Bool, true, false, cond, _&&_}
+use Prim.Native.Nat.{ℕ, _+_, _<_, _≤_}
+use mathlib.Core.Path.{_≡_, refl, sym, ap, _∙_}
+use mathlib.Core.Logic.{_≢_}
+use mathlib.Core.Bool.{Bool, true, false, _||_}
 use mathlib.Core.List.{List, []}
+use native.Mathlib.Numerals.{add-one}
 use native.Mathlib.Omega.{arith}
-use lib.Dec.{ltb}
 use lib.ListN.{getD}
-use borrow.Author.Tests.{eq-eqb, lt-ltb, le-ltb}
+use borrow.Author.Tests.{eq-eqb, ne-eqb}
 use Rattle.types.specs.declared.Header.{Header}
-use Rattle.numbers.specs.Search.{find, any}
-use Rattle.numbers.proofs.Search.{find-to-start}
+use Rattle.numbers.specs.Search.{any}
+use Rattle.numbers.proofs.Search.{any-false, any-of, any-suc}
 use Rattle.rules.specs.Rule.{lowest}
 use Rattle.rules.proofs.Lowest.{pass, stop, lowest-clear}
 use Rattle.sigma.specs.Admission.{badEntries, badStatement, elementRules}
-use Rattle.sigma.specs.Element.{isElement, someNonElement}
+use Rattle.sigma.specs.Element.{someNonElement}
 use Rattle.sigma.specs.Instance.{Instance, instanceWith, isExponent, entry}
-use Rattle.modular.specs.FirstFailing.{firstFailing}
-use Rattle.modular.proofs.FirstFailing.{someNonElement-first}
-use Rattle.instance.specs.Rows.{isBadRow, firstBadRow}
-
--- a row is bad where the search in it ends before its last column
-pub bad-row : (h : Header) (entries : List (List ℕ)) (i : ℕ) {first : ℕ}
-    → first ≡ firstFailing (isElement h) (h .columns) (getD entries i []) → isBadRow h entries i ≡ ltb first (h .columns)
-unfolding isBadRow
-bad-row h entries i found = rw (found, someNonElement-first)
-
--- a search that is made in kind 1 only ends before the last row where it is made and does
-exponent-only : (exponent : Bool) (first n : ℕ) → (exponent && ltb first n) ≡ ltb (cond exponent first n) n
-exponent-only true first n = refl
-exponent-only false first n = sym (le-ltb n n (omega arith))
+use Rattle.instance.specs.Rows.{isBadRow, someBadEntry}
 
 module _ (h : Header) (entries : List (List ℕ)) where
-  -- in kind 1 the search over the rows begins at the first
-  pub rows-start : h .kind ≡ 1 → find (isBadRow h entries) 0 (h .rows - 0) ≡ firstBadRow h entries
-  unfolding firstBadRow isExponent
-  rows-start kind = rw (eq-eqb (h .kind) 1 kind) (find-to-start (isBadRow h entries) (h .rows))
+  -- in kind 2 no entry is read
+  pub entries-unread : h .kind ≢ 1 → false ≡ someBadEntry h entries
+  unfolding someBadEntry isExponent
+  entries-unread other = rw (ne-eqb (h .kind) 1 other)
+
+  -- the test of a row
+  pub row-test : (i : ℕ) {bad : Bool} → bad ≡ someNonElement h (h .columns) (getD entries i []) → isBadRow h entries i ≡ bad
+  unfolding isBadRow
+  row-test i told = sym told
+
+  -- before the first row there is no bad one
+  pub rows-start : any 0 (isBadRow h entries) ≡ false
+  rows-start = any-false 0 (isBadRow h entries) .1 (λ j b. absurd (omega arith))
+
+  -- one good row more
+  pub rows-on : (i : ℕ) → any i (isBadRow h entries) ≡ false → isBadRow h entries i ≡ false → any (i + 1) (isBadRow h entries) ≡ false
+  rows-on i before good = rw (add-one i) (any-suc i (isBadRow h entries) ∙ rw (before, good))
+
+  module _ (kind : h .kind ≡ 1) where
+    -- a bad row is met
+    pub row-found : (i : ℕ) → i < h .rows → isBadRow h entries i ≡ true → true ≡ someBadEntry h entries
+    unfolding someBadEntry isExponent
+    row-found i inside bad = rw (eq-eqb (h .kind) 1 kind) (sym (any-of (h .rows) (isBadRow h entries) i inside bad))
+
+    -- behind the last row there was none
+    pub rows-good : (i : ℕ) → i ≤ h .rows → h .rows ≤ i → any i (isBadRow h entries) ≡ false → false ≡ someBadEntry h entries
+    unfolding someBadEntry isExponent
+    rows-good i within past none =
+        let all : i ≡ h .rows = omega arith in
+        rw (eq-eqb (h .kind) 1 kind) (sym (rw all at none))
 
   module _ (statement : List ℕ) where
     -- the values that are tested
     abbrev tested : Instance
     tested = instanceWith h entries statement
 
-    -- entries are bad where the search over the rows ends before the last
-    bad-entries : badEntries tested ≡ ltb (firstBadRow h entries) (h .rows)
-    unfolding badEntries firstBadRow isBadRow any entry someNonElement
-    bad-entries = exponent-only (isExponent h) (find (isBadRow h entries) 0 (h .rows)) (h .rows)
-
-    -- a statement is bad where the search in it ends before the last row
-    bad-statement : badStatement tested ≡ ltb (firstFailing (isElement h) (h .rows) statement) (h .rows)
-    unfolding badStatement
-    bad-statement = someNonElement-first h (h .rows) statement
+    -- the test of the entries is 10's
+    bad-entries : badEntries tested ≡ someBadEntry h entries
+    unfolding badEntries someBadEntry isBadRow entry someNonElement
+    bad-entries = refl
 
     -- a bad entry is refused with 10
-    pub entries-number : firstBadRow h entries < h .rows → 10 ≡ lowest (elementRules tested)
+    pub entries-number : someBadEntry h entries ≡ true → 10 ≡ lowest (elementRules tested)
     unfolding elementRules
-    entries-number bad = sym (stop 10 _ (bad-entries ∙ lt-ltb _ _ bad))
+    entries-number bad = sym (stop 10 _ (bad-entries ∙ bad))
 
-    module _ (good : h .rows ≤ firstBadRow h entries) where
+    module _ (good : someBadEntry h entries ≡ false) where
       -- where there is none, a bad statement value is refused with 11
-      pub statement-number : firstFailing (isElement h) (h .rows) statement < h .rows → 11 ≡ lowest (elementRules tested)
-      unfolding elementRules
-      statement-number bad = sym (pass 10 _ (bad-entries ∙ le-ltb _ _ good) ∙ stop 11 _ (bad-statement ∙ lt-ltb _ _ bad))
+      pub statement-number : someNonElement h (h .rows) statement ≡ true → 11 ≡ lowest (elementRules tested)
+      unfolding elementRules badStatement
+      statement-number bad = sym (pass 10 _ (bad-entries ∙ good) ∙ stop 11 _ bad)
 
       -- and where there is neither, nothing is refused
-      pub elements-right : h .rows ≤ firstFailing (isElement h) (h .rows) statement → 0 ≡ lowest (elementRules tested)
-      unfolding elementRules
-      elements-right right = sym (lowest-clear _ (bad-entries ∙ le-ltb _ _ good, (bad-statement ∙ le-ltb _ _ right, tt)))
+      pub elements-right : someNonElement h (h .rows) statement ≡ false → 0 ≡ lowest (elementRules tested)
+      unfolding elementRules badStatement
+      elements-right right = sym (lowest-clear _ (bad-entries ∙ good, (right, tt)))

@@ -2,7 +2,7 @@
 use crate::shape::FIXED_FIELDS;
 use crate::shape::entry_count;
 use fields::read_words;
-use modular::first_non_element;
+use modular::some_non_element;
 use types::Header;
 ghost use Prim.Native.Nat.{_+_, _*_, _≤_, _<_};
 ghost use mathlib.Core.Path.{_≡_};
@@ -12,7 +12,7 @@ ghost use Rattle.sigma.specs.Admission.{elementRules};
 ghost use Rattle.sigma.specs.Instance.{instanceWith};
 ghost use Rattle.formats.specs.Sheet.{entriesOf, statementOf};
 ghost use Rattle.instance.specs.Shaped.{Shaped};
-ghost use Rattle.instance.specs.Rows.{rowsAt, firstBadRow};
+ghost use Rattle.instance.specs.Rows.{rowsAt, someBadEntry};
 
 // The first n rows of a sheet's entries, each of so many columns, and 0 in the places beyond them.
 fn read_rows(sheet: &[u8], columns: usize, n: usize) -> [[u32; 8]; 8]
@@ -47,27 +47,27 @@ pub fn read_statement(sheet: &[u8], h: Header) -> [u32; 8]
     read_words(sheet, FIXED_FIELDS + 4 * entry_count(h), h.rows as usize)
 }
 
-// The first row with an entry that is no group element, or the count of the rows where there is none, as in kind 2.
-fn first_bad_row(h: Header, entries: [[u32; 8]; 8]) -> usize
+// Whether some entry is no group element; in kind 2 none is read.
+fn some_bad_entry(h: Header, entries: [[u32; 8]; 8]) -> bool
     requires modulus { ⌜ 0 < h .modulus ⌝ }
     requires rows { ⌜ h .rows ≤ 8 ⌝ }
     requires columns { ⌜ h .columns ≤ 8 ⌝ }
-    ensures { λ r. ⌜ r ≡ firstBadRow h entries ⌝ }
+    ensures { λ r. ⌜ r ≡ someBadEntry h entries ⌝ }
 {
     let rows = h.rows as usize;
     let columns = h.columns as usize;
     if h.kind != 1 {
-        return rows;
+        return false;
     }
     let mut i: usize = 0;
     while i < rows {
         let row = entries[i];
-        if first_non_element(h, row, columns) < columns {
-            return i;
+        if some_non_element(h, row, columns) {
+            return true;
         }
         i += 1;
     }
-    i
+    false
 }
 
 // The number that entries and a statement are refused with, 10 or 11, or 0.
@@ -77,11 +77,10 @@ pub fn element_refusal(h: Header, entries: [[u32; 8]; 8], statement: [u32; 8]) -
     requires columns { ⌜ h .columns ≤ 8 ⌝ }
     ensures { λ r. ⌜ r ≡ lowest (elementRules (instanceWith h entries statement)) ⌝ }
 {
-    let rows = h.rows as usize;
-    if first_bad_row(h, entries) < rows {
+    if some_bad_entry(h, entries) {
         return 10;
     }
-    if first_non_element(h, statement, rows) < rows {
+    if some_non_element(h, statement, h.rows as usize) {
         return 11;
     }
     0

@@ -7,8 +7,16 @@ use native.Mathlib.Nat.{mul-le-mul-left, mul-zero, mul-suc}
 use native.Mathlib.Omega.{arith}
 use lib.ListN.{length, getD, length-append, List·getD-append}
 use lib.Seq.{getD-append-add}
-use Rattle.lists.specs.Places.{itemsAt, pad8, tabulate, zeros8}
-use Rattle.lists.proofs.Places.{itemsAt-add, length-tabulate, getD-tabulate, getD-pad8, getD-pad8-inside}
+use Rattle.lists.specs.Places.{eightByEight, itemsAt, pad8, tabulate, zeros8}
+use Rattle.lists.proofs.Places.{
+  itemsAt-add,
+  itemsAt-agree,
+  length-tabulate,
+  getD-tabulate,
+  getD-pad8,
+  getD-pad8-inside,
+  tabulate-agree,
+}
 
 -- a row before the last ends where the next begins, at or before the end of all
 pub row-within : (width i n : ℕ) → i < n → width * i + width ≤ width * n
@@ -23,7 +31,7 @@ module _ {ℓ} {A : Type ℓ} where
       ap (λ (l : List A). xs ++ l) (flatten-append xss yss) ∙ sym (append-assoc xs (flatten xss) (flatten yss))
 
   -- rows at a stride of m items are items at the stride of one
-  pub flatten-itemsAt : (f : ℕ → A) (at step m n : ℕ)
+  flatten-itemsAt : (f : ℕ → A) (at step m n : ℕ)
       → flatten (itemsAt (λ a. itemsAt f a step m) at (step * m) n) ≡ itemsAt f at step (m * n)
   unfolding flatten itemsAt
   flatten-itemsAt f at step m zero = ap (λ (k : ℕ). itemsAt f at step k) (sym (mul-zero m))
@@ -31,6 +39,15 @@ module _ {ℓ} {A : Type ℓ} where
       let e : m + m * n ≡ m * suc n = omega (arith, mul-suc m n) in
       ap (λ (l : List A). itemsAt f at step m ++ l) (flatten-itemsAt f (at + step * m) step m n)
       ∙ sym (itemsAt-add f at step m (m * n)) ∙ ap (λ (k : ℕ). itemsAt f at step k) e
+
+  -- rows of m values of a function, one behind the other, are its first values
+  pub flatten-tabulate : (f : ℕ → A) (m n : ℕ) → flatten (tabulate n (λ i. tabulate m (λ j. f (m * i + j)))) ≡ tabulate (m * n) f
+  unfolding tabulate
+  flatten-tabulate f m n =
+      ap flatten
+      (itemsAt-agree (λ i. itemsAt (λ j. f (m * i + j)) 0 1 m) (λ a. itemsAt f a 1 m) 0 1 0 (1 * m) n (λ i a.
+      itemsAt-agree (λ j. f (m * (0 + 1 * i) + j)) f 0 1 (0 + 1 * m * i) 1 m (λ j b. ap f (omega arith))))
+      ∙ flatten-itemsAt f 0 1 m n
 
   -- rows of m items have m items for each
   pub length-flatten : (m : ℕ) (rows : List (List A)) → ((i : ℕ) → i < length rows → length (getD rows i []) ≡ m)
@@ -55,12 +72,26 @@ module _ {ℓ} {A : Type ℓ} where
       ap (λ (k : ℕ). getD (row ++ flatten rows) k d) e ∙ getD-append-add row (flatten rows) (m * i + j) d
       ∙ getD-flatten m rows (λ k l. h (suc k) (omega arith)) i j d (omega arith) c
 
--- the number in row r and column c of a table of at most eight rows and columns, padded with zeros
-pub getD-table : (m n : ℕ) (f : ℕ → ℕ → ℕ) (r c : ℕ) → r < m → c < n
-    → getD (getD (pad8 zeros8 (tabulate m (λ k. pad8 0 (tabulate n (f k))))) r []) c 0 ≡ f r c
-getD-table m n f r c a b =
-    let rows = tabulate m (λ k. pad8 0 (tabulate n (f k))) in
-    let inside : r < length rows = omega (arith, length-tabulate m (λ k. pad8 0 (tabulate n (f k)))) in
-    ap (λ (row : List ℕ). getD row c 0)
-    (getD-pad8-inside zeros8 rows r [] inside ∙ getD-tabulate m (λ k. pad8 0 (tabulate n (f k))) r [] a)
-    ∙ getD-pad8 0 (tabulate n (f r)) c ∙ getD-tabulate n (f r) c 0 b
+-- ---- eight rows of eight
+
+module _ (m n : ℕ) (f : ℕ → ℕ → ℕ) where
+  -- row r of the table
+  pub getD-row : (r : ℕ) → r < m → getD (eightByEight m n f) r [] ≡ pad8 0 (tabulate n (f r))
+  unfolding eightByEight
+  getD-row r a =
+      let rows = tabulate m (λ k. pad8 0 (tabulate n (f k))) in
+      let inside : r < length rows = omega (arith, length-tabulate m (λ k. pad8 0 (tabulate n (f k)))) in
+      getD-pad8-inside zeros8 rows r [] inside ∙ getD-tabulate m (λ k. pad8 0 (tabulate n (f k))) r [] a
+
+  -- the number in row r and column c
+  pub getD-table : (r c : ℕ) → r < m → c < n → getD (getD (eightByEight m n f) r []) c 0 ≡ f r c
+  getD-table r c a b =
+      ap (λ (row : List ℕ). getD row c 0) (getD-row r a) ∙ getD-pad8 0 (tabulate n (f r)) c ∙ getD-tabulate n (f r) c 0 b
+
+  -- functions that agree in the rows and columns have the same table
+  pub table-agree : (g : ℕ → ℕ → ℕ) → ((r c : ℕ) → r < m → c < n → f r c ≡ g r c) → eightByEight m n f ≡ eightByEight m n g
+  unfolding eightByEight
+  table-agree g same =
+      ap (pad8 zeros8)
+      (tabulate-agree m (λ r. pad8 0 (tabulate n (f r))) (λ r. pad8 0 (tabulate n (g r)))
+      (λ r a. ap (pad8 0) (tabulate-agree n (f r) (g r) (λ c b. same r c a b))))

@@ -24,3 +24,7 @@ pad8 d xs = xs ++ replicate (8 - length xs) d
 -- eight zeros
 unfoldable pub zeros8 : List ℕ
 zeros8 = replicate 8 0
+
+-- eight rows of eight: f i j in row i and column j of so many rows and columns, and 0 beyond
+unfoldable pub eightByEight : ℕ → ℕ → (ℕ → ℕ → ℕ) → List (List ℕ)
+eightByEight rows columns f = pad8 zeros8 (tabulate rows (λ i. pad8 0 (tabulate columns (f i))))

@@ -2,6 +2,7 @@
 -- Assumes nothing.
 use Prim.Native.Nat.{ℕ, _≤_, _<_}
 use mathlib.Core.Path.{_≡_, refl, sym, ap, _∙_}
+use mathlib.Core.Logic.{_⊎_, _≢_}
 use mathlib.Core.Bool.{cond}
 use mathlib.Core.List.{List, [], _∷_, _++_, append-assoc}
 use native.Mathlib.Omega.{arith}
@@ -21,7 +22,6 @@ use Rattle.sigma.proofs.Answer.{unlessRefused-positive}
 use Rattle.sigma.proofs.Positive.{element-positive, header-positive}
 use Rattle.formats.specs.Encode.{encode, encodeRules, sheetOf}
 use Rattle.formats.specs.Pattern.{fromPattern, made, madeHeader, makeRules, patternEntries, patternOf}
-use Rattle.formats.specs.Refusals.{Refusal1}
 use Rattle.formats.specs.Sheet.{sheetLength, zeros64}
 use Rattle.formats.specs.Write.{short, written, writtenAtStart}
 use Rattle.formats.proofs.Maker.{maker-encodes}
@@ -104,7 +104,8 @@ module _ (i : Instance) (buffer : List ℕ) where
 
 module _ (number modulus order challenges : ℕ) (values statement buffer : List ℕ) {answer : Written} where
   -- the number or a count is wrong
-  pub maker-refused : answer ≡ refusedWith 1 → Refusal1 number values statement
+  pub maker-refused : answer ≡ refusedWith 1
+      → (number < 1) ⊎ (6 < number) ⊎ (length values ≢ patternOf number .values) ⊎ (length statement ≢ patternOf number .rows)
       → Leaves answer buffer (fromPattern number modulus order challenges values statement buffer)
   unfolding fromPattern makeRules
   maker-refused answered bad =

@@ -11,7 +11,7 @@ use lib.Dec.{ltb}
 use lib.ListN.{length, getD}
 use borrow.Author.Tests.{ne-eqb}
 use Rattle.types.specs.declared.Pattern.{Pattern}
-use Rattle.lists.specs.Places.{tabulate, pad8, zeros8}
+use Rattle.lists.specs.Places.{eightByEight, tabulate, pad8, zeros8}
 use Rattle.rules.specs.Says.{Says}
 use Rattle.rules.proofs.Says.{says-false, says-less, says-or}
 use Rattle.sigma.specs.Answer.{Outcome}
@@ -89,7 +89,7 @@ digit-value values digit some = rw (ne-eqb digit 0 some)
 
 -- the entries of a pattern are its rows
 pub entries-rows : (p : Pattern) (values : List ℕ) → pad8 zeros8 (tabulate (p .rows) (patternRow p values)) ≡ patternEntries p values
-unfolding patternEntries patternRow patternEntry
+unfolding patternEntries eightByEight patternRow patternEntry
 entries-rows p values = refl
 
 -- over as many values as it has, a pattern of the table spells its entries

@@ -1,16 +1,18 @@
 -- `instance::elements::read_rows` meets its contract. The invariant: the first i places hold the first i rows, and those beyond
 -- hold zeros. The measure: how many rows are left. Assumes nothing.
 use Prim.Native.Nat.{_+_, _-_, _*_, _≤_}
+use mathlib.Core.Path.{_∙_}
 use native.Mathlib.Omega.{arith}
-use Rattle.lists.specs.Places.{zeros8}
-use Rattle.lists.proofs.Filling.{Filled, filled-start, filled-turn, filled-items}
+use Rattle.lists.specs.Places.{eightByEight, pad8, tabulate, zeros8}
+use Rattle.lists.proofs.Filling.{Filled, filled-start, filled-turn, filled-eight}
 use Rattle.lists.proofs.Rows.{row-within}
-use Rattle.instance.specs.Rows.{rowAt, rowsAt}
+use Rattle.instance.specs.Rows.{entryAt, rowsAt}
+use Rattle.instance.proofs.SheetRows.{row-words}
 use Rattle.instance.proofs.elements.read_rows.Statement.{statement}
 use Rattle.instance.proofs.elements.read_rows.Tie as tie
 
 abbrev Inv-loop : tie.InvT-loop
-Inv-loop sheet columns n rows₀ i₀ rows i = Filled rows₀ n (λ j. rowAt sheet columns (20 + 4 * columns * j)) rows i
+Inv-loop sheet columns n rows₀ i₀ rows i = Filled rows₀ n (λ k. pad8 0 (tabulate columns (entryAt sheet columns k))) rows i
 
 abbrev μ-loop : tie.MeasureT-loop
 μ-loop sheet columns n rows₀ i₀ rows i = n - i
@@ -49,12 +51,12 @@ loop-less : tie.Need-loop-less Inv-loop μ-loop
 loop-less c = omega arith
 
 loop-again : tie.Need-loop-again Inv-loop μ-loop
-unfolding rowAt
-loop-again c = filled-turn (c .before .before .loop .inv) (omega arith) (c .read-words .ensures)
+loop-again c =
+    filled-turn (c .before .before .loop .inv) (omega arith) (c .read-words .ensures ∙ row-words _ _ _)
 
 returns : tie.Need-returns Inv-loop μ-loop
-unfolding rowsAt zeros8
-returns c = filled-items _ 20 _ (c .before .loop .inv) (omega arith)
+unfolding rowsAt eightByEight zeros8
+returns c = filled-eight (c .before .loop .inv) (omega arith)
 
 pub read-rows-spec : {M : Type 1} → statement M
 read-rows-spec =
