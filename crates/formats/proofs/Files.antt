@@ -22,7 +22,7 @@ use Rattle.sigma.proofs.Comparison.{differ-false}
 use Rattle.formats.specs.Append.{badInUse}
 use Rattle.formats.specs.Load.{loadRules}
 use Rattle.formats.specs.Meaning.{Loads, IsRoundFile, InUse}
-use Rattle.formats.specs.RoundCalls.{badNumber, fileRules, roundRules, countAfter, checkAfter}
+use Rattle.formats.specs.RoundCalls.{fileRules, roundRules, countAfter, checkAfter}
 use Rattle.formats.specs.RoundCalls.{fetchAfter, countRounds, checkRound, fetchRound}
 use Rattle.formats.specs.RoundFile.{
   badFile,
@@ -136,8 +136,7 @@ in-use-passes h buffer used =
     )
 
 -- not 13: the round is one of the file's
-pub number-passes : (f : List ℕ) (k : ℕ) → (badNumber f k ≡ false) ↔ (k < countField f)
-unfolding badNumber
+pub number-passes : (f : List ℕ) (k : ℕ) → (leb (countField f) k ≡ false) ↔ (k < countField f)
 number-passes f k = (leb-false (countField f) k, lt-leb (countField f) k)
 
 module _ (s f : List ℕ) where
