@@ -50,7 +50,7 @@ use Rattle.sigma.specs.Round.{
 use Rattle.sigma.specs.Simulator.{simulated, simulateRules, simulateAfter}
 use Rattle.formats.specs.Append.{emptyFile, badInUse, appendRules, appended, appendAfter, append}
 use Rattle.formats.specs.Encode.{headerBytes, storedEntries, sheetOf, encodeRules, encode}
-use Rattle.formats.specs.Load.{badStart, badVersion, badLength, shapeRules, loadRules, loadRefusal, noHeader, load, loadEntries}
+use Rattle.formats.specs.Load.{badStart, badLength, shapeRules, loadRules, loadRefusal, noHeader, load, loadEntries}
 use Rattle.formats.specs.Pattern.{
   patterns,
   patternOf,
@@ -59,13 +59,11 @@ use Rattle.formats.specs.Pattern.{
   madeHeader,
   made,
   badPattern,
-  badValues,
   makeRules,
   fromPattern,
 }
 use Rattle.formats.specs.RoundCalls.{
   fileRules,
-  badNumber,
   roundRules,
   noRound,
   countAfter,
@@ -187,9 +185,9 @@ unfolding euclid gcd residue quotient power bezoutRight bezoutLeft inverse produ
     eightPlaces computed firstDifference differ compareSides isElement someNonElement isCoordinate someNonCoordinate
     slotFormula formula extracted extractRules extractAfter rowImage image isExponent entry statementAt judgeRules
     judgeAfter responseCoordinate response expectedImage verdict badCommitment badChallenge badCoordinates
-    badWitness simulated simulateRules simulateAfter headerBytes storedEntries sheetOf badStart badVersion badLength
-    shapeRules loadRules loadRefusal patterns patternOf entryOf patternEntries madeHeader made badPattern badValues
-    makeRules fromPattern fileRules badNumber roundRules noRound countAfter checkAfter fetchAfter countRounds
+    badWitness simulated simulateRules simulateAfter headerBytes storedEntries sheetOf badStart badLength
+    shapeRules loadRules loadRefusal patterns patternOf entryOf patternEntries madeHeader made badPattern
+    makeRules fromPattern fileRules roundRules noRound countAfter checkAfter fetchAfter countRounds
     fetchRound roundMark fileVersion countField widthOf challengeWidth recordLength recordStart roundAt badFile
     sheetMark versionOf headerOf entryCount sheetLength zeros64 entriesOf statementOf instanceOf short written
     writtenAtStart judgeRound simulateCommitment extractWitness newline wordLine verdictText verdictLine resultLine

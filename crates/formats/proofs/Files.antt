@@ -1,7 +1,7 @@
 -- A round file is read exactly where none of 01's conditions holds, and what the calls that read it answer then.
 -- Assumes nothing.
 use Prim.Native.Nat.{ℕ, _<_, _≤_}
-use mathlib.Core.Path.{_≡_, refl, sym, ap, _∙_}
+use mathlib.Core.Path.{_≡_, refl, ap}
 use mathlib.Core.Logic.{_↔_}
 use mathlib.Core.Bool.{false, not, _||_}
 use mathlib.Core.List.{List, _++_}
@@ -10,9 +10,7 @@ use lib.Dec.{eqb, leb, ltb}
 use lib.ListN.{length, take}
 use borrow.Author.Tests.{leb-false, lt-leb, ltb-false, le-ltb}
 use Rattle.types.specs.declared.Header.{Header}
-use Rattle.encoding.specs.Bytes.{numberAt}
 use Rattle.encoding.specs.Text.{ascii}
-use Rattle.encoding.proofs.Bytes.{numberAt-take}
 use Rattle.rules.proofs.Lowest.{clear-append, clear-lowest, lowest-clear}
 use Rattle.rules.proofs.Says.{says-equal}
 use Rattle.sigma.specs.Comparison.{differ}
@@ -22,7 +20,7 @@ use Rattle.sigma.proofs.Comparison.{differ-false}
 use Rattle.formats.specs.Append.{badInUse}
 use Rattle.formats.specs.Load.{loadRules}
 use Rattle.formats.specs.Meaning.{Loads, IsRoundFile, InUse}
-use Rattle.formats.specs.RoundCalls.{badNumber, fileRules, roundRules, countAfter, checkAfter}
+use Rattle.formats.specs.RoundCalls.{fileRules, roundRules, countAfter, checkAfter}
 use Rattle.formats.specs.RoundCalls.{fetchAfter, countRounds, checkRound, fetchRound}
 use Rattle.formats.specs.RoundFile.{
   badFile,
@@ -59,12 +57,6 @@ width-small f = omega arith
 pub width-version : (f f′ : List ℕ) → fileVersion f ≡ fileVersion f′ → challengeWidth f ≡ challengeWidth f′
 unfolding challengeWidth
 width-version f f′ e = ap widthOf e
-
--- so do files with the same first five bytes
-pub width-front : (f f′ : List ℕ) → take 5 f ≡ take 5 f′ → challengeWidth f ≡ challengeWidth f′
-unfolding fileVersion
-width-front f f′ e =
-    width-version f f′ (sym (numberAt-take 2 5 f 3 (omega arith)) ∙ ap (λ (l : List ℕ). numberAt 2 l 3) e ∙ numberAt-take 2 5 f′ 3 (omega arith))
 
 -- that of a round file is its version's
 pub file-width : {h : Header} {f : List ℕ} → IsRoundFile h f → challengeWidth f ≡ widthOf 1
@@ -136,8 +128,7 @@ in-use-passes h buffer used =
     )
 
 -- not 13: the round is one of the file's
-pub number-passes : (f : List ℕ) (k : ℕ) → (badNumber f k ≡ false) ↔ (k < countField f)
-unfolding badNumber
+pub number-passes : (f : List ℕ) (k : ℕ) → (leb (countField f) k ≡ false) ↔ (k < countField f)
 number-passes f k = (leb-false (countField f) k, lt-leb (countField f) k)
 
 module _ (s f : List ℕ) where

@@ -3,10 +3,10 @@
 use Prim.Native.Nat.{ℕ, _<_, _≤_}
 use mathlib.Core.Path.{_≡_, refl, sym, ap, _∙_}
 use mathlib.Core.Logic.{_↔_, Iff·trans}
-use mathlib.Core.Bool.{false}
+use mathlib.Core.Bool.{false, not}
 use mathlib.Core.List.{List, [], _∷_}
 use native.Mathlib.Omega.{arith}
-use lib.Dec.{ltb}
+use lib.Dec.{eqb, ltb}
 use lib.ListN.{length, getD, take}
 use lib.Seq.{length-take-le, ext-getD, getD-take}
 use borrow.Author.Tests.{ltb-false, le-ltb}
@@ -26,7 +26,6 @@ use Rattle.sigma.proofs.Comparison.{differ-false}
 use Rattle.sigma.proofs.Valid.{clear-valid}
 use Rattle.formats.specs.Load.{
   badStart,
-  badVersion,
   badLength,
   shapeRules,
   loadRules,
@@ -68,8 +67,7 @@ start-passes s =
     )
 
 -- not 3: the version is 1
-pub version-passes : (s : List ℕ) → (badVersion s ≡ false) ↔ (versionOf s ≡ 1)
-unfolding badVersion
+pub version-passes : (s : List ℕ) → (not (eqb (versionOf s) 1) ≡ false) ↔ (versionOf s ≡ 1)
 version-passes s = says-passes (says-equal (versionOf s) 1)
 
 -- not 9: the length is exactly what the header gives

@@ -4,12 +4,12 @@
 use Prim.Native.Nat.{ℕ, zero, suc, _<_, _≤_}
 use mathlib.Core.Path.{_≡_, refl, sym, ap, _∙_}
 use mathlib.Core.Logic.{_⊎_, inl, inr, ⊎-elim}
-use mathlib.Core.Bool.{Bool, true, false}
+use mathlib.Core.Bool.{Bool, true, false, not}
 use mathlib.Core.List.{List, [], _∷_, _++_}
 use native.Mathlib.Decide.{decLe}
 use native.Mathlib.Nat.{mul-le-mul}
 use native.Mathlib.Omega.{arith}
-use lib.Dec.{T}
+use lib.Dec.{T, eqb}
 use lib.ListN.{length, take}
 use lib.Seq.{append-snoc, getD-take, length-take-le, take-all}
 use Rattle.types.specs.declared.Header.{Header}
@@ -22,7 +22,7 @@ use Rattle.sigma.specs.Admission.{headerRules, elementRules}
 use Rattle.sigma.proofs.Answer.{unlessRefused-positive}
 use Rattle.sigma.proofs.Passed.{size-passes}
 use Rattle.sigma.proofs.Tests.{says-exponent}
-use Rattle.formats.specs.Load.{badStart, badVersion, badLength, shapeRules, loadRules, loadRefusal, noHeader, load, loadEntries}
+use Rattle.formats.specs.Load.{badStart, badLength, shapeRules, loadRules, loadRefusal, noHeader, load, loadEntries}
 use Rattle.formats.specs.Meaning.{IsRoundFile, Loads}
 use Rattle.formats.specs.RoundCalls.{checkAfter, checkRound, countAfter, countRounds, fileRules, roundRules}
 use Rattle.formats.specs.RoundFile.{badFile, challengeWidth, countField, recordLength, recordStart}
@@ -59,13 +59,13 @@ zero-or-more (suc n) = inr (omega arith)
 
 -- the rules before the length's
 abbrev earlyRules : List ℕ → List Rule
-earlyRules s = (2 when badStart s) ∷ (3 when badVersion s) ∷ headerRules (headerOf s)
+earlyRules s = (2 when badStart s) ∷ (3 when not (eqb (versionOf s) 1)) ∷ headerRules (headerOf s)
 
 -- a sheet's rules are those, then the length's and the elements'
 load-early : (s : List ℕ) → loadRules s ≡ earlyRules s ++ (9 when badLength s) ∷ elementRules (instanceOf s)
 unfolding loadRules shapeRules
 load-early s =
-    ap (λ (rules : List Rule). (2 when badStart s) ∷ (3 when badVersion s) ∷ rules)
+    ap (λ (rules : List Rule). (2 when badStart s) ∷ (3 when not (eqb (versionOf s) 1)) ∷ rules)
     (append-snoc (headerRules (headerOf s)) (9 when badLength s) (elementRules (instanceOf s)))
 
 -- they have positive numbers
@@ -115,7 +115,7 @@ module _ (n : ℕ) (s : List ℕ) (enough : 20 ≤ n) (long : n ≤ length s) wh
 
   -- and so the same rules before the length's
   early-cut : earlyRules (take n s) ≡ earlyRules s
-  unfolding badVersion versionOf
+  unfolding versionOf
   early-cut = rw (start-cut, header-cut, numberAt-take 2 n s 3 (omega arith))
 
 -- a sheet of more than 308 bytes, cut to more than 308 bytes, is refused with the same number

@@ -14,11 +14,12 @@ use Rattle.numbers.specs.Search.{any, find}
 use Rattle.rules.specs.Rule.{lowest}
 use Rattle.rules.proofs.Says.{says-equal}
 use Rattle.sigma.specs.Admission.{badEntries, badKind, badModulus, badSize, elementRules, headerRules}
+use Rattle.sigma.specs.Element.{someNonElement}
 use Rattle.sigma.specs.Instance.{Instance, tableOf, entry}
 use Rattle.sigma.proofs.Calculus.{all-pass, says-any}
 use Rattle.sigma.proofs.Passed.{entries-pass, kind-passes, modulus-passes, size-passes}
 use Rattle.formats.specs.Encode.{encode, encodeRules, sheetOf}
-use Rattle.formats.specs.Pattern.{badPattern, badValues, entryOf, fromPattern, made, madeHeader, makeRules, patternOf, patterns}
+use Rattle.formats.specs.Pattern.{badPattern, entryOf, fromPattern, made, madeHeader, makeRules, patternOf, patterns}
 use Rattle.formats.specs.Write.{writtenAtStart}
 use Rattle.formats.proofs.Making.{made-kind, made-other, made-square, pattern-passes, values-pass}
 use Rattle.formats.proofs.Patterns.{
@@ -99,12 +100,12 @@ module _ (number modulus order challenges : ℕ) (values statement : List ℕ) (
       (made-exponent number modulus order challenges other, (r, a, (c, b, same)))
 
   -- 10 of the entries is 10 of the public values
-  values-tested : 3 ≤ modulus → badEntries inst ≡ badValues (inst .header) values
+  values-tested : 3 ≤ modulus → badEntries inst ≡ someNonElement (inst .header) (length values) values
   unfolding made madeHeader
   values-tested large =
       let entries = entries-pass inst in
       let elements = values-pass (inst .header) values in
-      both-ways (badEntries inst) (badValues (inst .header) values)
+      both-ways (badEntries inst) (someNonElement (inst .header) (length values) values)
       (λ e. elements .1
       (λ j within.
       let (k, (r, a, (c, b, same))) = value-used j within in

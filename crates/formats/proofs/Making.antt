@@ -30,7 +30,6 @@ use Rattle.formats.specs.Meaning.{Makes, readInstance}
 use Rattle.formats.specs.Outcome.{Keeps, Puts}
 use Rattle.formats.specs.Pattern.{
   badPattern,
-  badValues,
   entryOf,
   fromPattern,
   made,
@@ -73,8 +72,8 @@ pattern-passes number values statement =
 
 -- not 10: every public value is a group element
 pub values-pass : (h : Header) (values : List ℕ)
-    → (badValues h values ≡ false) ↔ ((j : ℕ) → j < length values → Element h (getD values j 0))
-unfolding badValues someNonElement
+    → (someNonElement h (length values) values ≡ false) ↔ ((j : ℕ) → j < length values → Element h (getD values j 0))
+unfolding someNonElement
 values-pass h values = all-pass _ _ _ (λ j. says-element h (getD values j 0))
 
 module _ (number modulus order challenges : ℕ) (values statement : List ℕ) where

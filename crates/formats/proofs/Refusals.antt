@@ -10,11 +10,12 @@ use Rattle.types.specs.declared.Header.{Header}
 use Rattle.rules.specs.Condition.{_if_, Tests}
 use Rattle.rules.specs.Rule.{_when_}
 use Rattle.rules.proofs.Condition.{tests-append}
+use Rattle.rules.proofs.Says.{says-at-most, says-equal, says-not}
 use Rattle.sigma.specs.Admission.{headerRules, elementRules}
 use Rattle.sigma.specs.Instance.{Instance}
 use Rattle.sigma.specs.Refusals.{headerConditions, elementConditions}
 use Rattle.sigma.proofs.Refusals.{header-tests, element-tests}
-use Rattle.sigma.proofs.Tests.{says-badModulus, says-badOrder, says-badCount, says-badStatement}
+use Rattle.sigma.proofs.Tests.{says-someNonElement, says-badModulus, says-badOrder, says-badCount, says-badStatement}
 use Rattle.formats.specs.Append.{appendRules}
 use Rattle.formats.specs.Encode.{encodeRules}
 use Rattle.formats.specs.Load.{badLength, shapeRules, loadRules}
@@ -28,19 +29,16 @@ use Rattle.formats.specs.Refusals.{
   emptyConditions,
   appendConditions,
 }
-use Rattle.formats.specs.RoundCalls.{badNumber, fileRules, roundRules}
-use Rattle.formats.specs.RoundFile.{noRounds, recordLength, widthInUse}
-use Rattle.formats.specs.Sheet.{headerOf, instanceOf, sheetLength}
+use Rattle.formats.specs.RoundCalls.{fileRules, roundRules}
+use Rattle.formats.specs.RoundFile.{countField, noRounds, recordLength, widthInUse}
+use Rattle.formats.specs.Sheet.{headerOf, instanceOf, sheetLength, versionOf}
 use Rattle.formats.specs.Write.{short}
 use Rattle.formats.proofs.Tests.{
   says-badPattern,
   says-badStart,
-  says-badVersion,
   says-badLength,
-  says-badValues,
   says-badFile,
   says-badInUse,
-  says-badNumber,
   says-short,
 }
 
@@ -53,7 +51,7 @@ load-tests s =
     tests-append (headerRules h) ((9 when badLength s) ∷ elementRules (instanceOf s)) (headerConditions h)
     ((9 if (length s ≢ sheetLength h)) ∷ elementConditions (instanceOf s))
     (header-tests h) (refl, says-badLength s, element-tests (instanceOf s)) in
-    (refl, says-badStart s, (refl, says-badVersion s, rest))
+    (refl, says-badStart s, (refl, says-not (says-equal (versionOf s) 1), rest))
 
 -- 4 to 8, 10, 11 and 22 of the second writer
 pub encode-tests : (i : Instance) (buffer : List ℕ) → Tests (encodeRules i buffer) (encodeConditions i buffer)
@@ -84,7 +82,7 @@ make-tests number values statement i buffer = (
         says-badCount (i .header),
         (
           refl,
-          says-badValues (i .header) values,
+          says-someNonElement (i .header) (length values) values,
           (refl, says-badStatement i, (refl, says-short buffer (sheetLength (i .header)), tt)),
         ),
       ),
@@ -100,7 +98,7 @@ file-tests h f = (refl, says-badFile h f, tt)
 -- 12 and 13 of a round of a file
 pub round-tests : (h : Header) (f : List ℕ) (k : ℕ) → Tests (roundRules h f k) (roundConditions h f k)
 unfolding roundRules fileRules
-round-tests h f k = (refl, says-badFile h f, (refl, says-badNumber f k, tt))
+round-tests h f k = (refl, says-badFile h f, (refl, says-at-most (countField f) k, tt))
 
 -- 22 of the empty file
 pub empty-tests : (buffer : List ℕ) → Tests ((22 when short buffer (length noRounds)) ∷ []) (emptyConditions buffer)

@@ -1,4 +1,4 @@
--- What each test of bytes says: it is true exactly when 01's condition holds ("Turned back", 1 to 3, 9, 12, 13 and 22).
+-- What each test of bytes says: it is true exactly when 01's condition holds ("Turned back", 1, 2, 9, 12 and 22).
 -- Assumes nothing.
 use Prim.Native.Nat.{ℕ, _<_, _≤_}
 use mathlib.Core.Logic.{_⊎_, _≢_}
@@ -9,16 +9,13 @@ use Rattle.types.specs.declared.Header.{Header}
 use Rattle.rules.specs.Says.{Says}
 use Rattle.rules.proofs.Says.{says-less, says-at-most, says-equal, says-or, says-not}
 use Rattle.sigma.specs.Reads.{Differ}
-use Rattle.sigma.specs.Refusals.{SomeNonElement}
 use Rattle.sigma.proofs.Comparison.{says-differ}
-use Rattle.sigma.proofs.Tests.{says-someNonElement}
 use Rattle.formats.specs.Append.{badInUse}
-use Rattle.formats.specs.Load.{badStart, badVersion, badLength}
-use Rattle.formats.specs.Pattern.{patternOf, badPattern, badValues}
+use Rattle.formats.specs.Load.{badStart, badLength}
+use Rattle.formats.specs.Pattern.{patternOf, badPattern}
 use Rattle.formats.specs.Refusals.{Refusal12}
-use Rattle.formats.specs.RoundCalls.{badNumber}
 use Rattle.formats.specs.RoundFile.{badFile, challengeWidth, countField, fileVersion, recordStart, roundMark}
-use Rattle.formats.specs.Sheet.{headerOf, sheetLength, sheetMark, versionOf}
+use Rattle.formats.specs.Sheet.{headerOf, sheetLength, sheetMark}
 use Rattle.formats.specs.Write.{short}
 
 -- ---- sheets
@@ -40,20 +37,10 @@ pub says-badStart : (s : List ℕ) → Says (badStart s) ((length s < 20) ⊎ Di
 unfolding badStart
 says-badStart s = says-or (says-less (length s) 20) (says-differ 3 s sheetMark)
 
--- 3: the version is not 1
-pub says-badVersion : (s : List ℕ) → Says (badVersion s) (versionOf s ≢ 1)
-unfolding badVersion
-says-badVersion s = says-not (says-equal (versionOf s) 1)
-
 -- 9: the length is not exactly what the header gives
 pub says-badLength : (s : List ℕ) → Says (badLength s) (length s ≢ sheetLength (headerOf s))
 unfolding badLength
 says-badLength s = says-not (says-equal (length s) (sheetLength (headerOf s)))
-
--- 10, for the maker: some public value is no group element
-pub says-badValues : (h : Header) (values : List ℕ) → Says (badValues h values) (SomeNonElement h (length values) values)
-unfolding badValues
-says-badValues h values = says-someNonElement h (length values) values
 
 -- ---- round files
 
@@ -77,11 +64,6 @@ says-badInUse h buffer used =
     simp or-assoc
     (says-or (says-less (length buffer) used)
     (says-or (says-badFile h (take used buffer)) (says-at-most 512 (countField (take used buffer)))))
-
--- 13: the round number is at or beyond the file's count
-pub says-badNumber : (f : List ℕ) (k : ℕ) → Says (badNumber f k) (countField f ≤ k)
-unfolding badNumber
-says-badNumber f k = says-at-most (countField f) k
 
 -- ---- the lent buffer
 

@@ -28,10 +28,6 @@ use Rattle.formats.specs.Sheet.{
 unfoldable pub badStart : List ℕ → Bool
 badStart s = ltb (length s) 20 || differ 3 s sheetMark
 
--- the version is not 1
-unfoldable pub badVersion : List ℕ → Bool
-badVersion s = not (eqb (versionOf s) 1)
-
 -- the length is not exactly what the header gives
 unfoldable pub badLength : List ℕ → Bool
 badLength s = not (eqb (length s) (sheetLength (headerOf s)))
@@ -39,7 +35,7 @@ badLength s = not (eqb (length s) (sheetLength (headerOf s)))
 -- the rules of a sheet's shape, 2 to 9
 unfoldable pub shapeRules : List ℕ → List Rule
 shapeRules s =
-    (2 when badStart s) ∷ (3 when badVersion s) ∷ (headerRules (headerOf s) ++ (9 when badLength s) ∷ [])
+    (2 when badStart s) ∷ (3 when not (eqb (versionOf s) 1)) ∷ (headerRules (headerOf s) ++ (9 when badLength s) ∷ [])
 
 -- the rules of a sheet, 2 to 11
 unfoldable pub loadRules : List ℕ → List Rule

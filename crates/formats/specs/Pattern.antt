@@ -70,10 +70,6 @@ badPattern number values statement =
     ltb number 1 || ltb 6 number || not (eqb (length values) (patternOf number .values)) ||
     not (eqb (length statement) (patternOf number .rows))
 
--- some public value is no group element (10)
-unfoldable pub badValues : Header → List ℕ → Bool
-badValues h values = someNonElement h (length values) values
-
 -- the maker's rules
 unfoldable pub makeRules : ℕ → List ℕ → List ℕ → Instance → List ℕ → List Rule
 makeRules number values statement inst buffer =
@@ -81,7 +77,7 @@ makeRules number values statement inst buffer =
     (5 when badModulus (inst .header)) ∷
     (6 when badOrder (inst .header)) ∷
     (8 when badCount (inst .header)) ∷
-    (10 when badValues (inst .header) values) ∷
+    (10 when someNonElement (inst .header) (length values) values) ∷
     (11 when badStatement inst) ∷
     (22 when short buffer (sheetLength (inst .header))) ∷ []
 

@@ -1,7 +1,6 @@
 -- The calls that read a round file (01, "A round"; refusals 2 to 13).
 -- Assumes nothing.
 use Prim.Native.Nat.{ℕ}
-use mathlib.Core.Bool.{Bool}
 use mathlib.Core.List.{List, [], _∷_, _++_}
 use lib.Dec.{leb}
 use lib.ListN.{take, drop}
@@ -28,13 +27,9 @@ use Rattle.formats.specs.Sheet.{headerOf}
 unfoldable pub fileRules : Header → List ℕ → List Rule
 fileRules h f = (12 when badFile h f) ∷ []
 
--- the round number is at or beyond the file's count (13)
-unfoldable pub badNumber : List ℕ → ℕ → Bool
-badNumber f k = leb (countField f) k
-
 -- the rules of a file and a round number
 unfoldable pub roundRules : Header → List ℕ → ℕ → List Rule
-roundRules h f k = fileRules h f ++ (13 when badNumber f k) ∷ []
+roundRules h f k = fileRules h f ++ (13 when leb (countField f) k) ∷ []
 
 -- a round of zeros
 unfoldable pub noRound : Round

@@ -13,7 +13,7 @@ use Rattle.rules.proofs.Lowest.{pass, stop, clear-lowest, clear-append, lowest-
 use Rattle.sigma.specs.Admission.{headerRules}
 use Rattle.sigma.specs.Comparison.{firstDifference, differ}
 use Rattle.formats.specs.Sheet.{sheetMark, versionOf, headerOf, sheetLength}
-use Rattle.formats.specs.Load.{badStart, badVersion, badLength, shapeRules}
+use Rattle.formats.specs.Load.{badStart, badLength, shapeRules}
 use Rattle.formats.proofs.Loads.{version-passes, length-passes}
 use Rattle.fields.specs.Mark.{hasMark}
 
@@ -46,7 +46,7 @@ module _ (s : List ℕ) where
 
   -- a sheet of another version is refused with 3
   pub version-refused : 20 ≤ length s → hasMark s sheetMark ≡ true → versionOf s ≢ 1 → 3 ≡ lowest (shapeRules s)
-  unfolding shapeRules badVersion
+  unfolding shapeRules
   version-refused long marked other = sym (pass 2 _ (start-right long marked) ∙ stop 3 _ (ap not (ne-eqb _ 1 other)))
 
   -- behind 2 and 3 stand the numbers of the fixed fields and 9

@@ -6,6 +6,7 @@ use mathlib.Core.List.{List, [], _∷_}
 use mathlib.Core.Logic.{_≢_}
 use native.Mathlib.Omega.{arith}
 use lib.ListN.{length, take, drop}
+use lib.Dec.{leb}
 use borrow.Author.Tests.{le-leb}
 use Rattle.types.specs.declared.Header.{Header}
 use Rattle.types.specs.declared.Located.{Located}
@@ -15,7 +16,6 @@ use Rattle.rules.proofs.Lowest.{lowest-append-zero, lowest-earlier, lowest-late
 use Rattle.sigma.proofs.Answer.{unlessRefused-positive, unlessRefused-zero}
 use Rattle.formats.specs.Meaning.{IsRoundFile}
 use Rattle.formats.specs.RoundCalls.{
-  badNumber,
   checkAfter,
   countAfter,
   fetchAfter,
@@ -55,7 +55,7 @@ module _ (h : Header) (f : List ℕ) {n : ℕ} (tested : n ≡ lowest (fileRules
 
     -- a round at or beyond the count is refused
     pub check-beyond : n ≡ 0 → countField f ≤ k → 13 ≡ checkAfter [] h f k
-    unfolding checkAfter fileRules roundRules badNumber
+    unfolding checkAfter fileRules roundRules
     check-beyond e beyond =
         sym (lowest-later-zero (fileRules h f) _ tt (sym tested ∙ e) ∙ stop 13 [] (le-leb (countField f) k beyond))
 
@@ -70,7 +70,7 @@ module _ (h : Header) (f : List ℕ) (k : ℕ) {n : ℕ} (tested : n ≡ checkAf
   round-there : n ≡ 0 → IsRoundFile h f × (k < countField f)
   unfolding checkAfter fileRules roundRules
   round-there e =
-      let (zero, (number, none)) = lowest-append-zero (fileRules h f) ((13 when badNumber f k) ∷ []) tt tt .0 (sym tested ∙ e) in
+      let (zero, (number, none)) = lowest-append-zero (fileRules h f) ((13 when leb (countField f) k) ∷ []) tt tt .0 (sym tested ∙ e) in
       (file-clear h f refl zero, number-passes f k .0 number)
 
   -- its record lies inside the file

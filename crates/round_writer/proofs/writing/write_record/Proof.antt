@@ -43,7 +43,7 @@ returns c =
     let second = third .before .before .before .before in
     let first = second .before .before .before .before in
     let args = first .before .before .before .before .before .before .before .args in
-    record-stored 4 (args .h) (args .round) _ (first .write-words .ensures) (second .write-u32 .ensures) (third .write-words2 .ensures)
+    record-stored 4 (args .h) (args .round) (args .part .now) (first .write-words .ensures) (second .write-u32 .ensures) (third .write-words2 .ensures)
 
 pub write-record-spec : {M : Type 1} → statement M
 write-record-spec =
