@@ -15,6 +15,7 @@ use Rattle.types.specs.declared.Verdict.{Verdict}
 use Rattle.types.specs.declared.Verdict.the-variants.{Accepted}
 use Rattle.types.proofs.Verdict.{the-type}
 use Rattle.lists.specs.Places.{places, pad8, zeros8}
+use Rattle.lists.proofs.Each.{each-length}
 use Rattle.numbers.specs.Inverse.{inverse}
 use Rattle.numbers.proofs.Coprime.{coprime-below}
 use Rattle.rules.specs.Rule.{Rule, _when_, lowest, allPositive}
@@ -28,6 +29,7 @@ use Rattle.sigma.specs.Meaning.{Extracts}
 use Rattle.sigma.specs.Round.{verdict}
 use Rattle.sigma.specs.Valid.{Valid}
 use Rattle.sigma.proofs.Answer.{computed-positive}
+use Rattle.sigma.proofs.Formula.{formula-by-kind}
 use Rattle.sigma.proofs.Calls.{valid-judge-accepted, extract-refusal, valid-extract-runs}
 use Rattle.sigma.proofs.Extractor.{extraction}
 use Rattle.sigma.proofs.Tests.{says-accepted}
@@ -151,7 +153,11 @@ module _ {inst : Instance} (v : Valid inst) (first second : Round) (x : Extracts
         let delta = first .challenge - second .challenge in
         let coprime = witness-fits .coprime in
         let fit = coefficients-fit (inst .header .order) delta (v .table .order) coprime (first .challenge) (second .challenge) (omega arith) in
-        rw is-values (ap (λ (y : List ℕ). record { refusal = 0; values = pad8 0 y }) (e .any-integers _ _ fit) ∙ sym (e .answer))
+        let a = negℤ (pos (leftCoefficient (inst .header .order) delta)) in
+        let b = pos (inverse (inst .header .order) delta) in
+        let given = formula-by-kind inst a b (first .response) (second .response) (e .value)
+        (each-length _ _ (e .value) (e .witness .slots)) (λ k. e .exponent k a b fit) (λ k. e .root k a b fit) in
+        rw is-values (ap (λ (y : List ℕ). record { refusal = 0; values = pad8 0 y }) given ∙ sym (e .answer))
 
     -- and the answer with the rounds swapped
     pub witness-swapped : record { refusal = 0; values = values } ≡ extractLoaded inst second first

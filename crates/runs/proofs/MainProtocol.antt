@@ -31,7 +31,7 @@ use Rattle.sigma.specs.Simulator.{simulated}
 use Rattle.sigma.specs.Valid.{Valid}
 use Rattle.sigma.proofs.Calls.{valid-judge-accepted}
 use Rattle.sigma.proofs.ElementGroup.{elementGroup}
-use Rattle.sigma.proofs.Formula.{baseSlot-exponent, baseSlot-root}
+use Rattle.sigma.proofs.Formula.{baseSlot-exponent, baseSlot-root, formula-by-kind}
 use Rattle.sigma.proofs.FormulaValue.{baseOf, baseOf-at, base-image, formula-value}
 use Rattle.sigma.proofs.Homomorphism.{elementsOf, domainGroup, codomainGroup, imageOf, imageOf-at, homomorphism}
 use Rattle.sigma.proofs.Maurer.{product-slot, response-value, simulated-value, statementVector, statementVector-at}
@@ -196,7 +196,8 @@ module _ (sheet : List ℕ) (loaded : loadRefusal sheet ≡ 0) where
       let x = sheet-extraction sheet loaded (roundOf (t .0) c (r .0)) (roundOf (t .0) c′ (r′ .0))
       (record { first-accepted = first; second-accepted = second; commitments = λ i h. refl; challenges = other }) in
       x .answer
-      ∙ ap (λ (y : List ℕ). record { refusal = 0; values = pad8 0 y }) (sym (x .any-integers a b fit) ∙ sym (formula-value valid a b r r′))
+      ∙ ap (λ (y : List ℕ). record { refusal = 0; values = pad8 0 y }) (sym (formula-by-kind values a b (r .0) (r′ .0) (x .value) (each-length _ _ (x .value) (x .witness .slots))
+      (λ k. x .exponent k a b fit) (λ k. x .root k a b fit)) ∙ sym (formula-value valid a b r r′))
 
   -- ---- the whole
 

@@ -1,7 +1,7 @@
 -- Peggy's steps over any list of calls, from any session, with any sheets and arguments (01, "Sessions"): one session answers
 -- one challenge at most, and its nonce is zeros once it has answered or dropped.
 -- Assumes nothing.
-use Prim.Native.Nat.{ℕ, _≤_}
+use Prim.Native.Nat.{_≤_}
 use mathlib.Core.Path.{_≡_, refl, sym, ap, subst, _∙_}
 use mathlib.Core.Logic.{_⊎_, inl, inr, ⊎-elim}
 use mathlib.Core.List.{List, [], _∷_}

@@ -5,6 +5,7 @@ use Prim.Native.Nat.{ℕ}
 use mathlib.Core.Path.{_≡_, sym, ap, _∙_, subst}
 use mathlib.Core.List.{List}
 use lib.IntN.{ℤ, pos, _-ℤ_}
+use lib.ListN.{getD}
 use Rattle.types.specs.declared.Header.{Header}
 use Rattle.types.specs.declared.Round.{Round}
 use Rattle.lists.specs.Places.{places, pad8}
@@ -14,14 +15,14 @@ use Rattle.groups.specs.Vector.{same-vector}
 use Rattle.numbers.specs.Integer.{bezoutLeft, bezoutRight}
 use Rattle.numbers.proofs.Coprime.{bezout-challenges}
 use Rattle.sigma.specs.Instance.{Instance, tableOf}
-use Rattle.sigma.specs.Extractor.{extracted, extractLoaded}
+use Rattle.sigma.specs.Extractor.{extracted, extractLoaded, formula}
 use Rattle.sigma.specs.Domain.{Codomain}
 use Rattle.sigma.specs.Knowledge.{AcceptedRound, AcceptedPair, Extraction}
 use Rattle.sigma.specs.Meaning.{Extracts}
 use Rattle.sigma.specs.Valid.{Valid}
 use Rattle.sigma.proofs.FormulaValue.{formula-witness, formula-any, formula-swapped}
 use Rattle.sigma.proofs.Calls.{valid-judge-accepted, valid-extract-runs, extract-given}
-use Rattle.sigma.proofs.Formula.{formula-agree}
+use Rattle.sigma.proofs.Formula.{formula-agree, formula-exponent, formula-root}
 use Rattle.sigma.proofs.Homomorphism.{elementsOf, homomorphism}
 use Rattle.sigma.proofs.Maurer.{statementVector}
 use Rattle.sigma.proofs.Transfer.{roundFrom, from-accepted}
@@ -90,6 +91,11 @@ module _ {inst : Instance} (v : Valid inst) (first second : Round)
       let delta : ℤ = pos c -ℤ pos c′ in
       let fit = chosen v first second p in
       let fit′ = chosen v second first (swap p) in
+      let any : (a b : ℤ) → Bezout (inst .header .order) c c′ a b
+      → formula inst a b (first .response) (second .response) ≡ given inst first second = λ a b other.
+      formula-agree inst a b (first .response) (second .response) (places n (first .response)) (places n (second .response))
+      (λ j h. sym (getD-places n (first .response) j h)) (λ j h. sym (getD-places n (second .response) j h))
+      ∙ formula-any v (one .commitment) c c′ (one .response) (two .response) accepts accepts′ a b _ _ other fit in
       record {
         value = given inst first second;
         witness = formula-witness v (one .commitment) c c′ (one .response) (two .response) accepts accepts′ _ _ fit;
@@ -99,9 +105,9 @@ module _ {inst : Instance} (v : Valid inst) (first second : Round)
             ∙ ap (λ (x : List ℕ). record { refusal = 0; values = pad8 0 x })
             (sym (formula-swapped v (one .commitment) c c′ (one .response) (two .response) accepts accepts′ _ _ _ _ fit fit′))
             ∙ sym (gives v first second p);
-        any-integers = λ a b other.
-            formula-agree inst a b (first .response) (second .response) (places n (first .response)) (places n (second .response))
-            (λ j h. sym (getD-places n (first .response) j h)) (λ j h. sym (getD-places n (second .response) j h))
-            ∙ formula-any v (one .commitment) c c′ (one .response) (two .response) accepts accepts′ a b _ _ other fit;
+        exponent = λ k a b other j h.
+            ap (λ (x : List ℕ). getD x j 0) (sym (any a b other)) ∙ formula-exponent inst a b (first .response) (second .response) j k h;
+        root = λ k a b other j h.
+            ap (λ (x : List ℕ). getD x j 0) (sym (any a b other)) ∙ formula-root inst a b (first .response) (second .response) j k h;
         some-integers = (bezoutLeft (inst .header .order) delta, bezoutRight (inst .header .order) delta, fit);
       }

@@ -9,6 +9,7 @@ use native.Mathlib.Nat.{mod-eq-of-lt, add-mod-mod, zero-mod, zero-add}
 use native.Mathlib.Omega.{arith}
 use lib.IntN.{ℤ, pos, _-ℤ_, _*ℤ_, *ℤ-zero}
 use lib.ListN.{length, getD}
+use lib.Seq.{ext-getD}
 use Rattle.types.specs.declared.Header.{Header}
 use Rattle.lists.proofs.Places.{length-tabulate, getD-tabulate, tabulate-agree}
 use Rattle.numbers.specs.Integer.{residue, power}
@@ -88,3 +89,17 @@ module _ (i : Instance) (a b : ℤ) (r r′ : List ℕ) where
       ≡ power (i .header .modulus) (statementAt i j) a
       * power (i .header .modulus) (getD r j 0 * inverse (i .header .modulus) (getD r′ j 0) % i .header .modulus) b % i .header .modulus
   formula-root j n h = formula-at j h ∙ slotFormula-root (i .header) n _ a b _ _
+
+  -- a list of n values that are the formula's, slot by slot, is the formula
+  pub formula-by-kind : (x : List ℕ) → length x ≡ i .header .columns
+      → (i .header .kind ≡ 1 → (j : ℕ) → j < i .header .columns
+      → getD x j 0 ≡ residue (i .header .order) (b *ℤ (pos (getD r j 0) -ℤ pos (getD r′ j 0))))
+      → (i .header .kind ≢ 1 → (j : ℕ) → j < i .header .columns
+      → getD x j 0
+      ≡ power (i .header .modulus) (statementAt i j) a
+      * power (i .header .modulus) (getD r j 0 * inverse (i .header .modulus) (getD r′ j 0) % i .header .modulus) b % i .header .modulus)
+      → formula i a b r r′ ≡ x
+  formula-by-kind x long exponent root =
+      ext-getD 0 _ _ (length-formula ∙ sym long) (λ j l.
+      let h : j < i .header .columns = omega (arith, length-formula) in
+      by-kind (i .header) (λ e. formula-exponent j e h ∙ sym (exponent e j h)) (λ n. formula-root j n h ∙ sym (root n j h)))

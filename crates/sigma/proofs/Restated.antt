@@ -45,6 +45,7 @@ extraction-alike inst ask ask′ alike {first} {second} x = record {
   witness = x .witness;
   answer = alike first second ∙ x .answer;
   swapped = alike second first ∙ x .swapped ∙ sym (alike first second);
-  any-integers = x .any-integers;
+  exponent = x .exponent;
+  root = x .root;
   some-integers = x .some-integers;
 }

@@ -1,11 +1,12 @@
 -- The words of demand 3 on values (00, demand 3; 01, "A round"): witnesses, honest and simulated rounds, what it means that
 -- rounds are exactly the accepted ones, each met once, and what the extractor gives for two rounds.
 -- Assumes nothing.
-use Prim.Native.Nat.{ℕ}
+use Prim.Native.Nat.{ℕ, _*_, _%_, _<_}
 use mathlib.Core.Path.{_≡_}
 use mathlib.Core.Logic.{_≢_}
 use mathlib.Core.List.{List}
-use lib.IntN.{ℤ}
+use lib.IntN.{ℤ, pos, _-ℤ_, _*ℤ_}
+use lib.ListN.{getD}
 use Rattle.types.specs.declared.Computed.{Computed}
 use Rattle.types.specs.declared.Header.{Header}
 use Rattle.types.specs.declared.Round.{Round}
@@ -13,9 +14,10 @@ use Rattle.types.specs.declared.Verdict.the-variants.{Accepted}
 use Rattle.groups.specs.Transcript.{Bezout}
 use Rattle.lists.specs.Each.{Each}
 use Rattle.lists.specs.Places.{places, pad8}
-use Rattle.sigma.specs.Instance.{Instance, tableOf}
+use Rattle.numbers.specs.Integer.{power, residue}
+use Rattle.numbers.specs.Inverse.{inverse}
+use Rattle.sigma.specs.Instance.{Instance, statementAt, tableOf}
 use Rattle.sigma.specs.Element.{Coordinate}
-use Rattle.sigma.specs.Extractor.{formula}
 use Rattle.sigma.specs.Image.{image}
 use Rattle.sigma.specs.Judge.{judgeLoaded}
 use Rattle.sigma.specs.Reads.{Agree, roundOf, SameRound}
@@ -57,13 +59,22 @@ pub record AcceptedPair (h : Header) (Accepts : Round → Type 0) (first second 
   pub commitments : Agree (h .rows) (first .commitment) (second .commitment)
   pub challenges : first .challenge ≢ second .challenge
 
--- the call `ask` gives a witness for two rounds, the same one with the rounds swapped, and it is 01's u^a · (r/r′)^b for
--- all integers a and b with ℓa + (c − c′)b = 1, of which there are some
+-- the call `ask` gives a witness for two rounds, the same one with the rounds swapped, and slot by slot it is 01's formula for
+-- all integers a and b with ℓa + (c − c′)b = 1, of which there are some: b(r − r′) mod q in kind 1, z^a · (r/r′)^b in kind 2
 pub record Extraction (inst : Instance) (ask : Round → Round → Computed) (first second : Round) : Type 0 where
   pub value : List ℕ
   pub witness : Witness inst value
   pub answer : ask first second ≡ record { refusal = 0; values = pad8 0 value }
   pub swapped : ask second first ≡ ask first second
-  pub any-integers : (a b : ℤ) → Bezout (inst .header .order) (first .challenge) (second .challenge) a b
-      → formula inst a b (first .response) (second .response) ≡ value
+  pub exponent : inst .header .kind ≡ 1 → (a b : ℤ) → Bezout (inst .header .order) (first .challenge) (second .challenge) a b
+      → (j : ℕ) → j < inst .header .columns
+      → getD value j 0
+      ≡ residue (inst .header .order) (b *ℤ (pos (getD (first .response) j 0) -ℤ pos (getD (second .response) j 0)))
+  pub root : inst .header .kind ≢ 1 → (a b : ℤ) → Bezout (inst .header .order) (first .challenge) (second .challenge) a b
+      → (j : ℕ) → j < inst .header .columns
+      → getD value j 0
+      ≡ power (inst .header .modulus) (statementAt inst j) a
+      * power (inst .header .modulus)
+      (getD (first .response) j 0 * inverse (inst .header .modulus) (getD (second .response) j 0) % inst .header .modulus) b
+      % inst .header .modulus
   pub some-integers : (a : ℤ) × (b : ℤ) × Bezout (inst .header .order) (first .challenge) (second .challenge) a b
