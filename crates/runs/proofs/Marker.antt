@@ -102,7 +102,9 @@ module _ (sheet f : List ℕ) where
         → roundLines sheet f count
         ≡ wordLine (ascii "rounds") count ++ flatten (tabulate count (roundLine sheet f)) ++ ascii "pass" ++ newline
     unfolding roundLines resultLine
-    pass-line all = rw (all-accepted count .1 all) (simp append-assoc)
+    pass-line all =
+        let lines = wordLine (ascii "rounds") count ++ flatten (tabulate count (roundLine sheet f)) in
+        ap (λ (failed : Bool). lines ++ resultLine failed) (all-accepted count .1 all) ∙ sym (append-assoc lines (ascii "pass") newline)
 
     -- `fail` where some round is not
     pub fail-line : (k : ℕ) → k < count → verdictOn sheet f k ≢ Accepted

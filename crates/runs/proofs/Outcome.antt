@@ -26,8 +26,11 @@ proverStep-zero before after xs = refl
 pub proverStep-positive : (n : ℕ) (before after : Prover) (xs : List ℕ) → 0 < n
     → proverStep n before after xs ≡ record { refusal = n; session = before; values = zeros8 }
 unfolding proverStep eightPlaces
-proverStep-positive n before after xs h =
-    rw (unlessRefused-positive after before n h, unlessRefused-positive (pad8 0 xs) zeros8 n h)
+proverStep-positive n before after xs h = λ i. record {
+  refusal = n;
+  session = unlessRefused-positive after before n h i;
+  values = unlessRefused-positive (pad8 0 xs) zeros8 n h i;
+}
 
 -- a step of Peggy whose number is 0
 pub proverStep-given : (n : ℕ) (before after : Prover) (xs : List ℕ) → proverStep n before after xs .refusal ≡ 0
@@ -44,7 +47,7 @@ verifierStep-zero before after = refl
 pub verifierStep-positive : (n : ℕ) (before after : Verifier) → 0 < n
     → verifierStep n before after ≡ record { refusal = n; session = before }
 unfolding verifierStep
-verifierStep-positive n before after h = rw (unlessRefused-positive after before n h)
+verifierStep-positive n before after h = λ i. record { refusal = n; session = unlessRefused-positive after before n h i }
 
 -- a step of Vic whose number is 0
 pub verifierStep-given : (n : ℕ) (before after : Verifier) → verifierStep n before after .refusal ≡ 0
