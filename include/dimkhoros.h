@@ -2,10 +2,10 @@
  * The C interface of Dimkhoros: Maurer's proof of knowledge of a preimage under a group homomorphism, on numbers of at
  * most 32 bits. It is for C11 and C++ on x86-64 Linux.
  *
- * To link. At the root of the repository `rt staticlib interface` writes target/staticlib/libinterface.a. There a program is
+ * To link. At the root of the repository `rt staticlib dimkhoros` writes target/staticlib/libdimkhoros.a. There a program is
  * built by
  *
- *     cc -std=c11 -I include program.c target/staticlib/libinterface.a
+ *     cc -std=c11 -I include program.c target/staticlib/libdimkhoros.a
  *
  * and elsewhere with the whole paths of the two. The archive stands behind the sources that call it.
  *

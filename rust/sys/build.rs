@@ -13,12 +13,12 @@ fn main() {
     let home = env::var_os("CARGO_MANIFEST_DIR").unwrap_or_default();
     let folder = env::var_os("DIMKHOROS_LIB").unwrap_or_else(|| "../../target/staticlib".into());
     let folder = Path::new(&home).join(folder);
-    let archive = folder.join("libinterface.a");
+    let archive = folder.join("libdimkhoros.a");
     println!("cargo:rerun-if-changed={}", archive.display());
     if !archive.exists() {
         eprintln!(
-            "There is no archive {}. Run `rt staticlib interface` at the root of the repository, \
-             or set DIMKHOROS_LIB to the folder that has libinterface.a.",
+            "There is no archive {}. Run `rt staticlib dimkhoros` at the root of the repository, \
+             or set DIMKHOROS_LIB to the folder that has libdimkhoros.a.",
             archive.display()
         );
         exit(1);
@@ -26,5 +26,5 @@ fn main() {
     // The tests of the C interface link the same archive.
     println!("cargo:rustc-env=DIMKHOROS_ARCHIVE={}", archive.display());
     println!("cargo:rustc-link-search=native={}", folder.display());
-    println!("cargo:rustc-link-lib=static=interface");
+    println!("cargo:rustc-link-lib=static=dimkhoros");
 }

@@ -1,9 +1,9 @@
--- `interface::judging::dimkhoros_judge` meets its contract: it hands out the verdict's three numbers.
+-- `dimkhoros::judging::dimkhoros_judge` meets its contract: it hands out the verdict's three numbers.
 -- Assumes nothing.
 use borrow.Author.Needs.{needs}
 use Rattle.sigma.proofs.Answer.{outcome-injective}
-use Rattle.interface.proofs.judging.dimkhoros_judge.Statement.{statement}
-use Rattle.interface.proofs.judging.dimkhoros_judge.Tie as tie
+use Rattle.dimkhoros.proofs.judging.dimkhoros_judge.Statement.{statement}
+use Rattle.dimkhoros.proofs.judging.dimkhoros_judge.Tie as tie
 
 judge-requires : tie.Need-judge-requires
 judge-requires c κs = search needs

@@ -1,8 +1,8 @@
--- `interface::proving::dimkhoros_prover_drop` meets its contract: the session comes in, and the call's answer goes out.
+-- `dimkhoros::proving::dimkhoros_prover_drop` meets its contract: the session comes in, and the call's answer goes out.
 -- Assumes nothing.
 use borrow.Author.Needs.{needs}
-use Rattle.interface.proofs.proving.dimkhoros_prover_drop.Statement.{statement}
-use Rattle.interface.proofs.proving.dimkhoros_prover_drop.Tie as tie
+use Rattle.dimkhoros.proofs.proving.dimkhoros_prover_drop.Statement.{statement}
+use Rattle.dimkhoros.proofs.proving.dimkhoros_prover_drop.Tie as tie
 
 prover-of-requires : tie.Need-prover-of-requires
 prover-of-requires c κs = search needs

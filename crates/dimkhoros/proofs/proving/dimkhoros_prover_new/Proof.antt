@@ -1,8 +1,8 @@
--- `interface::proving::dimkhoros_prover_new` meets its contract: it hands out a new session.
+-- `dimkhoros::proving::dimkhoros_prover_new` meets its contract: it hands out a new session.
 -- Assumes nothing.
 use borrow.Author.Needs.{needs}
-use Rattle.interface.proofs.proving.dimkhoros_prover_new.Statement.{statement}
-use Rattle.interface.proofs.proving.dimkhoros_prover_new.Tie as tie
+use Rattle.dimkhoros.proofs.proving.dimkhoros_prover_new.Statement.{statement}
+use Rattle.dimkhoros.proofs.proving.dimkhoros_prover_new.Tie as tie
 
 new-requires : tie.Need-new-requires
 new-requires c κs = search needs

@@ -1,8 +1,8 @@
--- `interface::sheets::dimkhoros_encode` meets its contract: what the writer is handed are the rows of the 64 numbers.
+-- `dimkhoros::sheets::dimkhoros_encode` meets its contract: what the writer is handed are the rows of the 64 numbers.
 -- Assumes nothing.
 use borrow.Author.Needs.{needs}
-use Rattle.interface.proofs.sheets.dimkhoros_encode.Statement.{statement}
-use Rattle.interface.proofs.sheets.dimkhoros_encode.Tie as tie
+use Rattle.dimkhoros.proofs.sheets.dimkhoros_encode.Statement.{statement}
+use Rattle.dimkhoros.proofs.sheets.dimkhoros_encode.Tie as tie
 
 square-requires : tie.Need-square-requires
 square-requires c κs = search needs

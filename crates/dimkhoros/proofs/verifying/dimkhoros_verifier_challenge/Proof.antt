@@ -1,8 +1,8 @@
--- `interface::verifying::dimkhoros_verifier_challenge` meets its contract: the session comes in, and the call's answer goes out.
+-- `dimkhoros::verifying::dimkhoros_verifier_challenge` meets its contract: the session comes in, and the call's answer goes out.
 -- Assumes nothing.
 use borrow.Author.Needs.{needs}
-use Rattle.interface.proofs.verifying.dimkhoros_verifier_challenge.Statement.{statement}
-use Rattle.interface.proofs.verifying.dimkhoros_verifier_challenge.Tie as tie
+use Rattle.dimkhoros.proofs.verifying.dimkhoros_verifier_challenge.Statement.{statement}
+use Rattle.dimkhoros.proofs.verifying.dimkhoros_verifier_challenge.Tie as tie
 
 verifier-of-requires : tie.Need-verifier-of-requires
 verifier-of-requires c κs = search needs

@@ -1,8 +1,8 @@
--- `interface::verifying::dimkhoros_verifier_new` meets its contract: it hands out a new session.
+-- `dimkhoros::verifying::dimkhoros_verifier_new` meets its contract: it hands out a new session.
 -- Assumes nothing.
 use borrow.Author.Needs.{needs}
-use Rattle.interface.proofs.verifying.dimkhoros_verifier_new.Statement.{statement}
-use Rattle.interface.proofs.verifying.dimkhoros_verifier_new.Tie as tie
+use Rattle.dimkhoros.proofs.verifying.dimkhoros_verifier_new.Statement.{statement}
+use Rattle.dimkhoros.proofs.verifying.dimkhoros_verifier_new.Tie as tie
 
 new-requires : tie.Need-new-requires
 new-requires c κs = search needs
