@@ -1,22 +1,34 @@
 /*
  * The C interface of Dimkhoros: Maurer's proof of knowledge of a preimage under a group homomorphism, on numbers of at
- * most 32 bits. It is for C11 and C++ on x86-64 Linux.
+ * most 32 bits. It is for C99 and C++11, or later, on x86-64 Linux.
  *
  * To link. At the root of the repository `rt staticlib dimkhoros` writes target/staticlib/libdimkhoros.a. There a program is
  * built by
  *
- *     cc -std=c11 -I include program.c target/staticlib/libdimkhoros.a
+ *     cc -std=c99 -I include program.c target/staticlib/libdimkhoros.a
  *
  * and elsewhere with the whole paths of the two. The archive stands behind the sources that call it.
  *
  * The archive needs memcpy and memset and nothing else. It allocates nothing and keeps nothing between calls, so calls may
  * run in several threads at once.
  *
+ * Sessions. A box keeps one session for each proof, and every call is given its address. Peggy's box, for one:
+ *
+ *     DimkhorosProverSession peggy = dimkhoros_prover_new();
+ *     uint32_t refusal = dimkhoros_commit(sheet, sheet_length, &peggy, nonce, commitment);
+ *     if (refusal == 0) { .. send the commitment, hear a challenge .. }
+ *     refusal = dimkhoros_respond(sheet, sheet_length, &peggy, challenge, witness, response);
+ *     if (refusal == 0) { .. store peggy over what was stored before, then send the response .. }
+ *
+ * The call itself puts the session that comes after it in the place of the one before, so that no second challenge is
+ * answered on the same nonce: dimkhoros_respond answers 21 from then on. "The pure form", at the end, has the same calls with
+ * sessions that are handed in and handed back by value.
+ *
  * What a call takes. Any bytes and any numbers: every call ends in an answer, and it is proved to be the one that the call's
  * definition gives (docs/promises/exports.md lists the definitions). The caller owes four things. A pointer with a length
  * behind it points to that many bytes or numbers (where the length is 0 it is not used and may be NULL). A pointer written
- * with the size of an array points to that much. A buffer that a call writes to shares no byte with anything else that the
- * same call is given. And nobody else changes these bytes during the call.
+ * with the size of an array points to that much, and a pointer to a session to a session. What a call writes to shares no
+ * byte with anything else that the same call is given. And nobody else changes these bytes during the call.
  *
  * Sheets. A sheet describes a homomorphism, its table, with a statement, and comes as bytes. Each call that takes one tests
  * it from the start and refuses a bad one with 2 to 11. m is the modulus, q the order and e the exponent, K the challenge
@@ -28,8 +40,9 @@
  * eight. The places behind these values are not read where a call takes them, and are 0 where a call answers them. A
  * session keeps what it holds in all eight, and the commitment that Peggy's holds is tested in all eight (by 21).
  *
- * Refusals. An answer's field `refusal` is 0, or the number of what was refused, the lowest where several apply. A refused
- * call changes no buffer, hands a session back exactly as it was given and has 0 in every other field of its answer.
+ * Refusals. A call answers a number, or a struct with a field `refusal`: 0, or the number of what was refused, the lowest
+ * where several apply. A refused call changes no session, array or buffer, and has 0 in every other field of its answer.
+ * Compilers warn where an answer that has to be looked at is not.
  *
  * Random numbers are the caller's: nonces, challenges and simulated responses are handed in. A nonce has to be drawn at
  * random from all coordinates for each session, or the responses give the witness away.
@@ -44,6 +57,21 @@
 extern "C" {
 #endif
 
+/* The version of this header, 10000 * major + 100 * minor + patch. dimkhoros_version answers that of the archive. */
+#define DIMKHOROS_VERSION 200
+#define DIMKHOROS_VERSION_TEXT "0.2.0"
+
+/* Before a function whose answer has to be looked at: the compiler warns of a call that throws it away. */
+#if defined(__cplusplus) && __cplusplus >= 201703L
+#define DIMKHOROS_CHECKED [[nodiscard]]
+#elif defined(__STDC_VERSION__) && __STDC_VERSION__ > 201710L && defined(__has_c_attribute)
+#define DIMKHOROS_CHECKED [[nodiscard]]
+#elif defined(__GNUC__)
+#define DIMKHOROS_CHECKED __attribute__((warn_unused_result))
+#else
+#define DIMKHOROS_CHECKED
+#endif
+
 /* Sizes. */
 #define DIMKHOROS_PLACES 8           /* numbers in a commitment, statement, witness, nonce or response */
 #define DIMKHOROS_ENTRIES 64         /* numbers in a table: row i, column j, both from 0, stands at 8 * i + j */
@@ -52,6 +80,8 @@ extern "C" {
 #define DIMKHOROS_MOST_ROUNDS 512    /* rounds in the fullest round file */
 #define DIMKHOROS_LONGEST_FILE 34823 /* bytes of the longest round file */
 #define DIMKHOROS_LONGEST_TEXT 7696  /* bytes that hold every text of the marker */
+#define DIMKHOROS_STORED_PROVER 79   /* bytes of a stored session of Peggy's */
+#define DIMKHOROS_STORED_VERIFIER 51 /* bytes of a stored session of Vic's */
 
 /* Kinds of sheets. */
 #define DIMKHOROS_EXPONENT 1 /* the image multiplies powers of the table's entries; the witness is in the exponents */
@@ -86,7 +116,7 @@ extern "C" {
     REFUSAL(5, MODULUS, "the modulus has to be 3 or more")                                                        \
     REFUSAL(6, ORDER, "the order or exponent has to be 2 or more")                                                \
     REFUSAL(7, SHAPE, "rows and columns have to be 1 to 8 each, and equal in a root sheet")                       \
-    REFUSAL(8, CHALLENGES, "the challenge count has to be 2 to 65536, and no smaller number from 2 on may divide" \
+    REFUSAL(8, CHALLENGES, "the challenge count K has to be 2 to 65536, and no number from 2 to K - 1 may divide" \
                            " the order or exponent")                                                              \
     REFUSAL(9, SHEET_LENGTH, "the sheet is longer or shorter than its header says")                               \
     REFUSAL(10, ENTRY, "a table entry or public value lies outside the group")                                    \
@@ -187,10 +217,9 @@ typedef struct {
 } DimkhorosJudgement;
 
 /*
- * Peggy's session. Each call takes one and hands one back, which the caller uses from then on in the place of the old. Over
- * any calls in which each is given the session that the last one handed back, at most one challenge is answered: this is
- * proved. The library cannot know of copies. Whoever answers two challenges from two copies of one session gives the
- * witness away, so a box that stores a session must store the new one, over the old, before it sends the response.
+ * Peggy's session. Over any calls on one session at most one challenge is answered: this is proved. The library cannot know
+ * of copies. Whoever answers two challenges from two copies of one session gives the witness away, so a box that stores a
+ * session must store the one that comes after a response, over the old, before it sends the response.
  *
  * Any phase beyond the four is a state that allows no call.
  */
@@ -200,19 +229,220 @@ typedef struct {
     uint32_t phase;
 } DimkhorosProverSession;
 
+/* Vic's session. Any phase beyond the four is a state that allows no call. */
+typedef struct {
+    uint32_t commitment[DIMKHOROS_PLACES];
+    uint32_t challenge;
+    uint32_t phase;
+} DimkhorosVerifierSession;
+
+/* --- Sheets --- */
+
+/* Loads a sheet: answers its fixed fields and its statement. Refuses 2 to 11. */
+DIMKHOROS_CHECKED DimkhorosLoaded dimkhoros_load(const uint8_t *sheet, size_t sheet_length);
+
+/*
+ * Gives the entries of a sheet: all 64 numbers of `entries` are set, to 0 outside the sheet's rows and columns and everywhere in
+ * a root sheet, and 0 is answered. Refuses 2 to 11: the number is answered, and `entries` keeps its numbers.
+ */
+DIMKHOROS_CHECKED uint32_t dimkhoros_entries(const uint8_t *sheet, size_t sheet_length, uint32_t entries[DIMKHOROS_ENTRIES]);
+
+/*
+ * Writes the sheet of these values, given as dimkhoros_load and dimkhoros_entries answer them, to the start of `buffer`, and
+ * answers its length. The entries of a root sheet are not read. No byte behind the sheet is changed. Refuses 4 to 8, 10,
+ * 11 and 22.
+ */
+DIMKHOROS_CHECKED DimkhorosWritten dimkhoros_encode(DimkhorosHeader header, const uint32_t entries[DIMKHOROS_ENTRIES],
+                                  const uint32_t statement[DIMKHOROS_PLACES], uint8_t *buffer, size_t buffer_length);
+
+/*
+ * Writes the sheet of a pattern, DIMKHOROS_PATTERN_SCHNORR to DIMKHOROS_PATTERN_ROOT, to the start of `buffer`, and answers
+ * its length. `order` is q, or e in pattern 6; `values` are the public values, `value_count` of them, and `statement` has
+ * a value for each row. No byte behind the sheet is changed. Refuses 1, 5, 6, 8, 10, 11 and 22.
+ */
+DIMKHOROS_CHECKED DimkhorosWritten dimkhoros_from_pattern(uint32_t pattern, uint32_t modulus, uint32_t order, uint32_t challenges,
+                                        const uint32_t *values, size_t value_count, const uint32_t *statement,
+                                        size_t statement_count, uint8_t *buffer, size_t buffer_length);
+
+/* --- Peggy's session --- */
+
+/* A new session: DIMKHOROS_PROVER_NEW, with zeros. */
+DIMKHOROS_CHECKED DimkhorosProverSession dimkhoros_prover_new(void);
+
+/*
+ * Commits a new session to a nonce, puts the commitment into `commitment`, and answers 0. Leads to Committed. Refuses 2 to 11,
+ * 16 and 21: the number is answered, and session and `commitment` keep what they hold.
+ */
+DIMKHOROS_CHECKED static inline uint32_t dimkhoros_commit(const uint8_t *sheet, size_t sheet_length,
+                                                          DimkhorosProverSession *session,
+                                                          const uint32_t nonce[DIMKHOROS_PLACES],
+                                                          uint32_t commitment[DIMKHOROS_PLACES]);
+
+/*
+ * Puts the response of a committed session to a challenge, by a witness, into `response`, sets the session's nonce to zeros,
+ * and answers 0. Leads to Answered. Refuses 2 to 11, 15 to 17 and 21: the number is answered, and session and `response` keep
+ * what they hold; a committed session that is refused can still answer.
+ */
+DIMKHOROS_CHECKED static inline uint32_t dimkhoros_respond(const uint8_t *sheet, size_t sheet_length,
+                                                           DimkhorosProverSession *session, uint32_t challenge,
+                                                           const uint32_t witness[DIMKHOROS_PLACES],
+                                                           uint32_t response[DIMKHOROS_PLACES]);
+
+/*
+ * Gives up a new or committed session, sets its nonce to zeros, and answers 0. Leads to Dropped. Refuses 21: the number is
+ * answered, and the session keeps what it holds.
+ */
+DIMKHOROS_CHECKED static inline uint32_t dimkhoros_drop(DimkhorosProverSession *session);
+
+/* --- Vic's session --- */
+
+/* A new session: DIMKHOROS_VERIFIER_WAITING, with zeros. */
+DIMKHOROS_CHECKED DimkhorosVerifierSession dimkhoros_verifier_new(void);
+
+/*
+ * Brings the commitment to a waiting session, and answers 0. Leads to Holding. Refuses 2 to 11, 14 and 21: the number is
+ * answered, and the session keeps what it holds.
+ */
+DIMKHOROS_CHECKED static inline uint32_t dimkhoros_take_commitment(const uint8_t *sheet, size_t sheet_length,
+                                                                   DimkhorosVerifierSession *session,
+                                                                   const uint32_t commitment[DIMKHOROS_PLACES]);
+
+/*
+ * Brings the challenge to a session that holds a commitment, and answers 0. Leads to Asked: only then send the challenge.
+ * Refuses 2 to 11, 15 and 21: the number is answered, and the session keeps what it holds.
+ */
+DIMKHOROS_CHECKED static inline uint32_t dimkhoros_take_challenge(const uint8_t *sheet, size_t sheet_length,
+                                                                  DimkhorosVerifierSession *session, uint32_t challenge);
+
+/*
+ * Brings the response to a session that has asked, puts the verdict into `verdict`, and answers 0. An accepted verdict and a
+ * rejected one both lead to Judged. Refuses 2 to 11, 16 and 21: the number is answered, and session and `verdict` keep what
+ * they hold.
+ */
+DIMKHOROS_CHECKED static inline uint32_t dimkhoros_take_response(const uint8_t *sheet, size_t sheet_length,
+                                                                 DimkhorosVerifierSession *session,
+                                                                 const uint32_t response[DIMKHOROS_PLACES],
+                                                                 DimkhorosJudgement *verdict);
+
+/* --- Stored sessions --- */
+
+/*
+ * The bytes of a stored session, numbers with the high byte first:
+ *
+ *     0 to 2   PRV for Peggy's, VRF for Vic's
+ *     3, 4     the version, 1
+ *     5, 6     the length of the whole, 79 or 51
+ *     7 on     32-bit numbers: Peggy's nonce (8), commitment (8) and state; Vic's commitment (8), challenge and state
+ *     last 4   the CRC-32 of IEEE 802.3 of all bytes before
+ *
+ * Anything else is refused, so a file that is damaged, cut, longer or empty is never taken for a session. A session whose
+ * phase is beyond the four is stored, and refused when it is restored. Peggy's bytes hold her nonce: whoever reads them can
+ * compute her witness from her response.
+ */
+
+/* Puts the stored form of Peggy's session into `stored`. */
+static inline void dimkhoros_prover_store(const DimkhorosProverSession *session, uint8_t stored[DIMKHOROS_STORED_PROVER]);
+
+/*
+ * Sets Peggy's session to the one that these bytes hold and answers 1. Answers 0, and leaves the session alone, where they are
+ * anything else than what dimkhoros_prover_store writes of one of the four states.
+ */
+DIMKHOROS_CHECKED static inline int dimkhoros_prover_restore(const uint8_t *stored, size_t length,
+                                                             DimkhorosProverSession *session);
+
+/* Puts the stored form of Vic's session into `stored`. */
+static inline void dimkhoros_verifier_store(const DimkhorosVerifierSession *session,
+                                            uint8_t stored[DIMKHOROS_STORED_VERIFIER]);
+
+/*
+ * Sets Vic's session to the one that these bytes hold and answers 1. Answers 0, and leaves the session alone, where they are
+ * anything else than what dimkhoros_verifier_store writes of one of the four states.
+ */
+DIMKHOROS_CHECKED static inline int dimkhoros_verifier_restore(const uint8_t *stored, size_t length,
+                                                               DimkhorosVerifierSession *session);
+
+/* --- Rounds --- */
+
+/* Answers Vic's verdict on a round. Refuses 2 to 11 and 14 to 16. */
+DIMKHOROS_CHECKED DimkhorosJudgement dimkhoros_judge(const uint8_t *sheet, size_t sheet_length, DimkhorosRound round);
+
+/*
+ * The simulator: answers the one commitment with which Vic accepts this challenge and response. No witness is needed for it.
+ * Refuses 2 to 11, 15 and 16.
+ */
+DIMKHOROS_CHECKED DimkhorosComputed dimkhoros_simulate(const uint8_t *sheet, size_t sheet_length, uint32_t challenge,
+                                     const uint32_t response[DIMKHOROS_PLACES]);
+
+/*
+ * The extractor: answers the witness that two accepted rounds with one commitment and different challenges give away, the
+ * same one in either order. Refuses 2 to 11, 14 to 16 and 18 to 20.
+ */
+DIMKHOROS_CHECKED DimkhorosComputed dimkhoros_extract(const uint8_t *sheet, size_t sheet_length, DimkhorosRound first, DimkhorosRound second);
+
+/* --- Round files --- */
+
+/* Answers how many rounds a file has, 0 to 512. Refuses 2 to 12. */
+DIMKHOROS_CHECKED DimkhorosCounted dimkhoros_count(const uint8_t *sheet, size_t sheet_length, const uint8_t *file, size_t file_length);
+
+/* Answers the refusal of the round of this number, from 0, in a file: 2 to 13, or 0 where it can be read. */
+DIMKHOROS_CHECKED uint32_t dimkhoros_check(const uint8_t *sheet, size_t sheet_length, const uint8_t *file, size_t file_length, size_t number);
+
+/*
+ * Answers where the round of this number stands in the caller's own file. Where it is refused, offset and length are 0, and
+ * dimkhoros_check answers the refusal, 2 to 13.
+ */
+DIMKHOROS_CHECKED DimkhorosPart dimkhoros_part(const uint8_t *sheet, size_t sheet_length, const uint8_t *file, size_t file_length,
+                             size_t number);
+
+/* Answers the values of the round of this number as they stand in the file, without testing them. Refuses 2 to 13. */
+DIMKHOROS_CHECKED DimkhorosFetched dimkhoros_read(const uint8_t *sheet, size_t sheet_length, const uint8_t *file, size_t file_length,
+                                size_t number);
+
+/* Writes a file without rounds to the start of `buffer` and answers its length, 7. Refuses 22. */
+DIMKHOROS_CHECKED DimkhorosWritten dimkhoros_empty(uint8_t *buffer, size_t buffer_length);
+
+/*
+ * Adds a round to the file in the first `used` bytes of `buffer`, without testing its values, and answers how many bytes are
+ * then in use. The round is written straight behind these bytes, the file's count rises by one, and no other byte is
+ * changed. Refuses 2 to 12 and 22: 12 where the bytes in use are no file of this sheet, are more than the buffer has or
+ * hold 512 rounds, and 22 where the buffer has no room for the round.
+ */
+DIMKHOROS_CHECKED DimkhorosWritten dimkhoros_append(const uint8_t *sheet, size_t sheet_length, uint8_t *buffer, size_t buffer_length,
+                                  size_t used, DimkhorosRound round);
+
+/* --- The marker --- */
+
+/*
+ * Judges a round file and writes the marker's text, in ASCII and without a zero at its end, to the start of `text`. Answers its
+ * length; no byte behind it is changed. A refused sheet gives the one line `sheet N` and a refused file `file N`, N being
+ * the refusal. Else there are a line `rounds` with the count, a line for each round (its number from 0 and `accepted`,
+ * `rejected` with the first row that differs, or `refused` with 14 to 16), and `pass` if every round is accepted or `fail`.
+ * Each line ends in a newline.
+ */
+DIMKHOROS_CHECKED size_t dimkhoros_mark(const uint8_t *sheet, size_t sheet_length, const uint8_t *file, size_t file_length,
+                      uint8_t text[DIMKHOROS_LONGEST_TEXT]);
+
+/* --- Version --- */
+
+/* The version of the archive: DIMKHOROS_VERSION where it is the one that this header was written for. */
+uint32_t dimkhoros_version(void);
+
+/* --- The pure form --- */
+
+/*
+ * The calls on sessions as the archive exports them, and as they are proved. Each is handed a session by value and hands one
+ * back, by value too, which is as it was given where the call is refused. The session that was handed in still stands where
+ * it stood, and is from then on an old copy. Whoever answers another challenge from it gives the witness away, and no
+ * compiler warns of it: what is proved, at most one challenge answered, is proved of calls of which each is given the session
+ * that the last one handed back. The calls above are these, with the session put back in its place.
+ */
+
 /* What a call on Peggy's session answers. */
 typedef struct {
     DimkhorosProverSession session;
     uint32_t values[DIMKHOROS_PLACES]; /* the commitment or the response */
     uint32_t refusal;
 } DimkhorosProverAnswer;
-
-/* Vic's session. Each call takes one and hands one back. Any phase beyond the four is a state that allows no call. */
-typedef struct {
-    uint32_t commitment[DIMKHOROS_PLACES];
-    uint32_t challenge;
-    uint32_t phase;
-} DimkhorosVerifierSession;
 
 /* What bringing a commitment or a challenge to Vic's session answers. */
 typedef struct {
@@ -226,135 +456,202 @@ typedef struct {
     DimkhorosVerifierSession session;
 } DimkhorosVerifierJudgement;
 
-/* --- Sheets --- */
+/* The pure form of dimkhoros_commit. */
+DIMKHOROS_CHECKED DimkhorosProverAnswer dimkhoros_prover_commit(const uint8_t *sheet, size_t sheet_length,
+                                                                DimkhorosProverSession session,
+                                                                const uint32_t nonce[DIMKHOROS_PLACES]);
 
-/* Loads a sheet: answers its fixed fields and its statement. Refuses 2 to 11. */
-DimkhorosLoaded dimkhoros_load(const uint8_t *sheet, size_t sheet_length);
+/* The pure form of dimkhoros_respond. */
+DIMKHOROS_CHECKED DimkhorosProverAnswer dimkhoros_prover_respond(const uint8_t *sheet, size_t sheet_length,
+                                                                 DimkhorosProverSession session, uint32_t challenge,
+                                                                 const uint32_t witness[DIMKHOROS_PLACES]);
+
+/* The pure form of dimkhoros_drop. The values of its answer are zeros. */
+DIMKHOROS_CHECKED DimkhorosProverAnswer dimkhoros_prover_drop(DimkhorosProverSession session);
+
+/* The pure form of dimkhoros_take_commitment. */
+DIMKHOROS_CHECKED DimkhorosVerifierAnswer dimkhoros_verifier_commitment(const uint8_t *sheet, size_t sheet_length,
+                                                                        DimkhorosVerifierSession session,
+                                                                        const uint32_t commitment[DIMKHOROS_PLACES]);
+
+/* The pure form of dimkhoros_take_challenge. */
+DIMKHOROS_CHECKED DimkhorosVerifierAnswer dimkhoros_verifier_challenge(const uint8_t *sheet, size_t sheet_length,
+                                                                       DimkhorosVerifierSession session,
+                                                                       uint32_t challenge);
+
+/* The pure form of dimkhoros_take_response. */
+DIMKHOROS_CHECKED DimkhorosVerifierJudgement dimkhoros_verifier_response(const uint8_t *sheet, size_t sheet_length,
+                                                                         DimkhorosVerifierSession session,
+                                                                         const uint32_t response[DIMKHOROS_PLACES]);
+
+/* --- How the calls on sessions come from the pure form --- */
+
+/* Takes over what a call on Peggy's session answered: the session first, then the values where nothing is refused. */
+static inline uint32_t dimkhoros_prover_step(const DimkhorosProverAnswer *answer, DimkhorosProverSession *session,
+                                             uint32_t values[DIMKHOROS_PLACES]) {
+    *session = answer->session;
+    if (answer->refusal == 0) {
+        for (size_t i = 0; i < DIMKHOROS_PLACES; i++) {
+            values[i] = answer->values[i];
+        }
+    }
+    return answer->refusal;
+}
+
+static inline uint32_t dimkhoros_commit(const uint8_t *sheet, size_t sheet_length, DimkhorosProverSession *session,
+                                        const uint32_t nonce[DIMKHOROS_PLACES], uint32_t commitment[DIMKHOROS_PLACES]) {
+    DimkhorosProverAnswer answer = dimkhoros_prover_commit(sheet, sheet_length, *session, nonce);
+    return dimkhoros_prover_step(&answer, session, commitment);
+}
+
+static inline uint32_t dimkhoros_respond(const uint8_t *sheet, size_t sheet_length, DimkhorosProverSession *session,
+                                         uint32_t challenge, const uint32_t witness[DIMKHOROS_PLACES],
+                                         uint32_t response[DIMKHOROS_PLACES]) {
+    DimkhorosProverAnswer answer = dimkhoros_prover_respond(sheet, sheet_length, *session, challenge, witness);
+    return dimkhoros_prover_step(&answer, session, response);
+}
+
+static inline uint32_t dimkhoros_drop(DimkhorosProverSession *session) {
+    DimkhorosProverAnswer answer = dimkhoros_prover_drop(*session);
+    *session = answer.session;
+    return answer.refusal;
+}
+
+static inline uint32_t dimkhoros_take_commitment(const uint8_t *sheet, size_t sheet_length,
+                                                 DimkhorosVerifierSession *session,
+                                                 const uint32_t commitment[DIMKHOROS_PLACES]) {
+    DimkhorosVerifierAnswer answer = dimkhoros_verifier_commitment(sheet, sheet_length, *session, commitment);
+    *session = answer.session;
+    return answer.refusal;
+}
+
+static inline uint32_t dimkhoros_take_challenge(const uint8_t *sheet, size_t sheet_length,
+                                                DimkhorosVerifierSession *session, uint32_t challenge) {
+    DimkhorosVerifierAnswer answer = dimkhoros_verifier_challenge(sheet, sheet_length, *session, challenge);
+    *session = answer.session;
+    return answer.refusal;
+}
+
+static inline uint32_t dimkhoros_take_response(const uint8_t *sheet, size_t sheet_length, DimkhorosVerifierSession *session,
+                                               const uint32_t response[DIMKHOROS_PLACES], DimkhorosJudgement *verdict) {
+    DimkhorosVerifierJudgement answer = dimkhoros_verifier_response(sheet, sheet_length, *session, response);
+    *session = answer.session;
+    if (answer.verdict.refusal == 0) {
+        *verdict = answer.verdict;
+    }
+    return answer.verdict.refusal;
+}
+
+/* --- How sessions are stored --- */
+
+/* The CRC-32 of these bytes, reflected: polynomial EDB88320, with all bits changed over at the start and at the end. */
+static inline uint32_t dimkhoros_stored_check(const uint8_t *bytes, size_t length) {
+    uint32_t crc = 0xFFFFFFFFu;
+    for (size_t i = 0; i < 8 * length; i++) {
+        crc ^= i % 8 == 0 ? bytes[i / 8] : 0u;
+        crc = (crc >> 1) ^ ((crc & 1u) == 0 ? 0u : 0xEDB88320u);
+    }
+    return crc ^ 0xFFFFFFFFu;
+}
+
+/* Puts a number into four bytes. */
+static inline void dimkhoros_stored_put(uint8_t *bytes, uint32_t number) {
+    for (int i = 3; i >= 0; i--) {
+        bytes[i] = number & 0xFFu;
+        number >>= 8;
+    }
+}
+
+/* The number in four bytes. */
+static inline uint32_t dimkhoros_stored_get(const uint8_t *bytes) {
+    uint32_t number = 0;
+    for (int i = 0; i < 4; i++) {
+        number = number << 8 | bytes[i];
+    }
+    return number;
+}
+
+/* Stores `count` values under a mark. Version and length are written as one number. */
+static inline void dimkhoros_stored_write(const char *mark, const uint32_t *values, uint32_t count, uint8_t *stored) {
+    const uint32_t length = 11 + 4 * count;
+    for (int i = 0; i < 3; i++) {
+        stored[i] = mark[i] & 0x7F;
+    }
+    dimkhoros_stored_put(stored + 3, 0x10000u + length);
+    for (uint32_t i = 0; i < count; i++) {
+        dimkhoros_stored_put(stored + 7 + 4 * i, values[i]);
+    }
+    dimkhoros_stored_put(stored + length - 4, dimkhoros_stored_check(stored, length - 4));
+}
 
 /*
- * Gives the entries of a sheet: all 64 numbers of `entries` are set, to 0 outside the sheet's rows and columns and everywhere in
- * a root sheet, and 0 is answered. Refuses 2 to 11: the number is answered, and `entries` keeps its numbers.
+ * Reads the `count` values, a state last, of which these bytes are the stored form under a mark, and answers 1. Answers 0 for
+ * any other bytes: they are compared with what the values are stored as.
  */
-uint32_t dimkhoros_entries(const uint8_t *sheet, size_t sheet_length, uint32_t entries[DIMKHOROS_ENTRIES]);
+static inline int dimkhoros_stored_read(const char *mark, const uint8_t *stored, size_t length, uint32_t *values,
+                                        uint32_t count) {
+    uint8_t expected[DIMKHOROS_STORED_PROVER];
+    if (length != 11 + 4 * count) {
+        return 0;
+    }
+    for (uint32_t i = 0; i < count; i++) {
+        values[i] = dimkhoros_stored_get(stored + 7 + 4 * i);
+    }
+    dimkhoros_stored_write(mark, values, count, expected);
+    for (size_t i = 0; i < length; i++) {
+        if (stored[i] != expected[i]) {
+            return 0;
+        }
+    }
+    return values[count - 1] <= 3;
+}
 
-/*
- * Writes the sheet of these values, given as dimkhoros_load and dimkhoros_entries answer them, to the start of `buffer`, and
- * answers its length. The entries of a root sheet are not read. No byte behind the sheet is changed. Refuses 4 to 8, 10,
- * 11 and 22.
- */
-DimkhorosWritten dimkhoros_encode(DimkhorosHeader header, const uint32_t entries[DIMKHOROS_ENTRIES],
-                                  const uint32_t statement[DIMKHOROS_PLACES], uint8_t *buffer, size_t buffer_length);
+static inline void dimkhoros_prover_store(const DimkhorosProverSession *session, uint8_t stored[DIMKHOROS_STORED_PROVER]) {
+    uint32_t values[2 * DIMKHOROS_PLACES + 1];
+    for (size_t i = 0; i < DIMKHOROS_PLACES; i++) {
+        values[i] = session->nonce[i];
+        values[DIMKHOROS_PLACES + i] = session->commitment[i];
+    }
+    values[2 * DIMKHOROS_PLACES] = session->phase;
+    dimkhoros_stored_write("PRV", values, 2 * DIMKHOROS_PLACES + 1, stored);
+}
 
-/*
- * Writes the sheet of a pattern, DIMKHOROS_PATTERN_SCHNORR to DIMKHOROS_PATTERN_ROOT, to the start of `buffer`, and answers
- * its length. `order` is q, or e in pattern 6; `values` are the public values, `value_count` of them, and `statement` has
- * a value for each row. No byte behind the sheet is changed. Refuses 1, 5, 6, 8, 10, 11 and 22.
- */
-DimkhorosWritten dimkhoros_from_pattern(uint32_t pattern, uint32_t modulus, uint32_t order, uint32_t challenges,
-                                        const uint32_t *values, size_t value_count, const uint32_t *statement,
-                                        size_t statement_count, uint8_t *buffer, size_t buffer_length);
+static inline int dimkhoros_prover_restore(const uint8_t *stored, size_t length, DimkhorosProverSession *session) {
+    uint32_t values[2 * DIMKHOROS_PLACES + 1];
+    if (!dimkhoros_stored_read("PRV", stored, length, values, 2 * DIMKHOROS_PLACES + 1)) {
+        return 0;
+    }
+    for (size_t i = 0; i < DIMKHOROS_PLACES; i++) {
+        session->nonce[i] = values[i];
+        session->commitment[i] = values[DIMKHOROS_PLACES + i];
+    }
+    session->phase = values[2 * DIMKHOROS_PLACES];
+    return 1;
+}
 
-/* --- Round files --- */
+static inline void dimkhoros_verifier_store(const DimkhorosVerifierSession *session,
+                                            uint8_t stored[DIMKHOROS_STORED_VERIFIER]) {
+    uint32_t values[DIMKHOROS_PLACES + 2];
+    for (size_t i = 0; i < DIMKHOROS_PLACES; i++) {
+        values[i] = session->commitment[i];
+    }
+    values[DIMKHOROS_PLACES] = session->challenge;
+    values[DIMKHOROS_PLACES + 1] = session->phase;
+    dimkhoros_stored_write("VRF", values, DIMKHOROS_PLACES + 2, stored);
+}
 
-/* Answers how many rounds a file has, 0 to 512. Refuses 2 to 12. */
-DimkhorosCounted dimkhoros_count(const uint8_t *sheet, size_t sheet_length, const uint8_t *file, size_t file_length);
-
-/* Answers the refusal of the round of this number, from 0, in a file: 2 to 13, or 0 where it can be read. */
-uint32_t dimkhoros_check(const uint8_t *sheet, size_t sheet_length, const uint8_t *file, size_t file_length, size_t number);
-
-/*
- * Answers where the round of this number stands in the caller's own file. Where it is refused, offset and length are 0, and
- * dimkhoros_check answers the refusal, 2 to 13.
- */
-DimkhorosPart dimkhoros_part(const uint8_t *sheet, size_t sheet_length, const uint8_t *file, size_t file_length,
-                             size_t number);
-
-/* Answers the values of the round of this number as they stand in the file, without testing them. Refuses 2 to 13. */
-DimkhorosFetched dimkhoros_read(const uint8_t *sheet, size_t sheet_length, const uint8_t *file, size_t file_length,
-                                size_t number);
-
-/* Writes a file without rounds to the start of `buffer` and answers its length, 7. Refuses 22. */
-DimkhorosWritten dimkhoros_empty(uint8_t *buffer, size_t buffer_length);
-
-/*
- * Adds a round to the file in the first `used` bytes of `buffer`, without testing its values, and answers how many bytes are
- * then in use. The round is written straight behind these bytes, the file's count rises by one, and no other byte is
- * changed. Refuses 2 to 12 and 22: 12 where the bytes in use are no file of this sheet, are more than the buffer has or
- * hold 512 rounds, and 22 where the buffer has no room for the round.
- */
-DimkhorosWritten dimkhoros_append(const uint8_t *sheet, size_t sheet_length, uint8_t *buffer, size_t buffer_length,
-                                  size_t used, DimkhorosRound round);
-
-/* --- Rounds --- */
-
-/* Answers Vic's verdict on a round. Refuses 2 to 11 and 14 to 16. */
-DimkhorosJudgement dimkhoros_judge(const uint8_t *sheet, size_t sheet_length, DimkhorosRound round);
-
-/*
- * The simulator: answers the one commitment with which Vic accepts this challenge and response. No witness is needed for it.
- * Refuses 2 to 11, 15 and 16.
- */
-DimkhorosComputed dimkhoros_simulate(const uint8_t *sheet, size_t sheet_length, uint32_t challenge,
-                                     const uint32_t response[DIMKHOROS_PLACES]);
-
-/*
- * The extractor: answers the witness that two accepted rounds with one commitment and different challenges give away, the
- * same one in either order. Refuses 2 to 11, 14 to 16 and 18 to 20.
- */
-DimkhorosComputed dimkhoros_extract(const uint8_t *sheet, size_t sheet_length, DimkhorosRound first, DimkhorosRound second);
-
-/* --- The marker --- */
-
-/*
- * Judges a round file and writes the marker's text, in ASCII and without a zero at its end, to the start of `text`. Answers its
- * length; no byte behind it is changed. A refused sheet gives the one line `sheet N` and a refused file `file N`, N being
- * the refusal. Else there are a line `rounds` with the count, a line for each round (its number from 0 and `accepted`,
- * `rejected` with the first row that differs, or `refused` with 14 to 16), and `pass` if every round is accepted or `fail`.
- * Each line ends in a newline.
- */
-size_t dimkhoros_mark(const uint8_t *sheet, size_t sheet_length, const uint8_t *file, size_t file_length,
-                      uint8_t text[DIMKHOROS_LONGEST_TEXT]);
-
-/* --- Peggy's session --- */
-
-/* A new session: DIMKHOROS_PROVER_NEW, with zeros. */
-DimkhorosProverSession dimkhoros_prover_new(void);
-
-/* Commits a new session to a nonce, and answers the commitment. Leads to Committed. Refuses 2 to 11, 16 and 21. */
-DimkhorosProverAnswer dimkhoros_prover_commit(const uint8_t *sheet, size_t sheet_length, DimkhorosProverSession session,
-                                              const uint32_t nonce[DIMKHOROS_PLACES]);
-
-/*
- * Answers the response of a committed session to a challenge, by a witness, and sets the nonce to zeros. Leads to Answered.
- * Refuses 2 to 11, 15 to 17 and 21; a committed session that is refused stays committed and can still answer.
- */
-DimkhorosProverAnswer dimkhoros_prover_respond(const uint8_t *sheet, size_t sheet_length, DimkhorosProverSession session,
-                                               uint32_t challenge, const uint32_t witness[DIMKHOROS_PLACES]);
-
-/* Gives up a new or committed session and sets the nonce to zeros. Leads to Dropped. Refuses 21. */
-DimkhorosProverAnswer dimkhoros_prover_drop(DimkhorosProverSession session);
-
-/* --- Vic's session --- */
-
-/* A new session: DIMKHOROS_VERIFIER_WAITING, with zeros. */
-DimkhorosVerifierSession dimkhoros_verifier_new(void);
-
-/* Brings the commitment to a waiting session. Leads to Holding. Refuses 2 to 11, 14 and 21. */
-DimkhorosVerifierAnswer dimkhoros_verifier_commitment(const uint8_t *sheet, size_t sheet_length,
-                                                      DimkhorosVerifierSession session,
-                                                      const uint32_t commitment[DIMKHOROS_PLACES]);
-
-/* Brings the challenge to a session that holds a commitment. Leads to Asked. Refuses 2 to 11, 15 and 21. */
-DimkhorosVerifierAnswer dimkhoros_verifier_challenge(const uint8_t *sheet, size_t sheet_length,
-                                                     DimkhorosVerifierSession session, uint32_t challenge);
-
-/*
- * Brings the response to a session that has asked, and answers the verdict. An accepted verdict and a rejected one both lead
- * to Judged. Refuses 2 to 11, 16 and 21.
- */
-DimkhorosVerifierJudgement dimkhoros_verifier_response(const uint8_t *sheet, size_t sheet_length,
-                                                       DimkhorosVerifierSession session,
-                                                       const uint32_t response[DIMKHOROS_PLACES]);
+static inline int dimkhoros_verifier_restore(const uint8_t *stored, size_t length, DimkhorosVerifierSession *session) {
+    uint32_t values[DIMKHOROS_PLACES + 2];
+    if (!dimkhoros_stored_read("VRF", stored, length, values, DIMKHOROS_PLACES + 2)) {
+        return 0;
+    }
+    for (size_t i = 0; i < DIMKHOROS_PLACES; i++) {
+        session->commitment[i] = values[i];
+    }
+    session->challenge = values[DIMKHOROS_PLACES];
+    session->phase = values[DIMKHOROS_PLACES + 1];
+    return 1;
+}
 
 #ifdef __cplusplus
 }

@@ -1,7 +1,9 @@
-// The calls of 01, for programs in other languages: each export hands its arguments to the call and its answer back, in forms that cross.
+// The calls of 01 and the library's version, for programs in other languages: each export of a call hands its arguments to the call
+// and its answer back, in forms that cross.
 mod judging; // judging.rt: the calls on a round's values
 mod marking; // marking.rt: the marker's text
 mod proving; // proving.rt: the calls on Peggy's session
 mod rounds; // rounds.rt: the calls on round files
 mod sheets; // sheets.rt: the calls on sheets
 mod verifying; // verifying.rt: the calls on Vic's session
+mod version; // version.rt: the library's version

@@ -5,6 +5,7 @@
 
 mod instance;
 mod marker;
+mod no_response;
 mod pattern;
 mod places;
 mod protocol;
@@ -12,20 +13,23 @@ mod prover;
 mod refusal;
 mod refused;
 mod round_file;
+mod stored;
 mod verdict;
 mod verifier;
 
 pub use dimkhoros_sys::{
     EMPTY_FILE, EXPONENT, Header, LONGEST_FILE, LONGEST_SHEET, LONGEST_TEXT, MOST_ROUNDS, PLACES,
-    Places, ROOT, Round,
+    Places, ROOT, Round, version,
 };
 pub use instance::{Instance, Values};
 pub use marker::mark;
+pub use no_response::NoResponse;
 pub use pattern::{Pattern, Plan};
 pub use places::places;
 pub use prover::{Prover, ProverParts, ProverPhase};
 pub use refusal::Refusal;
 pub use refused::Refused;
 pub use round_file::{RoundFile, RoundWriter};
+pub use stored::{Damaged, STORED_PROVER, STORED_VERIFIER};
 pub use verdict::Verdict;
 pub use verifier::{Verifier, VerifierParts, VerifierPhase};

@@ -1,9 +1,12 @@
 //! Peggy's session.
 
-use crate::{Instance, Places, Refused};
+use crate::{Damaged, Instance, NoResponse, PLACES, Places, Refused, STORED_PROVER, stored};
 use core::fmt;
 use dimkhoros_sys::phases::prover::{ANSWERED, COMMITTED, DROPPED, NEW};
 use dimkhoros_sys::{self as sys, ProverAnswer, ProverSession};
+
+/// What a stored session of Peggy's begins with.
+const MARK: &[u8; 3] = b"PRV";
 
 /// The states of a prover's session.
 ///
@@ -58,8 +61,9 @@ impl ProverPhase {
 /// Each call takes the session and hands it back, refused calls too, and there is no way to copy it by mistake: it is neither
 /// `Clone` nor `Copy`. Over any chain of calls in which each is given the session that the last one handed back, at most one
 /// challenge is answered: this is proved of the library. It cannot know of copies that are made by
-/// [`into_parts`](Prover::into_parts) and [`from_parts`](Prover::from_parts). Nor does it wipe the memory that a session was
-/// moved out of.
+/// [`to_stored`](Prover::to_stored) and [`from_stored`](Prover::from_stored), or by [`into_parts`](Prover::into_parts) and
+/// [`from_parts`](Prover::from_parts); a box that stores its session answers by [`respond_after`](Prover::respond_after). Nor
+/// does it wipe the memory that a session was moved out of.
 ///
 /// ```
 /// use dimkhoros::{places, Prover, ProverPhase, Refusal};
@@ -159,6 +163,46 @@ impl Prover {
         step(sys::prover_respond(instance.bytes(), self.session, challenge, witness))
     }
 
+    /// Responds as [`respond`](Prover::respond) does, and hands the response out only after `store` has succeeded.
+    ///
+    /// `store` is given the stored form of the session as it is after the response. It has to write it over the one that was
+    /// stored before, and to answer `Ok` only once it would be found again after the box is switched off. So whatever is
+    /// found when the box starts, no second challenge is answered on a nonce whose response was sent. Where `store` fails,
+    /// the response is gone and the error holds the session, which answers no challenge; where the call is refused, `store`
+    /// is not called.
+    ///
+    /// ```
+    /// use dimkhoros::{Prover, Refusal, places};
+    /// # use dimkhoros::{Instance, Plan};
+    /// # let plan = Plan { pattern: 1, modulus: 23, order: 11, challenges: 11, values: &[2], statement: &[13] };
+    /// # let instance = Instance::from_pattern(&plan)?;
+    ///
+    /// let (peggy, _) = Prover::new().commit(&instance, &places([5]))?;
+    /// let mut disk = peggy.to_stored();
+    /// let store = |stored: &_| -> Result<(), &str> { disk = *stored; Ok(()) };
+    /// let (_, response) = peggy.respond_after(&instance, 3, &places([7]), store).unwrap();
+    /// assert_eq!(response, places([4]));
+    ///
+    /// // The box is restarted, and asked another challenge.
+    /// let peggy = Prover::from_stored(&disk).unwrap();
+    /// let again = peggy.respond(&instance, 1, &places([7])).unwrap_err();
+    /// assert_eq!(again.refusal, Refusal::Session);
+    /// # Ok::<(), Refusal>(())
+    /// ```
+    pub fn respond_after<E>(
+        self,
+        instance: &Instance,
+        challenge: u32,
+        witness: &Places,
+        store: impl FnOnce(&[u8; STORED_PROVER]) -> Result<(), E>,
+    ) -> Result<(Prover, Places), NoResponse<E>> {
+        let (session, response) = self.respond(instance, challenge, witness)?;
+        match store(&session.to_stored()) {
+            Ok(()) => Ok((session, response)),
+            Err(error) => Err(NoResponse::NotStored { session, error }),
+        }
+    }
+
     /// Gives up a new or committed session, and sets the held nonce to zeros. Refused with 21.
     ///
     /// ```
@@ -200,7 +244,45 @@ impl Prover {
         &self.session.commitment
     }
 
-    /// Takes the session apart, for a box that stores it. See [`ProverParts`] for what such a box has to see to.
+    /// The session's stored form, as include/dimkhoros.h describes it: 79 bytes with a mark, a version, a length and a check
+    /// value. They hold the nonce. See [`ProverParts`] for what a box that stores sessions has to see to.
+    ///
+    /// ```
+    /// use dimkhoros::Prover;
+    ///
+    /// let stored = Prover::new().to_stored();
+    /// assert_eq!(stored[..7], *b"PRV\0\x01\0\x4f");
+    /// ```
+    pub fn to_stored(&self) -> [u8; STORED_PROVER] {
+        let mut values = [0; 2 * PLACES + 1];
+        values[..PLACES].copy_from_slice(&self.session.nonce);
+        values[PLACES..2 * PLACES].copy_from_slice(&self.session.commitment);
+        values[2 * PLACES] = self.session.phase;
+        stored::write(MARK, &values)
+    }
+
+    /// The session of a stored form. Any other bytes are [`Damaged`]: a file that was cut, changed in a byte, lengthened or
+    /// emptied, and a session of Vic's.
+    ///
+    /// ```
+    /// use dimkhoros::{Damaged, Prover, ProverPhase};
+    ///
+    /// let mut stored = Prover::new().to_stored();
+    /// assert_eq!(Prover::from_stored(&stored)?.phase(), ProverPhase::New);
+    /// stored[20] = 1;
+    /// assert_eq!(Prover::from_stored(&stored).unwrap_err(), Damaged);
+    /// # Ok::<(), Damaged>(())
+    /// ```
+    pub fn from_stored(bytes: &[u8]) -> Result<Prover, Damaged> {
+        let values = stored::read::<STORED_PROVER, { 2 * PLACES + 1 }>(MARK, bytes)?;
+        let mut session = sys::prover_new();
+        session.nonce.copy_from_slice(&values[..PLACES]);
+        session.commitment.copy_from_slice(&values[PLACES..2 * PLACES]);
+        session.phase = values[2 * PLACES];
+        Ok(Prover { session })
+    }
+
+    /// Takes the session apart. [`to_stored`](Prover::to_stored) is for a box that stores it.
     ///
     /// ```
     /// use dimkhoros::{places, Prover};
@@ -221,7 +303,7 @@ impl Prover {
     }
 
     /// Puts a session together from its parts, which may be any: a committed session whose held values do not fit the sheet is
-    /// refused with 21 by the calls. See [`ProverParts`] for what a box that stores sessions has to see to.
+    /// refused with 21 by the calls. See [`ProverParts`] for what a box that copies sessions has to see to.
     ///
     /// ```
     /// use dimkhoros::{Prover, ProverPhase};
@@ -257,10 +339,11 @@ impl fmt::Debug for Prover {
 
 /// A prover's session taken apart.
 ///
-/// This is the one place where a session can be copied, by hand. Whoever answers two challenges on one nonce gives the witness
-/// away, and the library cannot know of copies: what is proved, that one session answers at most one challenge, is
-/// proved of chains of calls in which each is given the session that the last one handed back. So a box that stores a
-/// session stores what a call handed back in the place of what it gave, and does so before it sends the answer.
+/// Parts and stored bytes are the two forms in which a session can be copied, by hand. Whoever answers two challenges on one
+/// nonce gives the witness away, and the library cannot know of copies: what is proved, that one session answers at most one
+/// challenge, is proved of chains of calls in which each is given the session that the last one handed back. So a box that
+/// stores a session stores what a call handed back in the place of what it gave, and does so before it sends the answer:
+/// [`Prover::respond_after`] keeps this order.
 ///
 /// ```
 /// use dimkhoros::{Prover, ProverParts, ProverPhase};

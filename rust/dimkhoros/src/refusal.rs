@@ -39,7 +39,7 @@ refusals! {
     5, Modulus, "the modulus has to be 3 or more";
     6, Order, "the order or exponent has to be 2 or more";
     7, Shape, "rows and columns have to be 1 to 8 each, and equal in a root sheet";
-    8, Challenges, "the challenge count has to be 2 to 65536, and no smaller number from 2 on may divide the order or exponent";
+    8, Challenges, "the challenge count K has to be 2 to 65536, and no number from 2 to K - 1 may divide the order or exponent";
     9, SheetLength, "the sheet is longer or shorter than its header says";
     10, Entry, "a table entry or public value lies outside the group";
     11, Statement, "a statement value lies outside the group";

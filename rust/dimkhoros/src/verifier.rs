@@ -1,9 +1,12 @@
 //! Vic's session.
 
 use crate::protocol::verdict;
-use crate::{Instance, Places, Refused, Verdict};
+use crate::{Damaged, Instance, PLACES, Places, Refused, STORED_VERIFIER, Verdict, stored};
 use dimkhoros_sys::phases::verifier::{ASKED, HOLDING, JUDGED, WAITING};
 use dimkhoros_sys::{self as sys, VerifierAnswer, VerifierSession};
+
+/// What a stored session of Vic's begins with.
+const MARK: &[u8; 3] = b"VRF";
 
 /// The states of a verifier's session, in their order.
 ///
@@ -207,7 +210,44 @@ impl Verifier {
         self.session.challenge
     }
 
-    /// Takes the session apart, for a box that stores it.
+    /// The session's stored form, as include/dimkhoros.h describes it: 51 bytes with a mark, a version, a length and a check
+    /// value.
+    ///
+    /// ```
+    /// use dimkhoros::Verifier;
+    ///
+    /// let stored = Verifier::new().to_stored();
+    /// assert_eq!(stored[..7], *b"VRF\0\x01\0\x33");
+    /// ```
+    pub fn to_stored(&self) -> [u8; STORED_VERIFIER] {
+        let mut values = [0; PLACES + 2];
+        values[..PLACES].copy_from_slice(&self.session.commitment);
+        values[PLACES] = self.session.challenge;
+        values[PLACES + 1] = self.session.phase;
+        stored::write(MARK, &values)
+    }
+
+    /// The session of a stored form. Any other bytes are [`Damaged`]: a file that was cut, changed in a byte, lengthened or
+    /// emptied, and a session of Peggy's.
+    ///
+    /// ```
+    /// use dimkhoros::{Damaged, Verifier, VerifierPhase};
+    ///
+    /// let stored = Verifier::new().to_stored();
+    /// assert_eq!(Verifier::from_stored(&stored)?.phase(), VerifierPhase::Waiting);
+    /// assert_eq!(Verifier::from_stored(&stored[..50]).unwrap_err(), Damaged);
+    /// # Ok::<(), Damaged>(())
+    /// ```
+    pub fn from_stored(bytes: &[u8]) -> Result<Verifier, Damaged> {
+        let values = stored::read::<STORED_VERIFIER, { PLACES + 2 }>(MARK, bytes)?;
+        let mut session = sys::verifier_new();
+        session.commitment.copy_from_slice(&values[..PLACES]);
+        session.challenge = values[PLACES];
+        session.phase = values[PLACES + 1];
+        Ok(Verifier { session })
+    }
+
+    /// Takes the session apart. [`to_stored`](Verifier::to_stored) is for a box that stores it.
     ///
     /// ```
     /// use dimkhoros::{places, Verifier};

@@ -15,6 +15,17 @@ use crate::{
     Written,
 };
 
+/// The version of the archive that is linked, 10000 * major + 100 * minor + patch.
+///
+/// ```
+/// assert_eq!(dimkhoros_sys::version(), 200); // 0.2.0
+/// ```
+#[inline]
+pub fn version() -> u32 {
+    // SAFETY: the call takes nothing.
+    unsafe { dimkhoros_version() }
+}
+
 /// Loads a sheet: answers its fixed fields and its statement.
 #[inline]
 pub fn load(sheet: &[u8]) -> Loaded {

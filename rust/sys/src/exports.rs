@@ -6,6 +6,8 @@ use crate::{
 };
 
 unsafe extern "C" {
+    pub fn dimkhoros_version() -> u32;
+
     pub fn dimkhoros_load(sheet: *const u8, sheet_length: usize) -> Loaded;
 
     pub fn dimkhoros_entries(sheet: *const u8, sheet_length: usize, entries: *mut u32) -> u32;
