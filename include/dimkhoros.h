@@ -12,17 +12,16 @@
  * The archive needs memcpy and memset and nothing else. It allocates nothing and keeps nothing between calls, so calls may
  * run in several threads at once.
  *
- * Sessions. A box keeps one session for each proof, and every call is given its address. Peggy's box, for one:
+ * Sessions. A box keeps a session for each run of the protocol, and every call is given its address. The box Peggy, for one:
  *
  *     DimkhorosProverSession peggy = dimkhoros_prover_new();
  *     uint32_t refusal = dimkhoros_commit(sheet, sheet_length, &peggy, nonce, commitment);
- *     if (refusal == 0) { .. send the commitment, hear a challenge .. }
+ *     .. where it is 0: send the commitment and hear a challenge ..
  *     refusal = dimkhoros_respond(sheet, sheet_length, &peggy, challenge, witness, response);
- *     if (refusal == 0) { .. store peggy over what was stored before, then send the response .. }
+ *     .. where it is 0: store peggy over what was stored before, then send the response ..
  *
- * The call itself puts the session that comes after it in the place of the one before, so that no second challenge is
- * answered on the same nonce: dimkhoros_respond answers 21 from then on. "The pure form", at the end, has the same calls with
- * sessions that are handed in and handed back by value.
+ * Each call puts the session that comes after it in the place of the one before. So a second challenge on the same nonce is
+ * refused, with 21. "The pure form", at the end, has the same calls with sessions that are handed in and back by value.
  *
  * What a call takes. Any bytes and any numbers: every call ends in an answer, and it is proved to be the one that the call's
  * definition gives (docs/promises/exports.md lists the definitions). The caller owes four things. A pointer with a length
@@ -217,9 +216,9 @@ typedef struct {
 } DimkhorosJudgement;
 
 /*
- * Peggy's session. Over any calls on one session at most one challenge is answered: this is proved. The library cannot know
- * of copies. Whoever answers two challenges from two copies of one session gives the witness away, so a box that stores a
- * session must store the one that comes after a response, over the old, before it sends the response.
+ * Peggy's session. Over any calls on one session at most one challenge is answered: this is proved of the archive's calls. The
+ * library cannot know of copies. Whoever answers two challenges from two copies of one session gives the witness away, so a
+ * box that stores a session must store the one that comes after a response, over the old, before it sends the response.
  *
  * Any phase beyond the four is a state that allows no call.
  */
@@ -239,20 +238,23 @@ typedef struct {
 /* --- Sheets --- */
 
 /* Loads a sheet: answers its fixed fields and its statement. Refuses 2 to 11. */
-DIMKHOROS_CHECKED DimkhorosLoaded dimkhoros_load(const uint8_t *sheet, size_t sheet_length);
+DIMKHOROS_CHECKED
+DimkhorosLoaded dimkhoros_load(const uint8_t *sheet, size_t sheet_length);
 
 /*
  * Gives the entries of a sheet: all 64 numbers of `entries` are set, to 0 outside the sheet's rows and columns and everywhere in
  * a root sheet, and 0 is answered. Refuses 2 to 11: the number is answered, and `entries` keeps its numbers.
  */
-DIMKHOROS_CHECKED uint32_t dimkhoros_entries(const uint8_t *sheet, size_t sheet_length, uint32_t entries[DIMKHOROS_ENTRIES]);
+DIMKHOROS_CHECKED
+uint32_t dimkhoros_entries(const uint8_t *sheet, size_t sheet_length, uint32_t entries[DIMKHOROS_ENTRIES]);
 
 /*
  * Writes the sheet of these values, given as dimkhoros_load and dimkhoros_entries answer them, to the start of `buffer`, and
  * answers its length. The entries of a root sheet are not read. No byte behind the sheet is changed. Refuses 4 to 8, 10,
  * 11 and 22.
  */
-DIMKHOROS_CHECKED DimkhorosWritten dimkhoros_encode(DimkhorosHeader header, const uint32_t entries[DIMKHOROS_ENTRIES],
+DIMKHOROS_CHECKED
+DimkhorosWritten dimkhoros_encode(DimkhorosHeader header, const uint32_t entries[DIMKHOROS_ENTRIES],
                                   const uint32_t statement[DIMKHOROS_PLACES], uint8_t *buffer, size_t buffer_length);
 
 /*
@@ -260,69 +262,69 @@ DIMKHOROS_CHECKED DimkhorosWritten dimkhoros_encode(DimkhorosHeader header, cons
  * its length. `order` is q, or e in pattern 6; `values` are the public values, `value_count` of them, and `statement` has
  * a value for each row. No byte behind the sheet is changed. Refuses 1, 5, 6, 8, 10, 11 and 22.
  */
-DIMKHOROS_CHECKED DimkhorosWritten dimkhoros_from_pattern(uint32_t pattern, uint32_t modulus, uint32_t order, uint32_t challenges,
+DIMKHOROS_CHECKED
+DimkhorosWritten dimkhoros_from_pattern(uint32_t pattern, uint32_t modulus, uint32_t order, uint32_t challenges,
                                         const uint32_t *values, size_t value_count, const uint32_t *statement,
                                         size_t statement_count, uint8_t *buffer, size_t buffer_length);
 
 /* --- Peggy's session --- */
 
+/*
+ * A call that is given a session's address, Peggy's or Vic's, answers 0 where it is carried out: the session is then the one that
+ * comes after the call, and the values are given. Else it answers the refusal's number, and the session, arrays and verdict
+ * that it was given keep what they hold.
+ */
+
 /* A new session: DIMKHOROS_PROVER_NEW, with zeros. */
-DIMKHOROS_CHECKED DimkhorosProverSession dimkhoros_prover_new(void);
+DIMKHOROS_CHECKED
+DimkhorosProverSession dimkhoros_prover_new(void);
+
+/* Commits a new session to a nonce, and gives the commitment. Leads to Committed. Refuses 2 to 11, 16 and 21. */
+DIMKHOROS_CHECKED
+static inline uint32_t dimkhoros_commit(const uint8_t *sheet, size_t sheet_length, DimkhorosProverSession *session,
+                                        const uint32_t nonce[DIMKHOROS_PLACES], uint32_t commitment[DIMKHOROS_PLACES]);
 
 /*
- * Commits a new session to a nonce, puts the commitment into `commitment`, and answers 0. Leads to Committed. Refuses 2 to 11,
- * 16 and 21: the number is answered, and session and `commitment` keep what they hold.
+ * Gives the response of a committed session to a challenge, by a witness, and sets the nonce to zeros. Leads to Answered.
+ * Refuses 2 to 11, 15 to 17 and 21; a committed session that is refused stays committed and can still answer.
  */
-DIMKHOROS_CHECKED static inline uint32_t dimkhoros_commit(const uint8_t *sheet, size_t sheet_length,
-                                                          DimkhorosProverSession *session,
-                                                          const uint32_t nonce[DIMKHOROS_PLACES],
-                                                          uint32_t commitment[DIMKHOROS_PLACES]);
+DIMKHOROS_CHECKED
+static inline uint32_t dimkhoros_respond(const uint8_t *sheet, size_t sheet_length, DimkhorosProverSession *session,
+                                         uint32_t challenge, const uint32_t witness[DIMKHOROS_PLACES],
+                                         uint32_t response[DIMKHOROS_PLACES]);
 
-/*
- * Puts the response of a committed session to a challenge, by a witness, into `response`, sets the session's nonce to zeros,
- * and answers 0. Leads to Answered. Refuses 2 to 11, 15 to 17 and 21: the number is answered, and session and `response` keep
- * what they hold; a committed session that is refused can still answer.
- */
-DIMKHOROS_CHECKED static inline uint32_t dimkhoros_respond(const uint8_t *sheet, size_t sheet_length,
-                                                           DimkhorosProverSession *session, uint32_t challenge,
-                                                           const uint32_t witness[DIMKHOROS_PLACES],
-                                                           uint32_t response[DIMKHOROS_PLACES]);
-
-/*
- * Gives up a new or committed session, sets its nonce to zeros, and answers 0. Leads to Dropped. Refuses 21: the number is
- * answered, and the session keeps what it holds.
- */
-DIMKHOROS_CHECKED static inline uint32_t dimkhoros_drop(DimkhorosProverSession *session);
+/* Gives up a new or committed session and sets the nonce to zeros. Leads to Dropped. Refuses 21. */
+DIMKHOROS_CHECKED
+static inline uint32_t dimkhoros_drop(DimkhorosProverSession *session);
 
 /* --- Vic's session --- */
 
 /* A new session: DIMKHOROS_VERIFIER_WAITING, with zeros. */
-DIMKHOROS_CHECKED DimkhorosVerifierSession dimkhoros_verifier_new(void);
+DIMKHOROS_CHECKED
+DimkhorosVerifierSession dimkhoros_verifier_new(void);
+
+/* Brings the commitment to a waiting session. Leads to Holding. Refuses 2 to 11, 14 and 21. */
+DIMKHOROS_CHECKED
+static inline uint32_t dimkhoros_take_commitment(const uint8_t *sheet, size_t sheet_length,
+                                                 DimkhorosVerifierSession *session,
+                                                 const uint32_t commitment[DIMKHOROS_PLACES]);
 
 /*
- * Brings the commitment to a waiting session, and answers 0. Leads to Holding. Refuses 2 to 11, 14 and 21: the number is
- * answered, and the session keeps what it holds.
+ * Brings the challenge to a session that holds a commitment. Leads to Asked: only then is the challenge sent. Refuses 2 to 11,
+ * 15 and 21.
  */
-DIMKHOROS_CHECKED static inline uint32_t dimkhoros_take_commitment(const uint8_t *sheet, size_t sheet_length,
-                                                                   DimkhorosVerifierSession *session,
-                                                                   const uint32_t commitment[DIMKHOROS_PLACES]);
+DIMKHOROS_CHECKED
+static inline uint32_t dimkhoros_take_challenge(const uint8_t *sheet, size_t sheet_length,
+                                                DimkhorosVerifierSession *session, uint32_t challenge);
 
 /*
- * Brings the challenge to a session that holds a commitment, and answers 0. Leads to Asked: only then send the challenge.
- * Refuses 2 to 11, 15 and 21: the number is answered, and the session keeps what it holds.
+ * Brings the response to a session that has asked, and gives the verdict. An accepted verdict and a rejected one both lead to
+ * Judged. Refuses 2 to 11, 16 and 21: `verdict` may then still hold another round's, so look at the number first.
  */
-DIMKHOROS_CHECKED static inline uint32_t dimkhoros_take_challenge(const uint8_t *sheet, size_t sheet_length,
-                                                                  DimkhorosVerifierSession *session, uint32_t challenge);
-
-/*
- * Brings the response to a session that has asked, puts the verdict into `verdict`, and answers 0. An accepted verdict and a
- * rejected one both lead to Judged. Refuses 2 to 11, 16 and 21: the number is answered, and session and `verdict` keep what
- * they hold.
- */
-DIMKHOROS_CHECKED static inline uint32_t dimkhoros_take_response(const uint8_t *sheet, size_t sheet_length,
-                                                                 DimkhorosVerifierSession *session,
-                                                                 const uint32_t response[DIMKHOROS_PLACES],
-                                                                 DimkhorosJudgement *verdict);
+DIMKHOROS_CHECKED
+static inline uint32_t dimkhoros_take_response(const uint8_t *sheet, size_t sheet_length,
+                                               DimkhorosVerifierSession *session,
+                                               const uint32_t response[DIMKHOROS_PLACES], DimkhorosJudgement *verdict);
 
 /* --- Stored sessions --- */
 
@@ -347,8 +349,8 @@ static inline void dimkhoros_prover_store(const DimkhorosProverSession *session,
  * Sets Peggy's session to the one that these bytes hold and answers 1. Answers 0, and leaves the session alone, where they are
  * anything else than what dimkhoros_prover_store writes of one of the four states.
  */
-DIMKHOROS_CHECKED static inline int dimkhoros_prover_restore(const uint8_t *stored, size_t length,
-                                                             DimkhorosProverSession *session);
+DIMKHOROS_CHECKED
+static inline int dimkhoros_prover_restore(const uint8_t *stored, size_t length, DimkhorosProverSession *session);
 
 /* Puts the stored form of Vic's session into `stored`. */
 static inline void dimkhoros_verifier_store(const DimkhorosVerifierSession *session,
@@ -358,48 +360,58 @@ static inline void dimkhoros_verifier_store(const DimkhorosVerifierSession *sess
  * Sets Vic's session to the one that these bytes hold and answers 1. Answers 0, and leaves the session alone, where they are
  * anything else than what dimkhoros_verifier_store writes of one of the four states.
  */
-DIMKHOROS_CHECKED static inline int dimkhoros_verifier_restore(const uint8_t *stored, size_t length,
-                                                               DimkhorosVerifierSession *session);
+DIMKHOROS_CHECKED
+static inline int dimkhoros_verifier_restore(const uint8_t *stored, size_t length, DimkhorosVerifierSession *session);
 
 /* --- Rounds --- */
 
 /* Answers Vic's verdict on a round. Refuses 2 to 11 and 14 to 16. */
-DIMKHOROS_CHECKED DimkhorosJudgement dimkhoros_judge(const uint8_t *sheet, size_t sheet_length, DimkhorosRound round);
+DIMKHOROS_CHECKED
+DimkhorosJudgement dimkhoros_judge(const uint8_t *sheet, size_t sheet_length, DimkhorosRound round);
 
 /*
  * The simulator: answers the one commitment with which Vic accepts this challenge and response. No witness is needed for it.
  * Refuses 2 to 11, 15 and 16.
  */
-DIMKHOROS_CHECKED DimkhorosComputed dimkhoros_simulate(const uint8_t *sheet, size_t sheet_length, uint32_t challenge,
+DIMKHOROS_CHECKED
+DimkhorosComputed dimkhoros_simulate(const uint8_t *sheet, size_t sheet_length, uint32_t challenge,
                                      const uint32_t response[DIMKHOROS_PLACES]);
 
 /*
  * The extractor: answers the witness that two accepted rounds with one commitment and different challenges give away, the
  * same one in either order. Refuses 2 to 11, 14 to 16 and 18 to 20.
  */
-DIMKHOROS_CHECKED DimkhorosComputed dimkhoros_extract(const uint8_t *sheet, size_t sheet_length, DimkhorosRound first, DimkhorosRound second);
+DIMKHOROS_CHECKED
+DimkhorosComputed dimkhoros_extract(const uint8_t *sheet, size_t sheet_length, DimkhorosRound first,
+                                    DimkhorosRound second);
 
 /* --- Round files --- */
 
 /* Answers how many rounds a file has, 0 to 512. Refuses 2 to 12. */
-DIMKHOROS_CHECKED DimkhorosCounted dimkhoros_count(const uint8_t *sheet, size_t sheet_length, const uint8_t *file, size_t file_length);
+DIMKHOROS_CHECKED
+DimkhorosCounted dimkhoros_count(const uint8_t *sheet, size_t sheet_length, const uint8_t *file, size_t file_length);
 
 /* Answers the refusal of the round of this number, from 0, in a file: 2 to 13, or 0 where it can be read. */
-DIMKHOROS_CHECKED uint32_t dimkhoros_check(const uint8_t *sheet, size_t sheet_length, const uint8_t *file, size_t file_length, size_t number);
+DIMKHOROS_CHECKED
+uint32_t dimkhoros_check(const uint8_t *sheet, size_t sheet_length, const uint8_t *file, size_t file_length,
+                         size_t number);
 
 /*
  * Answers where the round of this number stands in the caller's own file. Where it is refused, offset and length are 0, and
  * dimkhoros_check answers the refusal, 2 to 13.
  */
-DIMKHOROS_CHECKED DimkhorosPart dimkhoros_part(const uint8_t *sheet, size_t sheet_length, const uint8_t *file, size_t file_length,
+DIMKHOROS_CHECKED
+DimkhorosPart dimkhoros_part(const uint8_t *sheet, size_t sheet_length, const uint8_t *file, size_t file_length,
                              size_t number);
 
 /* Answers the values of the round of this number as they stand in the file, without testing them. Refuses 2 to 13. */
-DIMKHOROS_CHECKED DimkhorosFetched dimkhoros_read(const uint8_t *sheet, size_t sheet_length, const uint8_t *file, size_t file_length,
+DIMKHOROS_CHECKED
+DimkhorosFetched dimkhoros_read(const uint8_t *sheet, size_t sheet_length, const uint8_t *file, size_t file_length,
                                 size_t number);
 
 /* Writes a file without rounds to the start of `buffer` and answers its length, 7. Refuses 22. */
-DIMKHOROS_CHECKED DimkhorosWritten dimkhoros_empty(uint8_t *buffer, size_t buffer_length);
+DIMKHOROS_CHECKED
+DimkhorosWritten dimkhoros_empty(uint8_t *buffer, size_t buffer_length);
 
 /*
  * Adds a round to the file in the first `used` bytes of `buffer`, without testing its values, and answers how many bytes are
@@ -407,7 +419,8 @@ DIMKHOROS_CHECKED DimkhorosWritten dimkhoros_empty(uint8_t *buffer, size_t buffe
  * changed. Refuses 2 to 12 and 22: 12 where the bytes in use are no file of this sheet, are more than the buffer has or
  * hold 512 rounds, and 22 where the buffer has no room for the round.
  */
-DIMKHOROS_CHECKED DimkhorosWritten dimkhoros_append(const uint8_t *sheet, size_t sheet_length, uint8_t *buffer, size_t buffer_length,
+DIMKHOROS_CHECKED
+DimkhorosWritten dimkhoros_append(const uint8_t *sheet, size_t sheet_length, uint8_t *buffer, size_t buffer_length,
                                   size_t used, DimkhorosRound round);
 
 /* --- The marker --- */
@@ -419,22 +432,23 @@ DIMKHOROS_CHECKED DimkhorosWritten dimkhoros_append(const uint8_t *sheet, size_t
  * `rejected` with the first row that differs, or `refused` with 14 to 16), and `pass` if every round is accepted or `fail`.
  * Each line ends in a newline.
  */
-DIMKHOROS_CHECKED size_t dimkhoros_mark(const uint8_t *sheet, size_t sheet_length, const uint8_t *file, size_t file_length,
+DIMKHOROS_CHECKED
+size_t dimkhoros_mark(const uint8_t *sheet, size_t sheet_length, const uint8_t *file, size_t file_length,
                       uint8_t text[DIMKHOROS_LONGEST_TEXT]);
 
 /* --- Version --- */
 
-/* The version of the archive: DIMKHOROS_VERSION where it is the one that this header was written for. */
+/* The version of the archive. It is DIMKHOROS_VERSION where archive and header belong together. */
 uint32_t dimkhoros_version(void);
 
 /* --- The pure form --- */
 
 /*
  * The calls on sessions as the archive exports them, and as they are proved. Each is handed a session by value and hands one
- * back, by value too, which is as it was given where the call is refused. The session that was handed in still stands where
- * it stood, and is from then on an old copy. Whoever answers another challenge from it gives the witness away, and no
- * compiler warns of it: what is proved, at most one challenge answered, is proved of calls of which each is given the session
- * that the last one handed back. The calls above are these, with the session put back in its place.
+ * back, which is the same where the call is refused. The one that was handed in still stands where it stood: from then on it
+ * is an old copy, and whoever answers another challenge from it gives the witness away, of which no compiler warns. At most
+ * one challenge is answered where each call is given the session that the last one handed back. The calls above see to that:
+ * they are these calls, with the session put back in its place.
  */
 
 /* What a call on Peggy's session answers. */
@@ -457,32 +471,36 @@ typedef struct {
 } DimkhorosVerifierJudgement;
 
 /* The pure form of dimkhoros_commit. */
-DIMKHOROS_CHECKED DimkhorosProverAnswer dimkhoros_prover_commit(const uint8_t *sheet, size_t sheet_length,
-                                                                DimkhorosProverSession session,
-                                                                const uint32_t nonce[DIMKHOROS_PLACES]);
+DIMKHOROS_CHECKED
+DimkhorosProverAnswer dimkhoros_prover_commit(const uint8_t *sheet, size_t sheet_length, DimkhorosProverSession session,
+                                              const uint32_t nonce[DIMKHOROS_PLACES]);
 
 /* The pure form of dimkhoros_respond. */
-DIMKHOROS_CHECKED DimkhorosProverAnswer dimkhoros_prover_respond(const uint8_t *sheet, size_t sheet_length,
-                                                                 DimkhorosProverSession session, uint32_t challenge,
-                                                                 const uint32_t witness[DIMKHOROS_PLACES]);
+DIMKHOROS_CHECKED
+DimkhorosProverAnswer dimkhoros_prover_respond(const uint8_t *sheet, size_t sheet_length,
+                                               DimkhorosProverSession session, uint32_t challenge,
+                                               const uint32_t witness[DIMKHOROS_PLACES]);
 
 /* The pure form of dimkhoros_drop. The values of its answer are zeros. */
-DIMKHOROS_CHECKED DimkhorosProverAnswer dimkhoros_prover_drop(DimkhorosProverSession session);
+DIMKHOROS_CHECKED
+DimkhorosProverAnswer dimkhoros_prover_drop(DimkhorosProverSession session);
 
 /* The pure form of dimkhoros_take_commitment. */
-DIMKHOROS_CHECKED DimkhorosVerifierAnswer dimkhoros_verifier_commitment(const uint8_t *sheet, size_t sheet_length,
-                                                                        DimkhorosVerifierSession session,
-                                                                        const uint32_t commitment[DIMKHOROS_PLACES]);
+DIMKHOROS_CHECKED
+DimkhorosVerifierAnswer dimkhoros_verifier_commitment(const uint8_t *sheet, size_t sheet_length,
+                                                      DimkhorosVerifierSession session,
+                                                      const uint32_t commitment[DIMKHOROS_PLACES]);
 
 /* The pure form of dimkhoros_take_challenge. */
-DIMKHOROS_CHECKED DimkhorosVerifierAnswer dimkhoros_verifier_challenge(const uint8_t *sheet, size_t sheet_length,
-                                                                       DimkhorosVerifierSession session,
-                                                                       uint32_t challenge);
+DIMKHOROS_CHECKED
+DimkhorosVerifierAnswer dimkhoros_verifier_challenge(const uint8_t *sheet, size_t sheet_length,
+                                                     DimkhorosVerifierSession session, uint32_t challenge);
 
 /* The pure form of dimkhoros_take_response. */
-DIMKHOROS_CHECKED DimkhorosVerifierJudgement dimkhoros_verifier_response(const uint8_t *sheet, size_t sheet_length,
-                                                                         DimkhorosVerifierSession session,
-                                                                         const uint32_t response[DIMKHOROS_PLACES]);
+DIMKHOROS_CHECKED
+DimkhorosVerifierJudgement dimkhoros_verifier_response(const uint8_t *sheet, size_t sheet_length,
+                                                       DimkhorosVerifierSession session,
+                                                       const uint32_t response[DIMKHOROS_PLACES]);
 
 /* --- How the calls on sessions come from the pure form --- */
 

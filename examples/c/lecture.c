@@ -9,26 +9,17 @@
 
 static const uint32_t witness[8] = {7};
 
-/* Peggy's round on a nonce and a challenge. */
-static DimkhorosRound honest(const uint8_t *sheet, size_t length, uint32_t nonce, uint32_t challenge) {
-    const uint32_t nonces[8] = {nonce};
-    DimkhorosProverAnswer peggy = dimkhoros_prover_commit(sheet, length, dimkhoros_prover_new(), nonces);
-    expect(peggy.refusal);
+/* The round in which a committed session answers this challenge. */
+static DimkhorosRound answer(const uint8_t *sheet, size_t length, DimkhorosProverSession *peggy, uint32_t challenge) {
     DimkhorosRound round = {.challenge = challenge};
-    memcpy(round.commitment, peggy.values, sizeof round.commitment);
-    peggy = dimkhoros_prover_respond(sheet, length, peggy.session, challenge, witness);
-    expect(peggy.refusal);
-    memcpy(round.response, peggy.values, sizeof round.response);
+    memcpy(round.commitment, peggy->commitment, sizeof round.commitment);
+    expect(dimkhoros_respond(sheet, length, peggy, challenge, witness, round.response));
     return round;
 }
 
-/* A committed session answers this challenge and the round is shown. The session is a copy: the caller keeps the other. */
+/* A copy of a session answers this challenge and the round is shown. The caller keeps the session itself. */
 static DimkhorosRound answer_from_copy(const uint8_t *sheet, size_t length, DimkhorosProverSession copy, uint32_t challenge) {
-    DimkhorosRound round = {.challenge = challenge};
-    memcpy(round.commitment, copy.commitment, sizeof round.commitment);
-    DimkhorosProverAnswer peggy = dimkhoros_prover_respond(sheet, length, copy, challenge, witness);
-    expect(peggy.refusal);
-    memcpy(round.response, peggy.values, sizeof round.response);
+    DimkhorosRound round = answer(sheet, length, &copy, challenge);
     DimkhorosJudgement verdict = dimkhoros_judge(sheet, length, round);
     expect(verdict.refusal);
     printf("one copy is asked %u: t = %u, c = %u, r = %u, %s\n", challenge, round.commitment[0], challenge,
@@ -36,14 +27,21 @@ static DimkhorosRound answer_from_copy(const uint8_t *sheet, size_t length, Dimk
     return round;
 }
 
+/* A session that is committed to a nonce. */
+static DimkhorosProverSession committed(const uint8_t *sheet, size_t length, uint32_t nonce) {
+    const uint32_t nonces[8] = {nonce};
+    uint32_t commitment[8];
+    DimkhorosProverSession peggy = dimkhoros_prover_new();
+    expect(dimkhoros_commit(sheet, length, &peggy, nonces, commitment));
+    return peggy;
+}
+
 /* What no box may do: a session is copied, both copies answer, and the two rounds give the witness away. */
 static void show_extractor(const uint8_t *sheet, size_t length) {
     printf("\nThe extractor. A committed session is copied by hand, which no box may do.\n");
-    const uint32_t nonce[8] = {5};
-    DimkhorosProverAnswer peggy = dimkhoros_prover_commit(sheet, length, dimkhoros_prover_new(), nonce);
-    expect(peggy.refusal);
-    DimkhorosRound first = answer_from_copy(sheet, length, peggy.session, 3);
-    DimkhorosRound second = answer_from_copy(sheet, length, peggy.session, 1);
+    DimkhorosProverSession peggy = committed(sheet, length, 5);
+    DimkhorosRound first = answer_from_copy(sheet, length, peggy, 3);
+    DimkhorosRound second = answer_from_copy(sheet, length, peggy, 1);
     DimkhorosComputed extracted = dimkhoros_extract(sheet, length, first, second);
     expect(extracted.refusal);
     printf("the two rounds give the witness away: x = %u\n", extracted.values[0]);
@@ -54,7 +52,8 @@ static void show_simulator(const uint8_t *sheet, size_t length, uint32_t challen
     printf("\nThe simulator. All rounds with c = %u, simulated without x, and made by Peggy, who knows it.\n", challenge);
     uint32_t peggys[ORDER] = {0};
     for (uint32_t nonce = 0; nonce < ORDER; nonce++) {
-        DimkhorosRound round = honest(sheet, length, nonce, challenge);
+        DimkhorosProverSession peggy = committed(sheet, length, nonce);
+        DimkhorosRound round = answer(sheet, length, &peggy, challenge);
         peggys[round.response[0]] = round.commitment[0];
     }
     int same = 1;

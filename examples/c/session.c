@@ -6,36 +6,32 @@ int main(void) {
     size_t length = page_a(sheet);
     const uint32_t nonce[8] = {5};
     const uint32_t witness[8] = {7};
-
+    DimkhorosProverSession peggy = dimkhoros_prover_new();
     DimkhorosVerifierSession vic = dimkhoros_verifier_new();
-    printf("Vic asks before he has heard a commitment: ");
-    DimkhorosVerifierAnswer early = dimkhoros_verifier_challenge(sheet, length, vic, 3);
-    show_refusal(early.refusal);
-    vic = early.session;
 
-    DimkhorosProverAnswer peggy = dimkhoros_prover_commit(sheet, length, dimkhoros_prover_new(), nonce);
-    expect(peggy.refusal);
-    const uint32_t *t = peggy.values;
+    printf("Vic asks before he has heard a commitment: ");
+    show_refusal(dimkhoros_take_challenge(sheet, length, &vic, 3));
+
+    uint32_t t[8];
+    expect(dimkhoros_commit(sheet, length, &peggy, nonce, t));
     printf("Peggy commits to the nonce 5: t = %u\n", t[0]);
 
-    DimkhorosVerifierAnswer heard = dimkhoros_verifier_commitment(sheet, length, vic, t);
-    expect(heard.refusal);
-    printf("Vic hears t = %u\n", heard.session.commitment[0]);
+    expect(dimkhoros_take_commitment(sheet, length, &vic, t));
+    printf("Vic hears t = %u\n", vic.commitment[0]);
 
-    DimkhorosVerifierAnswer asked = dimkhoros_verifier_challenge(sheet, length, heard.session, 3);
-    expect(asked.refusal);
-    uint32_t c = asked.session.challenge;
+    expect(dimkhoros_take_challenge(sheet, length, &vic, 3));
+    uint32_t c = vic.challenge;
     printf("Vic asks c = %u\n", c);
 
-    peggy = dimkhoros_prover_respond(sheet, length, peggy.session, c, witness);
-    expect(peggy.refusal);
-    printf("Peggy responds by the witness 7: r = %u\n", peggy.values[0]);
+    uint32_t r[8];
+    expect(dimkhoros_respond(sheet, length, &peggy, c, witness, r));
+    printf("Peggy responds by the witness 7: r = %u\n", r[0]);
 
-    DimkhorosVerifierJudgement judged = dimkhoros_verifier_response(sheet, length, asked.session, peggy.values);
-    expect(judged.verdict.refusal);
-    printf("Vic judges r = %u: %s\n", peggy.values[0], judged.verdict.accepted ? "accepted" : "rejected");
+    DimkhorosJudgement verdict;
+    expect(dimkhoros_take_response(sheet, length, &vic, r, &verdict));
+    printf("Vic judges r = %u: %s\n", r[0], verdict.accepted ? "accepted" : "rejected");
 
     printf("Peggy is asked c = 1 on the same nonce: ");
-    show_refusal(dimkhoros_prover_respond(sheet, length, peggy.session, 1, witness).refusal);
+    show_refusal(dimkhoros_respond(sheet, length, &peggy, 1, witness, r));
     return 0;
 }

@@ -1,4 +1,4 @@
-/* Prints every refusal of the header with its name and sentence, and every pattern. */
+/* Prints the header's version, every refusal with its name and sentence, and every pattern. */
 #include "dimkhoros.h"
 #include <stdio.h>
 
@@ -12,6 +12,7 @@ static void print_refusals(void) {
 }
 
 int main(void) {
+    printf("%s\n", DIMKHOROS_VERSION_TEXT);
     print_refusals();
     PRINT(PATTERN_SCHNORR);
     PRINT(PATTERN_OKAMOTO);

@@ -1,5 +1,6 @@
 //! The tests of this crate's public face, of the header's words and of the examples.
 
+mod archive;
 #[path = "../../../sys/tests/suite/cc.rs"]
 mod cc;
 mod examples;
@@ -10,4 +11,6 @@ mod refusals;
 mod rounds;
 mod sessions;
 mod sheets;
+mod stored;
+mod storing;
 mod words;

@@ -1,14 +1,15 @@
-//! The pieces of the repository's README are a program, in a crate that names this one by its path as the README says.
+//! The pieces of the repository's README are programs: those in Rust in a crate that names this one by its path as the README
+//! says, and those in C, each in braces of its own, in a program that is compiled as the README says.
 
 use crate::cc;
 
+use dimkhoros_sys::ARCHIVE;
 use std::env;
 use std::fs;
-use std::path::Path;
 use std::process::Command;
 
-/// What the README leaves to its reader.
-const FRAME: &str = "use dimkhoros::*;
+/// What the README leaves to its reader in Rust.
+const RUST_FRAME: &str = "use dimkhoros::*;
 use std::fs;
 
 fn store(_: ProverParts) {}
@@ -19,32 +20,79 @@ PIECES
 }
 ";
 
-/// The blocks of this language in a text, one behind the other.
-fn blocks(text: &str, language: &str) -> String {
+/// What it leaves to its reader in C: page A's sheet, nonce and witness, and storing.
+const C_FRAME: &str = "#include \"dimkhoros.h\"
+#include <stdio.h>
+
+static const uint8_t sheet[] = {'H', 'O', 'M', 0, 1, 1, 0, 0, 0, 23, 0, 0, 0, 11,
+                                0, 0, 0, 11, 1, 1, 0, 0, 0, 2, 0, 0, 0, 13};
+static const size_t length = sizeof sheet;
+static const uint32_t nonce[8] = {5};
+static const uint32_t witness[8] = {7};
+
+static void store(const DimkhorosProverSession *peggy) { printf(\"store %u\\n\", peggy->phase); }
+
+int main(void) {
+uint32_t commitment[8], response[8];
+{
+PIECES
+}
+return 0;
+}
+";
+
+/// The blocks of this language in a text, with something in between.
+fn blocks(text: &str, language: &str, between: &str) -> String {
     let start = format!("```{language}\n");
     let ends = text.split(&start).skip(1);
-    ends.filter_map(|block| block.split("```").next()).collect()
+    ends.filter_map(|block| block.split("```").next()).collect::<Vec<_>>().join(between)
 }
 
 #[test]
-fn the_pieces_of_the_readme_run() {
+fn the_pieces_in_rust_run() {
     let readme = fs::read_to_string(cc::root().join("README.md")).unwrap();
-    let folder = Path::new(env!("CARGO_TARGET_TMPDIR")).join("readme");
+    let folder = cc::scratch("readme");
     fs::create_dir_all(folder.join("src")).unwrap();
     let crate_path = env!("CARGO_MANIFEST_DIR");
     let dependencies =
-        blocks(&readme, "toml").replace("/where/the/repository/is/rust/dimkhoros", crate_path);
+        blocks(&readme, "toml", "").replace("/where/the/repository/is/rust/dimkhoros", crate_path);
     assert!(dependencies.contains(crate_path), "the README names this crate by another path");
     // The folder stands below a workspace, of which this crate is no part.
     let package = "[package]\nname = \"readme\"\nedition = \"2024\"\n\n[workspace]\n\n";
     fs::write(folder.join("Cargo.toml"), package.to_string() + &dependencies).unwrap();
-    let program = FRAME.replace("PIECES", &blocks(&readme, "rust"));
+    let program = RUST_FRAME.replace("PIECES", &blocks(&readme, "rust", ""));
     fs::write(folder.join("src/main.rs"), program).unwrap();
     let cargo = env::var_os("CARGO").unwrap_or_else(|| "cargo".into());
     let mut command = Command::new(cargo);
     command.args(["run", "--offline", "--quiet"]).current_dir(&folder);
     let printed = cc::succeed(&mut command);
-    let expected = "8 the challenge count has to be 2 to 65536, and no smaller number from 2 on may divide the order or \
+    let expected = "8 the challenge count K has to be 2 to 65536, and no number from 2 to K - 1 may divide the order or \
                     exponent\nsend 9\nsend 4\n";
     assert_eq!(printed, expected);
+}
+
+/// The words of the README's line that compiles a program in C, with these for the program and the archive.
+fn compile_words(readme: &str, program: &str) -> Vec<String> {
+    let line = readme.lines().find(|line| line.starts_with("    cc ")).unwrap();
+    let word = |word: &str| match word {
+        "program.c" => program.to_string(),
+        "target/staticlib/libdimkhoros.a" => ARCHIVE.to_string(),
+        _ => word.to_string(),
+    };
+    line.split_whitespace().map(word).collect()
+}
+
+#[test]
+fn the_pieces_in_c_run() {
+    let readme = fs::read_to_string(cc::root().join("README.md")).unwrap();
+    let source = cc::scratch("readme.c");
+    let program = cc::scratch("readme.program");
+    fs::write(&source, C_FRAME.replace("PIECES", &blocks(&readme, "c", "}\n{\n"))).unwrap();
+    let words = compile_words(&readme, source.to_str().unwrap());
+    let mut command = Command::new(&words[0]);
+    command.args(&words[1..]).args(cc::STRICT).arg("-o").arg(&program).current_dir(cc::root());
+    cc::succeed(&mut command);
+    let expected = "send 9\nstore 2\nsend 4\n21 the session's state does not allow the call, or what it holds does not \
+                    fit this sheet\naccepted\n";
+    assert_eq!(cc::succeed(&mut Command::new(program)), expected);
 }

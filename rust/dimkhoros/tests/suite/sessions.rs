@@ -114,7 +114,7 @@ fn vic_hands_a_refused_session_back_as_it_was() {
 }
 
 #[test]
-fn a_stored_session_goes_on() {
+fn a_session_of_parts_goes_on() {
     let a = page_a();
     let (peggy, _) = Prover::new().commit(&a, &NONCE).unwrap();
     let parts = peggy.into_parts();

@@ -238,8 +238,8 @@ static void marks(void) {
     uint8_t file[200];
     uint8_t text[DIMKHOROS_LONGEST_TEXT];
     memset(text, 238, sizeof text);
-    dimkhoros_empty(file, sizeof file);
-    size_t used = dimkhoros_append(wide, sizeof wide, file, sizeof file, 7, honest_round(1, response)).length;
+    size_t used = dimkhoros_empty(file, sizeof file).length;
+    used = dimkhoros_append(wide, sizeof wide, file, sizeof file, used, honest_round(1, response)).length;
     used = dimkhoros_append(wide, sizeof wide, file, sizeof file, used, honest_round(5, response)).length;
     size_t length = dimkhoros_mark(wide, sizeof wide, file, used, text);
     printf("%zu\n%.*s", length, (int)length, (const char *)text);
@@ -253,7 +253,10 @@ static void empty_slices(void) {
     print_entries(NULL, 0);
     print_loaded(dimkhoros_load(NULL, 0));
     uint32_t entries[64];
-    dimkhoros_entries(wide, sizeof wide, entries);
+    if (dimkhoros_entries(wide, sizeof wide, entries) != 0) {
+        printf("the wide sheet is refused\n");
+        return;
+    }
     print_written(dimkhoros_encode(dimkhoros_load(wide, sizeof wide).header, entries, statement, NULL, 0));
     print_written(dimkhoros_from_pattern(6, 35, 5, 5, NULL, 0, NULL, 0, NULL, 0));
     print_written(dimkhoros_from_pattern(6, 35, 5, 5, NULL, 0, statement, 1, NULL, 0));

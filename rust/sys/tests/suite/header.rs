@@ -38,6 +38,21 @@ fn constants_are_the_same_in_c() {
     assert_eq!(text, cc::run("numbers.c"));
 }
 
+/// The version of this crate as a number.
+fn crate_version() -> u32 {
+    let part = |text: &str| text.parse::<u32>().unwrap();
+    10000 * part(env!("CARGO_PKG_VERSION_MAJOR"))
+        + 100 * part(env!("CARGO_PKG_VERSION_MINOR"))
+        + part(env!("CARGO_PKG_VERSION_PATCH"))
+}
+
+#[test]
+fn header_archive_and_crate_have_one_version() {
+    let (number, text) = (crate_version(), env!("CARGO_PKG_VERSION"));
+    assert_eq!(version(), number);
+    assert_eq!(cc::run("version.c"), format!("{number} {text} {number}\n"));
+}
+
 #[test]
 fn the_header_serves_cpp() {
     assert_eq!(cc::run("from_cpp.cpp"), "0 1 the buffer is too short for the result\n");
@@ -63,10 +78,13 @@ fn names(bytes: &[u8], end: Option<u8>) -> BTreeSet<String> {
 #[test]
 fn the_header_and_this_crate_declare_what_the_archive_exports() {
     let exported = names(&fs::read(ARCHIVE).unwrap(), None);
-    let mut declared =
-        names(&fs::read(cc::root().join("include/dimkhoros.h")).unwrap(), Some(b'('));
-    assert!(declared.remove("dimkhoros_sentence"), "the header defines it itself");
-    assert_eq!(declared, exported);
+    let header = fs::read_to_string(cc::root().join("include/dimkhoros.h")).unwrap();
+    // What the header defines itself begins with these two words.
+    let own: String = header.lines().filter(|line| line.starts_with("static inline")).collect();
+    let own = names(own.as_bytes(), Some(b'('));
+    let all = names(header.as_bytes(), Some(b'('));
+    assert_eq!(all.difference(&own).cloned().collect::<BTreeSet<_>>(), exported);
+    assert!(own.is_disjoint(&exported));
     assert_eq!(names(include_bytes!("../../src/exports.rs"), Some(b'(')), exported);
     assert_eq!(names(include_bytes!("../../src/calls.rs"), Some(b'(')), exported);
 }

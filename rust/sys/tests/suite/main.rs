@@ -3,4 +3,6 @@
 mod cc;
 mod echo;
 mod header;
+mod in_place;
 mod layout;
+mod warnings;

@@ -1,0 +1,189 @@
+//! Stored sessions. C and Rust write the same bytes, each reads what the other writes, and neither takes any other bytes.
+
+use crate::cc;
+use crate::pages::page_a;
+
+use dimkhoros::{
+    Damaged, Places, Prover, ProverParts, ProverPhase, STORED_PROVER, STORED_VERIFIER, Verifier,
+    VerifierParts, VerifierPhase, places,
+};
+use std::fmt::Write;
+
+/// Eight numbers that use all their bits, or zeros.
+fn eight(start: u32) -> Places {
+    core::array::from_fn(|i| start.wrapping_mul(0x9e37_79b9).rotate_left(4 * i as u32))
+}
+
+fn peggy(phase: u32, start: u32) -> ProverParts {
+    let (nonce, commitment) = (eight(start), eight(3 * start));
+    ProverParts { phase: ProverPhase::from_number(phase), nonce, commitment }
+}
+
+fn vic(phase: u32, start: u32) -> VerifierParts {
+    let (commitment, challenge) = (eight(5 * start), eight(7 * start)[0]);
+    VerifierParts { phase: VerifierPhase::from_number(phase), commitment, challenge }
+}
+
+/// The states of a session with zeros, and with numbers that use all their bits.
+fn cases() -> impl Iterator<Item = (u32, u32)> {
+    (0..4).flat_map(|phase| [(phase, 0), (phase, phase + 1)])
+}
+
+fn stored_peggy(phase: u32, start: u32) -> [u8; STORED_PROVER] {
+    Prover::from_parts(peggy(phase, start)).to_stored()
+}
+
+fn stored_vic(phase: u32, start: u32) -> [u8; STORED_VERIFIER] {
+    Verifier::from_parts(vic(phase, start)).to_stored()
+}
+
+fn hex(bytes: &[u8]) -> String {
+    bytes.iter().fold(String::new(), |text, byte| text + &format!("{byte:02x}"))
+}
+
+fn from_hex(text: &str) -> Vec<u8> {
+    let digits = |i| u8::from_str_radix(&text[i..i + 2], 16).unwrap();
+    (0..text.len()).step_by(2).map(digits).collect()
+}
+
+/// The CRC-32 of IEEE 802.3 as a division of polynomials, the highest power first.
+fn remainder(bytes: &[u8]) -> u32 {
+    let mut rest = u32::MAX;
+    for byte in bytes {
+        rest ^= u32::from(byte.reverse_bits()) << 24;
+        for _ in 0..8 {
+            rest = if rest >> 31 == 1 { rest << 1 ^ 0x04c1_1db7 } else { rest << 1 };
+        }
+    }
+    !rest.reverse_bits()
+}
+
+/// Bytes with the check value that belongs to them.
+fn checked(mut bytes: Vec<u8>) -> Vec<u8> {
+    let check = remainder(&bytes).to_be_bytes();
+    bytes.extend(check);
+    bytes
+}
+
+/// How C prints values, a space before each.
+fn spaced(values: &[u32]) -> String {
+    values.iter().fold(String::new(), |text, value| text + &format!(" {value}"))
+}
+
+/// How many damaged forms C tries of a session of this length: see the program.
+fn damaged_forms(length: usize) -> usize {
+    length * 255 + length + 256 + (256 - length)
+}
+
+#[test]
+fn the_bytes_are_those_of_the_header() {
+    let (phase, places) = ("00000001", |first: &str| format!("{first}{}", "0".repeat(56)));
+    let (nonce, commitment) = (places("00000005"), places("00000009"));
+    let committed = format!("505256{}{}{nonce}{commitment}{phase}50ce9f47", "0001", "004f");
+    let (peggy, _) = Prover::new().commit(&page_a(), &dimkhoros::places([5])).unwrap();
+    assert_eq!(hex(&peggy.to_stored()), committed);
+    let asked =
+        format!("565246{}{}{commitment}{}{}8c335ed4", "0001", "0033", "00000003", "00000002");
+    let vic = Verifier::new().take_commitment(&page_a(), &dimkhoros::places([9])).unwrap();
+    let vic = vic.take_challenge(&page_a(), 3).unwrap();
+    assert_eq!(hex(&vic.to_stored()), asked);
+}
+
+#[test]
+fn c_and_rust_write_the_same_bytes_and_read_each_other() {
+    let (mut input, mut expected) = (String::new(), String::new());
+    for (phase, start) in cases() {
+        let stored = hex(&stored_peggy(phase, start));
+        let ProverParts { nonce, commitment, .. } = peggy(phase, start);
+        writeln!(input, "{stored}").unwrap();
+        writeln!(expected, "peggy{}{} {phase}", spaced(&nonce), spaced(&commitment)).unwrap();
+        writeln!(expected, "{stored}\ndamaged {} taken 0", damaged_forms(STORED_PROVER)).unwrap();
+        let stored = hex(&stored_vic(phase, start));
+        let VerifierParts { commitment, challenge, .. } = vic(phase, start);
+        writeln!(input, "{stored}").unwrap();
+        writeln!(expected, "vic{} {challenge} {phase}", spaced(&commitment)).unwrap();
+        writeln!(expected, "{stored}\ndamaged {} taken 0", damaged_forms(STORED_VERIFIER)).unwrap();
+    }
+    let printed = cc::run_on("stored.c", &input);
+    assert_eq!(printed, expected);
+    // Every third line, from the second, is what C stored.
+    let mut stored_by_c = printed.lines().skip(1).step_by(3).map(from_hex);
+    for (phase, start) in cases() {
+        let read = Prover::from_stored(&stored_by_c.next().unwrap()).unwrap();
+        assert!(read.into_parts() == peggy(phase, start));
+        let read = Verifier::from_stored(&stored_by_c.next().unwrap()).unwrap();
+        assert_eq!(read.into_parts(), vic(phase, start));
+    }
+}
+
+/// Every damaged form of these bytes: each byte changed to each other value, each cut, and each byte or copy behind them.
+fn damaged(stored: &[u8]) -> Vec<Vec<u8>> {
+    let mut forms = Vec::new();
+    for (place, right) in stored.iter().enumerate() {
+        for value in (0..=255).filter(|value| value != right) {
+            let mut bytes = stored.to_vec();
+            bytes[place] = value;
+            forms.push(bytes);
+        }
+        forms.push(stored[..place].to_vec());
+        forms.push([stored, &stored[..=place]].concat());
+    }
+    forms.extend((0..=255).map(|byte| [stored, &[byte]].concat()));
+    forms
+}
+
+#[test]
+fn no_damaged_session_is_taken() {
+    for (phase, start) in cases() {
+        let stored = stored_peggy(phase, start);
+        assert!(Prover::from_stored(&stored).unwrap().into_parts() == peggy(phase, start));
+        assert!(damaged(&stored).iter().all(|bytes| Prover::from_stored(bytes).is_err()));
+        let stored = stored_vic(phase, start);
+        assert_eq!(Verifier::from_stored(&stored).unwrap().into_parts(), vic(phase, start));
+        assert!(damaged(&stored).iter().all(|bytes| Verifier::from_stored(bytes).is_err()));
+    }
+}
+
+/// Bytes that no session is stored as: zeros of every length, the other's session, and every byte of mark, version, length and
+/// state changed to every other value under a check value that is right.
+fn others() -> Vec<Vec<u8>> {
+    let mut others: Vec<Vec<u8>> = (0..=200).map(|length| vec![0; length]).collect();
+    for stored in [&stored_peggy(1, 2)[..], &stored_vic(2, 3)] {
+        let before = &stored[..stored.len() - 4];
+        assert_eq!(checked(before.to_vec()), stored);
+        let state = before.len() - 4..before.len();
+        for place in (0..7).chain(state) {
+            for value in 0..=255 {
+                let mut bytes = before.to_vec();
+                bytes[place] = value;
+                let last = place + 1 == bytes.len();
+                if value != before[place] && !(last && value < 4) {
+                    others.push(checked(bytes));
+                }
+            }
+        }
+    }
+    others
+}
+
+#[test]
+fn right_check_values_do_not_make_a_session() {
+    let others = others();
+    for bytes in &others {
+        assert_eq!(Prover::from_stored(bytes).unwrap_err(), Damaged);
+        assert_eq!(Verifier::from_stored(bytes).unwrap_err(), Damaged);
+    }
+    let input = others.iter().fold(String::new(), |text, bytes| text + &hex(bytes) + "\n");
+    assert_eq!(cc::run_on("stored.c", &input), "refused\n".repeat(others.len()));
+    let sessions = (stored_peggy(1, 2), stored_vic(2, 3));
+    assert_eq!(Verifier::from_stored(&sessions.0).unwrap_err(), Damaged);
+    assert_eq!(Prover::from_stored(&sessions.1).unwrap_err(), Damaged);
+}
+
+#[test]
+fn a_session_of_stored_bytes_goes_on() {
+    let a = page_a();
+    let (peggy, _) = Prover::new().commit(&a, &places([5])).unwrap();
+    let peggy = Prover::from_stored(&peggy.to_stored()).unwrap();
+    assert_eq!(peggy.respond(&a, 3, &places([7])).unwrap().1, places([4]));
+}

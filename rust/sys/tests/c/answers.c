@@ -1,0 +1,65 @@
+/*
+ * Every call whose answer has to be looked at, once and on a line of its own. Each answer is looked at, or, where WRONG is
+ * defined, thrown away. This file is C and C++.
+ */
+#include "dimkhoros.h"
+
+#ifdef WRONG
+#define LOOK(call, at) call
+#else
+#define LOOK(call, at) seen += (call) at
+#endif
+
+size_t look(const uint8_t *sheet, size_t length, uint8_t *bytes, uint32_t *eight, uint32_t *table);
+
+size_t look(const uint8_t *sheet, size_t length, uint8_t *bytes, uint32_t *eight, uint32_t *table) {
+    size_t seen = 0;
+    DimkhorosHeader header = {1, 23, 11, 11, 1, 1};
+    DimkhorosRound round = {{9}, 3, {4}};
+    DimkhorosProverSession peggy = {{0}, {0}, DIMKHOROS_PROVER_NEW};
+    DimkhorosVerifierSession vic = {{0}, 0, DIMKHOROS_VERIFIER_WAITING};
+    DimkhorosJudgement verdict = {0, 0, 0};
+
+    LOOK(dimkhoros_load(sheet, length), .refusal);
+    LOOK(dimkhoros_entries(sheet, length, table), );
+    LOOK(dimkhoros_encode(header, table, eight, bytes, length), .refusal);
+    LOOK(dimkhoros_from_pattern(1, 23, 11, 11, eight, 1, eight, 1, bytes, length), .refusal);
+
+    LOOK(dimkhoros_prover_new(), .phase);
+    LOOK(dimkhoros_commit(sheet, length, &peggy, eight, eight), );
+    LOOK(dimkhoros_respond(sheet, length, &peggy, 3, eight, eight), );
+    LOOK(dimkhoros_drop(&peggy), );
+    LOOK(dimkhoros_prover_restore(bytes, length, &peggy), != 0);
+
+    LOOK(dimkhoros_verifier_new(), .phase);
+    LOOK(dimkhoros_take_commitment(sheet, length, &vic, eight), );
+    LOOK(dimkhoros_take_challenge(sheet, length, &vic, 3), );
+    LOOK(dimkhoros_take_response(sheet, length, &vic, eight, &verdict), );
+    LOOK(dimkhoros_verifier_restore(bytes, length, &vic), != 0);
+
+    LOOK(dimkhoros_judge(sheet, length, round), .refusal);
+    LOOK(dimkhoros_simulate(sheet, length, 3, eight), .refusal);
+    LOOK(dimkhoros_extract(sheet, length, round, round), .refusal);
+
+    LOOK(dimkhoros_count(sheet, length, bytes, length), .refusal);
+    LOOK(dimkhoros_check(sheet, length, bytes, length, 0), );
+    LOOK(dimkhoros_part(sheet, length, bytes, length, 0), .length);
+    LOOK(dimkhoros_read(sheet, length, bytes, length, 0), .refusal);
+    LOOK(dimkhoros_empty(bytes, length), .refusal);
+    LOOK(dimkhoros_append(sheet, length, bytes, length, length, round), .refusal);
+    LOOK(dimkhoros_mark(sheet, length, bytes, length, bytes), );
+
+    LOOK(dimkhoros_prover_commit(sheet, length, peggy, eight), .refusal);
+    LOOK(dimkhoros_prover_respond(sheet, length, peggy, 3, eight), .refusal);
+    LOOK(dimkhoros_prover_drop(peggy), .refusal);
+    LOOK(dimkhoros_verifier_commitment(sheet, length, vic, eight), .refusal);
+    LOOK(dimkhoros_verifier_challenge(sheet, length, vic, 3), .refusal);
+    LOOK(dimkhoros_verifier_response(sheet, length, vic, eight), .verdict.refusal);
+
+    /* The calls whose answer need not be looked at. */
+    dimkhoros_prover_store(&peggy, bytes);
+    dimkhoros_verifier_store(&vic, bytes);
+    dimkhoros_sentence(DIMKHOROS_REFUSED_SESSION);
+    dimkhoros_version();
+    return seen + verdict.accepted;
+}

@@ -1,0 +1,256 @@
+/*
+ * Makes each call on a session in place and in its pure form on the same inputs. Both have to answer the same number. Where it
+ * is 0, session and values have to be those of the pure form; else session, array and verdict have to keep every byte. No
+ * byte beside them may change. Prints the numbers that each call answered.
+ */
+#include "dimkhoros.h"
+#include <stdio.h>
+#include <stdlib.h>
+#include <string.h>
+
+#define COUNT(array) (sizeof(array) / sizeof(array)[0])
+
+/* --- What is tried --- */
+
+typedef struct {
+    uint8_t bytes[DIMKHOROS_LONGEST_SHEET];
+    size_t length;
+} Sheet;
+
+/* A Schnorr sheet, a product sheet of two rows and three columns, a root sheet, and one that is refused with 2. */
+static Sheet sheets[4];
+
+/* For page A's sheet, for the product sheet and for the root sheet: witnesses, and nonces with their commitments. */
+static const uint32_t arrays[][8] = {
+    {7}, {5}, {9}, {2, 1, 0}, {1, 2, 3}, {2}, {3}, {33}, {8}, {11}, {0}, {23}, {1, 2, 3, 4, 5, 6, 7, 8},
+};
+
+static const uint32_t challenges[] = {0, 3, 4, 5, 10, 11, UINT32_MAX};
+
+static const uint32_t phases[] = {0, 1, 2, 3, 4, UINT32_MAX};
+
+static void make(Sheet *sheet, uint32_t pattern, uint32_t m, uint32_t l, const uint32_t *values, size_t count,
+                 const uint32_t *z, size_t rows) {
+    DimkhorosWritten made =
+        dimkhoros_from_pattern(pattern, m, l, 5, values, count, z, rows, sheet->bytes, sizeof sheet->bytes);
+    if (made.refusal != 0) {
+        exit(1);
+    }
+    sheet->length = made.length;
+}
+
+static void make_sheets(void) {
+    const uint32_t values[3] = {2, 3, 3};
+    const uint32_t schnorr[1] = {13};
+    const uint32_t product[2] = {12, 9};
+    const uint32_t root[1] = {32};
+    make(&sheets[0], DIMKHOROS_PATTERN_SCHNORR, 23, 11, values, 1, schnorr, 1);
+    make(&sheets[1], DIMKHOROS_PATTERN_PRODUCT, 23, 11, values, 3, product, 2);
+    make(&sheets[2], DIMKHOROS_PATTERN_ROOT, 35, 5, NULL, 0, root, 1);
+}
+
+/* --- How two outcomes are compared --- */
+
+/* Which numbers a call answered, and by how many comparisons. */
+typedef struct {
+    const char *name;
+    int answered[23];
+    int accepted, rejected;
+} Seen;
+
+static Seen commits = {"commit", {0}, 0, 0};
+static Seen responds = {"respond", {0}, 0, 0};
+static Seen drops = {"drop", {0}, 0, 0};
+static Seen commitments = {"take_commitment", {0}, 0, 0};
+static Seen asks = {"take_challenge", {0}, 0, 0};
+static Seen responses = {"take_response", {0}, 0, 0};
+
+static void require(int holds, const Seen *seen, const char *what) {
+    if (!holds) {
+        printf("%s: %s\n", seen->name, what);
+        exit(1);
+    }
+}
+
+/* A lent thing between two runs of bytes that have to stay. */
+typedef struct {
+    uint8_t before[16];
+    union {
+        DimkhorosProverSession peggy;
+        DimkhorosVerifierSession vic;
+        DimkhorosJudgement verdict;
+        uint32_t values[8];
+    } lent;
+    uint8_t behind[16];
+} Lent;
+
+/* A lent thing with this byte everywhere. */
+static Lent filled(int byte) {
+    Lent lent;
+    memset(&lent, byte, sizeof lent);
+    return lent;
+}
+
+/* Compares a lent thing after a call with what it was before, and its first bytes with what the pure form answers. */
+static void compare(const Lent *after, Lent expected, const void *answer, size_t length, uint32_t refusal, const Seen *seen) {
+    if (refusal == 0) {
+        memcpy(&expected.lent, answer, length);
+    }
+    require(memcmp(after, &expected, sizeof expected) == 0, seen, "a byte differs");
+}
+
+/* Counts a number that both forms answered. */
+static void count(Seen *seen, uint32_t in_place, uint32_t pure) {
+    require(in_place == pure && pure < COUNT(seen->answered), seen, "the numbers differ");
+    seen->answered[pure]++;
+}
+
+static void print(const Seen *seen) {
+    printf("%s", seen->name);
+    for (size_t number = 0; number < COUNT(seen->answered); number++) {
+        if (seen->answered[number] > 0) {
+            printf(" %zu", number);
+        }
+    }
+    printf("%s%s\n", seen->accepted ? " accepted" : "", seen->rejected ? " rejected" : "");
+}
+
+/* --- Peggy's calls --- */
+
+static void try_commit(const Sheet *sheet, Lent session, const uint32_t nonce[8]) {
+    Lent after = session, values = filled(0xEE);
+    DimkhorosProverAnswer pure = dimkhoros_prover_commit(sheet->bytes, sheet->length, session.lent.peggy, nonce);
+    uint32_t refusal =
+        dimkhoros_commit(sheet->bytes, sheet->length, &after.lent.peggy, nonce, values.lent.values);
+    count(&commits, refusal, pure.refusal);
+    compare(&after, session, &pure.session, sizeof pure.session, refusal, &commits);
+    compare(&values, filled(0xEE), pure.values, sizeof pure.values, refusal, &commits);
+}
+
+static void try_respond(const Sheet *sheet, Lent session, uint32_t challenge, const uint32_t witness[8]) {
+    Lent after = session, values = filled(0xEE);
+    DimkhorosProverAnswer pure =
+        dimkhoros_prover_respond(sheet->bytes, sheet->length, session.lent.peggy, challenge, witness);
+    uint32_t refusal =
+        dimkhoros_respond(sheet->bytes, sheet->length, &after.lent.peggy, challenge, witness, values.lent.values);
+    count(&responds, refusal, pure.refusal);
+    compare(&after, session, &pure.session, sizeof pure.session, refusal, &responds);
+    compare(&values, filled(0xEE), pure.values, sizeof pure.values, refusal, &responds);
+}
+
+static void try_drop(Lent session) {
+    Lent after = session;
+    DimkhorosProverAnswer pure = dimkhoros_prover_drop(session.lent.peggy);
+    uint32_t refusal = dimkhoros_drop(&after.lent.peggy);
+    count(&drops, refusal, pure.refusal);
+    compare(&after, session, &pure.session, sizeof pure.session, refusal, &drops);
+}
+
+/* A session of Peggy's with this nonce, commitment and state. */
+static Lent peggy(const uint32_t nonce[8], const uint32_t commitment[8], uint32_t phase) {
+    Lent session = filled(0xDD);
+    memcpy(session.lent.peggy.nonce, nonce, 8 * sizeof nonce[0]);
+    memcpy(session.lent.peggy.commitment, commitment, 8 * sizeof commitment[0]);
+    session.lent.peggy.phase = phase;
+    return session;
+}
+
+/* All calls on one session of Peggy's and one sheet. */
+static void try_peggy(const Sheet *sheet, Lent session) {
+    try_drop(session);
+    for (size_t i = 0; i < COUNT(arrays); i++) {
+        try_commit(sheet, session, arrays[i]);
+        for (size_t c = 0; c < COUNT(challenges); c++) {
+            try_respond(sheet, session, challenges[c], arrays[i]);
+        }
+    }
+}
+
+/* Every state with every nonce and commitment, and the sessions that commitments lead to. */
+static void try_peggys(const Sheet *sheet) {
+    for (size_t n = 0; n < COUNT(arrays); n++) {
+        for (size_t p = 0; p < COUNT(phases); p++) {
+            try_peggy(sheet, peggy(arrays[n], arrays[(n + 1) % COUNT(arrays)], phases[p]));
+        }
+        DimkhorosProverSession fresh = dimkhoros_prover_new();
+        DimkhorosProverAnswer committed = dimkhoros_prover_commit(sheet->bytes, sheet->length, fresh, arrays[n]);
+        DimkhorosProverSession next = committed.session;
+        try_peggy(sheet, peggy(next.nonce, next.commitment, next.phase));
+    }
+}
+
+/* --- Vic's calls --- */
+
+static void try_take_commitment(const Sheet *sheet, Lent session, const uint32_t commitment[8]) {
+    Lent after = session;
+    DimkhorosVerifierAnswer pure =
+        dimkhoros_verifier_commitment(sheet->bytes, sheet->length, session.lent.vic, commitment);
+    uint32_t refusal = dimkhoros_take_commitment(sheet->bytes, sheet->length, &after.lent.vic, commitment);
+    count(&commitments, refusal, pure.refusal);
+    compare(&after, session, &pure.session, sizeof pure.session, refusal, &commitments);
+}
+
+static void try_take_challenge(const Sheet *sheet, Lent session, uint32_t challenge) {
+    Lent after = session;
+    DimkhorosVerifierAnswer pure =
+        dimkhoros_verifier_challenge(sheet->bytes, sheet->length, session.lent.vic, challenge);
+    uint32_t refusal = dimkhoros_take_challenge(sheet->bytes, sheet->length, &after.lent.vic, challenge);
+    count(&asks, refusal, pure.refusal);
+    compare(&after, session, &pure.session, sizeof pure.session, refusal, &asks);
+}
+
+static void try_take_response(const Sheet *sheet, Lent session, const uint32_t response[8]) {
+    Lent after = session, verdict = filled(0xEE);
+    DimkhorosVerifierJudgement pure =
+        dimkhoros_verifier_response(sheet->bytes, sheet->length, session.lent.vic, response);
+    uint32_t refusal =
+        dimkhoros_take_response(sheet->bytes, sheet->length, &after.lent.vic, response, &verdict.lent.verdict);
+    count(&responses, refusal, pure.verdict.refusal);
+    compare(&after, session, &pure.session, sizeof pure.session, refusal, &responses);
+    compare(&verdict, filled(0xEE), &pure.verdict, sizeof pure.verdict, refusal, &responses);
+    if (refusal == 0) {
+        responses.accepted += verdict.lent.verdict.accepted == 1;
+        responses.rejected += verdict.lent.verdict.accepted == 0;
+    }
+}
+
+/* All calls on one session of Vic's and one sheet. */
+static void try_vic(const Sheet *sheet, Lent session) {
+    for (size_t i = 0; i < COUNT(arrays); i++) {
+        try_take_commitment(sheet, session, arrays[i]);
+        try_take_response(sheet, session, arrays[i]);
+    }
+    for (size_t c = 0; c < COUNT(challenges); c++) {
+        try_take_challenge(sheet, session, challenges[c]);
+    }
+}
+
+/* Every state with every commitment and challenge. */
+static void try_vics(const Sheet *sheet) {
+    for (size_t t = 0; t < COUNT(arrays); t++) {
+        for (size_t c = 0; c < COUNT(challenges); c++) {
+            for (size_t p = 0; p < COUNT(phases); p++) {
+                Lent session = filled(0xDD);
+                memcpy(session.lent.vic.commitment, arrays[t], sizeof arrays[t]);
+                session.lent.vic.challenge = challenges[c];
+                session.lent.vic.phase = phases[p];
+                try_vic(sheet, session);
+            }
+        }
+    }
+}
+
+int main(void) {
+    make_sheets();
+    for (size_t i = 0; i < COUNT(sheets); i++) {
+        try_peggys(&sheets[i]);
+        try_vics(&sheets[i]);
+    }
+    print(&commits);
+    print(&responds);
+    print(&drops);
+    print(&commitments);
+    print(&asks);
+    print(&responses);
+    return 0;
+}

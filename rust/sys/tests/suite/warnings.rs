@@ -1,0 +1,139 @@
+//! The header is free of warnings, and each answer that has to be looked at is warned of where it is not: under every compiler of
+//! a list that this machine has, and every standard that it knows.
+
+use crate::cc;
+
+use std::collections::BTreeSet;
+use std::fmt::Write as _;
+use std::fs;
+use std::io::{self, Write as _};
+use std::process::Command;
+
+/// A language with the compilers to try and the standards of the header, each under its names.
+struct Language {
+    name: &'static str,
+    compilers: [&'static str; 3],
+    standards: &'static [&'static [&'static str]],
+}
+
+const LANGUAGES: [Language; 2] = [
+    Language {
+        name: "c",
+        compilers: ["cc", "gcc", "clang"],
+        standards: &[&["c99"], &["c11"], &["c17"], &["c23", "c2x"]],
+    },
+    Language {
+        name: "c++",
+        compilers: ["cc", "g++", "clang++"],
+        standards: &[&["c++11"], &["c++14"], &["c++17"], &["c++20"], &["c++23", "c++2b"]],
+    },
+];
+
+/// A compiler with a language and a standard.
+struct Dialect {
+    compiler: &'static str,
+    language: &'static str,
+    standard: &'static str,
+}
+
+impl Dialect {
+    /// The command that compiles the file answers.c, with the object file under a name of its own.
+    fn command(&self, purpose: &str) -> Command {
+        let object = format!("{purpose}-{}-{}.o", self.compiler, self.standard);
+        let mut command = Command::new(self.compiler);
+        command.env("LC_ALL", "C");
+        command.arg(format!("-std={}", self.standard)).args(["-x", self.language, "-c"]);
+        command.arg(cc::source("answers.c")).arg("-I").arg(cc::root().join("include"));
+        command.arg("-o").arg(cc::scratch(&object));
+        command
+    }
+
+    /// Whether the compiler knows the standard.
+    fn is_known(&self) -> bool {
+        let standard = format!("-std={}", self.standard);
+        let mut command = Command::new(self.compiler);
+        command.args([&standard, "-x", self.language, "-E", "/dev/null"]);
+        command.output().unwrap().status.success()
+    }
+}
+
+/// Whether there is a compiler of this name.
+fn is_here(compiler: &str) -> bool {
+    Command::new(compiler).arg("--version").output().is_ok_and(|output| output.status.success())
+}
+
+/// The dialects of a language that a compiler knows.
+fn known(compiler: &'static str, language: &Language) -> Vec<Dialect> {
+    let dialect = |standard: &&'static str| Dialect { compiler, language: language.name, standard };
+    let known = |names: &&[&'static str]| names.iter().map(dialect).find(Dialect::is_known);
+    language.standards.iter().filter_map(known).collect()
+}
+
+/// Every dialect that this machine has. They are named on standard error, which the test harness does not hide, and so are the
+/// compilers that are missing.
+fn dialects() -> Vec<Dialect> {
+    let mut found = Vec::new();
+    let mut text = String::from("compilers tried:");
+    for language in &LANGUAGES {
+        for compiler in language.compilers {
+            let dialects = if is_here(compiler) { known(compiler, language) } else { Vec::new() };
+            let names: Vec<&str> = dialects.iter().map(|dialect| dialect.standard).collect();
+            let names = if names.is_empty() { "missing".to_string() } else { names.join(" ") };
+            write!(text, " {compiler} ({names})").unwrap();
+            found.extend(dialects);
+        }
+    }
+    writeln!(io::stderr(), "{text}").unwrap();
+    found
+}
+
+/// The lines of answers.c, from 1, that throw an answer away, and the names of the calls there.
+fn wrong_lines() -> (BTreeSet<usize>, BTreeSet<String>) {
+    let text = fs::read_to_string(cc::source("answers.c")).unwrap();
+    let lines = (1..).zip(text.lines());
+    let calls = lines.filter_map(|(number, line)| Some((number, line.split("LOOK(dimk").nth(1)?)));
+    calls.map(|(number, rest)| (number, format!("dimk{}", rest.split('(').next().unwrap()))).unzip()
+}
+
+/// The lines of answers.c at which a compiler warned, all of them of an answer that is thrown away.
+fn warned_lines(dialect: &Dialect) -> BTreeSet<usize> {
+    let output = dialect.command("wrong").arg("-DWRONG").output().unwrap();
+    let text = String::from_utf8_lossy(&output.stderr);
+    let mut lines = BTreeSet::new();
+    for warning in text.lines().filter(|line| line.contains("warning:")) {
+        assert!(warning.contains("[-Wunused-result]"), "another warning: {warning}");
+        let place = warning.split("answers.c:").nth(1).expect("the warning is on answers.c");
+        lines.insert(place.split(':').next().unwrap().parse().unwrap());
+    }
+    lines
+}
+
+#[test]
+fn every_call_that_has_to_be_looked_at_stands_in_the_file() {
+    let header = fs::read_to_string(cc::root().join("include/dimkhoros.h")).unwrap();
+    let declarations = header.split("\nDIMKHOROS_CHECKED\n").skip(1);
+    let name =
+        |text: &str| text.split('(').next().unwrap().split(' ').next_back().unwrap().to_string();
+    let checked: BTreeSet<String> = declarations.map(name).collect();
+    assert_eq!(wrong_lines().1, checked);
+}
+
+#[test]
+fn the_header_is_free_of_warnings_and_wrong_uses_are_warned_of() {
+    let (wrong, _) = wrong_lines();
+    let dialects = dialects();
+    for oldest in ["c99", "c++11"] {
+        let is_oldest = |dialect: &Dialect| (dialect.compiler, dialect.standard) == ("cc", oldest);
+        assert!(dialects.iter().any(is_oldest), "cc does not know {oldest}");
+    }
+    for dialect in dialects {
+        let mut clean = dialect.command("clean");
+        clean.args(cc::STRICT);
+        if dialect.language == "c++" {
+            clean.arg("-Wold-style-cast");
+        }
+        cc::succeed(&mut clean);
+        // No option asks for these warnings.
+        assert_eq!(warned_lines(&dialect), wrong, "{} {}", dialect.compiler, dialect.standard);
+    }
+}
