@@ -69,7 +69,12 @@ enum Disk {
 }
 
 /// Asks a box a challenge, from its disk as after a restart, and answers whether a response was sent.
-fn restart_and_ask(a: &Instance, file: &mut Vec<u8>, disk: Disk, challenge: u32) -> bool {
+fn restart_and_ask(
+    a: &Instance,
+    file: &mut [u8; STORED_PROVER],
+    disk: Disk,
+    challenge: u32,
+) -> bool {
     let Ok(peggy) = Prover::from_stored(file) else { return false };
     let store = |bytes: &[u8; STORED_PROVER]| {
         let (written, result) = match disk {
@@ -93,7 +98,7 @@ fn a_restarted_box_sends_one_response_at_most() {
     let disks = [Writes, Keeps, WritesAndFails, WritesHalf];
     let mut most = 0;
     for chain in 0..disks.len().pow(3) {
-        let mut file = committed(&a).to_stored().to_vec();
+        let mut file = committed(&a).to_stored();
         let ask = |place| {
             let disk = disks[chain / disks.len().pow(place) % disks.len()];
             usize::from(restart_and_ask(&a, &mut file, disk, place + 1))

@@ -83,7 +83,7 @@ fn dialects() -> Vec<Dialect> {
             found.extend(dialects);
         }
     }
-    writeln!(io::stderr(), "{text}").unwrap();
+    io::stderr().write_all((text + "\n").as_bytes()).unwrap();
     found
 }
 
