@@ -26,7 +26,7 @@
  * What a call takes. Any bytes and any numbers: every call ends in an answer, and it is proved to be the one that the call's
  * definition gives (docs/promises/exports.md lists the definitions). The caller owes four things. A pointer with a length
  * behind it points to that many bytes or numbers (where the length is 0 it is not used and may be NULL). A pointer written
- * with the size of an array points to that much, and a pointer to a session to a session. What a call writes to shares no
+ * with the size of an array points to that much, and one to a session or a verdict to one. What a call writes to shares no
  * byte with anything else that the same call is given. And nobody else changes these bytes during the call.
  *
  * Sheets. A sheet describes a homomorphism, its table, with a statement, and comes as bytes. Each call that takes one tests
@@ -41,7 +41,7 @@
  *
  * Refusals. A call answers a number, or a struct with a field `refusal`: 0, or the number of what was refused, the lowest
  * where several apply. A refused call changes no session, array or buffer, and has 0 in every other field of its answer.
- * Compilers warn where an answer that has to be looked at is not.
+ * Compilers warn of a call whose answer is thrown away.
  *
  * Random numbers are the caller's: nonces, challenges and simulated responses are handed in. A nonce has to be drawn at
  * random from all coordinates for each session, or the responses give the witness away.
@@ -270,9 +270,9 @@ DimkhorosWritten dimkhoros_from_pattern(uint32_t pattern, uint32_t modulus, uint
 /* --- Peggy's session --- */
 
 /*
- * A call that is given a session's address, Peggy's or Vic's, answers 0 where it is carried out: the session is then the one that
- * comes after the call, and the values are given. Else it answers the refusal's number, and the session, arrays and verdict
- * that it was given keep what they hold.
+ * A call that is given a session's address, Peggy's or Vic's, answers 0 where it is carried out: the session is then the one
+ * that comes after the call, and the values are given. Else it answers the refusal's number, and the session, array and
+ * verdict that it was given keep what they hold.
  */
 
 /* A new session: DIMKHOROS_PROVER_NEW, with zeros. */
@@ -337,9 +337,10 @@ static inline uint32_t dimkhoros_take_response(const uint8_t *sheet, size_t shee
  *     7 on     32-bit numbers: Peggy's nonce (8), commitment (8) and state; Vic's commitment (8), challenge and state
  *     last 4   the CRC-32 of IEEE 802.3 of all bytes before
  *
- * Anything else is refused, so a file that is damaged, cut, longer or empty is never taken for a session. A session whose
- * phase is beyond the four is stored, and refused when it is restored. Peggy's bytes hold her nonce: whoever reads them can
- * compute her witness from her response.
+ * Anything else is refused. So a file that is empty, cut, longer or changed in one byte is never taken for a session, and one
+ * that is damaged otherwise, by chance, once in four billion times. A session whose phase is beyond the four is stored, and
+ * refused when it is restored. A committed Peggy's bytes hold her nonce: whoever reads them computes the witness from her
+ * response.
  */
 
 /* Puts the stored form of Peggy's session into `stored`. */
@@ -589,7 +590,7 @@ static inline uint32_t dimkhoros_stored_get(const uint8_t *bytes) {
     return number;
 }
 
-/* Stores `count` values under a mark. Version and length are written as one number. */
+/* Stores `count` values under a mark of three letters. Version and length are written as one number. */
 static inline void dimkhoros_stored_write(const char *mark, const uint32_t *values, uint32_t count, uint8_t *stored) {
     const uint32_t length = 11 + 4 * count;
     for (int i = 0; i < 3; i++) {

@@ -19,12 +19,12 @@ struct Language {
 const LANGUAGES: [Language; 2] = [
     Language {
         name: "c",
-        compilers: ["cc", "gcc", "clang"],
+        compilers: ["gcc", "clang", "cc"],
         standards: &[&["c99"], &["c11"], &["c17"], &["c23", "c2x"]],
     },
     Language {
         name: "c++",
-        compilers: ["cc", "g++", "clang++"],
+        compilers: ["g++", "clang++", "cc"],
         standards: &[&["c++11"], &["c++14"], &["c++17"], &["c++20"], &["c++23", "c++2b"]],
     },
 ];
@@ -57,9 +57,11 @@ impl Dialect {
     }
 }
 
-/// Whether there is a compiler of this name.
-fn is_here(compiler: &str) -> bool {
-    Command::new(compiler).arg("--version").output().is_ok_and(|output| output.status.success())
+/// What a compiler says of itself behind its name, if there is one: two names of one compiler say the same.
+fn identity(compiler: &str) -> Option<String> {
+    let output = Command::new(compiler).arg("--version").output().ok()?;
+    let text = String::from_utf8_lossy(&output.stdout).into_owned();
+    text.split_once(' ').map(|(_, rest)| rest.to_string())
 }
 
 /// The dialects of a language that a compiler knows.
@@ -69,17 +71,25 @@ fn known(compiler: &'static str, language: &Language) -> Vec<Dialect> {
     language.standards.iter().filter_map(known).collect()
 }
 
-/// Every dialect that this machine has. They are named on standard error, which the test harness does not hide, and so are the
-/// compilers that are missing.
+/// Every dialect that this machine has, of one compiler under several names once. All are named on standard error, which the
+/// test harness does not hide, and so is a compiler that is missing.
 fn dialects() -> Vec<Dialect> {
     let mut found = Vec::new();
     let mut text = String::from("compilers tried:");
     for language in &LANGUAGES {
+        let mut seen = BTreeSet::new();
         for compiler in language.compilers {
-            let dialects = if is_here(compiler) { known(compiler, language) } else { Vec::new() };
+            let identity = identity(compiler);
+            let missing = identity.is_none();
+            let again = !missing && !seen.insert(identity);
+            let dialects = if missing || again { Vec::new() } else { known(compiler, language) };
             let names: Vec<&str> = dialects.iter().map(|dialect| dialect.standard).collect();
-            let names = if names.is_empty() { "missing".to_string() } else { names.join(" ") };
-            write!(text, " {compiler} ({names})").unwrap();
+            let note = match (missing, again) {
+                (true, _) => "missing".to_string(),
+                (_, true) => "one of these".to_string(),
+                _ => names.join(" "),
+            };
+            write!(text, " {compiler} ({note})").unwrap();
             found.extend(dialects);
         }
     }
@@ -123,8 +133,8 @@ fn the_header_is_free_of_warnings_and_wrong_uses_are_warned_of() {
     let (wrong, _) = wrong_lines();
     let dialects = dialects();
     for oldest in ["c99", "c++11"] {
-        let is_oldest = |dialect: &Dialect| (dialect.compiler, dialect.standard) == ("cc", oldest);
-        assert!(dialects.iter().any(is_oldest), "cc does not know {oldest}");
+        let tried = dialects.iter().any(|dialect| dialect.standard == oldest);
+        assert!(tried, "no compiler knows {oldest}");
     }
     for dialect in dialects {
         let mut clean = dialect.command("clean");
