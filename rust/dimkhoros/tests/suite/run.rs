@@ -68,15 +68,16 @@ impl Home {
         Home(home)
     }
 
-    /// The script with these words, which is run in this folder.
+    /// The script with these words.
     fn command(&self, words: &[&str]) -> Command {
         let mut command = Command::new(self.0.join("run"));
+        self.prepared(command.args(words));
         command
-            .args(words)
-            .current_dir(&self.0)
-            .env("PATH", self.0.join("tools"))
-            .stdin(Stdio::null());
-        command
+    }
+
+    /// Makes a command run in this folder, with the tools alone on PATH.
+    fn prepared<'a>(&self, command: &'a mut Command) -> &'a mut Command {
+        command.current_dir(&self.0).env("PATH", self.0.join("tools")).stdin(Stdio::null())
     }
 
     /// Runs the script with these words.
@@ -176,6 +177,31 @@ fn help_is_printed_and_marks_nothing() {
     assert_eq!((help.status, help.stderr.as_str()), (Some(0), ""));
     assert!(help.stdout.starts_with("usage: ./run [--] [FOLDER...]\n"));
     assert!(!help.stdout.contains("rounds 4"));
+}
+
+/// The README's script is told a pass by the last line.
+#[test]
+fn a_script_tells_a_pass() {
+    let home = Home::new("script");
+    fs::create_dir(home.0.join("passing")).unwrap();
+    copy(&cc::root().join("crates/marker/data/sheet.bin"), &home.0.join("passing/sheet.bin"));
+    fs::write(home.0.join("passing/rounds.bin"), b"RND\0\x01\0\0").unwrap();
+    let readme = fs::read_to_string(cc::root().join("README.md")).unwrap();
+    let script = readme.lines().find(|line| line.contains("= pass ]")).unwrap();
+    for (folder, said) in [("passing", "passing passes\n"), ("crates/marker/data", "")] {
+        let mut shell = Command::new("/bin/sh");
+        shell.arg("-c").arg(script.replace("FOLDER", folder));
+        assert_eq!(ended(home.prepared(&mut shell)), marked(said));
+    }
+}
+
+#[test]
+fn a_copy_of_the_marker_is_used_alone() {
+    let home = Home::new("alone");
+    let copied = home.0.join("crates/marker/data/copy");
+    copy(&built_marker(), &copied);
+    let mut alone = Command::new(&copied);
+    assert_eq!(ended(alone.current_dir(copied.parent().unwrap()).env_clear()), marked(EXAMPLE));
 }
 
 #[test]
