@@ -3,7 +3,7 @@
 //! number, is told apart.
 
 use super::bytes;
-use super::inputs::{Inputs, PROVER_STATES, UNREAD, VERIFIER_STATES};
+use super::inputs::{Inputs, States, PROVER_STATES, UNREAD, VERIFIER_STATES};
 use super::Given;
 use crate::calls::Call;
 use crate::library::{
@@ -30,10 +30,10 @@ fn list(places: &[u32], used: usize) -> String {
     words.join(",")
 }
 
-fn state(names: [&str; 4], number: u32) -> String {
-    names
-        .get(number as usize)
-        .map_or(number.to_string(), |name| name.to_string())
+/// The name of a state, or its number where it has none.
+fn state(states: States, number: u32) -> String {
+    let named = states.iter().find(|(_, of)| *of == number);
+    named.map_or(number.to_string(), |(name, _)| name.to_string())
 }
 
 /// What Peggy's session holds.

@@ -4,14 +4,28 @@
 use std::str::FromStr;
 
 use super::bytes;
-use crate::library::{phases, Header, Places, ProverSession, Round, VerifierSession};
+use crate::library::phases::{prover, verifier};
+use crate::library::{Header, Places, ProverSession, Round, VerifierSession};
 
 /// What stands in places that no call may read.
 pub const UNREAD: u32 = 99;
 
-/// The states of both sessions by name, at the place of their number.
-pub const PROVER_STATES: [&str; 4] = ["new", "committed", "answered", "dropped"];
-pub const VERIFIER_STATES: [&str; 4] = ["waiting", "holding", "asked", "judged"];
+/// The names of a session's states, with their numbers.
+pub type States = [(&'static str, u32); 4];
+
+pub const PROVER_STATES: States = [
+    ("new", prover::NEW),
+    ("committed", prover::COMMITTED),
+    ("answered", prover::ANSWERED),
+    ("dropped", prover::DROPPED),
+];
+
+pub const VERIFIER_STATES: States = [
+    ("waiting", verifier::WAITING),
+    ("holding", verifier::HOLDING),
+    ("asked", verifier::ASKED),
+    ("judged", verifier::JUDGED),
+];
 
 /// Inputs by name, in the order of the line.
 pub struct Inputs<'a>(Vec<(&'a str, &'a str)>);
@@ -101,10 +115,10 @@ impl<'a> Inputs<'a> {
     }
 
     /// A state by name, or any number.
-    fn state(&mut self, names: [&str; 4]) -> Result<u32, String> {
+    fn state(&mut self, states: States) -> Result<u32, String> {
         let value = self.value("state")?;
-        match names.iter().position(|name| *name == value) {
-            Some(place) => Ok(place as u32),
+        match states.iter().find(|(name, _)| *name == value) {
+            Some((_, number)) => Ok(*number),
             None => value.parse().map_err(|_| format!("{value} is no state")),
         }
     }
@@ -141,17 +155,3 @@ fn fill(places: &mut [u32], list: &[u32]) -> Result<(), String> {
     start.ok_or("a list is too long")?.copy_from_slice(list);
     Ok(())
 }
-
-// A state's place in the lists of names is its number.
-const _: () = {
-    use phases::{prover, verifier};
-    assert!(
-        prover::NEW == 0 && prover::COMMITTED == 1 && prover::ANSWERED == 2 && prover::DROPPED == 3
-    );
-    assert!(
-        verifier::WAITING == 0
-            && verifier::HOLDING == 1
-            && verifier::ASKED == 2
-            && verifier::JUDGED == 3
-    );
-};
