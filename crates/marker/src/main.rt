@@ -1,5 +1,7 @@
 // Prints the marker's text (01, "The marker's lines") on the files `sheet.bin` and `rounds.bin` in the folder that it is run in.
+// A text that cannot be written whole is told of on standard error, since a program has no exit status.
 use files::read_file;
+use libc::STDERR_FILENO;
 use libc::STDOUT_FILENO;
 use report::LONGEST;
 use report::ROUNDS;
@@ -13,5 +15,7 @@ fn main() {
     let sheet_bytes = read_file(b"sheet.bin", &mut sheet);
     let round_bytes = read_file(b"rounds.bin", &mut rounds);
     let length = mark_files(&sheet, sheet_bytes, &rounds, round_bytes, &mut text);
-    io::write_all(STDOUT_FILENO, &text[..length]);
+    if !io::write_all(STDOUT_FILENO, &text[..length]) {
+        io::write_all(STDERR_FILENO, b"marker: the text cannot be written whole\n");
+    }
 }

@@ -6,7 +6,7 @@
 //! buffer must be the same. The first difference is printed and ends the run.
 //! Last page K is run in both, and demand 3 is tried on small sheets. Exit
 //! status: 0 no difference, 1 a difference, a number met too seldom or no
-//! program `marker`, 2 wrong words or a folder in which nothing can be stored.
+//! program `marker`, 2 wrong words or a place to which nothing can be written.
 
 #![forbid(unsafe_code)]
 
@@ -34,7 +34,9 @@ mod run;
 mod sheets;
 mod stored;
 mod tally;
+mod vectors;
 
+use std::io;
 use std::path::Path;
 use std::process::ExitCode;
 
@@ -54,15 +56,18 @@ fn main() -> ExitCode {
         }
     };
     if let Some(folder) = &options.store {
-        return store(folder);
+        return written(folder, stored::stored().write(folder));
+    }
+    if let Some(file) = &options.vectors {
+        return written(file, vectors::store(file));
     }
     compare(&options)
 }
 
-/// Stores cases of the marker in the folder of the program that runs them.
-fn store(folder: &Path) -> ExitCode {
-    if let Err(error) = stored::stored().write(folder) {
-        eprintln!("compare: {}: {error}", folder.display());
+/// The exit status of a run that only writes to this place.
+fn written(place: &Path, result: io::Result<()>) -> ExitCode {
+    if let Err(error) = result {
+        eprintln!("compare: {}: {error}", place.display());
         return ExitCode::from(2);
     }
     ExitCode::SUCCESS

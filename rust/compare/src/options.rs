@@ -20,10 +20,12 @@ pub struct Options {
     pub other: Library,
     /// The folder to store cases of the marker in, in place of a comparison.
     pub store: Option<PathBuf>,
+    /// The file of vectors to write anew, in place of a comparison.
+    pub vectors: Option<PathBuf>,
 }
 
-const USAGE: &str =
-    "usage: compare [--seed N] [--count N] [--self | --fault NAME] [--store FOLDER]";
+const USAGE: &str = "usage: compare [--seed N] [--count N] [--self | --fault NAME] \
+                     [--store FOLDER | --vectors FILE]";
 
 /// Reads the words after the program's name. An error is the text to print.
 pub fn options(mut words: impl Iterator<Item = String>) -> Result<Options, String> {
@@ -32,6 +34,7 @@ pub fn options(mut words: impl Iterator<Item = String>) -> Result<Options, Strin
         count: COUNT,
         other: Library::Proved,
         store: None,
+        vectors: None,
     };
     while let Some(word) = words.next() {
         match word.as_str() {
@@ -39,7 +42,8 @@ pub fn options(mut words: impl Iterator<Item = String>) -> Result<Options, Strin
             "--count" => options.count = number(words.next())?,
             "--self" => options.other = Library::Judge,
             "--fault" => options.other = Library::Faulty(fault(words.next())?),
-            "--store" => options.store = Some(folder(words.next())?),
+            "--store" => options.store = Some(path(words.next())?),
+            "--vectors" => options.vectors = Some(path(words.next())?),
             _ => return Err(USAGE.to_string()),
         }
     }
@@ -51,7 +55,7 @@ fn number(word: Option<String>) -> Result<u64, String> {
     parsed.ok_or_else(|| USAGE.to_string())
 }
 
-fn folder(word: Option<String>) -> Result<PathBuf, String> {
+fn path(word: Option<String>) -> Result<PathBuf, String> {
     word.map(PathBuf::from).ok_or_else(|| USAGE.to_string())
 }
 
@@ -86,6 +90,8 @@ mod tests {
         assert_eq!(named.other, Library::Judge);
         let stored = read("--store folder").unwrap();
         assert_eq!(stored.store, Some(PathBuf::from("folder")));
+        let vectors = read("--vectors file").unwrap();
+        assert_eq!(vectors.vectors, Some(PathBuf::from("file")));
         let name = FAULTS[0].name;
         let faulty = read(&format!("--fault {name}")).unwrap();
         assert_eq!(faulty.other, Library::Faulty(FAULTS[0].fault));
@@ -100,6 +106,7 @@ mod tests {
             "--other",
             "--fault none",
             "--store",
+            "--vectors",
         ] {
             assert!(read(words).is_err());
         }

@@ -17,6 +17,11 @@ mod stored;
 mod verdict;
 mod verifier;
 
+/// The pieces in Rust of the page for course authors, which are run as tests.
+#[cfg(doctest)]
+#[doc = include_str!("../../../docs/AUTHORS.md")]
+mod authors {}
+
 pub use dimkhoros_sys::{
     EMPTY_FILE, EXPONENT, Header, LONGEST_FILE, LONGEST_SHEET, LONGEST_TEXT, MOST_ROUNDS, PLACES,
     Places, ROOT, Round, version,

@@ -1,4 +1,4 @@
-//! The tests of this crate's public face, of the header's words and of the examples.
+//! The tests of this crate's public face, of the header's words, of the examples and of the script that marks folders.
 
 mod archive;
 #[path = "../../../sys/tests/suite/cc.rs"]
@@ -9,6 +9,7 @@ mod pages;
 mod readme;
 mod refusals;
 mod rounds;
+mod run;
 mod sessions;
 mod sheets;
 mod stored;

@@ -1,0 +1,157 @@
+//! The inputs on a line of the vectors: words NAME=VALUE, each of which is to
+//! be taken once.
+
+use std::str::FromStr;
+
+use super::bytes;
+use crate::library::phases::{prover, verifier};
+use crate::library::{Header, Places, ProverSession, Round, VerifierSession};
+
+/// What stands in places that no call may read.
+pub const UNREAD: u32 = 99;
+
+/// The names of a session's states, with their numbers.
+pub type States = [(&'static str, u32); 4];
+
+pub const PROVER_STATES: States = [
+    ("new", prover::NEW),
+    ("committed", prover::COMMITTED),
+    ("answered", prover::ANSWERED),
+    ("dropped", prover::DROPPED),
+];
+
+pub const VERIFIER_STATES: States = [
+    ("waiting", verifier::WAITING),
+    ("holding", verifier::HOLDING),
+    ("asked", verifier::ASKED),
+    ("judged", verifier::JUDGED),
+];
+
+/// Inputs by name, in the order of the line.
+pub struct Inputs<'a>(Vec<(&'a str, &'a str)>);
+
+impl<'a> Inputs<'a> {
+    pub fn read(words: &'a str) -> Result<Inputs<'a>, String> {
+        let pair = |word: &'a str| {
+            word.split_once('=')
+                .ok_or_else(|| format!("{word} has no value"))
+        };
+        let pairs: Result<Vec<_>, _> = words.split_whitespace().map(pair).collect();
+        Ok(Inputs(pairs?))
+    }
+
+    /// Every input has been taken.
+    pub fn end(&self) -> Result<(), String> {
+        match self.0.first() {
+            None => Ok(()),
+            Some((name, _)) => Err(format!("{name} is no input of this call")),
+        }
+    }
+
+    /// Takes the value of this name.
+    fn value(&mut self, name: &str) -> Result<&'a str, String> {
+        let place = self.0.iter().position(|(found, _)| *found == name);
+        let place = place.ok_or_else(|| format!("{name} is missing"))?;
+        Ok(self.0.remove(place).1)
+    }
+
+    pub fn number<T: FromStr>(&mut self, name: &str) -> Result<T, String> {
+        let value = self.value(name)?;
+        value.parse().map_err(|_| format!("{value} is no number"))
+    }
+
+    pub fn bytes(&mut self, name: &str) -> Result<Vec<u8>, String> {
+        bytes::read(self.value(name)?)
+    }
+
+    pub fn list(&mut self, name: &str) -> Result<Vec<u32>, String> {
+        numbers(self.value(name)?)
+    }
+
+    /// Eight places: a list, and in the places behind it this number.
+    fn places(&mut self, name: &str, beyond: u32) -> Result<Places, String> {
+        let mut places = [beyond; 8];
+        fill(&mut places, &self.list(name)?)?;
+        Ok(places)
+    }
+
+    /// The values that a call is handed.
+    pub fn brought(&mut self, name: &str) -> Result<Places, String> {
+        self.places(name, UNREAD)
+    }
+
+    /// 64 entries, given row by row with a slash between rows.
+    pub fn entries(&mut self) -> Result<[u32; 64], String> {
+        let mut entries = [UNREAD; 64];
+        let rows = self.value("entries")?.split('/');
+        for (place, row) in rows.enumerate() {
+            let places = entries
+                .chunks_mut(8)
+                .nth(place)
+                .ok_or("there are over eight rows")?;
+            fill(places, &numbers(row)?)?;
+        }
+        Ok(entries)
+    }
+
+    pub fn header(&mut self) -> Result<Header, String> {
+        Ok(Header {
+            kind: self.number("kind")?,
+            modulus: self.number("m")?,
+            order: self.number("l")?,
+            challenges: self.number("K")?,
+            rows: self.number("s")?,
+            columns: self.number("n")?,
+        })
+    }
+
+    /// The round of t, c and r, or of t2, c2 and r2.
+    pub fn round(&mut self, behind: &str) -> Result<Round, String> {
+        Ok(Round {
+            commitment: self.brought(&format!("t{behind}"))?,
+            challenge: self.number(&format!("c{behind}"))?,
+            response: self.brought(&format!("r{behind}"))?,
+        })
+    }
+
+    /// A state by name, or any number.
+    fn state(&mut self, states: States) -> Result<u32, String> {
+        let value = self.value("state")?;
+        match states.iter().find(|(name, _)| *name == value) {
+            Some((_, number)) => Ok(*number),
+            None => value.parse().map_err(|_| format!("{value} is no state")),
+        }
+    }
+
+    pub fn prover(&mut self) -> Result<ProverSession, String> {
+        Ok(ProverSession {
+            phase: self.state(PROVER_STATES)?,
+            nonce: self.places("nonce", 0)?,
+            commitment: self.places("commitment", 0)?,
+        })
+    }
+
+    pub fn verifier(&mut self) -> Result<VerifierSession, String> {
+        Ok(VerifierSession {
+            phase: self.state(VERIFIER_STATES)?,
+            commitment: self.places("commitment", 0)?,
+            challenge: self.number("challenge")?,
+        })
+    }
+}
+
+/// A list of numbers, in which `-` is none.
+fn numbers(text: &str) -> Result<Vec<u32>, String> {
+    if text == "-" {
+        return Ok(Vec::new());
+    }
+    let number = |word: &str| word.parse().map_err(|_| format!("{word} is no number"));
+    text.split(',').map(number).collect()
+}
+
+/// Puts a list at the start of some places.
+fn fill(places: &mut [u32], list: &[u32]) -> Result<(), String> {
+    let start = places.get_mut(..list.len());
+    start.ok_or("a list is too long")?.copy_from_slice(list);
+    Ok(())
+}

@@ -1,0 +1,236 @@
+use std::collections::BTreeSet;
+
+use super::*;
+use crate::calls::{LAST, SHEET_NUMBERS};
+use crate::faults::FAULTS;
+use crate::library::Library::{Faulty, Judge, Proved};
+
+/// The stored vectors, and the pages that show some of them.
+const STORED: &str = include_str!("../../../../docs/vectors.txt");
+const FORMATS: &str = include_str!("../../../../docs/FORMATS.md");
+const AUTHORS: &str = include_str!("../../../../docs/AUTHORS.md");
+
+/// The first stored line that this library does not make.
+fn difference(library: Library) -> Option<String> {
+    let made = remade(STORED, library).unwrap();
+    let mut lines = made.lines().zip(STORED.lines());
+    let differs = lines.find(|(made, stored)| made != stored);
+    differs.map(|(made, stored)| format!("stored: {stored}\n  made: {made}"))
+}
+
+/// Every stored call with its answer and the number of the refusal whose
+/// section it stands in, 0 for none.
+fn calls() -> Vec<(Call, &'static str, u32)> {
+    let (mut calls, mut section) = (Vec::new(), 0);
+    for line in STORED.lines() {
+        if line.starts_with("# ----") {
+            section = 0;
+        }
+        if let Some(head) = line.strip_prefix("# Refusal ") {
+            section = head.split(':').next().unwrap().parse().unwrap();
+        }
+        if let Line::Call(call, words, _) = Line::read(line).unwrap() {
+            calls.push((call, &line[words.len() + " -> ".len()..], section));
+        }
+    }
+    calls
+}
+
+/// The number of a refused call.
+fn refusal(answer: &str) -> Option<u32> {
+    answer
+        .strip_prefix("refused ")
+        .map(|number| number.parse().unwrap())
+}
+
+/// The numbers that a call was refused with, for the marker those in its texts.
+fn met(call: Call) -> BTreeSet<u32> {
+    let answers = calls().into_iter().filter(|(of, ..)| *of == call);
+    let lines = answers.flat_map(|(_, answer, _)| answer.split("\\n"));
+    let number = |line: &str| {
+        let (words, number) = line.rsplit_once(' ')?;
+        let refused = words.ends_with("refused") || ["sheet", "file"].contains(&words);
+        refused.then(|| number.parse().unwrap())
+    };
+    lines.filter_map(number).collect()
+}
+
+/// The blocks of a page with their languages.
+fn blocks(page: &str) -> Vec<(&str, &str)> {
+    let fenced = page.split("```").skip(1).step_by(2);
+    fenced
+        .map(|block| block.split_once('\n').unwrap())
+        .collect()
+}
+
+/// The bytes of a block: pairs of digits, up to a mark of a comment.
+fn block_bytes(block: &str) -> Vec<u8> {
+    let digits: String = block
+        .lines()
+        .flat_map(|line| line.split('#').next())
+        .collect();
+    bytes::read(&digits.replace(' ', "")).unwrap()
+}
+
+/// The rows of a page's table under this heading, cell by cell.
+fn rows<'a>(page: &'a str, heading: &str) -> Vec<Vec<&'a str>> {
+    let behind = page.split(heading).nth(1).unwrap();
+    let mut table = behind
+        .lines()
+        .skip_while(|line| !line.starts_with("|"))
+        .skip(2);
+    let rows = std::iter::from_fn(|| table.next().filter(|line| line.starts_with("|")));
+    rows.map(|row| row.trim_matches('|').split('|').map(str::trim).collect())
+        .collect()
+}
+
+#[test]
+fn the_judge_and_the_library_make_every_line() {
+    for library in [Judge, Proved] {
+        assert_eq!(difference(library), None, "{library:?}");
+        assert!(remade(STORED, library).unwrap() == STORED);
+    }
+}
+
+#[test]
+fn every_planted_fault_changes_a_line() {
+    let missed = FAULTS
+        .iter()
+        .filter(|planted| difference(Faulty(planted.fault)).is_none());
+    let names: Vec<&str> = missed.map(|planted| planted.name).collect();
+    assert!(names.is_empty(), "not found: {names:?}");
+}
+
+#[test]
+fn a_line_that_cannot_be_read_is_named() {
+    for (line, error) in [
+        ("judge t=9 c=3 r=4", "there is no arrow"),
+        ("jugde t=9 c=3 r=4 ->", "there is no call jugde"),
+        ("judge t=9 c=3 ->", "r is missing"),
+        ("judge t=9 c=3 r=4 k=5 ->", "k is no input of this call"),
+        ("judge t=nine c=3 r=4 ->", "nine is no number"),
+        ("sheet 4", "4 is no bytes"),
+    ] {
+        let text = format!("# A comment.\n{line}\n");
+        assert_eq!(remade(&text, Judge), Err(format!("line 2: {error}")));
+    }
+}
+
+#[test]
+fn each_refusal_has_lines_inside_and_outside_its_bounds() {
+    for number in 1..=LAST {
+        let calls = calls()
+            .into_iter()
+            .filter(|(.., section)| *section == number);
+        let (refused, others): (Vec<_>, Vec<_>) = calls
+            .map(|(_, answer, _)| refusal(answer))
+            .partition(Option::is_some);
+        assert!(!others.is_empty(), "{number} has no line inside");
+        assert!(!refused.is_empty(), "{number} has no line outside");
+        assert!(
+            refused.iter().all(|met| *met == Some(number)),
+            "{number}: {refused:?}"
+        );
+    }
+}
+
+#[test]
+fn each_call_gives_its_numbers_and_no_others() {
+    for call in Call::all() {
+        let (name, met) = (call.name(), met(call));
+        assert!(
+            calls()
+                .iter()
+                .any(|(of, answer, _)| *of == call && refusal(answer).is_none()),
+            "{name}"
+        );
+        assert!(
+            met.iter().all(|number| call.can_give(*number)),
+            "{name}: {met:?}"
+        );
+        // A part answers no number.
+        if call == Call::Part {
+            continue;
+        }
+        assert!(
+            call.others().iter().all(|number| met.contains(number)),
+            "{name}: {met:?}"
+        );
+        let of_sheet = SHEET_NUMBERS
+            .iter()
+            .filter(|number| met.contains(number))
+            .count();
+        let wanted = match call {
+            Call::Load => SHEET_NUMBERS.len(),
+            _ => usize::from(call.can_give(SHEET_NUMBERS[0])),
+        };
+        assert!(of_sheet >= wanted, "{name}: {met:?}");
+    }
+}
+
+/// The bytes that stand in the vectors: sheets, files, and buffers that calls
+/// were lent or wrote to.
+fn stored_bytes() -> Vec<Vec<u8>> {
+    let words = STORED
+        .lines()
+        .filter(|line| !line.starts_with('#'))
+        .flat_map(|line| {
+            let given = ["sheet ", "file "]
+                .iter()
+                .find_map(|word| line.strip_prefix(word));
+            let written = line
+                .split(' ')
+                .filter_map(|word| word.strip_prefix("buffer="));
+            given.into_iter().chain(written)
+        });
+    words.map(|word| bytes::read(word).unwrap()).collect()
+}
+
+#[test]
+fn the_pages_show_stored_bytes_and_lines() {
+    let (stored, lines) = (stored_bytes(), STORED.lines().collect::<BTreeSet<_>>());
+    for (page, least) in [(FORMATS, 20), (AUTHORS, 6)] {
+        let blocks = blocks(page);
+        assert!(blocks.len() >= least, "{} blocks", blocks.len());
+        for (language, block) in blocks {
+            match language {
+                "hex" => assert!(stored.contains(&block_bytes(block)), "not stored:\n{block}"),
+                "vectors" => {
+                    let other = block.lines().find(|line| !lines.contains(line));
+                    assert_eq!(other, None, "not stored");
+                }
+                // A test of the crate `dimkhoros` runs it.
+                "rust" if page == AUTHORS => {}
+                _ => panic!("a block is neither bytes nor lines:\n{block}"),
+            }
+        }
+    }
+}
+
+#[test]
+fn the_page_has_a_row_for_each_refusal_and_each_call() {
+    let refusals = rows(FORMATS, "## Refusals\n");
+    let numbers: Vec<&str> = refusals.iter().map(|row| row[0]).collect();
+    assert_eq!(
+        numbers,
+        (1..=LAST)
+            .map(|number| number.to_string())
+            .collect::<Vec<_>>()
+    );
+    let sheet = SHEET_NUMBERS.map(|number| number.to_string()).join(" ");
+    let rows = rows(FORMATS, "### Which call gives which number\n");
+    assert_eq!(rows.len(), Call::all().count());
+    for (row, call) in rows.iter().zip(Call::all()) {
+        assert_eq!(row[0], format!("`{}`", call.name()));
+        let numbers = row[1]
+            .replace("none", "")
+            .replace("2 to 11,", &sheet)
+            .replace("2 to 11", &sheet);
+        let numbers: Vec<u32> = numbers
+            .split_whitespace()
+            .map(|word| word.parse().unwrap())
+            .collect();
+        let given: Vec<u32> = (1..=LAST).filter(|number| call.can_give(*number)).collect();
+        assert_eq!(numbers, given, "{}", call.name());
+    }
+}
