@@ -27,7 +27,7 @@ int main(void) {
     expect(dimkhoros_respond(sheet, length, &peggy, c, witness, r));
     printf("Peggy responds by the witness 7: r = %u\n", r[0]);
 
-    DimkhorosJudgement verdict;
+    DimkhorosJudgement verdict = {0};
     expect(dimkhoros_take_response(sheet, length, &vic, r, &verdict));
     printf("Vic judges r = %u: %s\n", r[0], verdict.accepted ? "accepted" : "rejected");
 
