@@ -6,7 +6,7 @@
 
 /* A random number of 32 bits. */
 static inline uint32_t random_word(const Base *base) {
-    uint32_t word;
+    uint32_t word = 0;
     int source = open("/dev/urandom", O_RDONLY);
     if (source < 0 || read(source, &word, sizeof word) != sizeof word) {
         fail(base, "there are no random numbers");

@@ -69,7 +69,7 @@ static void ask(Vic *vic) {
 /* Steps 6 and 7: judges a response, stores that it is judged, and only then says the verdict. */
 static void judge(Vic *vic, const uint32_t *response) {
     const Base *base = &vic->base;
-    DimkhorosJudgement verdict;
+    DimkhorosJudgement verdict = {0};
     uint32_t refusal = dimkhoros_take_response(base->sheet, base->sheet_length, &vic->session, response, &verdict);
     if (refusal != 0) {
         fprintf(stderr, "vic does not take it: %s\n", dimkhoros_sentence(refusal));

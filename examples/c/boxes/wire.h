@@ -25,8 +25,9 @@ static inline const char *read_number(const char *at, uint32_t *number) {
     return digits == 0 || digits > 10 || value > UINT32_MAX ? NULL : at + digits;
 }
 
-/* Takes the text of a line apart. */
+/* Takes the text of a line apart. Zeros stand behind its numbers. */
 static inline void read_line(Line *line) {
+    memset(line->numbers, 0, sizeof line->numbers);
     line->word = strspn(line->text, "abcdefghijklmnopqrstuvwxyz");
     line->count = 0;
     const char *at = line->text + line->word;
