@@ -7,7 +7,7 @@ mod pairs;
 mod programs;
 mod story;
 
-use class::{Class, Manner, Until};
+use class::{Class, Manner, Until, WRONG_LINES};
 use courses::{Course, exponents, roots};
 use dimkhoros::Places;
 use programs::{
@@ -78,6 +78,20 @@ fn a_peggy_that_ends_anywhere_answers_no_commitment_twice() {
             ];
             assert!(learned.points.iter().eq(points), "{:?}", learned.points);
         }
+    }
+}
+
+#[test]
+fn a_line_that_is_no_challenge_is_not_answered() {
+    for language in LANGUAGES {
+        let course = exponents();
+        let mut class = Class::new(&course, &program(language, "peggy"), Manner::Clumsy);
+        class.tell("ready");
+        assert_eq!(class.run_peggy(Until::Answers(1)), Some(0));
+        assert_eq!(class.words, ["commitment", "response"]);
+        let log = fs::read_to_string(class.folder.join("log")).unwrap();
+        let silent = log.lines().filter(|line| line.starts_with("peggy does not answer: "));
+        assert_eq!(silent.count(), WRONG_LINES.len() + 1);
     }
 }
 

@@ -38,6 +38,26 @@ pub enum Until {
     Answers(usize),
 }
 
+/// Lines that are not to be answered, T standing for the commitment that Peggy has just sent.
+pub const WRONG_LINES: [&str; 16] = [
+    "",
+    "challenge",
+    "challenge T",
+    "challenge 1 T",
+    "challenge T 1 2",
+    "challenge  T 1",
+    "challenge T 1 ",
+    "challenge T +1",
+    "challenge T -1",
+    "challenge T 0x1",
+    "challenge T 00000000001",
+    "challenge T 4294967296",
+    "challenge T 65536",
+    "Challenge T 1",
+    "response T 1 1",
+    "ready 1",
+];
+
 /// How a class plays.
 #[derive(Clone, Copy, Debug, PartialEq)]
 pub enum Manner {
@@ -45,6 +65,8 @@ pub enum Manner {
     Calm,
     /// It asks on every commitment that it ever heard whenever it hears one, and for another after each response.
     Greedy,
+    /// It asks one challenge, and before it sends lines that are none.
+    Clumsy,
     /// It is greedy, and puts back a copy of Peggy's file, from when she was committed, each time that she has ended.
     PutsBack,
 }
@@ -119,13 +141,26 @@ impl Class<'_> {
         }
     }
 
+    /// A commitment as lines have it.
+    fn named(&self, commitment: &Places) -> String {
+        let numbers = commitment[..self.course.rows()].iter().map(u32::to_string);
+        numbers.collect::<Vec<String>>().join(" ")
+    }
+
     /// Asks a challenge on a commitment that was never asked before on any.
     fn ask(&mut self, commitment: Places) {
         let challenge = 1 + self.asked.len() as u32;
-        let numbers = commitment[..self.course.rows()].iter().map(u32::to_string);
-        let numbers: Vec<String> = numbers.collect();
-        self.tell(&format!("challenge {} {challenge}", numbers.join(" ")));
+        self.tell(&format!("challenge {} {challenge}", self.named(&commitment)));
         self.asked.push((commitment, challenge));
+    }
+
+    /// Sends the lines that are not to be answered, and one that is too long.
+    fn tell_wrong_lines(&self, commitment: &Places) {
+        let named = self.named(commitment);
+        for line in WRONG_LINES {
+            self.tell(&line.replace('T', &named));
+        }
+        self.tell(&format!("challenge {named} {}1", "0".repeat(1000)));
     }
 
     /// Hears a line and says what there is to say to it.
@@ -139,7 +174,7 @@ impl Class<'_> {
             "response" => self.take_response(commitment, in_places(response)),
             _ => panic!("Peggy sends {line}"),
         }
-        if word == "response" && self.manner != Manner::Calm {
+        if word == "response" && matches!(self.manner, Manner::Greedy | Manner::PutsBack) {
             self.tell("ready");
         }
     }
@@ -150,10 +185,15 @@ impl Class<'_> {
         if !self.commitments.contains(&commitment) {
             self.commitments.push(commitment);
         }
-        if self.manner == Manner::Calm {
-            self.ask(commitment);
-        } else {
-            self.commitments.clone().into_iter().for_each(|commitment| self.ask(commitment));
+        match self.manner {
+            Manner::Calm => self.ask(commitment),
+            Manner::Clumsy => {
+                self.tell_wrong_lines(&commitment);
+                self.ask(commitment);
+            }
+            Manner::Greedy | Manner::PutsBack => {
+                self.commitments.clone().into_iter().for_each(|commitment| self.ask(commitment));
+            }
         }
     }
 
