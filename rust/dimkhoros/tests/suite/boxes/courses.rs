@@ -45,8 +45,8 @@ pub fn roots() -> Course {
     course(header, [[0; 8]; 8], places([1234567, 7654321]))
 }
 
-/// A box's folder, which is removed at the end. It is in memory where the system has files there: a box waits for the disk at
-/// each step, and with a busy one the tests would take minutes.
+/// A box's folder, which is removed at the end. It is in memory where the system has files there, since a box waits for the
+/// disk at each step.
 pub struct Folder(PathBuf);
 
 impl Folder {
