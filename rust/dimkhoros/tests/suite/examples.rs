@@ -7,6 +7,7 @@ use std::env;
 use std::fs;
 use std::path::{Path, PathBuf};
 use std::process::Command;
+use std::sync::OnceLock;
 
 /// The names of the texts in the folder examples, each the name of an example.
 fn names() -> Vec<String> {
@@ -42,23 +43,37 @@ fn every_example_has_a_text() {
                 found.push(path.file_stem().unwrap().to_str().unwrap().to_string());
             }
         }
+        // The two boxes print what they draw at random.
+        found.retain(|name| name != "peggy" && name != "vic");
         found.sort();
         assert_eq!(found, names(), "the examples in {folder} and the texts differ");
     }
 }
 
-#[test]
-fn examples_in_c_print_their_texts() {
-    let folder = PathBuf::from(env!("CARGO_TARGET_TMPDIR")).join("examples");
-    let archives = Path::new(ARCHIVE).parent().unwrap();
-    let script = cc::root().join("examples/c/build");
-    cc::succeed(Command::new(script).arg(&folder).env("DIMKHOROS_LIB", archives));
-    compare(&folder);
+/// The folder with the programs in C, which are built once.
+pub fn in_c() -> &'static Path {
+    static FOLDER: OnceLock<PathBuf> = OnceLock::new();
+    FOLDER.get_or_init(|| {
+        let folder = PathBuf::from(env!("CARGO_TARGET_TMPDIR")).join("examples");
+        let archives = Path::new(ARCHIVE).parent().unwrap();
+        let script = cc::root().join("examples/c/build");
+        cc::succeed(Command::new(script).arg(&folder).env("DIMKHOROS_LIB", archives));
+        folder
+    })
 }
 
-/// Cargo builds the examples before it runs this test, and puts them beside the folder of the tests.
+/// The folder with the programs in Rust: cargo builds them before it runs a test, and puts them beside the folder of the tests.
+pub fn in_rust() -> PathBuf {
+    let test = env::current_exe().unwrap();
+    test.parent().unwrap().parent().unwrap().join("examples")
+}
+
+#[test]
+fn examples_in_c_print_their_texts() {
+    compare(in_c());
+}
+
 #[test]
 fn examples_in_rust_print_their_texts() {
-    let test = env::current_exe().unwrap();
-    compare(&test.parent().unwrap().parent().unwrap().join("examples"));
+    compare(&in_rust());
 }

@@ -1,6 +1,7 @@
 //! The tests of this crate's public face, of the header's words, of the examples and of the script that marks folders.
 
 mod archive;
+mod boxes;
 #[path = "../../../sys/tests/suite/cc.rs"]
 mod cc;
 mod examples;
@@ -8,6 +9,7 @@ mod marks;
 mod pages;
 mod readme;
 mod refusals;
+mod repeats;
 mod rounds;
 mod run;
 mod sessions;
