@@ -12,7 +12,9 @@ use std::process::Command;
 const RUST_FRAME: &str = "use dimkhoros::*;
 use std::fs;
 
-fn store(_: ProverParts) {}
+fn store(_: &[u8; STORED_PROVER]) -> std::io::Result<()> {
+    Ok(())
+}
 
 fn main() -> Result<(), Box<dyn std::error::Error>> {
 PIECES
