@@ -1,4 +1,4 @@
--- The marker's text is what the verdicts of the rounds make it, letter by letter.
+-- The marker's text is what the verdicts of the rounds make it: each line is the one that the statement has as text.
 -- Assumes nothing.
 use Prim.Native.Nat.{ℕ}
 use mathlib.Core.Path.{_≡_, ap, _∙_}

@@ -33,13 +33,12 @@ module _ (s f : List ℕ) (k : ℕ) where
       ≡ record {
         offset = recordStart (challengeWidth f) (headerOf s) k;
         length = recordLength (challengeWidth f) (headerOf s);
-        refusal = 0;
       }
   unfolding locateRound locateAfter checkRound
   place-given e = simp (e, unlessRefused-zero)
 
   -- where it gives a number, the place is of no bytes
-  pub place-refused : 0 < checkRound s f k → locateRound s f k ≡ record { offset = 0; length = 0; refusal = checkRound s f k }
+  pub place-refused : 0 < checkRound s f k → locateRound s f k ≡ record { offset = 0; length = 0 }
   unfolding locateRound locateAfter checkRound
   place-refused some = nowhere _ _ (checkRound s f k) some
 
