@@ -1,4 +1,4 @@
--- The marker's text is what the verdicts of the rounds make it, letter by letter.
+-- The marker's text is what the verdicts of the rounds make it: each line is the one that the statement has as text.
 -- Assumes nothing.
 use Prim.Native.Nat.{ℕ}
 use mathlib.Core.Path.{_≡_, ap, _∙_}
@@ -24,14 +24,14 @@ line-printed k (Refused number) = simp append-assoc
 lines-printed : (sheet f word : List ℕ)
     → wordLine (ascii "rounds") (countField f) ++ flatten (tabulate (countField f) (roundLine sheet f)) ++ word ++ newline
     ≡ textEnding sheet f (word ++ newline)
-unfolding wordLine roundLine newline ascii verdictOn countField
+unfolding wordLine roundLine newline ascii countField
 lines-printed sheet f word =
     append-assoc (wordLine (ascii "rounds") (countField f) ++ flatten (tabulate (countField f) (roundLine sheet f))) word newline
     ∙ ap (λ (lines : List (List ℕ)). wordLine (ascii "rounds") (countField f) ++ flatten lines ++ (word ++ newline))
     (tabulate-agree (countField f) _ _ (λ k h. line-printed k (verdictOn sheet f k)))
 
 pub marks-files : MarksFiles
-unfolding wordLine newline ascii decimal digits verdictOn countField
+unfolding wordLine newline ascii decimal digits countField
 marks-files = record {
   refused-sheet = sheet-line;
   refused-file = file-line;

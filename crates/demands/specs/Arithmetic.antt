@@ -5,7 +5,7 @@ use mathlib.Core.Path.{_≡_}
 use mathlib.Core.Logic.{_≢_}
 use mathlib.Core.List.{List}
 use lib.ListN.{getD}
-use Rattle.encoding.specs.Text.{AllDigits, decimal, fromDecimal}
+use Rattle.encoding.specs.Text.{AllDigits, decimal, fromDigits}
 use Rattle.numbers.specs.Gcd.{IsGcd, gcd}
 use Rattle.numbers.specs.Product.{product}
 use Rattle.sigma.specs.Image.{rowImage}
@@ -24,5 +24,5 @@ pub record Arithmetic : Type 0 where
   pub divisor : (a b : ℕ) → IsGcd a b (gcd a b)
   -- a number in decimal: ASCII digits that give it back, without a leading zero
   pub digits : (n : ℕ) → AllDigits (decimal n)
-  pub given-back : (n : ℕ) → fromDecimal (decimal n) ≡ n
+  pub given-back : (n : ℕ) → fromDigits 0 (decimal n) ≡ n
   pub leading : (n : ℕ) → 0 < n → 49 ≤ getD (decimal n) 0 0

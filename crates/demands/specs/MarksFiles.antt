@@ -13,13 +13,8 @@ use Rattle.lists.specs.Places.{tabulate}
 use Rattle.encoding.specs.Bytes.{numberAt}
 use Rattle.encoding.specs.Text.{ascii, decimal}
 use Rattle.formats.specs.Load.{loadRefusal}
-use Rattle.formats.specs.RoundCalls.{countRounds, fetchRound}
-use Rattle.runs.specs.Calls.{judgeRound}
-use Rattle.runs.specs.Marker.{markerText}
-
--- what judging answers on round k of a file, as the read call gives it
-abbrev pub verdictOf : List ℕ → List ℕ → ℕ → Verdict
-verdictOf sheet f k = judgeRound sheet (fetchRound sheet f k .round)
+use Rattle.formats.specs.RoundCalls.{countRounds}
+use Rattle.runs.specs.Marker.{markerText, verdictOn}
 
 -- the line of round k: its number and its verdict, with the first differing row or the refusal
 unfoldable pub printed : ℕ → Verdict → List ℕ
@@ -31,7 +26,7 @@ printed k (Refused number) = decimal k ++ ascii " refused " ++ decimal number ++
 abbrev pub textEnding : List ℕ → List ℕ → List ℕ → List ℕ
 textEnding sheet f last =
     ascii "rounds " ++ decimal (numberAt 2 f 5) ++ ascii "\n" ++
-    flatten (tabulate (numberAt 2 f 5) (λ k. printed k (verdictOf sheet f k))) ++ last
+    flatten (tabulate (numberAt 2 f 5) (λ k. printed k (verdictOn sheet f k))) ++ last
 
 pub record MarksFiles : Type 0 where
   -- a refused sheet gives the one line `sheet N`
@@ -42,12 +37,12 @@ pub record MarksFiles : Type 0 where
       → markerText sheet f ≡ ascii "file 12\n"
   -- any other file passes where every round is accepted
   pub passes : (sheet f : List ℕ) → countRounds sheet f .refusal ≡ 0
-      → ((k : ℕ) → k < numberAt 2 f 5 → verdictOf sheet f k ≡ Accepted)
+      → ((k : ℕ) → k < numberAt 2 f 5 → verdictOn sheet f k ≡ Accepted)
       → markerText sheet f ≡ textEnding sheet f (ascii "pass\n")
   -- and fails where some round is not
   pub fails : (sheet f : List ℕ) → countRounds sheet f .refusal ≡ 0
-      → (k : ℕ) → k < numberAt 2 f 5 → verdictOf sheet f k ≢ Accepted
+      → (k : ℕ) → k < numberAt 2 f 5 → verdictOn sheet f k ≢ Accepted
       → markerText sheet f ≡ textEnding sheet f (ascii "fail\n")
   -- of a sheet that loads, a round is refused with 14, 15 or 16
-  pub round-refusals : (sheet f : List ℕ) → loadRefusal sheet ≡ 0 → (k number : ℕ) → verdictOf sheet f k ≡ Refused number
+  pub round-refusals : (sheet f : List ℕ) → loadRefusal sheet ≡ 0 → (k number : ℕ) → verdictOn sheet f k ≡ Refused number
       → Member number (14 ∷ 15 ∷ 16 ∷ [])

@@ -4,10 +4,9 @@
 use Prim.Native.Nat.{ℕ, _^_, _<_, _≤_}
 use mathlib.Core.Path.{_≡_}
 use mathlib.Core.List.{List, map}
-use lib.ListN.{length, getD, take}
+use lib.ListN.{length, take}
 use Rattle.types.specs.declared.Round.{Round}
 use Rattle.lists.specs.Member.{Member}
-use Rattle.lists.specs.Places.{tabulate}
 use Rattle.encoding.specs.Bytes.{AllBytes}
 use Rattle.sigma.specs.Instance.{Instance}
 use Rattle.sigma.specs.Reads.{paddedRound}
@@ -17,9 +16,9 @@ use Rattle.formats.specs.Load.{loadRefusal, loaded}
 use Rattle.formats.specs.Meaning.{readInstance}
 use Rattle.formats.specs.Outcome.{Puts}
 use Rattle.formats.specs.Pattern.{fromPattern, made}
-use Rattle.formats.specs.RoundCalls.{countRounds, fetchRound, noRound}
+use Rattle.formats.specs.RoundCalls.{countRounds}
 use Rattle.formats.specs.RoundFile.{recordStart, widthOf}
-use Rattle.formats.specs.Rounds.{Grows, Words, appendEach}
+use Rattle.formats.specs.Rounds.{Grows, Words, appendEach, roundsRead}
 use Rattle.formats.specs.Sheet.{headerOf}
 use Rattle.formats.specs.Write.{Writing}
 
@@ -50,12 +49,10 @@ pub record ReadsBack : Type 0 where
       → ((round : Round) → Member round rounds → Words (widthOf 1) (headerOf sheet) round)
       → (w : Writing) → w ≡ appendEach sheet (emptyFile buffer) rounds
       → (countRounds sheet (front w) ≡ record { refusal = 0; count = length rounds })
-      × ((k : ℕ) → k < length rounds
-      → fetchRound sheet (front w) k ≡ record { refusal = 0; round = getD (map (paddedRound (headerOf sheet)) rounds) k noRound })
+      × (roundsRead sheet (front w) ≡ map (paddedRound (headerOf sheet)) rounds)
   -- a round appended to any round file is the file's last
   pub grown : (sheet buffer : List ℕ) (used : ℕ) (round : Round) → append sheet buffer used round .answer .refusal ≡ 0
-      → Grows (headerOf sheet) (take used buffer) round (front (append sheet buffer used round))
+      → Grows sheet (take used buffer) round (front (append sheet buffer used round))
   -- a round file that reads is written back as the same bytes from what the read call gives
   pub file-again : (sheet file buffer : List ℕ) → AllBytes file → countRounds sheet file .refusal ≡ 0 → length file ≤ length buffer
-      → Puts file buffer
-      (appendEach sheet (emptyFile buffer) (tabulate (countRounds sheet file .count) (λ k. fetchRound sheet file k .round)))
+      → Puts file buffer (appendEach sheet (emptyFile buffer) (roundsRead sheet file))

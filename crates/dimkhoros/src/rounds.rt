@@ -1,13 +1,12 @@
 // The calls on round files.
-use tables::Part;
 use types::Counted;
 use types::Fetched;
+use types::Part;
 use types::Round;
 use types::Written;
 ghost use mathlib.Core.Path.{_≡_};
 ghost use Rattle.formats.specs.Append.{append, emptyFile};
-ghost use Rattle.formats.specs.RoundCalls.{checkRound, countRounds, fetchRound};
-ghost use Rattle.tables.specs.RoundPlace.{partPlace};
+ghost use Rattle.formats.specs.RoundCalls.{checkRound, countRounds, fetchRound, locateRound};
 
 // How many rounds a file has; 0 beside the number, 2 to 12, where the sheet or the file is refused.
 #[no_mangle]
@@ -28,9 +27,9 @@ pub extern "C" fn dimkhoros_check(sheet: &[u8], file: &[u8], number: usize) -> u
 // Where the round of this number stands in the file, 0 and 0 where it is refused; `dimkhoros_check` gives the refusal.
 #[no_mangle]
 pub extern "C" fn dimkhoros_part(sheet: &[u8], file: &[u8], number: usize) -> Part
-    ensures { λ r. ⌜ r ≡ partPlace (now (sheet .entry)) (now (file .entry)) number ⌝ }
+    ensures { λ r. ⌜ r ≡ locateRound (now (sheet .entry)) (now (file .entry)) number ⌝ }
 {
-    tables::part_place(sheet, file, number)
+    round_file::locate(sheet, file, number)
 }
 
 // The values of the round of this number, which are not tested; zeros beside the number, 2 to 13, where it is refused.

@@ -9,7 +9,7 @@ use native.Mathlib.Nat.{mod-eq-of-lt, pow-suc}
 use native.Mathlib.Omega.{arith}
 use lib.ListN.{length, getD, length-append}
 use borrow.Author.Tests.{lt-ltb, le-ltb}
-use Rattle.encoding.specs.Text.{digits, decimal, fromDigits, fromDecimal, AllDigits}
+use Rattle.encoding.specs.Text.{digits, decimal, fromDigits, AllDigits}
 
 -- ---- the digits of a number
 
@@ -86,8 +86,8 @@ digits-enough (suc a) (suc b) n h k = elim (decLt n 10) [
 -- ---- decimal
 
 -- the digits of a number give it back
-pub decimal-back : (n : ℕ) → fromDecimal (decimal n) ≡ n
-unfolding decimal fromDecimal
+pub decimal-back : (n : ℕ) → fromDigits 0 (decimal n) ≡ n
+unfolding decimal
 decimal-back n = digits-back n n (omega arith)
 
 -- they are ASCII digits

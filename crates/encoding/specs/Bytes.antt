@@ -28,6 +28,6 @@ bytesOfEach w (v ∷ vs) = bytesOf w v ++ bytesOfEach w vs
 abbrev pub AllBelow : ℕ → List ℕ → Type 0
 AllBelow bound vs = (i : ℕ) → getD vs i 0 < bound
 
--- every number of a list is a byte
+-- every number of a list is a byte (a missing place counts as 0)
 abbrev pub AllBytes : List ℕ → Type 0
-AllBytes s = AllBelow 256 s
+AllBytes s = (i : ℕ) → getD s i 0 < 256

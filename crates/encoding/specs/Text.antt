@@ -22,14 +22,10 @@ digits (suc most) n = elim (ltb n 10) [ true ↦ (48 + n) ∷ [] | false ↦ dig
 unfoldable pub decimal : ℕ → List ℕ
 decimal n = digits n n
 
--- the number whose decimal digits are behind those of `high`
+-- the number whose decimal digits are those of `high` and then these
 unfoldable pub fromDigits : ℕ → List ℕ → ℕ
 fromDigits high [] = high
 fromDigits high (digit ∷ rest) = fromDigits (high * 10 + (digit - 48)) rest
-
--- the number that bytes in decimal stand for
-unfoldable pub fromDecimal : List ℕ → ℕ
-fromDecimal bytes = fromDigits 0 bytes
 
 -- every byte is an ASCII digit
 abbrev pub AllDigits : List ℕ → Type 0

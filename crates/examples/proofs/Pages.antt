@@ -146,7 +146,6 @@ use Rattle.examples.specs.Corners.{
   onesSheet,
   manyChallenges,
   changed,
-  rootBytes,
   making,
   writingIn,
   zerosFile,
@@ -168,6 +167,8 @@ use Rattle.examples.specs.Corners.{
 use Rattle.examples.specs.MarkerExample.{exampleFile, exampleText}
 use Rattle.examples.specs.Pages.{array, smallRound, run, bothWays, judging, EveryPage}
 use Rattle.examples.specs.Sheets.{
+  fourBytes,
+  sheetBytes,
   smallSheet,
   schnorrSheet,
   madeSheet,
@@ -195,8 +196,8 @@ unfolding euclid gcd residue quotient power bezoutRight bezoutLeft inverse produ
     unfitProver respondRules respondAfter commit respond verifierState verifierIn newVerifier verifierStep
     unfitCommitment takeCommitmentRules takeCommitmentAfter takeChallengeRules takeChallengeAfter takeResponseRules
     takeResponseAfter takeCommitment takeChallenge takeResponse honestRound exampleFile exampleText array smallRound
-    run bothWays judging smallSheet schnorrSheet madeSheet okamotoSheet diffieHellmanSheet productSheet rootSheet
-    flatten onesSheet manyChallenges changed rootBytes making writingIn zerosFile noBytes counting appending
+    run bothWays judging fourBytes sheetBytes smallSheet schnorrSheet madeSheet okamotoSheet diffieHellmanSheet productSheet rootSheet
+    flatten onesSheet manyChallenges changed making writingIn zerosFile noBytes counting appending
     extracting simulating peggy committing responding dropping vic hearing asking telling noRounds badInUse
     appendRules recordBytes appended appendAfter append emptyFile noHeader load loadEntries encodeRules encode
     dropRules dropSession checkRound
@@ -240,7 +241,5 @@ worked-examples = (
     refusal20 = (refl, refl);
     refusal21 = (refl, refl);
     refusal22 = (refl, refl);
-    no-values = refl;
-    no-round = refl;
   },
 )

@@ -1,21 +1,24 @@
 -- The sheets of the calculator pages, as bytes. Those of one entry stand byte by byte; the others are made by the sheet maker.
 -- Assumes nothing.
 use Prim.Native.Nat.{ℕ}
-use mathlib.Core.List.{List, [], _∷_}
+use mathlib.Core.List.{List, [], _∷_, _++_, map, flatten}
 use lib.ListN.{replicate, take}
 use Rattle.formats.specs.Pattern.{fromPattern}
 use Rattle.formats.specs.Write.{Writing}
 
--- a sheet of kind 1 with one row and one column, byte by byte, for values below 256
+-- a number below 256 in four bytes
+unfoldable pub fourBytes : ℕ → List ℕ
+fourBytes v = 0 ∷ 0 ∷ 0 ∷ v ∷ []
+
+-- a sheet byte by byte, for numbers below 256: the fixed fields, and the words that follow
+unfoldable pub sheetBytes : ℕ → ℕ → ℕ → ℕ → ℕ → ℕ → List ℕ → List ℕ
+sheetBytes kind modulus order challenges rows columns words =
+    0x48 ∷ 0x4F ∷ 0x4D ∷ 0 ∷ 1 ∷ kind ∷ [] ++ fourBytes modulus ++ fourBytes order ++ fourBytes challenges ++
+    rows ∷ columns ∷ [] ++ flatten (map fourBytes words)
+
+-- a sheet of kind 1 with one row and one column
 unfoldable pub smallSheet : ℕ → ℕ → ℕ → ℕ → ℕ → List ℕ
-smallSheet modulus order challenges entry statement =
-    0x48 ∷ 0x4F ∷ 0x4D ∷ 0 ∷ 1 ∷ 1 ∷
-    0 ∷ 0 ∷ 0 ∷ modulus ∷
-    0 ∷ 0 ∷ 0 ∷ order ∷
-    0 ∷ 0 ∷ 0 ∷ challenges ∷
-    1 ∷ 1 ∷
-    0 ∷ 0 ∷ 0 ∷ entry ∷
-    0 ∷ 0 ∷ 0 ∷ statement ∷ []
+smallSheet modulus order challenges entry statement = sheetBytes 1 modulus order challenges 1 1 (entry ∷ statement ∷ [])
 
 -- pages A to C and J: m 23, q 11, K 11, entry 2, z 13
 unfoldable pub schnorrSheet : List ℕ

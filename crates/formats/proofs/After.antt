@@ -5,7 +5,7 @@ use Prim.Native.Nat.{ℕ, _<_}
 use mathlib.Core.Path.{_≡_}
 use mathlib.Core.List.{List, []}
 use Rattle.types.specs.declared.Header.{Header}
-use Rattle.types.specs.declared.Located.{Located}
+use Rattle.types.specs.declared.Part.{Part}
 use Rattle.types.specs.declared.Round.{Round}
 use Rattle.rules.specs.Answer.{unlessRefused}
 use Rattle.rules.specs.Rule.{Rule, lowest, Clear}
@@ -17,8 +17,8 @@ use Rattle.formats.specs.Write.{written}
 
 -- where a refusal has a number, no place is answered
 pub nowhere : (start size n : ℕ) → 0 < n
-    → _≡_ {A = Located} (record { offset = unlessRefused n start 0; length = unlessRefused n size 0; refusal = n })
-    (record { offset = 0; length = 0; refusal = n })
+    → _≡_ {A = Part} (record { offset = unlessRefused n start 0; length = unlessRefused n size 0 })
+    (record { offset = 0; length = 0 })
 nowhere start size n some = rw (unlessRefused-positive start 0 n some, unlessRefused-positive size 0 n some)
 
 module _ (before : List Rule) (h : Header) where
@@ -65,7 +65,7 @@ module _ (before : List Rule) (h : Header) where
 
   -- the place
   pub locateAfter-refused : 0 < lowest before → (f : List ℕ) (k : ℕ)
-      → locateAfter before h f k ≡ record { offset = 0; length = 0; refusal = lowest before }
+      → locateAfter before h f k ≡ record { offset = 0; length = 0 }
   unfolding locateAfter
   locateAfter-refused some f k =
       rw (checkAfter-refused some f k) (nowhere _ _ (lowest before) some)

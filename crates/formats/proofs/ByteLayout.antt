@@ -175,9 +175,9 @@ module _ (s f : List ℕ) where
         count = ap (λ (c : Counted). c .count) (count-given s f e);
         size = r .exact ∙ ap (λ (n : ℕ). 7 + countField f * n) width;
         rounds = λ k b.
-            rw (fetch-given s f k (check-runs s f k .1 (l, r, b)))
-            (subst (λ (n : ℕ). RoundAt h f (7 + k * n) (roundAt 4 h f (7 + k * (4 * h .rows + 4 + 4 * h .columns)))) width
-            (round-read h f _ few narrow));
+            let at = subst (λ (n : ℕ). RoundAt h f (7 + k * n) (roundAt 4 h f (7 + k * (4 * h .rows + 4 + 4 * h .columns)))) width
+            (round-read h f _ few narrow) in
+            rw (fetch-given s f k (check-runs s f k .1 (l, r, b))) (refl, at);
         parts = λ k b.
             part-given s f k (check-runs s f k .1 (l, r, b)) ∙ ap (λ (n : ℕ). take n (drop (7 + k * n) f)) width;
       }

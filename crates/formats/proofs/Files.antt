@@ -11,6 +11,7 @@ use lib.ListN.{length, take}
 use borrow.Author.Tests.{leb-false, lt-leb, ltb-false, le-ltb}
 use Rattle.types.specs.declared.Header.{Header}
 use Rattle.encoding.specs.Text.{ascii}
+use Rattle.lists.proofs.Places.{tabulate-agree}
 use Rattle.rules.proofs.Lowest.{clear-append, clear-lowest, lowest-clear}
 use Rattle.rules.proofs.Says.{says-equal}
 use Rattle.sigma.specs.Comparison.{differ}
@@ -32,6 +33,7 @@ use Rattle.formats.specs.RoundFile.{
   roundMark,
   widthOf,
 }
+use Rattle.formats.specs.Rounds.{roundsRead, roundsOf}
 use Rattle.formats.specs.Sheet.{headerOf}
 use Rattle.formats.proofs.Loads.{begins, load-clear}
 use Rattle.formats.proofs.Positive.{count-positive, check-positive}
@@ -171,3 +173,10 @@ module _ (s f : List ℕ) where
         ≡ record { refusal = 0; round = roundAt (challengeWidth f) (headerOf s) f (recordStart (challengeWidth f) (headerOf s) k) }
     unfolding fetchRound fetchAfter checkRound
     fetch-given e = simp (e, unlessRefused-zero)
+
+-- the rounds that the calls read are the file's
+pub rounds-read : (s f : List ℕ) → Loads s → IsRoundFile (headerOf s) f → roundsRead s f ≡ roundsOf (headerOf s) f
+unfolding roundsOf
+rounds-read s f l file =
+    rw (count-given s f (count-runs s f .1 (l, file)))
+    (tabulate-agree (countField f) _ _ (λ k h. rw (fetch-given s f k (check-runs s f k .1 (l, file, h)))))

@@ -22,7 +22,7 @@ use Rattle.formats.specs.RoundFile.{challengeWidth, countField, fileVers
 use Rattle.formats.specs.Rounds.{Grows, Words, roundsOf}
 use Rattle.formats.specs.Sheet.{headerOf}
 use Rattle.formats.proofs.Appending.{append-given, append-runs, in-use-count, in-use-long, length-recordBytes}
-use Rattle.formats.proofs.Files.{record-behind, width-version}
+use Rattle.formats.proofs.Files.{count-given, count-runs, record-behind, rounds-read, width-version}
 use Rattle.formats.proofs.Records.{recordStart-later, recordStart-suc, roundAt-agree, roundAt-recordBytes}
 
 -- a file with the bytes of one more record behind it and the count field raised by one
@@ -124,12 +124,15 @@ module _ {h : Header} {f : List ℕ} (r : IsRoundFile h f) (room : countField f 
 
 -- a round that is appended stands behind the rounds that were there
 pub append-grows : (s buffer : List ℕ) (used : ℕ) (round : Round) → append s buffer used round .answer .refusal ≡ 0
-    → Grows (headerOf s) (take used buffer) round
-    (take (append s buffer used round .answer .length) (append s buffer used round .buffer))
+    → Grows s (take used buffer) round (take (append s buffer used round .answer .length) (append s buffer used round .buffer))
 append-grows s buffer used round e =
+    let f = take used buffer in
     let (l, u, fits) = append-runs s buffer used round .0 e in
+    let file = grown-file (u .file) (u .room) round in
+    let before = count-given s f (count-runs s f .1 (l, u .file)) in
     rw (append-given s buffer used round e, in-use-grown u round fits) (record {
-      file = grown-file (u .file) (u .room) round;
-      count = grown-count (u .file) (u .room) round;
-      rounds = grown-rounds (u .file) (u .room) round;
+      count = count-given s _ (count-runs s _ .1 (l, file)) ∙ rw (grown-count (u .file) (u .room) round, before);
+      rounds = λ words.
+          rounds-read s _ l file ∙ grown-rounds (u .file) (u .room) round words
+          ∙ ap (λ (rs : List Round). rs ++ paddedRound (headerOf s) round ∷ []) (sym (rounds-read s f l (u .file)));
     })

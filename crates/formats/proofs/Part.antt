@@ -6,16 +6,14 @@ use mathlib.Core.Path.{_≡_, refl, sym, ap, _∙_}
 use mathlib.Core.Logic.{_↔_, _≢_}
 use mathlib.Core.List.{List, []}
 use native.Mathlib.Omega.{arith}
-use lib.ListN.{length, getD, take, drop, length-drop}
+use lib.ListN.{length, take, drop, length-drop}
 use lib.Seq.{length-take-le}
 use Rattle.types.specs.declared.Header.{Header}
 use Rattle.encoding.specs.Bytes.{AllBytes}
-use Rattle.lists.proofs.Places.{getD-tabulate}
 use Rattle.sigma.proofs.Answer.{unlessRefused-zero}
 use Rattle.formats.specs.Meaning.{IsRoundFile}
-use Rattle.formats.specs.RoundCalls.{checkRound, fetchRound, noRound, partOfRound, locateAfter, locateRound}
-use Rattle.formats.specs.RoundFile.{challengeWidth, countField, recordBytes, recordLength, recordStart, roundAt, widthOf}
-use Rattle.formats.specs.Rounds.{roundsOf}
+use Rattle.formats.specs.RoundCalls.{checkRound, fetchRound, partOfRound, locateAfter, locateRound}
+use Rattle.formats.specs.RoundFile.{challengeWidth, countField, recordBytes, recordLength, recordStart, widthOf}
 use Rattle.formats.specs.Sheet.{headerOf}
 use Rattle.formats.proofs.After.{nowhere}
 use Rattle.formats.proofs.Files.{check-runs, fetch-given}
@@ -33,13 +31,12 @@ module _ (s f : List ℕ) (k : ℕ) where
       ≡ record {
         offset = recordStart (challengeWidth f) (headerOf s) k;
         length = recordLength (challengeWidth f) (headerOf s);
-        refusal = 0;
       }
   unfolding locateRound locateAfter checkRound
   place-given e = simp (e, unlessRefused-zero)
 
   -- where it gives a number, the place is of no bytes
-  pub place-refused : 0 < checkRound s f k → locateRound s f k ≡ record { offset = 0; length = 0; refusal = checkRound s f k }
+  pub place-refused : 0 < checkRound s f k → locateRound s f k ≡ record { offset = 0; length = 0 }
   unfolding locateRound locateAfter checkRound
   place-refused some = nowhere _ _ (checkRound s f k) some
 
@@ -96,13 +93,3 @@ module _ (s f : List ℕ) (k : ℕ) where
       let start = recordStart (challengeWidth f) (headerOf s) k in
       rw (fetch-given s f k e)
       (part-given e ∙ sym (recordBytes-roundAt (challengeWidth f) (headerOf s) f start (record-inside r k inside) b))
-
-  -- the round that is read is the file's round of that number
-  pub fetch-round : checkRound s f k ≡ 0
-      → fetchRound s f k ≡ record { refusal = 0; round = getD (roundsOf (headerOf s) f) k noRound }
-  unfolding roundsOf
-  fetch-round e =
-      let (l, r, b) = check-runs s f k .0 e in
-      let start = recordStart (challengeWidth f) (headerOf s) in
-      let same = getD-tabulate (countField f) (λ j. roundAt (challengeWidth f) (headerOf s) f (start j)) k noRound b in
-      fetch-given s f k e ∙ (λ j. record { refusal = 0; round = sym same j })

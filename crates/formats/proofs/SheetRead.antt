@@ -1,7 +1,7 @@
 -- The values of a sheet that loads, written: the very bytes that they were read from.
 -- Assumes nothing.
 use Prim.Native.Nat.{ℕ, _+_, _*_, _<_}
-use mathlib.Core.Path.{_≡_, sym, ap, ap₂, _∙_}
+use mathlib.Core.Path.{_≡_, refl, sym, ap, ap₂, _∙_}
 use mathlib.Core.Logic.{inl, inr}
 use mathlib.Core.List.{List, [], _++_, flatten}
 use native.Mathlib.Nat.{mul-comm}
@@ -68,14 +68,22 @@ module _ (s : List ℕ) where
   unfolding statementOf
   statement-read = places-pad8 (headerOf s .rows) _ ∙ places-whole (headerOf s .rows) _ (length-itemsAt _ _ 4 (headerOf s .rows))
 
+  -- the fixed fields are written as the numbers that were read, each in its place
+  header-read : headerBytes (headerOf s)
+      ≡ sheetMark ++ bytesOf 2 1 ++ bytesOf 1 (numberAt 1 s 5) ++ bytesOf 4 (numberAt 4 s 6) ++ bytesOf 4 (numberAt 4 s 10) ++
+      bytesOf 4 (numberAt 4 s 14) ++ bytesOf 1 (numberAt 1 s 18) ++ bytesOf 1 (numberAt 1 s 19)
+  unfolding headerBytes headerOf
+  header-read = refl
+
   -- the sheet of the values of a sheet that loads is that sheet
   pub sheetOf-instanceOf : Loads s → AllBytes s → sheetOf (instanceOf s) ≡ s
-  unfolding sheetOf headerBytes instanceOf headerOf versionOf sheetLength
+  unfolding sheetOf instanceOf versionOf sheetLength
   sheetOf-instanceOf l b =
       let h = headerOf s in
       let start : sheetMark ++ bytesOf 2 1 ≡ take 5 s =
       ap₂ (λ (m : List ℕ) (v : ℕ). m ++ bytesOf 2 v) (sym (l .mark)) (sym (l .version)) ∙ take-bytesOf 2 s 3 (omega (arith, l .exact)) b in
       rw (
+        header-read,
         start,
         take-bytesOf 1 s 5 (omega (arith, l .exact)) b,
         take-bytesOf 4 s 6 (omega (arith, l .exact)) b,

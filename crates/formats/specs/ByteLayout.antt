@@ -81,7 +81,8 @@ pub record FileLayout (sheet file : List ℕ) : Type 0 where
   pub count : countRounds sheet file .count ≡ numberAt 2 file 5
   pub size : length file ≡ 7 + numberAt 2 file 5 * recordSize (headerOf sheet)
   pub rounds : (k : ℕ) → k < numberAt 2 file 5
-      → RoundAt (headerOf sheet) file (7 + k * recordSize (headerOf sheet)) (fetchRound sheet file k .round)
+      → (fetchRound sheet file k .refusal ≡ 0)
+      × RoundAt (headerOf sheet) file (7 + k * recordSize (headerOf sheet)) (fetchRound sheet file k .round)
   pub parts : (k : ℕ) → k < numberAt 2 file 5
       → partOfRound sheet file k ≡ take (recordSize (headerOf sheet)) (drop (7 + k * recordSize (headerOf sheet)) file)
 

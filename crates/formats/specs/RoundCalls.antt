@@ -7,7 +7,7 @@ use lib.ListN.{take, drop}
 use Rattle.types.specs.declared.Counted.{Counted}
 use Rattle.types.specs.declared.Fetched.{Fetched}
 use Rattle.types.specs.declared.Header.{Header}
-use Rattle.types.specs.declared.Located.{Located}
+use Rattle.types.specs.declared.Part.{Part}
 use Rattle.types.specs.declared.Round.{Round}
 use Rattle.lists.specs.Places.{zeros8}
 use Rattle.rules.specs.Answer.{unlessRefused}
@@ -46,13 +46,12 @@ unfoldable pub checkAfter : List Rule → Header → List ℕ → ℕ → ℕ
 checkAfter before h f k = lowest (before ++ roundRules h f k)
 
 -- after the rules of the sheet: where round k stands in the file, of no bytes where it is refused
-unfoldable pub locateAfter : List Rule → Header → List ℕ → ℕ → Located
+unfoldable pub locateAfter : List Rule → Header → List ℕ → ℕ → Part
 locateAfter before h f k =
     let refusal : ℕ = checkAfter before h f k in
     record {
       offset = unlessRefused refusal (recordStart (challengeWidth f) h k) 0;
       length = unlessRefused refusal (recordLength (challengeWidth f) h) 0;
-      refusal = refusal;
     }
 
 -- after the rules of the sheet: round k's values, which are not tested
@@ -72,8 +71,8 @@ countRounds sheet f = countAfter (loadRules sheet) (headerOf sheet) f
 unfoldable pub checkRound : List ℕ → List ℕ → ℕ → ℕ
 checkRound sheet f k = checkAfter (loadRules sheet) (headerOf sheet) f k
 
--- where a round stands in the caller's own file
-unfoldable pub locateRound : List ℕ → List ℕ → ℕ → Located
+-- where a round stands in the caller's own file, of no bytes where it is refused
+unfoldable pub locateRound : List ℕ → List ℕ → ℕ → Part
 locateRound sheet f k = locateAfter (loadRules sheet) (headerOf sheet) f k
 
 -- the call that gives a round as a part of the caller's own file, empty where it is refused

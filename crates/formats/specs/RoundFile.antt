@@ -1,5 +1,5 @@
 -- The bytes of a round file (01, "A round"): seven bytes and then the records. The width of a stored challenge is a
--- parameter of the layout, and the file's version gives it.
+-- parameter of the layout, and `widthOf` has it for each version of a file.
 -- Assumes nothing.
 use Prim.Native.Nat.{ℕ, _+_, _*_}
 use mathlib.Core.Bool.{Bool, not, _||_}

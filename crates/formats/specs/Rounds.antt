@@ -10,8 +10,9 @@ use Rattle.encoding.specs.Bytes.{bytesOf}
 use Rattle.lists.specs.Places.{tabulate}
 use Rattle.sigma.specs.Reads.{paddedRound}
 use Rattle.formats.specs.Append.{append}
-use Rattle.formats.specs.Meaning.{IsRoundFile}
+use Rattle.formats.specs.RoundCalls.{countRounds, fetchRound}
 use Rattle.formats.specs.RoundFile.{challengeWidth, widthOf, recordBytes, recordStart, roundAt, roundMark, countField}
+use Rattle.formats.specs.Sheet.{headerOf}
 use Rattle.formats.specs.Write.{Writing}
 
 -- the values of a record have 32 bits, and the challenge fits its width
@@ -20,7 +21,7 @@ pub record Words (width : ℕ) (h : Header) (round : Round) : Type 0 where
   pub challenge : round .challenge < 256 ^ width
   pub response : (j : ℕ) → j < h .columns → getD (round .response) j 0 < 2 ^ 32
 
--- the rounds of a file, in order
+-- the rounds of a file, in order, by their places
 unfoldable pub roundsOf : Header → List ℕ → List Round
 roundsOf h f = tabulate (countField f) (λ k. roundAt (challengeWidth f) h f (recordStart (challengeWidth f) h k))
 
@@ -34,8 +35,12 @@ unfoldable pub appendEach : List ℕ → Writing → List Round → Writing
 appendEach sheet w [] = w
 appendEach sheet w (round ∷ rounds) = appendEach sheet (append sheet (w .buffer) (w .answer .length) round) rounds
 
--- the file f′ is the file f with one round more, at its end
-pub record Grows (h : Header) (f : List ℕ) (round : Round) (f′ : List ℕ) : Type 0 where
-  pub file : IsRoundFile h f′
-  pub count : countField f′ ≡ countField f + 1
-  pub rounds : Words (challengeWidth f) h round → roundsOf h f′ ≡ roundsOf h f ++ paddedRound h round ∷ []
+-- the rounds of a file as the calls read them
+abbrev pub roundsRead : List ℕ → List ℕ → List Round
+roundsRead sheet f = tabulate (countRounds sheet f .count) (λ k. fetchRound sheet f k .round)
+
+-- the file f′ reads as the file f with one round more, at its end
+pub record Grows (sheet f : List ℕ) (round : Round) (f′ : List ℕ) : Type 0 where
+  pub count : countRounds sheet f′ ≡ record { refusal = 0; count = countRounds sheet f .count + 1 }
+  pub rounds : Words (challengeWidth f) (headerOf sheet) round
+      → roundsRead sheet f′ ≡ roundsRead sheet f ++ paddedRound (headerOf sheet) round ∷ []

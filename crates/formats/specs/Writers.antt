@@ -6,10 +6,10 @@ use mathlib.Core.Path.{_≡_}
 use mathlib.Core.List.{List, [], _∷_}
 use Rattle.types.specs.declared.Round.{Round}
 use Rattle.sigma.specs.Instance.{Instance}
-use Rattle.sigma.specs.Reads.{SameRound}
+use Rattle.sigma.specs.Reads.{paddedRound}
 use Rattle.formats.specs.Append.{append, emptyFile}
 use Rattle.formats.specs.Encode.{encode, sheetOf}
-use Rattle.formats.specs.Meaning.{SameInstance}
+use Rattle.formats.specs.Meaning.{readInstance}
 use Rattle.formats.specs.Outcome.{Adds, Puts}
 use Rattle.formats.specs.Pattern.{fromPattern, made}
 use Rattle.formats.specs.Sheet.{headerOf}
@@ -30,6 +30,6 @@ pub record Writers : Type 0 where
   pub appended : (sheet buffer : List ℕ) (used : ℕ) (round : Round) → append sheet buffer used round .answer .refusal ≡ 0
       → Adds (headerOf sheet) round buffer used (append sheet buffer used round)
   -- places that are not read change nothing of what is written
-  pub values-read : (inst inst′ : Instance) (buffer : List ℕ) → SameInstance inst inst′ → encode inst buffer ≡ encode inst′ buffer
-  pub round-read : (sheet buffer : List ℕ) (used : ℕ) (round round′ : Round) → SameRound (headerOf sheet) round round′
-      → append sheet buffer used round ≡ append sheet buffer used round′
+  pub values-read : (inst : Instance) (buffer : List ℕ) → encode inst buffer ≡ encode (readInstance inst) buffer
+  pub round-read : (sheet buffer : List ℕ) (used : ℕ) (round : Round)
+      → append sheet buffer used round ≡ append sheet buffer used (paddedRound (headerOf sheet) round)

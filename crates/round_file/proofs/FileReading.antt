@@ -1,7 +1,7 @@
 -- The calls that read a round file, return by return. `tested` is what the test before the return answered.
 -- Assumes nothing.
 use Prim.Native.Nat.{ℕ, _+_, _-_, _≤_, _<_}
-use mathlib.Core.Path.{_≡_, refl, sym, ap, _∙_}
+use mathlib.Core.Path.{_≡_, refl, sym, _∙_}
 use mathlib.Core.List.{List, [], _∷_}
 use mathlib.Core.Logic.{_≢_}
 use native.Mathlib.Omega.{arith}
@@ -9,7 +9,7 @@ use lib.ListN.{length, take, drop}
 use lib.Dec.{leb}
 use borrow.Author.Tests.{le-leb}
 use Rattle.types.specs.declared.Header.{Header}
-use Rattle.types.specs.declared.Located.{Located}
+use Rattle.types.specs.declared.Part.{Part}
 use Rattle.types.specs.declared.Round.{Round}
 use Rattle.rules.specs.Rule.{_when_, lowest}
 use Rattle.rules.proofs.Lowest.{lowest-append-zero, lowest-earlier, lowest-later-zero, stop}
@@ -80,7 +80,7 @@ module _ (h : Header) (f : List ℕ) (k : ℕ) {n : ℕ} (tested : n ≡ checkAf
       (omega (arith, file .few), rw (← file-width file) (record-inside file k inside))
 
   -- a refused round has no place
-  pub place-none : n ≢ 0 → record { offset = 0; length = 0; refusal = n } ≡ locateAfter [] h f k
+  pub place-none : n ≢ 0 → record { offset = 0; length = 0 } ≡ locateAfter [] h f k
   unfolding locateAfter
   place-none some =
       rw (
@@ -91,7 +91,7 @@ module _ (h : Header) (f : List ℕ) (k : ℕ) {n : ℕ} (tested : n ≡ checkAf
 
   -- the place of a round that passes is its record's
   pub place-record : {start size : ℕ} → n ≡ 0 → start ≡ recordStart (widthOf 1) h k → size ≡ recordLength (widthOf 1) h
-      → record { offset = start; length = size; refusal = 0 } ≡ locateAfter [] h f k
+      → record { offset = start; length = size } ≡ locateAfter [] h f k
   unfolding locateAfter
   place-record e is-start is-size =
       rw (
@@ -104,36 +104,22 @@ module _ (h : Header) (f : List ℕ) (k : ℕ) {n : ℕ} (tested : n ≡ checkAf
         unlessRefused-zero (recordLength (widthOf 1) h) 0,
       )
 
-module _ (h : Header) (f : List ℕ) (k : ℕ) {place : Located} (found : place ≡ locateAfter [] h f k) where
-  -- a place's number is the check's
-  place-number : place .refusal ≡ checkAfter [] h f k
-  unfolding locateAfter
-  place-number = ap (λ (p : Located). p .refusal) found
-
-  -- the place of a round that passes begins where its record does
-  place-start : place .refusal ≡ 0 → place .offset ≡ recordStart (challengeWidth f) h k
-  unfolding locateAfter
-  place-start e = ap (λ (p : Located). p .offset) found ∙ rw (← place-number, e, unlessRefused-zero {A = ℕ})
-
-  -- its record lies inside the file
-  pub record-fits : place .refusal ≡ 0 → place .offset + recordLength (challengeWidth f) h ≤ length f
-  record-fits e =
-      let (file, inside) = round-there h f k place-number e in
-      rw (place-start e) (record-inside file k inside)
-
   -- a refused round is read as zeros
-  pub fetch-none : {round : Round} → place .refusal ≢ 0 → round ≡ noRound
-      → record { round = round; refusal = place .refusal } ≡ fetchAfter [] h f k
+  pub fetch-none : {round : Round} → n ≢ 0 → round ≡ noRound → record { round = round; refusal = n } ≡ fetchAfter [] h f k
   unfolding fetchAfter
-  fetch-none some is-none = rw (← place-number, is-none, unlessRefused-positive _ noRound (place .refusal) (omega arith))
+  fetch-none some is-none = rw (← tested, is-none, unlessRefused-positive _ noRound n (omega arith))
 
-  -- a round that passes is read from its record
-  pub fetch-record : {round : Round} → place .refusal ≡ 0 → round ≡ roundAt (challengeWidth f) h f (place .offset)
-      → record { round = round; refusal = 0 } ≡ fetchAfter [] h f k
-  unfolding fetchAfter
-  fetch-record e is-round = rw (← place-number, e, is-round, place-start e, unlessRefused-zero)
+  -- a round that passes is read from its record, which lies inside the file
+  module _ (passed : n ≡ 0) {start : ℕ} (is-start : start ≡ recordStart (widthOf 1) h k) where
+    pub record-fits : start + recordLength (challengeWidth f) h ≤ length f
+    record-fits = rw (is-start, file-width (round-there passed .0)) (record-there passed .1)
 
-module _ (s f : List ℕ) (k : ℕ) {place : Located} (found : place ≡ locateRound s f k) where
+    pub fetch-record : {round : Round} → round ≡ roundAt (challengeWidth f) h f start
+        → record { round = round; refusal = 0 } ≡ fetchAfter [] h f k
+    unfolding fetchAfter
+    fetch-record is-round = rw (← tested, passed, is-round, is-start, file-width (round-there passed .0), unlessRefused-zero)
+
+module _ (s f : List ℕ) (k : ℕ) {place : Part} (found : place ≡ locateRound s f k) where
   -- a round's place lies inside the file
   pub place-within : place .offset + place .length ≤ length f
   place-within = rw found (place-inside s f k)

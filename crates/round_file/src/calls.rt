@@ -7,7 +7,7 @@ use crate::reading::read_in;
 use instance::load;
 use types::Counted;
 use types::Fetched;
-use types::Located;
+use types::Part;
 ghost use mathlib.Core.Path.{_≡_};
 ghost use Rattle.formats.specs.RoundCalls.{countRounds, checkRound, locateRound, partOfRound, fetchRound};
 
@@ -37,17 +37,16 @@ pub fn check(sheet: &[u8], file: &[u8], k: usize) -> u32
     check_in(h, file, k)
 }
 
-// Where round k stands in a file; no bytes, at 0, beside the number, 2 to 13, where it is refused.
-pub fn locate(sheet: &[u8], file: &[u8], k: usize) -> Located
+// Where round k stands in a file, 0 and 0 where it is refused; `check` of the same inputs gives the number.
+pub fn locate(sheet: &[u8], file: &[u8], k: usize) -> Part
     ensures { λ r. ⌜ r ≡ locateRound (now (sheet .entry)) (now (file .entry)) k ⌝ }
 {
     let loaded = load(sheet);
     let refusal = loaded.refusal;
     if refusal != 0 {
-        return Located {
+        return Part {
             offset: 0,
             length: 0,
-            refusal,
         };
     }
     let h = loaded.header;

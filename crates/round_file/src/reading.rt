@@ -8,7 +8,7 @@ use fields::read_words;
 use types::Counted;
 use types::Fetched;
 use types::Header;
-use types::Located;
+use types::Part;
 use types::Round;
 ghost use Prim.Native.Nat.{_+_, _≤_};
 ghost use mathlib.Core.Path.{_≡_};
@@ -50,24 +50,22 @@ pub fn check_in(h: Header, file: &[u8], k: usize) -> u32
     0
 }
 
-// Where round k stands in a file; no bytes, at 0, beside the number where it is refused.
-pub fn locate_in(h: Header, file: &[u8], k: usize) -> Located
+// Where round k stands in a file, 0 and 0 where it is refused.
+pub fn locate_in(h: Header, file: &[u8], k: usize) -> Part
     requires rows { ⌜ h .rows ≤ 8 ⌝ }
     requires columns { ⌜ h .columns ≤ 8 ⌝ }
     ensures { λ r. ⌜ r ≡ locateAfter [] h (now (file .entry)) k ⌝ }
 {
     let refusal = check_in(h, file, k);
     if refusal != 0 {
-        return Located {
+        return Part {
             offset: 0,
             length: 0,
-            refusal,
         };
     }
-    Located {
+    Part {
         offset: record_start(h, k),
         length: record_length(h),
-        refusal: 0,
     }
 }
 
@@ -108,14 +106,13 @@ pub fn read_in(h: Header, file: &[u8], k: usize) -> Fetched
     requires columns { ⌜ h .columns ≤ 8 ⌝ }
     ensures { λ r. ⌜ r ≡ fetchAfter [] h (now (file .entry)) k ⌝ }
 {
-    let place = locate_in(h, file, k);
-    let refusal = place.refusal;
+    let refusal = check_in(h, file, k);
     if refusal != 0 {
         return Fetched {
             round: no_round(),
             refusal,
         };
     }
-    let round = round_at(h, file, place.offset);
+    let round = round_at(h, file, record_start(h, k));
     Fetched { round, refusal: 0 }
 }

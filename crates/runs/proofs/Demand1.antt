@@ -17,9 +17,9 @@ use Rattle.rules.proofs.Refuses.{refuses-given, refuses-tested}
 use Rattle.rules.proofs.Order.{order-rises, order-distinct}
 use Rattle.formats.specs.Append.{append, appendAfter, emptyFile}
 use Rattle.formats.specs.Encode.{encode}
-use Rattle.formats.specs.Load.{load, loadRefusal, loadRules}
+use Rattle.formats.specs.Load.{load, loadRefusal, loadRules, noHeader}
 use Rattle.formats.specs.RoundCalls.{checkAfter, checkRound, countAfter, countRounds, fetchAfter, fetchRound, noRound}
-use Rattle.formats.specs.Sheet.{instanceOf}
+use Rattle.formats.specs.Sheet.{instanceOf, zeros64}
 use Rattle.formats.specs.Write.{written, writtenAtStart}
 use Rattle.formats.specs.Pattern.{fromPattern}
 use Rattle.formats.proofs.Appending.{append-refused}
@@ -59,7 +59,7 @@ pub demand1 : Demand1
 unfolding conditionNumbers isSublist refusalOrder sheetNumbers load loadRefusal encode fromPattern writtenAtStart written
     countRounds countAfter checkRound checkAfter fetchRound fetchAfter emptyFile append appendAfter judgeRound judgeAfter
     simulateCommitment simulateAfter extractWitness extractAfter computed eightPlaces commit respond takeCommitment
-    takeChallenge takeResponse
+    takeChallenge takeResponse noHeader zeros8 zeros64 noRound
 demand1 = record {
   order = (order-rises, order-distinct);
   loading = λ sheet.

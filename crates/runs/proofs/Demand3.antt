@@ -20,7 +20,7 @@ use Rattle.sigma.specs.Instance.{Instance, tableOf}
 use Rattle.sigma.specs.Knowledge.{AcceptedRound, Choice, Witness, honestOn, simulatedOn}
 use Rattle.sigma.specs.Knowledge.{MeetsEachOnce, AcceptedPair, Extraction}
 use Rattle.sigma.specs.Listed.{allChoices, ListsAccepted}
-use Rattle.sigma.specs.Reads.{roundOf, readRound, SameRound, paddedRound}
+use Rattle.sigma.specs.Reads.{roundOf, SameRound, paddedRound}
 use Rattle.sigma.specs.Round.{response}
 use Rattle.sigma.specs.Simulator.{simulated}
 use Rattle.sigma.specs.Valid.{Valid}
@@ -29,7 +29,7 @@ use Rattle.sigma.proofs.Lists.{all-choices-member, all-choices-once, lists-acce
 use Rattle.sigma.proofs.Prover.{honest-rounds}
 use Rattle.sigma.proofs.Restated.{meets-alike, pair-alike, extraction-alike}
 use Rattle.sigma.proofs.Simulator.{simulated-rounds, simulate-answer}
-use Rattle.sigma.proofs.Unread.{same-round-of-read, same-round-sym, same-commitment, same-response, judgeAfter-same, simulateAfter-same, extractAfter-same}
+use Rattle.sigma.proofs.Unread.{same-round-of-padded, same-round-sym, same-commitment, same-response, judgeAfter-same, simulateAfter-same, extractAfter-same}
 use Rattle.sigma.proofs.Values.{length-image, length-response, length-simulated}
 use Rattle.runs.specs.Calls.{judgeRound, simulateCommitment, extractWitness}
 use Rattle.runs.specs.Demand3.{ReadAlone, Demand3}
@@ -66,13 +66,13 @@ module _ (h : Header) (t : List ℕ) (c : ℕ) (r : List ℕ) where
 
 -- no answer depends on unread places, whether or not the sheet loads
 pub read-alone : (sheet : List ℕ) → ReadAlone sheet
-unfolding honestRound judgeRound simulateCommitment extractWitness commit respond
+unfolding honestRound judgeRound simulateCommitment extractWitness commit respond instanceOf
 read-alone sheet =
     let before = loadRules sheet in
     let inst = instanceOf sheet in
     let slots = read-agrees (inst .header .columns) in
-    let read : (round : Round) → SameRound (inst .header) round (readRound (inst .header) round) =
-    λ round. same-round-sym (same-round-of-read (inst .header) round) in
+    let read : (round : Round) → SameRound (inst .header) round (paddedRound (inst .header) round) =
+    λ round. same-round-sym (same-round-of-padded (inst .header) round) in
     record {
       honest = λ x c k.
           let k′ = places (inst .header .columns) k in

@@ -6,6 +6,7 @@ use mathlib.Core.Path.{_≡_}
 use mathlib.Core.Bool.{true}
 use mathlib.Core.Logic.{_↔_, _≢_}
 use mathlib.Core.List.{List, [], _∷_, _++_}
+use lib.ListN.{replicate}
 use Rattle.types.specs.declared.Prover.{Prover}
 use Rattle.types.specs.declared.ProverStep.{ProverStep}
 use Rattle.types.specs.declared.Round.{Round}
@@ -18,15 +19,16 @@ use Rattle.rules.specs.Condition.{Condition}
 use Rattle.rules.specs.Order.{refusalOrder, sheetNumbers, isSublist}
 use Rattle.formats.specs.Append.{append, emptyFile}
 use Rattle.formats.specs.Encode.{encode}
-use Rattle.formats.specs.Load.{load, loadEntries, noHeader}
+use Rattle.formats.specs.Load.{load, loadEntries}
 use Rattle.formats.specs.Outcome.{Keeps}
 use Rattle.formats.specs.Pattern.{fromPattern, made}
 use Rattle.formats.specs.Refusals.{loadConditions, encodeConditions, makeConditions}
 use Rattle.formats.specs.Refusals.{fileConditions, roundConditions, emptyConditions, appendConditions}
-use Rattle.formats.specs.RoundCalls.{checkRound, countRounds, fetchRound, noRound, partOfRound}
-use Rattle.formats.specs.Sheet.{headerOf, instanceOf, zeros64}
+use Rattle.formats.specs.RoundCalls.{checkRound, countRounds, fetchRound, partOfRound}
+use Rattle.formats.specs.Sheet.{headerOf, instanceOf}
 use Rattle.sigma.specs.Answer.{outcome}
 use Rattle.sigma.specs.Instance.{Instance}
+use Rattle.sigma.specs.Reads.{roundOf}
 use Rattle.sigma.specs.Refusals.{judgeConditions, simulateConditions, extractConditions}
 use Rattle.runs.specs.Calls.{judgeRound, simulateCommitment, extractWitness}
 use Rattle.runs.specs.Prover.{commit, respond, dropSession}
@@ -51,7 +53,8 @@ pub record Demand1 : Type 0 where
   -- loading; a refused sheet gives zeros beside the number
   pub loading : (sheet : List ℕ)
       → Refuses sheetNumbers (loadConditions sheet) (load sheet .refusal)
-      ((load sheet .header ≡ noHeader) × (load sheet .statement ≡ zeros8) × (loadEntries sheet ≡ zeros64))
+      ((load sheet .header ≡ record { kind = 0; modulus = 0; order = 0; challenges = 0; rows = 0; columns = 0 })
+      × (load sheet .statement ≡ replicate 8 0) × (loadEntries sheet ≡ replicate 8 (replicate 8 0)))
   -- the sheet maker; a refused call keeps the buffer's bytes and answers length 0
   pub making : (number modulus order challenges : ℕ) (values statement buffer : List ℕ)
       → Refuses (1 ∷ 5 ∷ 6 ∷ 8 ∷ 10 ∷ 11 ∷ 22 ∷ [])
@@ -76,7 +79,7 @@ pub record Demand1 : Type 0 where
   -- reading a round's values; a refused round has zeros
   pub reading : (sheet file : List ℕ) (k : ℕ)
       → RefusesOn sheet (12 ∷ 13 ∷ []) (roundConditions (headerOf sheet) file k) (fetchRound sheet file k .refusal)
-      (fetchRound sheet file k .round ≡ noRound)
+      (fetchRound sheet file k .round ≡ roundOf (replicate 8 0) 0 (replicate 8 0))
   -- making a file of no rounds; a refused call keeps the buffer's bytes and answers length 0
   pub starting : (buffer : List ℕ)
       → Refuses (22 ∷ []) (emptyConditions buffer) (emptyFile buffer .answer .refusal) (Keeps buffer (emptyFile buffer))

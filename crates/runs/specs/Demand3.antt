@@ -6,13 +6,13 @@ use mathlib.Core.Logic.{_↔_}
 use mathlib.Core.List.{List, map}
 use Rattle.types.specs.declared.Round.{Round}
 use Rattle.lists.specs.Member.{Member, EachOnce}
-use Rattle.formats.specs.Sheet.{instanceOf}
+use Rattle.formats.specs.Sheet.{headerOf, instanceOf}
 use Rattle.sigma.specs.Knowledge.{Choice, Witness, MeetsEachOnce, AcceptedPair, Extraction}
 use Rattle.sigma.specs.Listed.{allChoices, ListsAccepted}
 use Rattle.sigma.specs.Reads.{paddedRound}
 use Rattle.runs.specs.Calls.{judgeRound, simulateCommitment, extractWitness}
 use Rattle.runs.specs.Knowledge.{Accepts, honestRound, simulatedRound}
-use Rattle.runs.specs.OnSheet.{readSlots, readIn, Below}
+use Rattle.runs.specs.OnSheet.{readSlots, Below}
 use Rattle.runs.specs.Prover.{newProver, commit, respond}
 
 -- unread places are no part of a nonce, witness, response or round: a call answers what it answers to the places that are read
@@ -20,9 +20,10 @@ pub record ReadAlone (sheet : List ℕ) : Type 0 where
   pub honest : (x : List ℕ) (c : ℕ) (k : List ℕ)
       → honestRound sheet x c k ≡ honestRound sheet (readSlots sheet x) c (readSlots sheet k)
   pub simulated : (c : ℕ) (r : List ℕ) → simulateCommitment sheet c r ≡ simulateCommitment sheet c (readSlots sheet r)
-  pub judged : (round : Round) → judgeRound sheet round ≡ judgeRound sheet (readIn sheet round)
+  pub judged : (round : Round) → judgeRound sheet round ≡ judgeRound sheet (paddedRound (headerOf sheet) round)
   pub extracted : (first second : Round)
-      → extractWitness sheet first second ≡ extractWitness sheet (readIn sheet first) (readIn sheet second)
+      → extractWitness sheet first second
+      ≡ extractWitness sheet (paddedRound (headerOf sheet) first) (paddedRound (headerOf sheet) second)
 
 -- demand 3 of a sheet
 pub record Demand3 (sheet : List ℕ) : Type 0 where

@@ -21,9 +21,9 @@ use Rattle.sigma.specs.Image.{rowImage}
 use Rattle.sigma.specs.Instance.{Table, tableOf}
 use Rattle.sigma.specs.Reads.{roundOf}
 use Rattle.runs.specs.Calls.{judgeRound, simulateCommitment, extractWitness}
+use Rattle.runs.specs.JointRun.{told}
 use Rattle.runs.specs.OnSheet.{Below, readSlots, readValues}
 use Rattle.runs.specs.Prover.{newProver, commit, respond}
-use Rattle.runs.specs.Verifier.{newVerifier, takeCommitment, takeChallenge, takeResponse}
 
 -- the table of a sheet
 abbrev pub tableIn : List ℕ → Table
@@ -57,8 +57,7 @@ pub record MainProtocol (sheet : List ℕ) : Type 0 where
       → (judgeRound sheet (roundOf (t .0) c (r .0)) ≡ Accepted) ↔ Accepting table statement t c r
   -- which is the verdict of Vic's session on t, then c, then r
   pub verifies : (t : Codomain (tableIn sheet)) (c : ℕ) (r : Domain (tableIn sheet)) → Below sheet c
-      → takeResponse sheet (takeChallenge sheet (takeCommitment sheet newVerifier (t .0) .session) c .session) (r .0) .verdict
-      ≡ judgeRound sheet (roundOf (t .0) c (r .0))
+      → told sheet (roundOf (t .0) c (r .0)) .verdict ≡ judgeRound sheet (roundOf (t .0) c (r .0))
   -- and no other round is accepted
   pub no-other : (round : Round) → judgeRound sheet round ≡ Accepted
       → Each (Element (tableIn sheet .header)) (tableIn sheet .header .rows) (readValues sheet (round .commitment))

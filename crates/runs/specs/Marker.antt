@@ -36,7 +36,7 @@ verdictLine k verdict = decimal k ++ ascii " " ++ verdictText verdict ++ newline
 unfoldable pub resultLine : Bool → List ℕ
 resultLine failed = cond failed (ascii "fail") (ascii "pass") ++ newline
 
--- the verdict on round k of a file
+-- the verdict on round k of a file: what judging answers on the round as the read call gives it
 unfoldable pub verdictOn : List ℕ → List ℕ → ℕ → Verdict
 verdictOn sheet f k = judgeRound sheet (fetchRound sheet f k .round)
 

@@ -1,14 +1,12 @@
--- What a sheet's bytes say of arrays, rounds, sessions and challenges (01, "The sheet"): the places that are read (those beyond
+-- What a sheet's bytes say of arrays, sessions and challenges (01, "The sheet"): the places that are read (those beyond
 -- s or n are not, save those of Peggy's held commitment by 21), and the count K.
 -- Assumes nothing.
 use Prim.Native.Nat.{ℕ, _<_}
 use mathlib.Core.List.{List}
 use Rattle.types.specs.declared.Prover.{Prover}
-use Rattle.types.specs.declared.Round.{Round}
 use Rattle.types.specs.declared.Verifier.{Verifier}
 use Rattle.lists.specs.Places.{places}
 use Rattle.formats.specs.Sheet.{instanceOf}
-use Rattle.sigma.specs.Reads.{readRound}
 
 -- what is read of a commitment: s places
 abbrev pub readValues : List ℕ → List ℕ → List ℕ
@@ -17,10 +15,6 @@ readValues sheet t = places (instanceOf sheet .header .rows) t
 -- what is read of a nonce, a witness or a response: n places
 abbrev pub readSlots : List ℕ → List ℕ → List ℕ
 readSlots sheet x = places (instanceOf sheet .header .columns) x
-
--- what is read of a round
-abbrev pub readIn : List ℕ → Round → Round
-readIn sheet round = readRound (instanceOf sheet .header) round
 
 -- what is read of Peggy's session: the state, n places of the nonce and all eight of the commitment
 abbrev pub readProver : List ℕ → Prover → Prover

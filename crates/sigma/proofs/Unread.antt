@@ -10,14 +10,14 @@ use Rattle.types.specs.declared.Header.{Header}
 use Rattle.types.specs.declared.Round.{Round}
 use Rattle.numbers.proofs.Product.{product-agree}
 use Rattle.lists.specs.Places.{places}
-use Rattle.lists.proofs.Places.{places-agree, getD-places}
+use Rattle.lists.proofs.Places.{places-agree, getD-pad8, getD-places}
 use Rattle.rules.specs.Rule.{Rule}
 use Rattle.rules.proofs.Says.{says-decides}
 use Rattle.sigma.specs.Instance.{Instance, Table, entry, statementAt}
 use Rattle.sigma.specs.Element.{Element, Coordinate}
 use Rattle.sigma.specs.Valid.{Valid, ValidTable}
 use Rattle.sigma.specs.Image.{rowImage}
-use Rattle.sigma.specs.Reads.{Agree, SameRound, readRound}
+use Rattle.sigma.specs.Reads.{Agree, SameRound, paddedRound, readRound}
 use Rattle.sigma.specs.Meaning.{RowHolds, Holds, FailsFirst, Elements, Coordinates, Fits, Extracts}
 use Rattle.sigma.specs.Judge.{judgeAfter, judgeLoaded}
 use Rattle.sigma.specs.Simulator.{simulateAfter}
@@ -63,6 +63,15 @@ same-round-of-read h round = record {
   commitment = getD-places (h .rows) (round .commitment);
   challenge = refl;
   response = getD-places (h .columns) (round .response);
+}
+
+-- with 0 in the places that are not read it is so too
+pub same-round-of-padded : (h : Header) (round : Round) → SameRound h (paddedRound h round) round
+unfolding paddedRound
+same-round-of-padded h round = record {
+  commitment = λ j b. getD-pad8 0 (places (h .rows) (round .commitment)) j ∙ getD-places (h .rows) (round .commitment) j b;
+  challenge = refl;
+  response = λ j b. getD-pad8 0 (places (h .columns) (round .response)) j ∙ getD-places (h .columns) (round .response) j b;
 }
 
 -- ---- facts

@@ -1,4 +1,3 @@
--- Laws on the two forms of a table, and on the place of a part.
+-- Laws on the two forms of a table.
 pub mod Entries
 pub mod Flat
-pub mod RoundPlace

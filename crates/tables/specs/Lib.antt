@@ -1,3 +1,2 @@
--- The forms in which a table and a part cross.
+-- The forms in which a table crosses.
 pub mod Flat
-pub mod RoundPlace

@@ -53,11 +53,11 @@ pub struct Counted {
     pub refusal: u32,
 }
 
-// Where a round stands in a round file: its first byte and how many bytes it has.
-pub struct Located {
+// Where a part of the caller's own file stands: its first byte and how many bytes it has.
+#[repr(C)]
+pub struct Part {
     pub offset: usize,
     pub length: usize,
-    pub refusal: u32,
 }
 
 // A round as it stands in a round file.

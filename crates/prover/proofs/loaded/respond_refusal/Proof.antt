@@ -10,6 +10,7 @@ use borrow.Author.Needs.{needs}
 use Rattle.lists.specs.Places.{places}
 use Rattle.rules.specs.Rule.{lowest}
 use Rattle.rules.proofs.Lowest.{pass, stop, lowest-clear}
+use Rattle.sigma.specs.Comparison.{differ}
 use Rattle.sigma.proofs.Calculus.{says-passes, both-fail}
 use Rattle.sigma.proofs.Passed.{challenge-passes}
 use Rattle.sigma.proofs.Tests.{says-badChallenge}
@@ -41,6 +42,12 @@ unfolding respondRules
 slots c =
     challenge (c .before .before) ∙ pass 16 _ (coordinates-read _ _ ∙ sym (c .before .some-non-coordinate .ensures) ∙ c .if2 .left)
 
+-- the witness's image is compared with the statement in all rows (17)
+compared : (c : tie.After-differ) →
+    let args = c .before .before .before .before .before .before .before .before .args in
+    c .differ .result ≡ differ (args .h .rows) (c .before .image .result) (args .statement)
+compared c = c .differ .ensures
+
 -- behind the comparison of its image
 witness : (c : tie.Else3) → Rest 3 (c .before .before .before .before .before .before .before .before .before)
 unfolding respondRules
@@ -48,7 +55,7 @@ witness c =
     let imaged = c .before .before in
     let start = imaged .before .before .before .before .before .before .before in
     slots (imaged .before)
-    ∙ pass 17 _ (witness-read _ (start .pre) _ (imaged .image .ensures) ∙ sym (c .before .differ .ensures) ∙ c .if3 .left)
+    ∙ pass 17 _ (witness-read _ (start .pre) _ (imaged .image .ensures) ∙ sym (compared (c .before)) ∙ c .if3 .left)
 
 cast-rows : tie.Need-cast-rows
 cast-rows c = search needs
@@ -80,7 +87,7 @@ returns-3 c =
     let imaged = c .before .before in
     let start = imaged .before .before .before .before .before .before .before in
     sym (slots (imaged .before)
-    ∙ stop 17 _ (witness-read _ (start .pre) _ (imaged .image .ensures) ∙ sym (c .before .differ .ensures) ∙ c .if3 .taken))
+    ∙ stop 17 _ (witness-read _ (start .pre) _ (imaged .image .ensures) ∙ sym (compared (c .before)) ∙ c .if3 .taken))
 
 enum-told : tie.Need-enum-told
 enum-told c = search needs

@@ -1,9 +1,10 @@
 -- `prover::loaded::unfit` meets its contract: the held slots are searched first, then the held commitment is compared.
 -- Assumes nothing.
-use mathlib.Core.Path.{sym, _∙_}
+use mathlib.Core.Path.{_≡_, sym, _∙_}
 use mathlib.Core.Bool.{or-eq-true-iff}
 use mathlib.Core.Logic.{Or·inl}
 use borrow.Author.Needs.{needs}
+use Rattle.sigma.specs.Comparison.{differ}
 use Rattle.runs.specs.Prover.{unfitProver}
 use Rattle.image.proofs.Tested.{coordinates-read}
 use Rattle.prover.proofs.Held.{unfit-commitment}
@@ -30,7 +31,9 @@ differ-requires c κs = search needs
 returns-2 : tie.Need-returns-2
 returns-2 c = λ statement v.
     let slots = c .before .before in
-    c .differ .ensures ∙ unfit-commitment _ v _ (sym (slots .before .some-non-coordinate .ensures) ∙ slots .if1 .left) (c .before .image .ensures)
+    let held = slots .before .before .before .before .before .args .session .commitment in
+    let compared : c .differ .result ≡ differ 8 (c .before .image .result) held = c .differ .ensures in
+    compared ∙ unfit-commitment _ v _ (sym (slots .before .some-non-coordinate .ensures) ∙ slots .if1 .left) (c .before .image .ensures)
 
 pub unfit-spec : {M : Type 1} → statement M
 unfit-spec =

@@ -1,4 +1,4 @@
--- `round_file::calls::locate` meets its contract: a refused sheet's number is the answer, else the fixed fields are loaded.
+-- `round_file::calls::locate` meets its contract: a round of a refused sheet has no place, else the fixed fields are loaded.
 -- Assumes nothing.
 use mathlib.Core.Path.{sym}
 use native.Mathlib.Omega.{arith}
@@ -15,7 +15,7 @@ returns : tie.Need-returns
 unfolding locateRound
 returns c =
     let (number, some) = answer-refused _ _ (c .before .load .ensures) (c .if1 .taken) in
-    rw number (sym (locateAfter-refused _ _ some _ _))
+    sym (locateAfter-refused _ _ some _ _)
 
 locate-in-requires : tie.Need-locate-in-requires
 locate-in-requires c κs = answer-few _ _ (c .before .before .load .ensures) (c .before .if1 .left)

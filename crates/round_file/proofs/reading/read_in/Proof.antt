@@ -1,26 +1,33 @@
 -- `round_file::reading::read_in` meets its contract: a refused round is read as zeros, any other at its place.
 -- Assumes nothing.
 use native.Mathlib.Omega.{arith}
-use Rattle.round_file.proofs.FileReading.{record-fits, fetch-none, fetch-record}
+use Rattle.round_file.proofs.FileReading.{record-there, record-fits, fetch-none, fetch-record}
 use Rattle.round_file.proofs.reading.read_in.Statement.{statement}
 use Rattle.round_file.proofs.reading.read_in.Tie as tie
 
-locate-in-requires : tie.Need-locate-in-requires
-locate-in-requires c κs = omega arith
+check-in-requires : tie.Need-check-in-requires
+check-in-requires c κs = omega arith
 
 no-round-requires : tie.Need-no-round-requires
 no-round-requires c κs = omega arith
 
 returns : tie.Need-returns
-returns c = fetch-none _ _ _ (c .before .before .locate-in .ensures) (c .before .if1 .taken) (c .no-round .ensures)
+returns c = fetch-none _ _ _ (c .before .before .check-in .ensures) (c .before .if1 .taken) (c .no-round .ensures)
+
+record-start-requires : tie.Need-record-start-requires
+record-start-requires c κs = omega (arith, record-there _ _ _ (c .before .check-in .ensures) (c .if1 .left))
 
 round-at-requires : tie.Need-round-at-requires
-round-at-requires c κs = omega (arith, record-fits _ _ _ (c .before .locate-in .ensures) (c .if1 .left))
+round-at-requires c κs =
+    let at-test = c .before in
+    omega (arith, record-fits _ _ _ (at-test .before .check-in .ensures) (at-test .if1 .left) (c .record-start .ensures .0))
 
 returns-2 : tie.Need-returns-2
 returns-2 c =
-    let at-test = c .before in
-    fetch-record _ _ _ (at-test .before .locate-in .ensures) (at-test .if1 .left) (c .round-at .ensures)
+    let at-test = c .before .before in
+    fetch-record _ _ _ (at-test .before .check-in .ensures) (at-test .if1 .left) (c .before .record-start .ensures .0)
+    (c .round-at .ensures)
 
 pub read-in-spec : {M : Type 1} → statement M
-read-in-spec = tie.close (tie.spec locate-in-requires no-round-requires returns round-at-requires returns-2)
+read-in-spec =
+    tie.close (tie.spec check-in-requires no-round-requires returns record-start-requires round-at-requires returns-2)
