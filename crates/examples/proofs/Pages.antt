@@ -146,6 +146,7 @@ use Rattle.examples.specs.Corners.{
   onesSheet,
   manyChallenges,
   changed,
+  rootBytes,
   making,
   writingIn,
   zerosFile,
@@ -197,7 +198,7 @@ unfolding euclid gcd residue quotient power bezoutRight bezoutLeft inverse produ
     unfitCommitment takeCommitmentRules takeCommitmentAfter takeChallengeRules takeChallengeAfter takeResponseRules
     takeResponseAfter takeCommitment takeChallenge takeResponse honestRound exampleFile exampleText array smallRound
     run bothWays judging fourBytes sheetBytes smallSheet schnorrSheet madeSheet okamotoSheet diffieHellmanSheet productSheet rootSheet
-    flatten onesSheet manyChallenges changed making writingIn zerosFile noBytes counting appending
+    flatten onesSheet manyChallenges changed rootBytes making writingIn zerosFile noBytes counting appending
     extracting simulating peggy committing responding dropping vic hearing asking telling noRounds badInUse
     appendRules recordBytes appended appendAfter append emptyFile noHeader load loadEntries encodeRules encode
     dropRules dropSession checkRound

@@ -14,7 +14,7 @@ use Rattle.types.specs.declared.VerifierPhase.{VerifierPhase}
 use Rattle.types.specs.declared.VerifierPhase.the-variants.{Waiting, Holding, Asked, Judged}
 use Rattle.examples.specs.MarkerExample.{exampleFile}
 use Rattle.examples.specs.Pages.{array, judging, smallRound}
-use Rattle.examples.specs.Sheets.{rootSheet, schnorrSheet, sheetBytes, smallSheet}
+use Rattle.examples.specs.Sheets.{schnorrSheet, sheetBytes, smallSheet}
 use Rattle.formats.specs.Append.{append, emptyFile}
 use Rattle.formats.specs.Encode.{encode}
 use Rattle.formats.specs.Load.{loadRefusal, loaded}
@@ -46,6 +46,10 @@ manyChallenges more = sets (sets (smallSheet 3 1 0 1 1) 10 (0 ∷ 1 ∷ 0 ∷ 1 
 -- a sheet or file with one byte changed
 unfoldable pub changed : List ℕ → ℕ → ℕ → List ℕ
 changed bytes at byte = sets bytes at (byte ∷ [])
+
+-- page G's sheet, byte by byte: m 35, e 5, K 5, z 32
+unfoldable pub rootBytes : List ℕ
+rootBytes = sheetBytes 2 35 5 5 1 1 (32 ∷ [])
 
 -- the sheet maker's number for a pattern over so many public values 2 and statement values 13, m 23, q 11, K 11
 unfoldable pub making : ℕ → ℕ → ℕ → ℕ
@@ -128,7 +132,7 @@ pub record EveryCorner : Type 0 where
       ([] ∷ take 19 schnorrSheet ∷ changed schnorrSheet 0 0x49 ∷ changed schnorrSheet 1 0x4E ∷ changed schnorrSheet 2 0x4C ∷ [])
   pub refusal3 :
       SheetCorner 3 (schnorrSheet ∷ []) (changed schnorrSheet 4 0 ∷ changed schnorrSheet 4 2 ∷ changed schnorrSheet 3 1 ∷ [])
-  pub refusal4 : SheetCorner 4 (schnorrSheet ∷ rootSheet ∷ []) (map (changed schnorrSheet 5) (0 ∷ 3 ∷ []))
+  pub refusal4 : SheetCorner 4 (schnorrSheet ∷ rootBytes ∷ []) (map (changed schnorrSheet 5) (0 ∷ 3 ∷ []))
   pub refusal5 : SheetCorner 5 (smallSheet 3 11 11 1 1 ∷ []) (smallSheet 2 11 11 1 1 ∷ smallSheet 0 11 11 1 1 ∷ [])
   pub refusal6 : SheetCorner 6 (smallSheet 23 2 2 1 1 ∷ []) (smallSheet 23 1 2 1 1 ∷ smallSheet 23 0 2 1 1 ∷ [])
   pub refusal7 :
@@ -139,15 +143,15 @@ pub record EveryCorner : Type 0 where
       SheetCorner 8 (smallSheet 23 11 2 1 1 ∷ smallSheet 23 11 11 1 1 ∷ smallSheet 31 15 3 1 1 ∷ manyChallenges 0 ∷ [])
       (smallSheet 23 11 1 1 1 ∷ smallSheet 23 11 12 1 1 ∷ smallSheet 31 15 4 1 1 ∷ manyChallenges 1 ∷ [])
   pub refusal9 :
-      SheetCorner 9 (schnorrSheet ∷ rootSheet ∷ onesSheet 1 2 3 8 ∷ [])
+      SheetCorner 9 (schnorrSheet ∷ rootBytes ∷ onesSheet 1 2 3 8 ∷ [])
       (take 27 schnorrSheet ∷ (schnorrSheet ++ 0 ∷ []) ∷ take 20 schnorrSheet ∷
       onesSheet 2 1 1 2 ∷ onesSheet 1 2 3 7 ∷ onesSheet 1 2 3 9 ∷ [])
   pub refusal10 :
       SheetCorner 10 (map (changed schnorrSheet 23) (1 ∷ 18 ∷ []) ++ smallSheet 31 15 3 2 1 ∷ smallSheet 31 15 3 5 1 ∷ [])
       (map (changed schnorrSheet 23) (0 ∷ 5 ∷ 23 ∷ 25 ∷ []) ++ smallSheet 31 15 3 3 1 ∷ changed (onesSheet 1 2 2 6) 35 5 ∷ [])
   pub refusal11 :
-      SheetCorner 11 (changed schnorrSheet 27 1 ∷ changed rootSheet 23 34 ∷ [])
-      (map (changed schnorrSheet 27) (0 ∷ 5 ∷ 23 ∷ 36 ∷ []) ++ map (changed rootSheet 23) (35 ∷ 30 ∷ []) ++
+      SheetCorner 11 (changed schnorrSheet 27 1 ∷ changed rootBytes 23 34 ∷ [])
+      (map (changed schnorrSheet 27) (0 ∷ 5 ∷ 23 ∷ 36 ∷ []) ++ map (changed rootBytes 23) (35 ∷ 30 ∷ []) ++
       changed (onesSheet 1 2 2 6) 43 5 ∷ [])
   -- round files
   pub refusal12 :
@@ -161,9 +165,9 @@ pub record EveryCorner : Type 0 where
       (map (checkRound schnorrSheet exampleFile) (4 ∷ 65536 ∷ []) ++ checkRound schnorrSheet noBytes 0 ∷ [])
   -- rounds
   pub refusal14 :
-      Corner 14 (judging schnorrSheet 1 0 0 ∷ judging rootSheet 34 0 1 ∷ hearing 18 Waiting ∷ [])
+      Corner 14 (judging schnorrSheet 1 0 0 ∷ judging rootBytes 34 0 1 ∷ hearing 18 Waiting ∷ [])
       (judging schnorrSheet 0 0 0 ∷ judging schnorrSheet 5 0 0 ∷ judging schnorrSheet 24 0 0 ∷
-      judging rootSheet 35 0 1 ∷ judging rootSheet 14 0 1 ∷ extracting 24 1 1 ∷ hearing 5 Waiting ∷ [])
+      judging rootBytes 35 0 1 ∷ judging rootBytes 14 0 1 ∷ extracting 24 1 1 ∷ hearing 5 Waiting ∷ [])
   pub refusal15 :
       Corner 15
       (judging schnorrSheet 9 10 0 ∷ simulating schnorrSheet 10 0 ∷ responding 10 7 (peggy Committed 5 0) ∷
@@ -172,10 +176,10 @@ pub record EveryCorner : Type 0 where
       asking 11 (vic Holding 9 0) ∷ extracting 9 11 1 ∷ [])
   pub refusal16 :
       Corner 16
-      (judging schnorrSheet 9 0 10 ∷ simulating schnorrSheet 0 10 ∷ simulating rootSheet 0 34 ∷
-      committing schnorrSheet 10 New ∷ committing rootSheet 34 New ∷ committing (smallSheet 31 15 3 2 1) 14 New ∷
+      (judging schnorrSheet 9 0 10 ∷ simulating schnorrSheet 0 10 ∷ simulating rootBytes 0 34 ∷
+      committing schnorrSheet 10 New ∷ committing rootBytes 34 New ∷ committing (smallSheet 31 15 3 2 1) 14 New ∷
       telling 10 (vic Asked 9 3) ∷ [])
-      (judging schnorrSheet 9 0 11 ∷ simulating schnorrSheet 0 11 ∷ map (simulating rootSheet 0) (35 ∷ 14 ∷ 0 ∷ []) ++
+      (judging schnorrSheet 9 0 11 ∷ simulating schnorrSheet 0 11 ∷ map (simulating rootBytes 0) (35 ∷ 14 ∷ 0 ∷ []) ++
       committing schnorrSheet 11 New ∷ committing (smallSheet 31 15 3 2 1) 15 New ∷ responding 3 18 (peggy Committed 5 0) ∷
       telling 11 (vic Asked 9 3) ∷ extracting 9 1 11 ∷ [])
   pub refusal17 :
