@@ -1,7 +1,7 @@
 -- The marker's text is what the verdicts of the rounds make it: each line is the one that the statement has as text.
 -- Assumes nothing.
 use Prim.Native.Nat.{ℕ}
-use mathlib.Core.Path.{_≡_, ap, _∙_}
+use mathlib.Core.Path.{_≡_, refl, ap, _∙_}
 use mathlib.Core.List.{List, _++_, append-assoc, flatten}
 use Rattle.types.specs.declared.Verdict.{Verdict}
 use Rattle.types.specs.declared.Verdict.the-variants.{Accepted, Rejected, Refused}
@@ -31,8 +31,9 @@ lines-printed sheet f word =
     (tabulate-agree (countField f) _ _ (λ k h. line-printed k (verdictOn sheet f k)))
 
 pub marks-files : MarksFiles
-unfolding wordLine newline ascii decimal digits countField
+unfolding verdictOn wordLine newline ascii decimal digits countField
 marks-files = record {
+  verdicts = λ sheet f k. refl;
   refused-sheet = sheet-line;
   refused-file = file-line;
   passes = λ sheet f e all. round-lines sheet f e ∙ pass-line sheet f (countField f) all ∙ lines-printed sheet f (ascii "pass");

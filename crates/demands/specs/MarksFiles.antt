@@ -13,7 +13,8 @@ use Rattle.lists.specs.Places.{tabulate}
 use Rattle.encoding.specs.Bytes.{numberAt}
 use Rattle.encoding.specs.Text.{ascii, decimal}
 use Rattle.formats.specs.Load.{loadRefusal}
-use Rattle.formats.specs.RoundCalls.{countRounds}
+use Rattle.formats.specs.RoundCalls.{countRounds, fetchRound}
+use Rattle.runs.specs.Calls.{judgeRound}
 use Rattle.runs.specs.Marker.{markerText, verdictOn}
 
 -- the line of round k: its number and its verdict, with the first differing row or the refusal
@@ -29,6 +30,8 @@ textEnding sheet f last =
     flatten (tabulate (numberAt 2 f 5) (λ k. printed k (verdictOn sheet f k))) ++ last
 
 pub record MarksFiles : Type 0 where
+  -- a round's verdict is what judging answers on the round as the read call gives it
+  pub verdicts : (sheet f : List ℕ) (k : ℕ) → verdictOn sheet f k ≡ judgeRound sheet (fetchRound sheet f k .round)
   -- a refused sheet gives the one line `sheet N`
   pub refused-sheet : (sheet f : List ℕ) → 0 < loadRefusal sheet
       → markerText sheet f ≡ ascii "sheet " ++ decimal (loadRefusal sheet) ++ ascii "\n"
