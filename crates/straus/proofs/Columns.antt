@@ -1,0 +1,53 @@
+-- Four rows column by column: products of powers over the columns are those over the rows' entries.
+-- Assumes nothing.
+use mathlib.Core.Path.{_≡_, ap, _∙_}
+use mathlib.Core.List.{List, [], _∷_}
+use Prim.Native.Nat.{ℕ, _+_, _%_, _^_, _≤_, _<_}
+use native.Mathlib.Nat.{add-zero}
+use native.Mathlib.Omega.{arith}
+use lib.ListN.{getD}
+use Rattle.lists.specs.Places.{itemsAt, tabulate, places}
+use Rattle.lists.proofs.Places.{getD-tabulate, tabulate-agree, tabulate-at}
+use Rattle.numbers.specs.Product.{product}
+use Rattle.numbers.proofs.Product.{product-agree}
+use Rattle.powers.specs.declared.four.Four.{Four}
+use Rattle.powers.specs.Places.{lanes}
+use Rattle.straus.specs.MultiPowers.{columnAt, entryOf, laneOf, multiPowers}
+use Rattle.powers.proofs.Lanes.{lane, one-four, two-fours}
+
+module _ (m n : ℕ) (entries : List (List ℕ)) (exponents : List ℕ) where
+  -- row i's product of powers, modulo m
+  rowPower : ℕ → ℕ
+  rowPower i = product n (λ j. entryOf entries i j ^ getD exponents j 0) % m
+
+  -- the four numbers of column j, from row i on
+  lanes-column : (i j : ℕ) → lanes (columnAt entries i j) ≡ tabulate 4 (λ k. entryOf entries (i + k) j)
+  unfolding lanes tabulate itemsAt
+  lanes-column i j = rw (add-zero i)
+
+  -- the products over the columns of four rows, from row i on
+  columns-rows : (i : ℕ) {columns : List Four} → n ≤ 8 → columns ≡ tabulate 8 (columnAt entries i)
+      → multiPowers m 4 n (laneOf columns) exponents ≡ tabulate 4 (λ k. rowPower (i + k))
+  unfolding multiPowers rowPower
+  columns-rows i few is-columns =
+      rw is-columns (tabulate-agree 4 _ _ (λ k inside. ap (λ (x : ℕ). x % m)
+      (product-agree n _ _ (λ j within. ap (λ (x : ℕ). x ^ getD exponents j 0)
+      (ap (λ (column : Four). lane column k) (getD-tabulate 8 (columnAt entries i) j _ (omega arith))
+      ∙ tabulate-at 4 _ 0 (lanes-column i j) k inside)))))
+
+  module _ {low-columns : List Four} (low : Four) (few : n ≤ 8) (is-low-columns : low-columns ≡ tabulate 8 (columnAt entries 0))
+      (is-low : lanes low ≡ multiPowers m 4 n (laneOf low-columns) exponents) where
+    -- at most four rows
+    pub four-rows : (rows : ℕ) → rows ≤ 4
+        → places rows (low .a ∷ low .b ∷ low .c ∷ low .d ∷ 0 ∷ 0 ∷ 0 ∷ 0 ∷ []) ≡ multiPowers m rows n (entryOf entries) exponents
+    unfolding multiPowers rowPower tabulate itemsAt
+    four-rows rows most = one-four rowPower rows low most (is-low ∙ columns-rows 0 few is-low-columns)
+
+    -- at most eight
+    pub eight-rows : {high-columns : List Four} (high : Four) → high-columns ≡ tabulate 8 (columnAt entries 4)
+        → lanes high ≡ multiPowers m 4 n (laneOf high-columns) exponents → (rows : ℕ) → rows ≤ 8
+        → places rows (low .a ∷ low .b ∷ low .c ∷ low .d ∷ high .a ∷ high .b ∷ high .c ∷ high .d ∷ [])
+        ≡ multiPowers m rows n (entryOf entries) exponents
+    unfolding multiPowers rowPower tabulate itemsAt
+    eight-rows high is-high-columns is-high rows most =
+        two-fours rowPower rows low high most (is-low ∙ columns-rows 0 few is-low-columns) (is-high ∙ columns-rows 4 few is-high-columns)
