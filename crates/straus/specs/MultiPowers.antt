@@ -22,9 +22,13 @@ strausTurn m n k entry exponents xs =
 abbrev pub entryOf : List (List ℕ) → ℕ → ℕ → ℕ
 entryOf entries i j = getD (getD entries i []) j 0
 
+-- four zeros
+abbrev pub noFour : Four
+noFour = record { a = 0; b = 0; c = 0; d = 0 }
+
 -- of an array of columns
 abbrev pub laneOf : List Four → ℕ → ℕ → ℕ
-laneOf columns i j = getD (lanes (getD columns j (record { a = 0; b = 0; c = 0; d = 0 }))) i 0
+laneOf columns i j = getD (lanes (getD columns j noFour)) i 0
 
 -- column j of four rows from row i on
 abbrev pub columnAt : List (List ℕ) → ℕ → ℕ → Four

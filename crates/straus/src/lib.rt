@@ -4,10 +4,10 @@ use powers::mul_four;
 use powers::reciprocal;
 ghost use mathlib.Core.Path.{_≡_};
 ghost use Prim.Native.Nat.{_^_, _≤_, _<_};
-ghost use Rattle.lists.specs.Places.{tabulate, places};
+ghost use Rattle.lists.specs.Places.{tabulate, places, pad8};
 ghost use Rattle.powers.specs.Places.{lanes};
 ghost use Rattle.powers.specs.Reciprocal.{reciprocalOf};
-ghost use Rattle.straus.specs.MultiPowers.{AtMost, columnAt, entryOf, laneOf, multiPowers, strausTurn};
+ghost use Rattle.straus.specs.MultiPowers.{AtMost, columnAt, entryOf, laneOf, multiPowers, noFour, strausTurn};
 
 // How many bits hold v.
 fn bit_length(v: u32) -> u32
@@ -43,10 +43,10 @@ fn column_at(entries: [[u32; 8]; 8], i: usize, j: usize) -> Four
     }
 }
 
-// The columns of four rows from row i on.
-fn four_columns(entries: [[u32; 8]; 8], i: usize) -> [Four; 8]
-    requires { ⌜ i ≤ 4 ⌝ }
-    ensures { λ r. ⌜ r ≡ tabulate 8 (columnAt entries i) ⌝ }
+// The first n columns of four rows from row i on, and zeros beyond them.
+fn four_columns(entries: [[u32; 8]; 8], i: usize, n: usize) -> [Four; 8]
+    requires { ⌜ (i ≤ 4) × (n ≤ 8) ⌝ }
+    ensures { λ r. ⌜ r ≡ pad8 noFour (tabulate n (columnAt entries i)) ⌝ }
 {
     let mut columns = [Four {
         a: 0,
@@ -54,7 +54,7 @@ fn four_columns(entries: [[u32; 8]; 8], i: usize) -> [Four; 8]
         c: 0,
         d: 0,
     }; 8];
-    for j in 0..8 {
+    for j in 0..n {
         columns[j] = column_at(entries, i, j);
     }
     columns
@@ -117,10 +117,10 @@ pub fn multi_powers(
     requires { ⌜ (0 < m) × (rows ≤ 8) × (n ≤ 8) ⌝ }
     ensures { λ r. ⌜ places rows r ≡ multiPowers m rows n (entryOf entries) exponents ⌝ }
 {
-    let low = multi_pow_four(four_columns(entries, 0), exponents, n, m);
+    let low = multi_pow_four(four_columns(entries, 0, n), exponents, n, m);
     if rows <= 4 {
         return [low.a, low.b, low.c, low.d, 0, 0, 0, 0];
     }
-    let high = multi_pow_four(four_columns(entries, 4), exponents, n, m);
+    let high = multi_pow_four(four_columns(entries, 4, n), exponents, n, m);
     [low.a, low.b, low.c, low.d, high.a, high.b, high.c, high.d]
 }

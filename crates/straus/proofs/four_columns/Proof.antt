@@ -1,18 +1,17 @@
--- `straus::four_columns` meets its contract. The invariant: the first j places hold the first j columns.
+-- `straus::four_columns` meets its contract. The invariant: the first j places hold the first j columns, and those beyond hold 0.
 -- The measure: how many columns are left. Assumes nothing.
-use mathlib.Core.Path.{refl}
 use Prim.Native.Nat.{_-_}
 use native.Mathlib.Omega.{arith}
-use Rattle.lists.proofs.Filling.{Filled, filled-start, filled-turn, filled-whole}
+use Rattle.lists.proofs.Filling.{Filled, filled-start, filled-turn, filled-eight}
 use Rattle.straus.specs.MultiPowers.{columnAt}
 use Rattle.straus.proofs.four_columns.Statement.{statement}
 use Rattle.straus.proofs.four_columns.Tie as tie
 
 abbrev Inv-loop : tie.InvT-loop
-Inv-loop entries i columns₀ j₀ columns j = Filled columns₀ 8 (columnAt entries i) columns j
+Inv-loop entries i n columns₀ j₀ columns j = Filled columns₀ n (columnAt entries i) columns j
 
 abbrev μ-loop : tie.MeasureT-loop
-μ-loop entries i columns₀ j₀ columns j = 8 - j
+μ-loop entries i n columns₀ j₀ columns j = n - j
 
 loop-holds : tie.Need-loop-holds Inv-loop μ-loop
 loop-holds c = filled-start (omega arith)
@@ -36,7 +35,7 @@ loop-again : tie.Need-loop-again Inv-loop μ-loop
 loop-again c = filled-turn (c .before .before .loop .inv) (omega arith) (c .column-at .ensures)
 
 returns : tie.Need-returns Inv-loop μ-loop
-returns c = filled-whole (c .before .loop .inv) (omega arith) refl
+returns c = filled-eight (c .before .loop .inv) (omega arith)
 
 pub four-columns-spec : {M : Type 1} → statement M
 four-columns-spec =

@@ -17,7 +17,7 @@ returns : tie.Need-returns
 returns c =
     let low = c .before in
     let start = low .before .before in
-    four-rows _ _ (start .args .entries) _ _ (start .pre .2) (low .before .four-columns .ensures) (low .multi-pow-four .ensures) _ (c .if1 .taken)
+    four-rows _ _ (start .args .entries) _ _ (low .before .four-columns .ensures) (low .multi-pow-four .ensures) _ (c .if1 .taken)
 
 four-columns-requires-2 : tie.Need-four-columns-requires-2
 four-columns-requires-2 c κs = search needs
@@ -29,9 +29,8 @@ returns-2 : tie.Need-returns-2
 returns-2 c =
     let low = c .before .before .before in
     let start = low .before .before in
-    let (some, most, few) = start .pre in
-    eight-rows _ _ (start .args .entries) _ _ few (low .before .four-columns .ensures) (low .multi-pow-four .ensures)
-    _ (c .before .four-columns2 .ensures) (c .multi-pow-four2 .ensures) _ most
+    eight-rows _ _ (start .args .entries) _ _ (low .before .four-columns .ensures) (low .multi-pow-four .ensures)
+    _ (c .before .four-columns2 .ensures) (c .multi-pow-four2 .ensures) _ (start .pre .1)
 
 pub multi-powers-spec : {M : Type 1} → statement M
 multi-powers-spec =
