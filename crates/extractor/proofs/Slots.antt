@@ -7,7 +7,6 @@ use Prim.Native.Nat.{ℕ, _+_, _-_, _*_, _%_, _^_, _<_}
 use native.Mathlib.Nat.{mul-comm}
 use native.Mathlib.Omega.{arith}
 use lib.IntN.{pos, negℤ, _-ℤ_}
-use lib.ListN.{getD}
 use Rattle.types.specs.declared.Header.{Header}
 use Rattle.lists.specs.Places.{places, pad8}
 use Rattle.lists.proofs.Places.{tabulate-agree, pad8-at}
@@ -43,15 +42,18 @@ module _ (h : Header) (z a b r s : ℕ) where
 
 module _ (h : Header) (statement : List ℕ) (a b : ℕ) (r s : List ℕ) where
   -- the slots of kind 2 from inverses, quotients and powers of all at once
-  pub slots-root : {found quotients : List ℕ} (raised : List ℕ) → h .kind ≢ 1 → found ≡ pad8 0 (inversesOf (h .modulus) (h .columns) s)
+  pub slots-root : {found quotients values : List ℕ} (raised : List ℕ) → h .kind ≢ 1
+      → found ≡ pad8 0 (inversesOf (h .modulus) (h .columns) s)
       → quotients ≡ pad8 0 (productsOf (h .modulus) (h .columns) r found)
       → places (h .columns) raised ≡ powersOf (h .modulus) b (h .columns) quotients
-      → mulNegativePowers (h .modulus) a (h .columns) raised statement ≡ slotFormulas h statement a b r s
+      → values ≡ pad8 0 (mulNegativePowers (h .modulus) a (h .columns) raised statement)
+      → values ≡ pad8 0 (slotFormulas h statement a b r s)
   unfolding inversesOf productsOf mulNegativePowers slotFormulas
-  slots-root raised kind are-found are-quotients are-raised =
-      tabulate-agree (h .columns) _ _ (λ j inside.
-      slot-root h _ a b _ _ kind (pad8-at (h .columns) _ 0 are-found j inside) (pad8-at (h .columns) _ 0 are-quotients j inside) refl
-      (power-at _ _ _ _ raised are-raised j inside) (ap (λ (x : ℕ). x % h .modulus) (mul-comm _ _)))
+  slots-root raised kind inverted divided powered are =
+      are ∙ ap (pad8 0)
+      (tabulate-agree (h .columns) _ _ (λ j inside.
+      slot-root h _ a b _ _ kind (pad8-at (h .columns) _ 0 inverted j inside) (pad8-at (h .columns) _ 0 divided j inside) refl
+      (power-at _ _ _ _ raised powered j inside) (ap (λ (x : ℕ). x % h .modulus) (mul-comm _ _))))
 
   -- the formula from its slots and its two exponents
   pub formula-filled : (entries : List (List ℕ)) {a′ b′ : ℕ} {values : List ℕ} → a ≡ a′ → b ≡ b′

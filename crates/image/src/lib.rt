@@ -43,7 +43,7 @@ pub fn row_image(h: Header, entries: [[u32; 8]; 8], x: [u32; 8], i: usize) -> u3
     value
 }
 
-// The image of x by the rows side by side.
+// The image of x, with the rows side by side.
 fn image_rows(h: Header, entries: [[u32; 8]; 8], x: [u32; 8]) -> [u32; 8]
     requires { ⌜ (0 < h .modulus) × (h .rows ≤ 8) × (h .columns ≤ 8) ⌝ }
     ensures { λ r. ⌜ r ≡ pad8 0 (image (tableWith h entries) x) ⌝ }
@@ -72,7 +72,8 @@ pub fn image(h: Header, entries: [[u32; 8]; 8], x: [u32; 8]) -> [u32; 8]
     values
 }
 
-// What the response's image has to be: t times the statement by the challenge, a value for each row.
+// What the response's image has to be: t times the statement by the challenge, a value for each row. One row alone is
+// computed by itself.
 fn expected_image(h: Header, statement: [u32; 8], t: [u32; 8], c: u32) -> [u32; 8]
     requires { ⌜ (0 < h .modulus) × (h .rows ≤ 8) ⌝ }
     ensures { λ r. ⌜ ((entries : List (List ℕ)) → r ≡ pad8 0 (expectedImage (instanceWith h entries statement) t c)) ⌝ }
@@ -167,7 +168,7 @@ fn response_coordinate(h: Header, k: u32, c: u32, x: u32) -> u32
     mul_mod(k, pow_mod(x, c, h.modulus), h.modulus)
 }
 
-// The response to c, of nonce k and witness x, a value for each column.
+// The response to c, of nonce k and witness x, a value for each column. Several powers of kind 2 are computed side by side.
 pub fn response(h: Header, k: [u32; 8], c: u32, x: [u32; 8]) -> [u32; 8]
     requires { ⌜ (0 < h .modulus) × (0 < h .order) × (h .columns ≤ 8) ⌝ }
     ensures { λ r. ⌜ r ≡ pad8 0 (response h k c x) ⌝ }

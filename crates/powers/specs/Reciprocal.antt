@@ -2,6 +2,6 @@
 -- Assumes nothing.
 use Prim.Native.Nat.{ℕ, _/_}
 
--- the reciprocal of m in units of 2^-64, rounded down
+-- how often m goes into 2^64 − 1
 abbrev pub reciprocalOf : ℕ → ℕ
 reciprocalOf m = 18446744073709551615 / m

@@ -21,7 +21,7 @@ fn four_at(values: [u32; 8], i: usize) -> Four
     }
 }
 
-// The powers of the first n values by exponent modulo m, in the first n places.
+// The powers of the first n values by exponent modulo m, in the first n places. Nothing is promised of those beyond.
 pub fn powers(values: [u32; 8], n: usize, exponent: u32, m: u32) -> [u32; 8]
     requires { ⌜ (0 < m) × (n ≤ 8) ⌝ }
     ensures { λ r. ⌜ places n r ≡ powersOf m exponent n values ⌝ }

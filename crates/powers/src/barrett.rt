@@ -1,4 +1,4 @@
-// Barrett's method: a product modulo m by a multiplication with the reciprocal of m.
+// Barrett's method: a product modulo m by multiplications with the reciprocal of m and with m, in place of a division.
 ghost use mathlib.Core.Path.{_≡_};
 ghost use Prim.Native.Nat.{_*_, _/_, _%_, _<_};
 ghost use Rattle.powers.specs.Reciprocal.{reciprocalOf};
@@ -18,7 +18,7 @@ fn high_product(u: u64, v: u64) -> u64
     u1 * v1 + middle / 4294967296 + next / 4294967296
 }
 
-// The reciprocal of m in units of 2^-64, rounded down.
+// The reciprocal of m for mul_barrett: how often m goes into 2^64 - 1.
 pub fn reciprocal(m: u32) -> u64
     requires { ⌜ 0 < m ⌝ }
     ensures { λ r. ⌜ r ≡ reciprocalOf m ⌝ }
@@ -26,7 +26,7 @@ pub fn reciprocal(m: u32) -> u64
     18446744073709551615 / m as u64
 }
 
-// The product of a and b modulo m. The quotient that the reciprocal gives is right or one too small.
+// The product of a and b modulo m, by the reciprocal of m. The quotient that it gives is right or one too small.
 pub fn mul_barrett(a: u32, b: u32, m: u32, reciprocal: u64) -> u32
     requires { ⌜ (0 < m) × (reciprocal ≡ reciprocalOf m) ⌝ }
     ensures { λ r. ⌜ r ≡ a * b % m ⌝ }

@@ -1,5 +1,5 @@
-// Products and powers modulo a 32-bit number m without a division for each product: by Barrett's method with a reciprocal of
-// m, and four numbers side by side, so that the processor need not wait for one product before it begins the next.
+// Products and powers modulo a 32-bit number m by Barrett's method, four numbers side by side, so that the processor need not
+// wait for one product before it begins the next.
 mod arrays; // arrays.rt: powers and products of the places of an array
 mod barrett; // barrett.rt: one product
 mod four; // four.rt: four products and four powers

@@ -33,15 +33,17 @@ simulated-rows inst v c r =
     (rowImage-agree (v .table) _ r (λ j l. getD-places (inst .header .columns) r j l) i h))
 
 -- it is the image times the statement by −c, place by place
-pub simulated-images : (inst : Instance) → Valid inst → (c : ℕ) (r : List ℕ) {images : List ℕ} → images ≡ pad8 0 (image (tableOf inst) r)
-    → mulNegativePowers (inst .header .modulus) c (inst .header .rows) images (inst .statement)
-    ≡ simulated inst c (places (inst .header .columns) r)
+pub simulated-images : (inst : Instance) → Valid inst → (c : ℕ) (r : List ℕ) {images values : List ℕ}
+    → images ≡ pad8 0 (image (tableOf inst) r)
+    → values ≡ pad8 0 (mulNegativePowers (inst .header .modulus) c (inst .header .rows) images (inst .statement))
+    → values ≡ pad8 0 (simulated inst c (places (inst .header .columns) r))
 unfolding mulNegativePowers image simulatedRow statementAt
-simulated-images inst v c r is-images =
-    tabulate-agree (inst .header .rows) _ _ (λ i inside.
+simulated-images inst v c r are-images are =
+    are ∙ ap (pad8 0)
+    (tabulate-agree (inst .header .rows) _ _ (λ i inside.
     ap (λ (k : ℕ). k * power (inst .header .modulus) (getD (inst .statement) i 0) (negℤ (pos c)) % inst .header .modulus)
-    (pad8-at (inst .header .rows) _ 0 is-images i inside))
-    ∙ sym (simulated-rows inst v c r)
+    (pad8-at (inst .header .rows) _ 0 are-images i inside))
+    ∙ sym (simulated-rows inst v c r))
 
 module _ (inst : Instance) (c : ℕ) (r : List ℕ) where
   -- a number above 0 that the rules give is the whole answer

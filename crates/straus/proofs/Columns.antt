@@ -11,8 +11,8 @@ use Rattle.numbers.specs.Product.{product}
 use Rattle.numbers.proofs.Product.{product-agree}
 use Rattle.powers.specs.declared.four.Four.{Four}
 use Rattle.powers.specs.Places.{lanes}
-use Rattle.straus.specs.MultiPowers.{columnAt, entryOf, laneOf, multiPowers, noFour}
 use Rattle.powers.proofs.Lanes.{lane, one-four, two-fours}
+use Rattle.straus.specs.MultiPowers.{columnAt, entryOf, laneOf, multiPowers, noFour}
 
 module _ (m n : ℕ) (entries : List (List ℕ)) (exponents : List ℕ) where
   -- row i's product of powers, modulo m

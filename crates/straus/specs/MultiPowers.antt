@@ -1,6 +1,5 @@
 -- Products of powers, a row at a time.
 -- Assumes nothing.
-use mathlib.Core.Path.{_≡_}
 use mathlib.Core.List.{List, []}
 use Prim.Native.Nat.{ℕ, _+_, _*_, _/_, _%_, _^_, _≤_, _<_}
 use lib.ListN.{getD}
@@ -13,7 +12,7 @@ use Rattle.powers.specs.Places.{lanes}
 unfoldable pub multiPowers : ℕ → ℕ → ℕ → (ℕ → ℕ → ℕ) → List ℕ → List ℕ
 multiPowers m rows n entry exponents = tabulate rows (λ i. product n (λ j. entry i j ^ getD exponents j 0) % m)
 
--- of four values x the square times those of the first n columns whose exponent has bit k, modulo m
+-- of each of four values the square times the entries of its row in the first n columns whose exponent has bit k, modulo m
 unfoldable pub strausTurn : ℕ → ℕ → ℕ → (ℕ → ℕ → ℕ) → List ℕ → List ℕ → List ℕ
 strausTurn m n k entry exponents xs =
     tabulate 4 (λ i. getD xs i 0 * getD xs i 0 * product n (λ j. entry i j ^ (getD exponents j 0 / 2 ^ k % 2)) % m)
@@ -26,7 +25,7 @@ entryOf entries i j = getD (getD entries i []) j 0
 abbrev pub noFour : Four
 noFour = record { a = 0; b = 0; c = 0; d = 0 }
 
--- of an array of columns
+-- row i, column j of an array of columns of four
 abbrev pub laneOf : List Four → ℕ → ℕ → ℕ
 laneOf columns i j = getD (lanes (getD columns j noFour)) i 0
 

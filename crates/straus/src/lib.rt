@@ -1,4 +1,5 @@
-// Products of powers of several numbers by Straus's method: the squarings serve all numbers at once.
+// Products of powers of several numbers modulo a 32-bit number m by Straus's method: the squarings serve all numbers at once.
+// Four rows of numbers are computed side by side.
 use powers::Four;
 use powers::mul_four;
 use powers::reciprocal;
@@ -16,7 +17,7 @@ fn bit_length(v: u32) -> u32
     32 - u32::leading_zeros(v)
 }
 
-// The largest of the first n values, 0 where there is none.
+// The largest of the first n values, 0 where there is none: none of them is above it.
 fn largest(values: [u32; 8], n: usize) -> u32
     requires { ⌜ n ≤ 8 ⌝ }
     ensures { λ r. ⌜ AtMost r n values ⌝ }
@@ -83,8 +84,8 @@ fn straus_turn(
     next
 }
 
-// Of four rows the product over the first n columns of the row's number by the column's exponent, modulo m, the exponents'
-// high bits first.
+// Of four rows the product over the first n columns of the entry by the column's exponent, modulo m, a turn for each bit of
+// the exponents, the highest first.
 fn multi_pow_four(columns: [Four; 8], exponents: [u32; 8], n: usize, m: u32) -> Four
     requires { ⌜ (0 < m) × (n ≤ 8) ⌝ }
     ensures { λ r. ⌜ lanes r ≡ multiPowers m 4 n (laneOf columns) exponents ⌝ }
@@ -105,8 +106,8 @@ fn multi_pow_four(columns: [Four; 8], exponents: [u32; 8], n: usize, m: u32) -> 
     values
 }
 
-// Of each of so many rows the product over the first n columns of the entry by the column's exponent, modulo m, in the first
-// places.
+// Of each of so many rows the product over the first n columns of the entry by the column's exponent, modulo m, in as many
+// places. Nothing is promised of those beyond.
 pub fn multi_powers(
     entries: [[u32; 8]; 8],
     rows: usize,

@@ -1,8 +1,6 @@
 -- `image::image_rows` meets its contract: in kind 1 the products of powers, in kind 2 the powers of the slots.
 -- Assumes nothing.
-use mathlib.Core.Path.{ap, _∙_}
 use borrow.Author.Needs.{needs}
-use Rattle.lists.specs.Places.{pad8}
 use Rattle.image.proofs.Several.{products-image, powers-image}
 use Rattle.image.proofs.image_rows.Statement.{statement}
 use Rattle.image.proofs.image_rows.Tie as tie
@@ -19,7 +17,7 @@ first-places-requires c κs = search needs
 returns : tie.Need-returns
 returns c =
     let raised = c .before in
-    c .first-places .ensures ∙ ap (pad8 0) (raised .powers .ensures ∙ powers-image _ _ _ (raised .before .if1 .taken))
+    powers-image _ _ _ _ (raised .before .if1 .taken) (raised .powers .ensures) (c .first-places .ensures)
 
 cast-columns : tie.Need-cast-columns
 cast-columns c = search needs
@@ -33,7 +31,7 @@ first-places-requires-2 c κs = search needs
 returns-2 : tie.Need-returns-2
 returns-2 c =
     let raised = c .before in
-    c .first-places2 .ensures ∙ ap (pad8 0) (raised .multi-powers .ensures ∙ products-image _ _ _ (raised .before .before .if1 .left))
+    products-image _ _ _ _ (raised .before .before .if1 .left) (raised .multi-powers .ensures) (c .first-places2 .ensures)
 
 pub image-rows-spec : {M : Type 1} → statement M
 image-rows-spec =

@@ -1,10 +1,8 @@
 -- `image::response` meets its contract. The invariant: the first j places hold the first j slots, and those beyond hold 0.
 -- The measure: how many columns are left. Assumes nothing.
-use mathlib.Core.Path.{ap, _∙_}
 use Prim.Native.Nat.{_-_}
 use native.Mathlib.Omega.{arith}
 use lib.ListN.{getD}
-use Rattle.lists.specs.Places.{pad8}
 use Rattle.lists.proofs.Filling.{Filled, filled-start, filled-turn, filled-eight}
 use Rattle.sigma.specs.Round.{responseCoordinate, response}
 use Rattle.image.proofs.Several.{powers-response}
@@ -25,7 +23,7 @@ mul-powers-requires : tie.Need-mul-powers-requires Inv-loop μ-loop
 mul-powers-requires c κs = omega arith
 
 returns : tie.Need-returns Inv-loop μ-loop
-returns c = c .mul-powers .ensures ∙ ap (pad8 0) (powers-response _ _ _ _ (c .before .before .if1 .taken))
+returns c = powers-response _ _ _ _ (c .before .before .if1 .taken) (c .mul-powers .ensures)
 
 loop-holds : tie.Need-loop-holds Inv-loop μ-loop
 loop-holds c = filled-start (omega arith)

@@ -1,6 +1,6 @@
 -- `modular::pow_mod` meets its contract. The invariant: the answer so far is below m, and times the square by what is left
 -- of the exponent it is the power modulo m. The measure: what is left of the exponent. Assumes nothing.
-use mathlib.Core.Path.{_≡_, refl, _∙_}
+use mathlib.Core.Path.{refl, _∙_}
 use mathlib.Core.Logic.{⊎-elim}
 use Prim.Native.Nat.{_%_, _^_}
 use native.Mathlib.Omega.{arith}

@@ -1,23 +1,16 @@
--- `straus::multi_pow_four` meets its contract. The invariant: each of the four values is the product of the powers by the
+-- `straus::multi_pow_four` meets its contract. The invariant: each of the four values is its row's product of powers by the
 -- exponents without their k low bits. The measure: k. Assumes nothing.
-use mathlib.Core.Path.{_≡_, ap, _∙_}
-use Prim.Native.Nat.{ℕ, _+_, _-_, _≤_, _<_}
-use native.Mathlib.Nat.{lt-of-le-of-lt}
+use mathlib.Core.Path.{_≡_}
+use Prim.Native.Nat.{_+_, _-_, _≤_}
 use native.Mathlib.Omega.{arith}
 use borrow.Author.Needs.{needs}
-use lib.ListN.{getD}
-use Rattle.straus.specs.MultiPowers.{laneOf, multiPowers, strausTurn}
-use Rattle.lists.proofs.Places.{tabulate-at}
-use Rattle.powers.proofs.Lanes.{lane, lane-same, lanes-are}
-use Rattle.straus.proofs.Straus.{above, above-start, above-turn, above-end}
+use Rattle.straus.specs.MultiPowers.{laneOf}
+use Rattle.straus.proofs.Straus.{FourAbove, four-start, four-turn, four-end}
 use Rattle.straus.proofs.multi_pow_four.Statement.{statement}
 use Rattle.straus.proofs.multi_pow_four.Tie as tie
-use Rattle.straus.proofs.multi_pow_four.Reads as reads
-use Rattle.straus.proofs.multi_pow_four.Lts as lts
 
 abbrev Inv-loop : tie.InvT-loop
-Inv-loop columns exponents n m by one values₀ k₀ values k =
-    (k ≤ 32) × ((i : ℕ) → i < 4 → lane values i ≡ above m (laneOf columns i) (λ j. getD exponents j 0) n k)
+Inv-loop columns exponents n m by one values₀ k₀ values k = (k ≤ 32) × FourAbove m n (laneOf columns) exponents k values
 
 abbrev μ-loop : tie.MeasureT-loop
 μ-loop columns exponents n m by one values₀ k₀ values k = k
@@ -35,10 +28,7 @@ bit-length-requires : tie.Need-bit-length-requires Inv-loop μ-loop
 bit-length-requires c κs = search needs
 
 loop-holds : tie.Need-loop-holds Inv-loop μ-loop
-loop-holds c =
-    let (short, holds) = c .bit-length .ensures in
-    let most = c .before .largest .ensures in
-    (short, λ i inside. above-start _ _ _ _ _ (λ j within. lt-of-le-of-lt (most .each j within) holds) (lane-same _ i inside))
+loop-holds c = let (short, holds) = c .bit-length .ensures in (short, four-start _ _ _ _ _ _ (c .before .largest .ensures) holds)
 
 sub-k : tie.Need-sub-k Inv-loop μ-loop
 sub-k c = omega arith
@@ -50,22 +40,16 @@ loop-less : tie.Need-loop-less Inv-loop μ-loop
 loop-less c = omega arith
 
 loop-again : tie.Need-loop-again Inv-loop μ-loop
-unfolding strausTurn
 loop-again c =
     let at-loop = c .before .before in
-    let one-less : at-loop .loop .k ≡ at-loop .loop .k - 1 + 1 = omega arith in (
-      omega arith,
-      λ i inside.
-          above-turn _ _ _ _ _ (rw one-less at (at-loop .loop .inv .1 i inside)) (tabulate-at 4 _ 0 (c .straus-turn .ensures) i inside),
-    )
+    let one-less : at-loop .loop .k ≡ at-loop .loop .k - 1 + 1 = omega arith in
+    (omega arith, four-turn _ _ _ _ (rw one-less at (at-loop .loop .inv .1)) (c .straus-turn .ensures))
 
 returns : tie.Need-returns Inv-loop μ-loop
-unfolding multiPowers
 returns c =
     let at-loop = c .before in
     let none : at-loop .loop .k ≡ 0 = omega arith in
-    let held = rw none at (at-loop .loop .inv .1) in
-    lanes-are _ _ (λ i inside. held i inside ∙ above-end _ _ _ _)
+    four-end _ _ _ _ (rw none at (at-loop .loop .inv .1))
 
 pub multi-pow-four-spec : {M : Type 1} → statement M
 multi-pow-four-spec =

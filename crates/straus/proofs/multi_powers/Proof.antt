@@ -4,8 +4,6 @@ use borrow.Author.Needs.{needs}
 use Rattle.straus.proofs.Columns.{four-rows, eight-rows}
 use Rattle.straus.proofs.multi_powers.Statement.{statement}
 use Rattle.straus.proofs.multi_powers.Tie as tie
-use Rattle.straus.proofs.multi_powers.Reads as reads
-use Rattle.straus.proofs.multi_powers.Lts as lts
 
 four-columns-requires : tie.Need-four-columns-requires
 four-columns-requires c κs = search needs

@@ -1,21 +1,19 @@
 -- `straus::straus_turn` meets its contract. The invariant: in each lane the square is multiplied by those of the columns passed
 -- whose exponent has the bit. The measure: how many columns are left. Assumes nothing.
-use mathlib.Core.Path.{_≡_, refl, ap, _∙_}
+use mathlib.Core.Path.{_≡_, ap, _∙_}
 use mathlib.Core.Logic.{⊎-elim}
-use Prim.Native.Nat.{ℕ, _-_, _*_, _≤_, _<_}
+use Prim.Native.Nat.{ℕ, _-_, _≤_, _<_}
 use native.Mathlib.Omega.{arith}
 use borrow.Author.Needs.{needs}
 use lib.ListN.{getD}
 use Rattle.lists.proofs.Places.{tabulate-at}
-use Rattle.powers.specs.Places.{productsOf}
-use Rattle.straus.specs.MultiPowers.{laneOf, strausTurn}
 use Rattle.powers.specs.declared.four.Four.{Four}
+use Rattle.powers.specs.Places.{productsOf}
 use Rattle.powers.proofs.Lanes.{lane, lanes-are}
+use Rattle.straus.specs.MultiPowers.{laneOf, strausTurn}
 use Rattle.straus.proofs.Straus.{timesColumns, columns-start, column-set, column-clear, columns-end}
 use Rattle.straus.proofs.straus_turn.Statement.{statement}
 use Rattle.straus.proofs.straus_turn.Tie as tie
-use Rattle.straus.proofs.straus_turn.Reads as reads
-use Rattle.straus.proofs.straus_turn.Lts as lts
 
 abbrev Inv-loop : tie.InvT-loop
 Inv-loop n k m reciprocal columns exponents next₀ j₀ next j =

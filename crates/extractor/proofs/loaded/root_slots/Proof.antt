@@ -1,8 +1,6 @@
 -- `extractor::loaded::root_slots` meets its contract: each slot is the formula of kind 2.
 -- Assumes nothing.
-use mathlib.Core.Path.{ap, _∙_}
 use borrow.Author.Needs.{needs}
-use Rattle.lists.specs.Places.{pad8}
 use Rattle.sigma.proofs.ElementGroup.{element-coprime}
 use Rattle.extractor.proofs.Slots.{slots-root}
 use Rattle.extractor.proofs.loaded.root_slots.Statement.{statement}
@@ -30,10 +28,8 @@ returns c =
     let raised = c .before in
     let quotients = raised .before in
     let found = quotients .before in
-    c .mul-negative-powers .ensures
-    ∙ ap (pad8 0)
-    (slots-root _ _ _ _ _ _ _ (found .before .before .pre .kind) (found .inverses .ensures) (quotients .products .ensures)
-    (raised .powers .ensures))
+    slots-root _ _ _ _ _ _ _ (found .before .before .pre .kind) (found .inverses .ensures) (quotients .products .ensures)
+    (raised .powers .ensures) (c .mul-negative-powers .ensures)
 
 pub root-slots-spec : {M : Type 1} → statement M
 root-slots-spec =

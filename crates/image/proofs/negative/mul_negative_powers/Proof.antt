@@ -1,8 +1,6 @@
 -- `image::negative::mul_negative_powers` meets its contract: each kind has its law.
 -- Assumes nothing.
-use mathlib.Core.Path.{ap, _∙_}
 use borrow.Author.Needs.{needs}
-use Rattle.lists.specs.Places.{pad8}
 use Rattle.sigma.proofs.ElementGroup.{element-coprime}
 use Rattle.image.proofs.Several.{negative-by-order, negative-by-inverses}
 use Rattle.image.proofs.negative.mul_negative_powers.Statement.{statement}
@@ -17,8 +15,7 @@ mul-powers-requires c κs = search needs
 returns : tie.Need-returns
 returns c =
     let (big, some, within, few, elements) = c .before .before .before .before .pre in
-    c .mul-powers .ensures
-    ∙ ap (pad8 0) (negative-by-order _ _ _ _ _ big some within elements (c .before .before .if1 .taken))
+    negative-by-order _ _ _ _ _ big some within elements (c .before .before .if1 .taken) (c .mul-powers .ensures)
 
 inverses-requires : tie.Need-inverses-requires
 inverses-requires c κs =
@@ -29,7 +26,7 @@ mul-powers-requires-2 : tie.Need-mul-powers-requires-2
 mul-powers-requires-2 c κs = search needs
 
 returns-2 : tie.Need-returns-2
-returns-2 c = c .mul-powers2 .ensures ∙ ap (pad8 0) (negative-by-inverses _ _ _ _ _ (c .before .inverses .ensures))
+returns-2 c = negative-by-inverses _ _ _ _ _ (c .before .inverses .ensures) (c .mul-powers2 .ensures)
 
 pub mul-negative-powers-spec : {M : Type 1} → statement M
 mul-negative-powers-spec =

@@ -1,7 +1,6 @@
 -- `powers::four::mul_four` meets its contract: each of the four is one product.
 -- Assumes nothing.
 use borrow.Author.Needs.{needs}
-use lib.ListN.{getD}
 use Rattle.lists.specs.Places.{itemsAt, tabulate}
 use Rattle.powers.specs.Places.{lanes, productsOf}
 use Rattle.powers.proofs.four.mul_four.Statement.{statement}

@@ -1,19 +1,17 @@
 -- `powers::four::pow_four` meets its contract. The invariant: each of the four answers times its square by what is left of the
 -- exponent is its power. The measure: what is left of the exponent. Assumes nothing.
-use mathlib.Core.Path.{_≡_, refl, sym, ap, _∙_}
+use mathlib.Core.Path.{ap, _∙_}
 use mathlib.Core.Logic.{⊎-elim}
-use Prim.Native.Nat.{ℕ, _*_, _%_, _^_, _<_}
+use Prim.Native.Nat.{ℕ, _%_, _^_, _<_}
 use native.Mathlib.Omega.{arith}
 use borrow.Author.Needs.{needs}
 use Rattle.lists.proofs.Places.{tabulate-at}
-use Rattle.powers.specs.Places.{lanes, productsOf, powersOf}
 use Rattle.powers.specs.declared.four.Four.{Four}
+use Rattle.powers.specs.Places.{productsOf, powersOf}
 use Rattle.powers.proofs.Lanes.{lane, lane-same, lanes-are}
 use Rattle.powers.proofs.Power.{Kept, kept-start, kept-odd, kept-even, kept-end}
 use Rattle.powers.proofs.four.pow_four.Statement.{statement}
 use Rattle.powers.proofs.four.pow_four.Tie as tie
-use Rattle.powers.proofs.four.pow_four.Reads as reads
-use Rattle.powers.proofs.four.pow_four.Lts as lts
 
 abbrev Inv-loop : tie.InvT-loop
 Inv-loop exponent m by one square₀ power₀ left₀ square power left =

@@ -1,9 +1,7 @@
 -- `protocol::loaded::simulated` meets its contract. The invariant: the first i places hold the first i rows, and those beyond hold 0.
 -- The measure: how many rows are left. Assumes nothing.
-use mathlib.Core.Path.{ap, _∙_}
 use Prim.Native.Nat.{_-_}
 use native.Mathlib.Omega.{arith}
-use Rattle.lists.specs.Places.{pad8}
 use Rattle.lists.proofs.Filling.{Filled, filled-start, filled-turn, filled-eight}
 use Rattle.sigma.specs.Instance.{instanceWith, statementAt}
 use Rattle.sigma.proofs.Valid.{valid-modulus, valid-order, valid-challenge}
@@ -38,8 +36,7 @@ mul-negative-powers-requires c κs =
 returns : tie.Need-returns Inv-loop μ-loop
 returns c =
     let images = c .before in
-    c .mul-negative-powers .ensures
-    ∙ ap (pad8 0) (simulated-images _ (images .before .before .before .pre .0) _ _ (images .image .ensures))
+    simulated-images _ (images .before .before .before .pre .0) _ _ (images .image .ensures) (c .mul-negative-powers .ensures)
 
 loop-holds : tie.Need-loop-holds Inv-loop μ-loop
 loop-holds c = filled-start (omega arith)
