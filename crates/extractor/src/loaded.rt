@@ -1,5 +1,7 @@
 // Extracting a witness from two rounds on loaded values (01, "A round"; refusals 14 to 16 of both rounds, then 18 to 20).
 use image::differ;
+use image::inverses;
+use image::mul_negative_powers;
 use image::negative_power;
 use image::refused;
 use image::verdict;
@@ -9,6 +11,8 @@ use modular::pow_mod;
 use modular::some_non_coordinate;
 use modular::some_non_element;
 use modular::sub_mod;
+use powers::powers;
+use powers::products;
 use types::Computed;
 use types::Header;
 use types::Round;
@@ -23,7 +27,7 @@ ghost use Rattle.rules.specs.Rule.{lowest};
 ghost use Rattle.sigma.specs.Extractor.{slotFormula, formula, extractLoaded};
 ghost use Rattle.sigma.specs.Valid.{Valid};
 ghost use Rattle.sigma.specs.Instance.{instanceWith};
-ghost use Rattle.extractor.specs.Coefficients.{leftCoefficient, SlotFits, WitnessFits};
+ghost use Rattle.extractor.specs.Coefficients.{leftCoefficient, SlotFits, RootsFit, WitnessFits, slotFormulas};
 ghost use Rattle.extractor.specs.Rules.{rulesOfPair};
 
 // The number of 14 to 16, 18 and 19 that two rounds are refused with, or 0. Each of 14 to 16 is asked of both rounds before
@@ -82,6 +86,17 @@ fn witness_slot(h: Header, z: u32, a: u32, b: u32, r: u32, s: u32) -> u32
     )
 }
 
+// The slots of the formula in kind 2 side by side.
+fn root_slots(h: Header, statement: [u32; 8], a: u32, b: u32, r: [u32; 8], s: [u32; 8]) -> [u32; 8]
+    requires { ⌜ RootsFit h statement a s ⌝ }
+    ensures { λ x. ⌜ x ≡ pad8 0 (slotFormulas h statement a b r s) ⌝ }
+{
+    let columns = h.columns as usize;
+    let quotients = products(r, inverses(s, columns, h.modulus), columns, h.modulus);
+    let raised = powers(quotients, columns, b, h.modulus);
+    mul_negative_powers(h, raised, statement, columns, a)
+}
+
 // The witness from the responses r and s to two challenges, the first larger by delta: the formula with the exponents -a
 // and b, where b inverts delta modulo ℓ, and delta b is ℓ a + 1.
 fn witness(h: Header, statement: [u32; 8], delta: u32, r: [u32; 8], s: [u32; 8]) -> [u32; 8]
@@ -92,6 +107,11 @@ fn witness(h: Header, statement: [u32; 8], delta: u32, r: [u32; 8], s: [u32; 8])
     let b = inverse(delta, h.order);
     let a = (delta as u64 * b as u64 / h.order as u64) as u32;
     let columns = h.columns as usize;
+    if h.kind != 1 {
+        if columns > 1 {
+            return root_slots(h, statement, a, b, r, s);
+        }
+    }
     let mut values = [0u32; 8];
     for j in 0..columns {
         values[j] = witness_slot(h, statement[j], a, b, r[j], s[j]);

@@ -2,5 +2,6 @@
 pub mod RowImage
 pub mod Slots
 pub mod TwoSides
+pub mod Several
 pub mod Unread
 pub mod Tested

@@ -1,11 +1,17 @@
 // The values of a round on loaded values (01, "A round"): the image, the verifier's two sides and their comparison, the
 // response, a power by a negative exponent, and the places of an array that are read. Nothing is refused here.
 mod answer; // answer.rt: the answer of a refused call
+mod negative; // negative.rt: inverses and negative powers of several values
 
 pub use answer::refused;
 use modular::inverse;
 use modular::mul_mod;
 use modular::pow_mod;
+pub use negative::inverses;
+pub use negative::mul_negative_powers;
+use powers::mul_powers;
+use powers::powers;
+use straus::multi_powers;
 use types::Header;
 use types::Verdict;
 ghost use mathlib.Core.Path.{_≡_};
@@ -37,12 +43,28 @@ pub fn row_image(h: Header, entries: [[u32; 8]; 8], x: [u32; 8], i: usize) -> u3
     value
 }
 
-// The image of x, a value for each row.
+// The image of x, with the rows side by side.
+fn image_rows(h: Header, entries: [[u32; 8]; 8], x: [u32; 8]) -> [u32; 8]
+    requires { ⌜ (0 < h .modulus) × (h .rows ≤ 8) × (h .columns ≤ 8) ⌝ }
+    ensures { λ r. ⌜ r ≡ pad8 0 (image (tableWith h entries) x) ⌝ }
+{
+    let rows = h.rows as usize;
+    if h.kind != 1 {
+        return first_places(powers(x, rows, h.order, h.modulus), rows);
+    }
+    let columns = h.columns as usize;
+    first_places(multi_powers(entries, rows, x, columns, h.modulus), rows)
+}
+
+// The image of x, a value for each row. One row alone is computed by itself.
 pub fn image(h: Header, entries: [[u32; 8]; 8], x: [u32; 8]) -> [u32; 8]
     requires { ⌜ (0 < h .modulus) × (h .rows ≤ 8) × (h .columns ≤ 8) ⌝ }
     ensures { λ r. ⌜ r ≡ pad8 0 (image (tableWith h entries) x) ⌝ }
 {
     let rows = h.rows as usize;
+    if rows > 1 {
+        return image_rows(h, entries, x);
+    }
     let mut values = [0u32; 8];
     for i in 0..rows {
         values[i] = row_image(h, entries, x, i);
@@ -50,12 +72,16 @@ pub fn image(h: Header, entries: [[u32; 8]; 8], x: [u32; 8]) -> [u32; 8]
     values
 }
 
-// What the response's image has to be: t times the statement by the challenge, a value for each row.
+// What the response's image has to be: t times the statement by the challenge, a value for each row. One row alone is
+// computed by itself.
 fn expected_image(h: Header, statement: [u32; 8], t: [u32; 8], c: u32) -> [u32; 8]
     requires { ⌜ (0 < h .modulus) × (h .rows ≤ 8) ⌝ }
     ensures { λ r. ⌜ ((entries : List (List ℕ)) → r ≡ pad8 0 (expectedImage (instanceWith h entries statement) t c)) ⌝ }
 {
     let rows = h.rows as usize;
+    if rows > 1 {
+        return mul_powers(t, statement, rows, c, h.modulus);
+    }
     let mut values = [0u32; 8];
     for i in 0..rows {
         values[i] = mul_mod(t[i], pow_mod(statement[i], c, h.modulus), h.modulus);
@@ -142,12 +168,17 @@ fn response_coordinate(h: Header, k: u32, c: u32, x: u32) -> u32
     mul_mod(k, pow_mod(x, c, h.modulus), h.modulus)
 }
 
-// The response to c, of nonce k and witness x, a value for each column.
+// The response to c, of nonce k and witness x, a value for each column. Several powers of kind 2 are computed side by side.
 pub fn response(h: Header, k: [u32; 8], c: u32, x: [u32; 8]) -> [u32; 8]
     requires { ⌜ (0 < h .modulus) × (0 < h .order) × (h .columns ≤ 8) ⌝ }
     ensures { λ r. ⌜ r ≡ pad8 0 (response h k c x) ⌝ }
 {
     let columns = h.columns as usize;
+    if h.kind != 1 {
+        if columns > 1 {
+            return mul_powers(k, x, columns, c, h.modulus);
+        }
+    }
     let mut values = [0u32; 8];
     for j in 0..columns {
         values[j] = response_coordinate(h, k[j], c, x[j]);

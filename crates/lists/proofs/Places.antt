@@ -110,6 +110,16 @@ module _ {ℓ} {A : Type ℓ} where
   unfolding pad8
   getD-pad8 d xs j = getD-behind xs (8 - length xs) d j
 
+  -- ---- a list that is known by its values
+
+  -- a place of a function's first values
+  pub tabulate-at : (n : ℕ) (f : ℕ → A) (d : A) {xs : List A} → xs ≡ tabulate n f → (j : ℕ) → j < n → getD xs j d ≡ f j
+  tabulate-at n f d are j h = ap (λ (l : List A). getD l j d) are ∙ getD-tabulate n f j d h
+
+  -- and of eight places that hold them
+  pub pad8-at : (n : ℕ) (f : ℕ → A) (d : A) {xs : List A} → xs ≡ pad8 d (tabulate n f) → (j : ℕ) → j < n → getD xs j d ≡ f j
+  pad8-at n f d are j h = ap (λ (l : List A). getD l j d) are ∙ getD-pad8 d (tabulate n f) j ∙ getD-tabulate n f j d h
+
 -- ---- the places of an array of numbers that are read
 
 -- there are n of them
@@ -131,6 +141,11 @@ places-suc n xs = tabulate-suc n (λ j. getD xs j 0)
 pub places-agree : (n : ℕ) (xs ys : List ℕ) → ((j : ℕ) → j < n → getD xs j 0 ≡ getD ys j 0) → places n xs ≡ places n ys
 unfolding places
 places-agree n xs ys h = tabulate-agree n (λ j. getD xs j 0) (λ j. getD ys j 0) h
+
+-- fewer places of a function's first values
+pub places-tabulate : (m n : ℕ) (f : ℕ → ℕ) → m ≤ n → places m (tabulate n f) ≡ tabulate m f
+unfolding places
+places-tabulate m n f h = tabulate-agree m _ f (λ j b. getD-tabulate n f j 0 (omega arith))
 
 -- fewer places of the places that are read
 pub places-places : (m n : ℕ) (xs : List ℕ) → m ≤ n → places m (places n xs) ≡ places m xs

@@ -1,5 +1,4 @@
 -- Laws that the proofs of the functions cite, by topic.
-pub mod Power
 pub mod Euclid
 pub mod FirstDivisor
 pub mod FirstFailing

@@ -1,4 +1,7 @@
 // Arithmetic modulo a 32-bit number, with products in 64 bits, and the tests of 01 that need it.
+mod orders; // orders.rt: the test of kind 1 on several values
+
+use orders::first_without_order;
 use types::Header;
 ghost use mathlib.Core.Path.{_≡_};
 ghost use Prim.Native.Nat.{_+_, _-_, _*_, _%_, _^_, _≤_, _<_};
@@ -35,7 +38,7 @@ pub fn pow_mod(base: u32, exponent: u32, m: u32) -> u32
     ensures value { λ r. ⌜ r ≡ base ^ exponent % m ⌝ }
     ensures below { λ r. ⌜ r < m ⌝ }
 {
-    let mut square = base % m;
+    let mut square = base;
     let mut left = exponent;
     let mut power = 1 % m;
     while left > 0 {
@@ -144,6 +147,9 @@ pub fn first_non_element(h: Header, values: [u32; 8], n: usize) -> usize
     ensures value { λ r. ⌜ r ≡ firstFailing (isElement h) n values ⌝ }
     ensures within { λ r. ⌜ r ≤ n ⌝ }
 {
+    if h.kind == 1 {
+        return first_without_order(h, values, n);
+    }
     let mut i: usize = 0;
     while i < n {
         if !is_element(h, values[i]) {

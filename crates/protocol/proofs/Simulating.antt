@@ -1,15 +1,17 @@
 -- Simulating: the simulated commitment row by row, and what the call answers with its number or without one.
 -- Assumes nothing.
-use mathlib.Core.Path.{_≡_, sym, ap}
+use mathlib.Core.Path.{_≡_, sym, ap, _∙_}
 use mathlib.Core.List.{List}
 use Prim.Native.Nat.{ℕ, _*_, _%_, _<_}
 use lib.IntN.{pos, negℤ}
+use lib.ListN.{getD}
 use Rattle.lists.specs.Places.{tabulate, places, pad8, zeros8}
-use Rattle.lists.proofs.Places.{getD-places, tabulate-agree}
+use Rattle.lists.proofs.Places.{getD-places, pad8-at, tabulate-agree}
 use Rattle.numbers.specs.Integer.{power}
 use Rattle.rules.specs.Rule.{lowest, Clear}
 use Rattle.rules.proofs.Lowest.{lowest-clear}
-use Rattle.sigma.specs.Image.{rowImage}
+use Rattle.image.specs.Negative.{mulNegativePowers}
+use Rattle.sigma.specs.Image.{rowImage, image}
 use Rattle.sigma.specs.Instance.{Instance, tableOf, statementAt}
 use Rattle.sigma.specs.Simulator.{simulated, simulateRules, simulateAfter, simulateLoaded}
 use Rattle.sigma.specs.Valid.{Valid}
@@ -29,6 +31,19 @@ simulated-rows inst v c r =
     tabulate-agree (inst .header .rows) _ _ (λ i h.
     ap (λ (k : ℕ). k * power (inst .header .modulus) (statementAt inst i) (negℤ (pos c)) % inst .header .modulus)
     (rowImage-agree (v .table) _ r (λ j l. getD-places (inst .header .columns) r j l) i h))
+
+-- it is the image times the statement by −c, place by place
+pub simulated-images : (inst : Instance) → Valid inst → (c : ℕ) (r : List ℕ) {images values : List ℕ}
+    → images ≡ pad8 0 (image (tableOf inst) r)
+    → values ≡ pad8 0 (mulNegativePowers (inst .header .modulus) c (inst .header .rows) images (inst .statement))
+    → values ≡ pad8 0 (simulated inst c (places (inst .header .columns) r))
+unfolding mulNegativePowers image simulatedRow statementAt
+simulated-images inst v c r are-images are =
+    are ∙ ap (pad8 0)
+    (tabulate-agree (inst .header .rows) _ _ (λ i inside.
+    ap (λ (k : ℕ). k * power (inst .header .modulus) (getD (inst .statement) i 0) (negℤ (pos c)) % inst .header .modulus)
+    (pad8-at (inst .header .rows) _ 0 are-images i inside))
+    ∙ sym (simulated-rows inst v c r))
 
 module _ (inst : Instance) (c : ℕ) (r : List ℕ) where
   -- a number above 0 that the rules give is the whole answer

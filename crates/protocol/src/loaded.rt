@@ -1,4 +1,6 @@
 // Judging a round and simulating a commitment on loaded values (01, "A round"; refusals 14 to 16).
+use image::image;
+use image::mul_negative_powers;
 use image::negative_power;
 use image::refused;
 use image::row_image;
@@ -41,6 +43,7 @@ pub fn judge_loaded(h: Header, entries: [[u32; 8]; 8], statement: [u32; 8], roun
 }
 
 // The simulated commitment for challenge c and response r: the image of r times the statement by -c, a value for each row.
+// One row alone is computed by itself.
 fn simulated(
     h: Header,
     entries: [[u32; 8]; 8],
@@ -52,6 +55,9 @@ fn simulated(
     ensures { λ t. ⌜ t ≡ pad8 0 (simulated (instanceWith h entries statement) c (places (h .columns) r)) ⌝ }
 {
     let rows = h.rows as usize;
+    if rows > 1 {
+        return mul_negative_powers(h, image(h, entries, r), statement, rows, c);
+    }
     let mut values = [0u32; 8];
     for i in 0..rows {
         values[i] = mul_mod(

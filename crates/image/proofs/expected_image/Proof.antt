@@ -4,6 +4,7 @@ use Prim.Native.Nat.{_-_, _*_, _%_, _^_}
 use native.Mathlib.Omega.{arith}
 use lib.ListN.{getD}
 use Rattle.lists.proofs.Filling.{Filled, filled-start, filled-turn, filled-eight}
+use Rattle.powers.specs.Places.{mulPowers}
 use Rattle.sigma.specs.Instance.{statementAt}
 use Rattle.sigma.specs.Round.{expectedImage}
 use Rattle.image.proofs.Slots.{product-reduced}
@@ -19,6 +20,13 @@ abbrev μ-loop : tie.MeasureT-loop
 
 cast-rows : tie.Need-cast-rows Inv-loop μ-loop
 cast-rows c = omega arith
+
+mul-powers-requires : tie.Need-mul-powers-requires Inv-loop μ-loop
+mul-powers-requires c κs = omega arith
+
+returns : tie.Need-returns Inv-loop μ-loop
+unfolding expectedImage statementAt mulPowers
+returns c = λ entries. c .mul-powers .ensures
 
 loop-holds : tie.Need-loop-holds Inv-loop μ-loop
 loop-holds c = filled-start (omega arith)
@@ -58,9 +66,9 @@ loop-again c =
     filled-turn (c .before .before .before .loop .inv) (omega arith)
     (product-reduced _ _ _ (c .before .pow-mod .ensures .0) (c .mul-mod .ensures .0))
 
-returns : tie.Need-returns Inv-loop μ-loop
+returns-2 : tie.Need-returns-2 Inv-loop μ-loop
 unfolding expectedImage statementAt
-returns c = λ entries. filled-eight (c .before .loop .inv) (omega arith)
+returns-2 c = λ entries. filled-eight (c .before .loop .inv) (omega arith)
 
 pub expected-image-spec : {M : Type 1} → statement M
 expected-image-spec =
@@ -69,6 +77,8 @@ expected-image-spec =
     Inv-loop
     μ-loop
     cast-rows
+    mul-powers-requires
+    returns
     loop-holds
     mul-mul-mod
     array-read-mul-mod
@@ -81,4 +91,4 @@ expected-image-spec =
     add-i
     loop-less
     loop-again
-    returns)
+    returns-2)

@@ -18,6 +18,12 @@ abbrev μ-loop : tie.MeasureT-loop
 cast-rows : tie.Need-cast-rows Inv-loop μ-loop
 cast-rows c = omega arith
 
+image-rows-requires : tie.Need-image-rows-requires Inv-loop μ-loop
+image-rows-requires c κs = omega arith
+
+returns : tie.Need-returns Inv-loop μ-loop
+returns c = c .image-rows .ensures
+
 loop-holds : tie.Need-loop-holds Inv-loop μ-loop
 loop-holds c = filled-start (omega arith)
 
@@ -39,9 +45,9 @@ loop-less c = omega arith
 loop-again : tie.Need-loop-again Inv-loop μ-loop
 loop-again c = filled-turn (c .before .before .loop .inv) (omega arith) (c .row-image .ensures)
 
-returns : tie.Need-returns Inv-loop μ-loop
+returns-2 : tie.Need-returns-2 Inv-loop μ-loop
 unfolding image
-returns c = filled-eight (c .before .loop .inv) (omega arith)
+returns-2 c = filled-eight (c .before .loop .inv) (omega arith)
 
 pub image-spec : {M : Type 1} → statement M
 image-spec =
@@ -50,6 +56,8 @@ image-spec =
     Inv-loop
     μ-loop
     cast-rows
+    image-rows-requires
+    returns
     loop-holds
     row-image-requires
     mul-values
@@ -57,4 +65,4 @@ image-spec =
     add-i
     loop-less
     loop-again
-    returns)
+    returns-2)

@@ -5,6 +5,7 @@ use native.Mathlib.Omega.{arith}
 use lib.ListN.{getD}
 use Rattle.lists.proofs.Filling.{Filled, filled-start, filled-turn, filled-eight}
 use Rattle.sigma.specs.Round.{responseCoordinate, response}
+use Rattle.image.proofs.Several.{powers-response}
 use Rattle.image.proofs.response.Statement.{statement}
 use Rattle.image.proofs.response.Tie as tie
 
@@ -17,6 +18,12 @@ abbrev μ-loop : tie.MeasureT-loop
 
 cast-columns : tie.Need-cast-columns Inv-loop μ-loop
 cast-columns c = omega arith
+
+mul-powers-requires : tie.Need-mul-powers-requires Inv-loop μ-loop
+mul-powers-requires c κs = omega arith
+
+returns : tie.Need-returns Inv-loop μ-loop
+returns c = powers-response _ _ _ _ (c .before .before .if1 .taken) (c .mul-powers .ensures)
 
 loop-holds : tie.Need-loop-holds Inv-loop μ-loop
 loop-holds c = filled-start (omega arith)
@@ -51,9 +58,9 @@ loop-less c = omega arith
 loop-again : tie.Need-loop-again Inv-loop μ-loop
 loop-again c = filled-turn (c .before .before .loop .inv) (omega arith) (c .response-coordinate .ensures)
 
-returns : tie.Need-returns Inv-loop μ-loop
+returns-2 : tie.Need-returns-2 Inv-loop μ-loop
 unfolding response
-returns c = filled-eight (c .before .loop .inv) (omega arith)
+returns-2 c = filled-eight (c .before .loop .inv) (omega arith)
 
 pub response-spec : {M : Type 1} → statement M
 response-spec =
@@ -62,6 +69,8 @@ response-spec =
     Inv-loop
     μ-loop
     cast-columns
+    mul-powers-requires
+    returns
     loop-holds
     mul-response-coordinate
     array-read-response-coordinate
@@ -73,4 +82,4 @@ response-spec =
     add-j
     loop-less
     loop-again
-    returns)
+    returns-2)

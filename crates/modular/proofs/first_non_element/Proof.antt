@@ -4,6 +4,7 @@ use mathlib.Core.Path.{_≡_, sym, ap, _∙_}
 use mathlib.Core.Bool.{not}
 use Prim.Native.Nat.{_-_, _≤_}
 use native.Mathlib.Omega.{arith}
+use borrow.Author.Needs.{needs}
 use lib.ListN.{getD}
 use borrow.Author.Tests.{not-true, not-false}
 use Rattle.numbers.specs.Search.{find}
@@ -20,6 +21,12 @@ Inv-loop h n values i₀ i =
 abbrev μ-loop : tie.MeasureT-loop
 μ-loop h n values i₀ i = n - i
 
+first-without-order-requires : tie.Need-first-without-order-requires Inv-loop μ-loop
+first-without-order-requires c κs = search needs
+
+returns : tie.Need-returns Inv-loop μ-loop
+returns c = c .first-without-order .ensures
+
 loop-holds : tie.Need-loop-holds Inv-loop μ-loop
 unfolding firstFailing
 loop-holds c = (omega arith, find-to-start _ _)
@@ -33,10 +40,10 @@ array-read-is-element c = omega arith
 is-element-requires : tie.Need-is-element-requires Inv-loop μ-loop
 is-element-requires c κs = omega arith
 
-returns : tie.Need-returns Inv-loop μ-loop
-returns c =
+returns-2 : tie.Need-returns-2 Inv-loop μ-loop
+returns-2 c =
     let at-loop = c .before .before .before in
-    let fails = sym (c .before .is-element .ensures) ∙ not-true _ (c .if1 .taken) in
+    let fails = sym (c .before .is-element .ensures) ∙ not-true _ (c .if2 .taken) in
     (sym (find-to-here _ _ _ (c .before .before .loop-test .taken) (ap not fails)) ∙ at-loop .loop .inv .1, at-loop .loop .inv .0)
 
 add-i : tie.Need-add-i Inv-loop μ-loop
@@ -47,11 +54,11 @@ loop-less c = omega arith
 
 loop-again : tie.Need-loop-again Inv-loop μ-loop
 loop-again c =
-    let passes = sym (c .before .is-element .ensures) ∙ not-false _ (c .if1 .left) in
+    let passes = sym (c .before .is-element .ensures) ∙ not-false _ (c .if2 .left) in
     (omega arith, find-to-on _ _ _ (c .before .before .loop-test .taken) (ap not passes) ∙ c .before .before .before .loop .inv .1)
 
-returns-2 : tie.Need-returns-2 Inv-loop μ-loop
-returns-2 c = let (within, kept) = c .before .loop .inv in (sym (find-to-end _ _ _ (c .loop-test .left)) ∙ kept, within)
+returns-3 : tie.Need-returns-3 Inv-loop μ-loop
+returns-3 c = let (within, kept) = c .before .loop .inv in (sym (find-to-end _ _ _ (c .loop-test .left)) ∙ kept, within)
 
 pub first-non-element-spec : {M : Type 1} → statement M
 first-non-element-spec =
@@ -59,12 +66,14 @@ first-non-element-spec =
     (tie.spec
     Inv-loop
     μ-loop
+    first-without-order-requires
+    returns
     loop-holds
     mul-is-element
     array-read-is-element
     is-element-requires
-    returns
+    returns-2
     add-i
     loop-less
     loop-again
-    returns-2)
+    returns-3)

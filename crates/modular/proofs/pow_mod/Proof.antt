@@ -1,29 +1,24 @@
 -- `modular::pow_mod` meets its contract. The invariant: the answer so far is below m, and times the square by what is left
 -- of the exponent it is the power modulo m. The measure: what is left of the exponent. Assumes nothing.
-use mathlib.Core.Path.{_≡_, sym, _∙_}
+use mathlib.Core.Path.{refl, _∙_}
 use mathlib.Core.Logic.{⊎-elim}
-use Prim.Native.Nat.{_*_, _%_, _^_, _<_}
-use native.Mathlib.Nat.{mod-lt}
+use Prim.Native.Nat.{_%_, _^_}
 use native.Mathlib.Omega.{arith}
-use Rattle.modular.proofs.Power.{power-start, power-odd, power-even, power-end}
+use Rattle.powers.proofs.Power.{Kept, kept-start, kept-odd, kept-even, kept-end}
 use Rattle.modular.proofs.pow_mod.Statement.{statement}
 use Rattle.modular.proofs.pow_mod.Tie as tie
 
 abbrev Inv-loop : tie.InvT-loop
-Inv-loop base exponent m square₀ left₀ power₀ square left power =
-    (power < m) × (power * square ^ left % m ≡ base ^ exponent % m)
+Inv-loop base exponent m square₀ left₀ power₀ square left power = Kept m (base ^ exponent % m) power square left
 
 abbrev μ-loop : tie.MeasureT-loop
 μ-loop base exponent m square₀ left₀ power₀ square left power = left
-
-rem-square : tie.Need-rem-square Inv-loop μ-loop
-rem-square c = omega arith
 
 rem-power : tie.Need-rem-power Inv-loop μ-loop
 rem-power c = omega arith
 
 loop-holds : tie.Need-loop-holds Inv-loop μ-loop
-loop-holds c = (mod-lt _ (c .pre), power-start _ _ _)
+loop-holds c = kept-start _ _ _ (c .pre) refl
 
 mul-mod-requires : tie.Need-mul-mod-requires Inv-loop μ-loop
 mul-mod-requires c κs = omega arith
@@ -36,17 +31,15 @@ loop-less c = omega arith
 
 loop-again : tie.Need-loop-again Inv-loop μ-loop
 loop-again c =
-    let (below, kept) = c .before .before .before .loop .inv in
+    let kept = c .before .before .before .loop .inv in
     let squared = c .mul-mod2 .ensures .0 in
     ⊎-elim
-    (λ w. (rw (w .2) (w .1 .ensures .1), power-odd _ _ _ _ (w .0 .taken) (w .2 ∙ w .1 .ensures .0) squared ∙ kept))
-    (λ w. (rw (w .1) below, power-even _ _ _ _ (w .0 .left) (w .1) squared ∙ kept))
+    (λ w. kept-odd kept (w .0 .taken) (w .2 ∙ w .1 .ensures .0) squared)
+    (λ w. kept-even kept (w .0 .left) (w .1) squared)
     (c .before .if1 .came)
 
 returns : tie.Need-returns Inv-loop μ-loop
-returns c =
-    let (below, kept) = c .before .loop .inv in
-    (sym (power-end _ below (c .loop-test .left)) ∙ kept, below)
+returns c = let kept = c .before .loop .inv in (kept-end kept (c .loop-test .left), kept .below)
 
 pub pow-mod-spec : {M : Type 1} → statement M
 pow-mod-spec =
@@ -54,7 +47,6 @@ pow-mod-spec =
     (tie.spec
     Inv-loop
     μ-loop
-    rem-square
     rem-power
     loop-holds
     mul-mod-requires

@@ -7,6 +7,7 @@ use lib.IntN.{pos, negℤ}
 use lib.ListN.{getD}
 use Rattle.lists.proofs.Filling.{Filled, filled-start, filled-turn, filled-eight}
 use Rattle.sigma.specs.Extractor.{slotFormula}
+use Rattle.extractor.specs.Coefficients.{slotFormulas}
 use Rattle.extractor.proofs.Coefficients.{quotient-within, left-is}
 use Rattle.extractor.proofs.Slots.{formula-filled}
 use Rattle.extractor.proofs.loaded.witness.Statement.{statement}
@@ -45,6 +46,26 @@ cast-a-3 c =
 cast-columns : tie.Need-cast-columns Inv-loop μ-loop
 cast-columns c = omega arith
 
+root-slots-requires : tie.Need-root-slots-requires Inv-loop μ-loop
+root-slots-requires c κs =
+    let other = c .before in
+    let made = other .before .before .before .before in
+    let fits = made .before .pre in
+    record {
+      modulus = fits .modulus;
+      order = omega arith;
+      columns = fits .columns;
+      exponent = le-trans (quotient-within _ _ _ (made .inverse .ensures .1)) (le-of-lt (fits .below));
+      kind = other .if1 .taken;
+      bases = fits .base (other .if1 .taken);
+      divisors = λ j inside. fits .divisors j inside .element (other .if1 .taken);
+    }
+
+returns : tie.Need-returns Inv-loop μ-loop
+returns c = λ entries.
+    let is-inverse = c .before .before .before .before .before .before .inverse .ensures .0 in
+    formula-filled _ _ _ _ _ _ entries (left-is _ _ is-inverse) is-inverse (c .root-slots .ensures)
+
 loop-holds : tie.Need-loop-holds Inv-loop μ-loop
 loop-holds c = filled-start (omega arith)
 
@@ -69,7 +90,7 @@ array-read-witness-slot-3 c = omega arith
 witness-slot-requires : tie.Need-witness-slot-requires Inv-loop μ-loop
 witness-slot-requires c κs =
     let at-loop = c .before in
-    let made = at-loop .before .before .before in
+    let made = at-loop .before .before .before .before .before in
     let fits = made .before .pre in
     record {
       modulus = fits .modulus;
@@ -95,10 +116,11 @@ loop-less c = omega arith
 loop-again : tie.Need-loop-again Inv-loop μ-loop
 loop-again c = filled-turn (c .before .before .loop .inv) (omega arith) (c .witness-slot .ensures)
 
-returns : tie.Need-returns Inv-loop μ-loop
-returns c = λ entries.
+returns-2 : tie.Need-returns-2 Inv-loop μ-loop
+unfolding slotFormulas
+returns-2 c = λ entries.
     let at-loop = c .before in
-    let is-inverse = at-loop .before .before .before .inverse .ensures .0 in
+    let is-inverse = at-loop .before .before .before .before .before .inverse .ensures .0 in
     formula-filled _ _ _ _ _ _ entries (left-is _ _ is-inverse) is-inverse
     (filled-eight (at-loop .loop .inv) (omega arith))
 
@@ -115,6 +137,8 @@ witness-spec =
     div-a
     cast-a-3
     cast-columns
+    root-slots-requires
+    returns
     loop-holds
     mul-witness-slot
     array-read-witness-slot
@@ -128,4 +152,4 @@ witness-spec =
     add-j
     loop-less
     loop-again
-    returns)
+    returns-2)

@@ -5,7 +5,7 @@ use native.Mathlib.Omega.{arith}
 use Rattle.lists.proofs.Filling.{Filled, filled-start, filled-turn, filled-eight}
 use Rattle.sigma.specs.Instance.{instanceWith, statementAt}
 use Rattle.sigma.proofs.Valid.{valid-modulus, valid-order, valid-challenge}
-use Rattle.protocol.proofs.Simulating.{simulatedRow, simulated-rows}
+use Rattle.protocol.proofs.Simulating.{simulatedRow, simulated-rows, simulated-images}
 use Rattle.protocol.proofs.loaded.simulated.Statement.{statement}
 use Rattle.protocol.proofs.loaded.simulated.Tie as tie
 
@@ -18,6 +18,25 @@ abbrev μ-loop : tie.MeasureT-loop
 
 cast-rows : tie.Need-cast-rows Inv-loop μ-loop
 cast-rows c = omega arith
+
+image-requires : tie.Need-image-requires Inv-loop μ-loop
+image-requires c κs = omega arith
+
+mul-negative-powers-requires : tie.Need-mul-negative-powers-requires Inv-loop μ-loop
+unfolding statementAt
+mul-negative-powers-requires c κs =
+    let (valid, below) = c .before .before .before .pre in (
+      valid-modulus (valid .table),
+      valid-order (valid .table),
+      omega (arith, valid-challenge (valid .table) _ below),
+      omega arith,
+      valid .statement,
+    )
+
+returns : tie.Need-returns Inv-loop μ-loop
+returns c =
+    let images = c .before in
+    simulated-images _ (images .before .before .before .pre .0) _ _ (images .image .ensures) (c .mul-negative-powers .ensures)
 
 loop-holds : tie.Need-loop-holds Inv-loop μ-loop
 loop-holds c = filled-start (omega arith)
@@ -34,7 +53,7 @@ array-read-negative-power c = omega arith
 negative-power-requires : tie.Need-negative-power-requires Inv-loop μ-loop
 unfolding statementAt
 negative-power-requires c κs =
-    let (valid, below) = c .before .before .before .before .pre in
+    let (valid, below) = c .before .before .before .before .before .pre in
     let inside = c .before .loop-test .taken in
     (valid-modulus (valid .table), valid-order (valid .table), omega (arith, valid-challenge (valid .table) _ below), valid .statement _ inside)
 
@@ -59,10 +78,10 @@ loop-again c =
     let at-loop = c .before .before .before .before in
     filled-turn (at-loop .loop .inv) (omega arith) (rw (c .mul-mod .ensures .0, c .before .before .row-image .ensures, c .before .negative-power .ensures))
 
-returns : tie.Need-returns Inv-loop μ-loop
-returns c =
+returns-2 : tie.Need-returns-2 Inv-loop μ-loop
+returns-2 c =
     let at-loop = c .before in
-    rw (simulated-rows _ (at-loop .before .before .pre .0) _ _) (filled-eight (at-loop .loop .inv) (omega arith))
+    rw (simulated-rows _ (at-loop .before .before .before .pre .0) _ _) (filled-eight (at-loop .loop .inv) (omega arith))
 
 pub simulated-spec : {M : Type 1} → statement M
 simulated-spec =
@@ -71,6 +90,9 @@ simulated-spec =
     Inv-loop
     μ-loop
     cast-rows
+    image-requires
+    mul-negative-powers-requires
+    returns
     loop-holds
     row-image-requires
     mul-negative-power
@@ -82,4 +104,4 @@ simulated-spec =
     add-i
     loop-less
     loop-again
-    returns)
+    returns-2)

@@ -1,0 +1,2 @@
+-- Definitions that the contracts name.
+pub mod Negative

@@ -1,0 +1,6 @@
+-- Laws that the proofs of the functions cite, by topic.
+pub mod HighProduct
+pub mod Reduction
+pub mod Power
+pub mod Lanes
+pub mod Places

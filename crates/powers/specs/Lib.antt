@@ -1,0 +1,3 @@
+-- Definitions that the contracts name.
+pub mod Reciprocal
+pub mod Places

@@ -1,0 +1,12 @@
+// Products and powers modulo a 32-bit number m by Barrett's method, four numbers side by side, so that the processor need not
+// wait for one product before it begins the next.
+mod arrays; // arrays.rt: powers and products of the places of an array
+mod barrett; // barrett.rt: one product
+mod four; // four.rt: four products and four powers
+
+pub use arrays::mul_powers;
+pub use arrays::powers;
+pub use arrays::products;
+pub use barrett::reciprocal;
+pub use four::Four;
+pub use four::mul_four;
