@@ -2,5 +2,6 @@
 pub mod Power
 pub mod Euclid
 pub mod FirstDivisor
+pub mod Candidates
 pub mod FirstFailing
 pub mod ElementTest
