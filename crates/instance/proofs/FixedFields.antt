@@ -11,7 +11,7 @@ use Rattle.rules.proofs.Lowest.{clear-lowest}
 use Rattle.sigma.specs.Admission.{badCount, firstDivisor, headerRules}
 use Rattle.sigma.proofs.Passed.{modulus-passes, size-passes}
 use Rattle.modular.specs.Divisor.{divisorOf}
-use Rattle.modular.specs.declared.Divisor.the-variants.{Found, Nothing}
+use Rattle.modular.specs.declared.divisors.Divisor.the-variants.{Found, Nothing}
 use Rattle.modular.proofs.FirstDivisor.{divisorOf-found, divisorOf-nothing}
 
 module _ (h : Header) where

@@ -1,19 +1,20 @@
 -- The search for a divisor: what it answers where it ends, and no two answers have the same outcome.
 -- Assumes nothing.
-use mathlib.Core.Path.{_≡_, refl, sym, _∙_, ap}
+use mathlib.Core.Path.{_≡_, refl, sym, ap}
 use mathlib.Core.Bool.{Bool, true, false, cond}
 use mathlib.Core.Logic.{_↔_}
-use Prim.Native.Nat.{ℕ, _-_, _%_, _≤_, _<_}
+use Prim.Native.Nat.{ℕ, _-_, _%_, _≤_, _<_, _∣_}
+use native.Mathlib.Nat.{dvd-of-mod-eq-zero}
 use native.Mathlib.Omega.{arith}
 use lib.Dec.{eqb, ltb}
-use borrow.Author.Tests.{eq-eqb, lt-ltb, le-ltb, ltb-true, ltb-false}
-use Rattle.numbers.specs.Search.{find}
-use Rattle.numbers.proofs.Search.{find-to-end, find-to-here}
+use borrow.Author.Tests.{eq-eqb, ne-eqb, lt-ltb, le-ltb, ltb-true, ltb-false}
+use Rattle.numbers.specs.Divisors.{NoDivisorBelow}
+use Rattle.numbers.proofs.Search.{find-is, find-none}
 use Rattle.sigma.specs.Admission.{firstDivisor}
 use Rattle.sigma.specs.Answer.{Outcome}
 use Rattle.modular.specs.Divisor.{divisorOutcome, divisorOf}
-use Rattle.modular.specs.declared.Divisor.{Divisor}
-use Rattle.modular.specs.declared.Divisor.the-variants.{Found, Nothing}
+use Rattle.modular.specs.declared.divisors.Divisor.{Divisor}
+use Rattle.modular.specs.declared.divisors.Divisor.the-variants.{Found, Nothing}
 
 -- two answers with the same outcome are the same
 pub divisorOutcome-injective : (a b : Divisor) → divisorOutcome a ≡ divisorOutcome b → a ≡ b
@@ -54,19 +55,22 @@ divisorOf-nothing order challenges =
     ends true below e = let z : _≡_ {A = ℕ} 0 1 = cc in absurd (omega arith)
     ends false past e = ltb-false first challenges past
 
--- the test of the search
-abbrev pub divides : ℕ → ℕ → Bool
-divides order d = eqb (order % d) 0
+-- the test of the search fails at a number that does not divide ℓ
+test-fails : (order d : ℕ) → ¬ (d ∣ order) → eqb (order % d) 0 ≡ false
+test-fails order d fails = ne-eqb (order % d) 0 (λ whole. fails (dvd-of-mod-eq-zero d whole))
 
--- the first d below K that divides is what the search finds
-pub divisor-found : (order challenges d : ℕ) → d < challenges → order % d ≡ 0
-    → find (divides order) d (challenges - d) ≡ firstDivisor order challenges → Found d ≡ divisorOf order challenges
-divisor-found order challenges d below holds kept =
-    let here = find-to-here (divides order) d challenges below (eq-eqb (order % d) 0 holds) in
-    sym (divisorOf-found order challenges d .1 (sym kept ∙ here, below))
+-- a d below K that divides ℓ, as no number before it does, is what the search finds
+pub divisor-found : (order challenges d : ℕ) → 2 ≤ d → d < challenges → order % d ≡ 0 → NoDivisorBelow order d
+    → Found d ≡ divisorOf order challenges
+unfolding firstDivisor
+divisor-found order challenges d large below whole none =
+    let fails : (e : ℕ) → 2 ≤ e → e < d → eqb (order % e) 0 ≡ false = λ e h k. test-fails order e (none e h k) in
+    let first = find-is _ 2 (challenges - 2) d large (omega arith) (eq-eqb (order % d) 0 whole) fails in
+    sym (divisorOf-found order challenges d .1 (first, below))
 
--- where the search comes to K it finds nothing
-pub divisor-nothing : (order challenges d : ℕ) → challenges ≤ d
-    → find (divides order) d (challenges - d) ≡ firstDivisor order challenges → Nothing ≡ divisorOf order challenges
-divisor-nothing order challenges d past kept =
-    sym (divisorOf-nothing order challenges .1 (omega (arith, kept, find-to-end (divides order) d challenges past)))
+-- where no number below K divides ℓ, the search finds nothing
+pub divisor-nothing : (order challenges d : ℕ) → challenges ≤ d → NoDivisorBelow order d → Nothing ≡ divisorOf order challenges
+unfolding firstDivisor
+divisor-nothing order challenges d past none =
+    let passed = find-none _ 2 (challenges - 2) .0 (λ e h k. test-fails order e (none e h (omega arith))) in
+    sym (divisorOf-nothing order challenges .1 (omega arith))

@@ -1,6 +1,9 @@
 // Arithmetic modulo a 32-bit number, with products in 64 bits, and the tests of 01 that need it.
+mod divisors; // divisors.rt: the search for a divisor of an order
 mod orders; // orders.rt: the test of kind 1 on several values
 
+pub use divisors::Divisor;
+pub use divisors::first_divisor;
 use orders::first_without_order;
 use types::Header;
 ghost use mathlib.Core.Path.{_≡_};
@@ -8,7 +11,6 @@ ghost use Prim.Native.Nat.{_+_, _-_, _*_, _%_, _^_, _≤_, _<_};
 ghost use Rattle.numbers.specs.Gcd.{gcd};
 ghost use Rattle.numbers.specs.Inverse.{inverse};
 ghost use Rattle.sigma.specs.Element.{isElement, isCoordinate, someNonElement, someNonCoordinate};
-ghost use Rattle.modular.specs.Divisor.{divisorOf, divisorOutcome};
 ghost use Rattle.modular.specs.FirstFailing.{firstFailing};
 
 // The product of a and b modulo m.
@@ -89,28 +91,6 @@ pub fn inverse(v: u32, m: u32) -> u32
         return s;
     }
     m - s
-}
-
-// What a search for a divisor finds.
-pub enum Divisor {
-    Found(u32),
-    Nothing,
-}
-
-// The first d with 2 ≤ d < challenges that divides order, or nothing where there is none.
-pub fn first_divisor(order: u32, challenges: u32) -> Divisor
-    ensures { λ r. ⌜ divisorOutcome r ≡ divisorOutcome (divisorOf order challenges) ⌝ }
-{
-    let mut d: u32 = 2;
-    loop {
-        if d >= challenges {
-            break Divisor::Nothing;
-        }
-        if order % d == 0 {
-            break Divisor::Found(d);
-        }
-        d += 1;
-    }
 }
 
 // Whether v is a group element: from 1 to m - 1, with v^q mod m = 1 in kind 1 and gcd(v, m) = 1 in kind 2.

@@ -7,6 +7,7 @@ use Prim.Native.Nat.{ℕ, suc, _+_, _*_, _%_, _≤_, _<_, _∣_}
 use native.Mathlib.Nat.{zero-add, eq-zero-or-pos, eq-or-lt-of-le, le-of-dvd, pos-of-dvd-of-pos, dvd-mod-iff, dvd-trans, dvd-add-iff-right}
 use native.Mathlib.Omega.{arith}
 use lib.IntN.{ℤ, pos, negsuc, natAbs, _+ℤ_, _-ℤ_, _*ℤ_, -ℤ-+ℤ-cancel}
+use Rattle.numbers.specs.Divisors.{NoDivisorBelow}
 use Rattle.numbers.specs.Gcd.{gcd}
 use Rattle.numbers.specs.Inverse.{inverse, Inverses}
 use Rattle.numbers.specs.Integer.{residue, bezoutLeft, bezoutRight}
@@ -17,7 +18,7 @@ use Rattle.numbers.proofs.Inverse.{inverse-inverts}
 use Rattle.numbers.proofs.Integer.{residue-pos, residue-below, residue-difference, residue-add, residue-mul, quotient-exact}
 
 -- a positive number below K is coprime to the order, if no d with 2 ≤ d < K divides the order
-pub coprime-below : (count order : ℕ) → ((d : ℕ) → 2 ≤ d → d < count → ¬ (d ∣ order))
+pub coprime-below : (count order : ℕ) → NoDivisorBelow order count
     → (delta : ℕ) → 1 ≤ delta → delta < count → gcd delta order ≡ 1
 coprime-below count order none delta positive below =
     let divisor = gcd-is-gcd delta order in
@@ -66,14 +67,14 @@ natAbs-positive (pos n) h = elim (eq-zero-or-pos n) [ inl none ↦ absurd (h (ap
 natAbs-positive (negsuc n) h = omega arith
 
 -- the extractor's formula, for a delta other than 0 and less than K in size, if no d with 2 ≤ d < K divides the order
-pub bezout-below : (count order : ℕ) → ((d : ℕ) → 2 ≤ d → d < count → ¬ (d ∣ order)) → 2 ≤ order
+pub bezout-below : (count order : ℕ) → NoDivisorBelow order count → 2 ≤ order
     → (delta : ℤ) → delta ≢ pos 0 → natAbs delta < count
     → pos order *ℤ bezoutLeft order delta +ℤ delta *ℤ bezoutRight order delta ≡ pos 1
 bezout-below count order none big delta nonzero below =
     bezout-coprime order delta big (coprime-below count order none (natAbs delta) (natAbs-positive delta nonzero) below)
 
 -- the extractor's formula for two different challenges below K, if no d with 2 ≤ d < K divides the order
-pub bezout-challenges : (count order : ℕ) → ((d : ℕ) → 2 ≤ d → d < count → ¬ (d ∣ order)) → 2 ≤ order
+pub bezout-challenges : (count order : ℕ) → NoDivisorBelow order count → 2 ≤ order
     → (c c′ : ℕ) → c < count → c′ < count → c ≢ c′
     → pos order *ℤ bezoutLeft order (pos c -ℤ pos c′) +ℤ (pos c -ℤ pos c′) *ℤ bezoutRight order (pos c -ℤ pos c′) ≡ pos 1
 bezout-challenges count order none big c c′ low low′ different =

@@ -3,6 +3,7 @@ pub mod Search
 pub mod Congruence
 pub mod Powers
 pub mod Difference
+pub mod Divisors
 pub mod Gcd
 pub mod Inverse
 pub mod Product

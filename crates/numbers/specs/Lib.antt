@@ -1,5 +1,6 @@
 -- Definitions of numbers that the protocol's definitions use.
 pub mod Search
+pub mod Divisors
 pub mod Gcd
 pub mod Congruence
 pub mod Inverse

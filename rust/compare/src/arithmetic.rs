@@ -54,6 +54,14 @@ pub fn least_divisor(n: u32) -> u32 {
     divisors.next().copied().unwrap_or(n)
 }
 
+/// The least prime above an n of at most 65,536.
+pub fn next_prime(n: u32) -> u32 {
+    let mut above = n + 1..=65_537;
+    above
+        .find(|candidate| least_divisor(*candidate) == *candidate)
+        .unwrap_or(65_537)
+}
+
 /// The prime factors of an n of at least 1, each as often as it divides n.
 pub fn prime_factors(n: u32) -> Vec<u32> {
     let mut factors = Vec::new();
@@ -106,6 +114,17 @@ mod tests {
             assert_eq!(least_divisor(n), least);
         }
         assert_eq!(prime_factors(u32::MAX), [3, 5, 17, 257, 65_537]);
+    }
+
+    #[test]
+    fn next_primes() {
+        let first: Vec<u32> = (1..14).map(next_prime).collect();
+        assert_eq!(first, [2, 3, 5, 5, 7, 7, 11, 11, 11, 11, 13, 13, 17]);
+        assert_eq!(
+            (65_520..=65_521).map(next_prime).collect::<Vec<_>>(),
+            [65_521, 65_537]
+        );
+        assert_eq!(next_prime(65_536), 65_537);
     }
 
     #[test]

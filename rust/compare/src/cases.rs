@@ -10,7 +10,7 @@ mod writers;
 use std::fmt;
 
 use crate::calls::Call;
-use crate::library::Library;
+use crate::library::{Header, Library, Places};
 use crate::outcome::Outcome;
 
 pub use files::{FileCall, FileCase};
@@ -32,5 +32,13 @@ pub trait Case: fmt::Debug + fmt::Display {
         answers
             .map(|(call, answer)| (*call, answer.refusal()))
             .collect()
+    }
+
+    /// The fixed fields of the sheet, where it has all of them.
+    fn header(&self) -> Option<Header>;
+
+    /// The nonces, witnesses and responses that are handed in.
+    fn slots(&self) -> Vec<Places> {
+        Vec::new()
     }
 }

@@ -80,10 +80,10 @@ pub fn group_for(random: &mut Random, number: u32) -> Group {
     } else {
         random.between(1, 2)
     };
-    if number == 8 && random.once_in(4) {
-        Group::wide(random, kind)
-    } else {
-        Group::of_kind(random, kind)
+    match random.below(6) {
+        0 if number == 8 => Group::wide(random, kind),
+        1..=4 if number == 8 => Group::divided(random, kind),
+        _ => Group::of_kind(random, kind),
     }
 }
 

@@ -50,6 +50,13 @@ impl Group {
         Group::new(kind, modulus, (modulus - 1) / 2)
     }
 
+    /// A group whose order is a product of two primes, so that the challenge
+    /// counts that it allows end at the least.
+    pub fn divided(random: &mut Random, kind: u32) -> Group {
+        let modulus = choosing::modulus(random);
+        Group::new(kind, modulus, choosing::product(random))
+    }
+
     /// Whether v is a group element.
     pub fn is_element(&self, v: u32) -> bool {
         let in_range = 1 <= v && v < self.modulus;
@@ -84,11 +91,12 @@ impl Group {
         power(v, exponent, self.modulus)
     }
 
-    /// A domain slot, now and then the first or the last of kind 1.
+    /// A domain slot, now and then one of the first two or the last of kind 1.
     pub fn slot(&self, random: &mut Random) -> u32 {
         match (self.kind, random.below(10)) {
             (1, 0) => 0,
             (1, 1) => self.order - 1,
+            (1, 2) => 1,
             (1, _) => random.between(0, self.order - 1),
             _ => self.element(random),
         }

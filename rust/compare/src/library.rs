@@ -18,6 +18,20 @@ pub struct Plan {
     pub challenges: u32,
 }
 
+impl Plan {
+    /// The fixed fields, with one row and one column.
+    pub fn header(&self) -> Header {
+        Header {
+            kind: if self.number == 6 { 2 } else { 1 },
+            modulus: self.modulus,
+            order: self.order,
+            challenges: self.challenges,
+            rows: 1,
+            columns: 1,
+        }
+    }
+}
+
 /// A library that answers the calls.
 #[derive(Clone, Copy, Debug, PartialEq, Eq)]
 pub enum Library {

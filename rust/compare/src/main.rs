@@ -5,7 +5,7 @@
 //! libraries get it, and every field of the answers and every byte of a lent
 //! buffer must be the same. The first difference is printed and ends the run.
 //! Last page K is run in both, and demand 3 is tried on small sheets. Exit
-//! status: 0 no difference, 1 a difference, a number met too seldom or no
+//! status: 0 no difference, 1 a difference, something met too seldom or no
 //! program `marker`, 2 wrong words or a place to which nothing can be written.
 
 #![forbid(unsafe_code)]
@@ -31,6 +31,7 @@ mod program;
 mod proved;
 mod random;
 mod run;
+mod shapes;
 mod sheets;
 mod stored;
 mod tally;
@@ -44,7 +45,7 @@ use library::Library;
 use options::{Options, COUNT};
 use program::PROGRAM;
 
-/// The fewest times that a full run must meet each number and verdict.
+/// The fewest times that a full run must meet each number, verdict and shape.
 const FEWEST: u64 = 50;
 
 fn main() -> ExitCode {

@@ -27,6 +27,20 @@ pub fn record_length(header: &Header) -> usize {
     4 * (header.rows + header.columns + 1) as usize
 }
 
+/// The fixed fields in a sheet's bytes, where it has all of them.
+pub fn header(sheet: &[u8]) -> Option<Header> {
+    let fields = sheet.first_chunk::<20>()?;
+    let word = |at: usize| u32::from_be_bytes([0, 1, 2, 3].map(|byte| fields[at + byte]));
+    Some(Header {
+        kind: fields[5].into(),
+        modulus: word(6),
+        order: word(10),
+        challenges: word(14),
+        rows: fields[18].into(),
+        columns: fields[19].into(),
+    })
+}
+
 /// The product over the row of entry^slot mod m.
 fn product(row: &[u32], slots: &Places, m: u32) -> u32 {
     let factors = row.iter().zip(slots);
@@ -193,6 +207,7 @@ mod tests {
             let loaded = Judge.load(&bytes);
             assert_eq!(loaded.refusal, 0);
             assert_eq!(loaded.header, sheet.header);
+            assert_eq!(header(&bytes), Some(sheet.header));
             assert_eq!(loaded.statement, sheet.statement);
             let mut entries = [7; 64];
             Judge.entries(&bytes, &mut entries);

@@ -1,4 +1,5 @@
-//! How often each call gave each number and each verdict.
+//! How often each call gave each number and each verdict, and how often each
+//! shape of sheets and slots was met.
 
 use std::fmt;
 
@@ -6,17 +7,20 @@ use crate::calls::{Call, CALL_COUNT, LAST};
 use crate::cases::Case;
 use crate::library::Judgement;
 use crate::outcome::Outcome;
+use crate::shapes::{Seen, Shapes};
 
 /// The verdicts: accepted, and rejected in each of eight rows.
 const VERDICTS: [&str; 9] = [
     "accepted", "row 0", "row 1", "row 2", "row 3", "row 4", "row 5", "row 6", "row 7",
 ];
 
-/// A count for each call with each number and with each verdict.
+/// A count for each call with each number and with each verdict, and for each
+/// shape.
 #[derive(Default)]
 pub struct Tally {
     numbers: [[u64; LAST as usize + 1]; CALL_COUNT],
     verdicts: [[u64; VERDICTS.len()]; CALL_COUNT],
+    shapes: Shapes,
 }
 
 /// The place of a verdict among all.
@@ -31,8 +35,18 @@ fn place(verdict: Judgement) -> usize {
 impl Tally {
     /// Counts the calls of a case with this outcome in the judge.
     pub fn add(&mut self, case: &dyn Case, judged: &Outcome) {
-        for (call, number) in case.numbers(judged) {
-            self.numbers[call as usize][number as usize] += 1;
+        let numbers = case.numbers(judged);
+        for (call, number) in &numbers {
+            self.numbers[*call as usize][*number as usize] += 1;
+        }
+        if let Some(header) = case.header() {
+            let mut numbers = numbers.iter().map(|(_, number)| *number);
+            let of_sheet = numbers.find(|number| (1..=11).contains(number));
+            self.shapes.add(&Seen {
+                header,
+                refusal: of_sheet.unwrap_or(0),
+                slots: case.slots(),
+            });
         }
         for (call, answer) in &judged.answers {
             if let Some(verdict) = answer.verdict() {
@@ -50,8 +64,9 @@ impl Tally {
         self.numbers[call as usize].iter().sum()
     }
 
-    /// What a run lacks: numbers and verdicts that a call can give and that were
-    /// met fewer times, and numbers that it cannot give and that were met.
+    /// What a run lacks: numbers and verdicts that a call can give, and shapes,
+    /// that were met fewer times, and numbers that it cannot give and that were
+    /// met.
     pub fn lacks(&self, fewest: u64) -> Vec<String> {
         let mut lacks = Vec::new();
         for call in Call::all() {
@@ -71,12 +86,16 @@ impl Tally {
                 }
             }
         }
+        for (shape, columns) in self.shapes.rows() {
+            let few = columns.into_iter().filter(|(_, met)| *met < fewest);
+            lacks.extend(few.map(|(column, met)| format!("{shape}: {column} only {met} times")));
+        }
         lacks
     }
 }
 
 /// A table with a line for each call and a column for each number, which has a
-/// dot where the call cannot give the number. Then the verdicts.
+/// dot where the call cannot give the number. Then the verdicts and the shapes.
 impl fmt::Display for Tally {
     fn fmt(&self, out: &mut fmt::Formatter) -> fmt::Result {
         write!(out, "{:<20}", "number")?;
@@ -100,6 +119,12 @@ impl fmt::Display for Tally {
             write!(out, "\n{:<20}", call.name())?;
             for (verdict, met) in VERDICTS.iter().zip(self.verdicts[call as usize]) {
                 write!(out, "  {verdict} {met}")?;
+            }
+        }
+        for (shape, columns) in self.shapes.rows() {
+            write!(out, "\n{shape:<36}")?;
+            for (column, met) in columns {
+                write!(out, "  {column} {met}")?;
             }
         }
         let all: u64 = Call::all().map(|call| self.all(call)).sum();

@@ -4,9 +4,11 @@ use std::fmt;
 
 use crate::calls::Call;
 use crate::cases::Case;
+use crate::library::Header;
 use crate::library::Library::{self, Judge};
 use crate::outcome::{Answer, Outcome};
 use crate::printing::hex;
+use crate::sheets;
 
 /// Which call it is. Counting takes no round number.
 #[derive(Clone, Copy, Debug, PartialEq, Eq)]
@@ -56,6 +58,10 @@ impl Case for FileCase {
             _ => judged.answers[0].1.refusal(),
         };
         vec![(self.call(), number)]
+    }
+
+    fn header(&self) -> Option<Header> {
+        sheets::header(&self.sheet)
     }
 }
 

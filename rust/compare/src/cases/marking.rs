@@ -5,9 +5,10 @@ use std::fmt;
 use crate::calls::Call;
 use crate::cases::Case;
 use crate::lent::Lent;
-use crate::library::{Library, LONGEST_TEXT};
+use crate::library::{Header, Library, LONGEST_TEXT};
 use crate::outcome::{Answer, Outcome};
 use crate::printing::hex;
+use crate::sheets;
 
 /// A sheet and a round file to mark, and as many lent bytes as it takes.
 #[derive(Debug)]
@@ -30,6 +31,10 @@ impl Case for MarkCase {
             text: shown,
         };
         Outcome::with_memory(Call::Mark, answer, lent.memory)
+    }
+
+    fn header(&self) -> Option<Header> {
+        sheets::header(&self.sheet)
     }
 }
 

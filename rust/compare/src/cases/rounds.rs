@@ -4,9 +4,10 @@ use std::fmt;
 
 use crate::calls::Call;
 use crate::cases::Case;
-use crate::library::{Library, Places, Round};
+use crate::library::{Header, Library, Places, Round};
 use crate::outcome::{Answer, Outcome};
 use crate::printing::{hex, numbers};
+use crate::sheets;
 
 /// What is asked about a sheet.
 #[derive(Debug)]
@@ -47,6 +48,18 @@ impl Case for RoundCase {
             }
         };
         Outcome::of(self.call(), answer)
+    }
+
+    fn header(&self) -> Option<Header> {
+        sheets::header(&self.sheet)
+    }
+
+    fn slots(&self) -> Vec<Places> {
+        match &self.call {
+            RoundCall::Judge(round) => vec![round.response],
+            RoundCall::Simulate { response, .. } => vec![*response],
+            RoundCall::Extract { first, second } => vec![first.response, second.response],
+        }
     }
 }
 

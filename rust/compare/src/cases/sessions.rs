@@ -4,9 +4,10 @@ use std::fmt;
 
 use crate::calls::Call;
 use crate::cases::Case;
-use crate::library::{Library, Places, ProverSession, VerifierSession};
+use crate::library::{Header, Library, Places, ProverSession, VerifierSession};
 use crate::outcome::{Answer, Outcome};
 use crate::printing::hex;
+use crate::sheets;
 
 /// A session of each.
 #[derive(Clone, Copy, Debug, Default, PartialEq, Eq)]
@@ -77,6 +78,16 @@ impl Step {
         }
     }
 
+    /// The slots that it brings.
+    fn slots(&self) -> Option<Places> {
+        match self {
+            Step::Commit { nonce: slots }
+            | Step::Respond { witness: slots, .. }
+            | Step::Response { response: slots } => Some(*slots),
+            Step::Drop | Step::Commitment { .. } | Step::Challenge { .. } => None,
+        }
+    }
+
     /// Makes the call. The session becomes the one that is handed back.
     fn take(&self, library: Library, sheet: &[u8], sessions: &mut Sessions) -> Answer {
         let Sessions { prover, verifier } = *sessions;
@@ -123,6 +134,15 @@ impl Case for SessionCase {
             answers,
             memory: Vec::new(),
         }
+    }
+
+    fn header(&self) -> Option<Header> {
+        sheets::header(&self.sheet)
+    }
+
+    fn slots(&self) -> Vec<Places> {
+        let slots = self.steps.iter().filter_map(Step::slots);
+        slots.collect()
     }
 }
 

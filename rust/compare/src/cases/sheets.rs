@@ -4,9 +4,10 @@ use std::fmt;
 
 use crate::calls::Call;
 use crate::cases::Case;
-use crate::library::Library;
+use crate::library::{Header, Library};
 use crate::outcome::{Answer, Outcome};
 use crate::printing::{hex, numbers};
+use crate::sheets;
 
 /// A call that reads a sheet.
 #[derive(Debug)]
@@ -33,6 +34,12 @@ impl Case for SheetCase {
                 let numbers = entries.to_vec();
                 Outcome::of(Call::Entries, Answer::Entries { refusal, numbers })
             }
+        }
+    }
+
+    fn header(&self) -> Option<Header> {
+        match self {
+            SheetCase::Load { sheet } | SheetCase::Entries { sheet, .. } => sheets::header(sheet),
         }
     }
 }

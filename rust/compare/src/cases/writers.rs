@@ -5,10 +5,10 @@ use std::fmt;
 use crate::calls::Call;
 use crate::cases::Case;
 use crate::lent::Lent;
-use crate::library::{Library, Plan, Round, Written};
+use crate::library::{Header, Library, Plan, Round, Written};
 use crate::outcome::{Answer, Outcome};
 use crate::printing::{hex, numbers};
-use crate::sheets::Sheet;
+use crate::sheets::{self, Sheet};
 
 /// What is written.
 #[derive(Debug)]
@@ -67,6 +67,15 @@ impl Case for WriterCase {
         let mut lent = self.lent.clone();
         let written = self.writing.write(library, lent.buffer());
         Outcome::with_memory(self.writing.call(), Answer::Written(written), lent.memory)
+    }
+
+    fn header(&self) -> Option<Header> {
+        match &self.writing {
+            Writing::Encode { sheet } => Some(sheet.header),
+            Writing::FromPattern { plan, .. } => Some(plan.header()),
+            Writing::Empty => None,
+            Writing::Append { sheet, .. } => sheets::header(sheet),
+        }
     }
 }
 

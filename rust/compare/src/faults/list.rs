@@ -30,6 +30,9 @@ macro_rules! faults {
 faults! {
     MarkInPart, "mark-in-part", "load compares two bytes of the mark";
     OrderPrime, "order-prime", "load holds the order to be prime in 8";
+    RootEarly, "root-early", "load leaves out the square root in its search for a divisor";
+    WheelEleven, "wheel-eleven", "load leaves out 11 in its search for a divisor";
+    OrderItself, "order-itself", "load leaves out the order in its search for a divisor";
     MostChallenges, "most-challenges", "load lets K = 65,537 through";
     SidesDiffer, "sides-differ", "load lets rows and columns differ in kind 2";
     LongSheet, "long-sheet", "load lets one byte too many through";
@@ -38,6 +41,7 @@ faults! {
     Congruent, "congruent", "load reduces a statement value before its test";
     StatementFirst, "statement-first", "load gives 11 before 10";
     LastEntry, "last-entry", "load does not test the last of 64 entries";
+    LastUnit, "last-unit", "load does not test the last value's gcd in kind 2";
     LastStatement, "last-statement", "load answers 0 for the eighth statement value";
     HeaderKept, "header-kept", "load answers the header beside 11";
     RefusesAll, "refuses-all", "load refuses every sheet";
@@ -95,6 +99,7 @@ faults! {
     JudgeStatementRange, "judge-statement-range", "judge tests a statement's range, not its order";
     SimulateOne, "simulate-one", "simulate gives one commitment for all responses";
     SimulatePositive, "simulate-positive", "simulate multiplies by z^c";
+    SimulateUnreduced, "simulate-unreduced", "simulate leaves a value m too large where m is near 2^32";
     SimulateBeyond, "simulate-beyond", "simulate answers 1 beyond the rows";
     SimulateSlotFirst, "simulate-slot-first", "simulate gives 16 before 15";
     SimulateUnread, "simulate-unread", "simulate tests a slot beyond the columns";

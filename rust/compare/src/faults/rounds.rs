@@ -2,7 +2,7 @@
 
 use crate::arithmetic::{multiply, power};
 use crate::faults::sheets::{
-    one_in_range, restated, right_for_prime, with_word, word, CHALLENGES, MODULUS,
+    below_order, one_in_range, restated, right_without, with_word, word, CHALLENGES, MODULUS,
 };
 use crate::faults::Fault;
 use crate::library::Library::Judge;
@@ -103,7 +103,7 @@ fn judge_bad_sheet(fault: Fault, sheet: &[u8], round: &Round, right: Judgement) 
         (Fault::JudgeSheetLast, 10 | 11) if round.challenge >= word(sheet, CHALLENGES) => {
             refused(15)
         }
-        (Fault::JudgeOrderPrime, 8) if right_for_prime(sheet) => {
+        (Fault::JudgeOrderPrime, 8) if right_without(sheet, below_order) => {
             Judge.judge(&with_word(sheet, CHALLENGES, 2), round)
         }
         (Fault::JudgeStatementRange, 11) => {
@@ -161,6 +161,10 @@ pub fn simulate(fault: Fault, sheet: &[u8], challenge: u32, response: &Places) -
                 let factor = power(*z, challenge, header.modulus);
                 *value = multiply(*value, factor, header.modulus);
             }
+            right
+        }
+        (Fault::SimulateUnreduced, 0) if header.modulus > u32::MAX - 1000 => {
+            right.values[0] = right.values[0].wrapping_add(header.modulus);
             right
         }
         (Fault::SimulateBeyond, 0) => {

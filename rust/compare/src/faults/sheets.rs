@@ -69,10 +69,44 @@ fn with_statement(sheet: &[u8], change: impl Fn(u32) -> u32) -> Loaded {
     loaded
 }
 
-/// Whether the challenge count is right where the order is held to be prime.
-pub fn right_for_prime(sheet: &[u8]) -> bool {
-    let most = word(sheet, ORDER).min(65_536);
-    (2..=most).contains(&word(sheet, CHALLENGES))
+/// What loading answers where the last statement value is 1 if it is in range,
+/// and is then put back.
+fn without_last(sheet: &[u8], right: Loaded) -> Loaded {
+    let modulus = word(sheet, MODULUS);
+    let last = places(sheet, true)
+        .last()
+        .filter(|at| (1..modulus).contains(&word(sheet, *at)));
+    let Some(last) = last else {
+        return right;
+    };
+    let mut loaded = Judge.load(&with_word(sheet, last, 1));
+    if loaded.refusal == 0 {
+        loaded.statement[loaded.header.rows as usize - 1] = word(sheet, last);
+    }
+    loaded
+}
+
+/// Which d of an order a faulty search for a divisor leaves out.
+fn left_out(fault: Fault) -> Option<fn(u32, u32) -> bool> {
+    match fault {
+        Fault::OrderPrime => Some(below_order),
+        Fault::RootEarly => Some(|order, d| d * d == order),
+        Fault::WheelEleven => Some(|_, d| d == 11),
+        Fault::OrderItself => Some(|order, d| d == order),
+        _ => None,
+    }
+}
+
+/// What is left out where the order is held to be prime.
+pub fn below_order(order: u32, d: u32) -> bool {
+    d < order
+}
+
+/// Whether the challenge count is right where these d of the order are left out.
+pub fn right_without(sheet: &[u8], left_out: fn(u32, u32) -> bool) -> bool {
+    let (order, challenges) = (word(sheet, ORDER), word(sheet, CHALLENGES));
+    let divides = |d: u32| order.is_multiple_of(d) && !left_out(order, d);
+    (2..=65_536).contains(&challenges) && !(2..challenges).any(divides)
 }
 
 pub fn load(fault: Fault, sheet: &[u8]) -> Loaded {
@@ -90,7 +124,9 @@ fn load_form(fault: Fault, sheet: &[u8], right: Loaded) -> Loaded {
         (Fault::MarkInPart, 2) if sheet.len() >= 20 && sheet.starts_with(b"HO") => {
             Judge.load(&[b"HOM", &sheet[3..]].concat())
         }
-        (Fault::OrderPrime, 8) if right_for_prime(sheet) => with_challenges(sheet, 2),
+        (_, 8) if left_out(fault).is_some_and(|left_out| right_without(sheet, left_out)) => {
+            with_challenges(sheet, 2)
+        }
         (Fault::MostChallenges, 8) if challenges == 65_537 => with_challenges(sheet, 65_536),
         (Fault::SidesDiffer, 7) if sheet[5] == 2 => {
             let mut square = sheet.to_vec();
@@ -123,6 +159,7 @@ fn load_values(fault: Fault, sheet: &[u8], mut right: Loaded) -> Loaded {
         (Fault::LastEntry, 10) if sheet[18..20] == [8, 8] => {
             return Judge.load(&with_word(sheet, 20 + 4 * 63, 1));
         }
+        (Fault::LastUnit, 11) if sheet[5] == 2 => return without_last(sheet, right),
         (Fault::LastStatement, 0) => right.statement[7] = 0,
         (Fault::HeaderKept, 11) => right.header = with_statement(sheet, |_| 1).header,
         (Fault::RefusesAll, 0) => {

@@ -1,11 +1,11 @@
 //! Which moduli and orders the groups have.
 
-use crate::arithmetic::{prime_factors, totient};
+use crate::arithmetic::{next_prime, prime_factors, totient};
 use crate::random::Random;
 
 /// Moduli that are prime, composite, a square, a power of 2, or as large or as
 /// small as can be.
-const MODULI: [u32; 14] = [
+const MODULI: [u32; 16] = [
     3,
     4,
     5,
@@ -13,6 +13,8 @@ const MODULI: [u32; 14] = [
     23,
     31,
     35,
+    0x1_0000,
+    0x4000_0000,
     0x8000_0000,
     4_293_001_441,
     4_294_049_777,
@@ -58,7 +60,8 @@ pub fn order(random: &mut Random, kind: u32, modulus: u32) -> u32 {
         0 => random.pick(&ORDERS),
         1 => random.between(2, 400),
         2 => random.between(2, u32::MAX),
-        3 => {
+        3 => product(random),
+        4 => {
             let part = divisor(random, totient(modulus));
             part * random.between(1, u32::MAX / part)
         }
@@ -67,6 +70,27 @@ pub fn order(random: &mut Random, kind: u32, modulus: u32) -> u32 {
             divisor(random, any)
         }
         _ => divisor(random, totient(modulus)),
+    }
+}
+
+/// A product of two primes, often of equal or neighbouring ones, so that its
+/// least divisor is at its square root.
+pub fn product(random: &mut Random) -> u32 {
+    let least = prime(random);
+    match random.below(6) {
+        0 => random.pick(&[25, 35, 49]),
+        1 | 2 => least * least,
+        3 | 4 => least * next_prime(least),
+        _ => least * next_prime(random.between(least, 65_536) - 1),
+    }
+}
+
+/// A prime below 65,536, often one of the first.
+fn prime(random: &mut Random) -> u32 {
+    match random.below(6) {
+        0..=3 => random.pick(&[2, 3, 5, 7, 11, 13]),
+        4 => next_prime(random.between(1, 1000)),
+        _ => next_prime(random.between(1, 65_520)),
     }
 }
 

@@ -3,7 +3,6 @@
 use crate::calls::SHEET_NUMBERS;
 use crate::cases::{Case, SheetCase, WriterCase, Writing};
 use crate::damage::{self, faults, spoil};
-use crate::groups::Group;
 use crate::lent::Lent;
 use crate::random::Random;
 use crate::sheets::{record_length, Sheet};
@@ -40,11 +39,7 @@ pub fn entries(random: &mut Random) -> Box<dyn Case> {
 pub fn encode(random: &mut Random) -> Box<dyn Case> {
     let numbers = [4, 5, 6, 7, 8, 10, 11];
     let wrong = random.once_in(2).then(|| random.pick(&numbers));
-    let kind = match wrong {
-        Some(10) => 1,
-        _ => random.between(1, 2),
-    };
-    let group = Group::of_kind(random, kind);
+    let group = damage::group_for(random, wrong.unwrap_or(0));
     let mut sheet = Sheet::of_group(random, &group);
     sheet.fill_unread(random);
     let needed = sheet.bytes().len();
