@@ -1,14 +1,11 @@
 -- The search for the first value that fails a test: sigma's tests over several values are this search.
 -- Assumes nothing.
-use mathlib.Core.Path.{_≡_, refl, sym, ap, _∙_}
-use mathlib.Core.Bool.{Bool, true, false, not}
+use mathlib.Core.Path.{_≡_, refl}
 use mathlib.Core.List.{List}
 use Prim.Native.Nat.{ℕ}
 use lib.Dec.{ltb}
-use lib.ListN.{getD}
 use Rattle.types.specs.declared.Header.{Header}
 use Rattle.numbers.specs.Search.{any}
-use Rattle.numbers.proofs.Search.{find-end, find-here, find-on}
 use Rattle.sigma.specs.Element.{isElement, isCoordinate, someNonElement, someNonCoordinate}
 use Rattle.modular.specs.FirstFailing.{firstFailing}
 
@@ -22,12 +19,3 @@ pub someNonCoordinate-first : (h : Header) (n : ℕ) (xs : List ℕ)
     → someNonCoordinate h n xs ≡ ltb (firstFailing (isCoordinate h) n xs) n
 unfolding someNonCoordinate any firstFailing
 someNonCoordinate-first h n xs = refl
-
--- of one value: 1 where it passes, 0 where it fails
-pub first-passes : (test : ℕ → Bool) (vs : List ℕ) → test (getD vs 0 0) ≡ true → 1 ≡ firstFailing test 1 vs
-unfolding firstFailing
-first-passes test vs passes = sym (find-on _ 0 0 (ap not passes) ∙ find-end _ 1)
-
-pub first-fails : (test : ℕ → Bool) (vs : List ℕ) → test (getD vs 0 0) ≡ false → 0 ≡ firstFailing test 1 vs
-unfolding firstFailing
-first-fails test vs fails = sym (find-here _ 0 0 (ap not fails))

@@ -128,7 +128,9 @@ pub fn first_non_element(h: Header, values: [u32; 8], n: usize) -> usize
     ensures within { λ r. ⌜ r ≤ n ⌝ }
 {
     if h.kind == 1 {
-        return first_without_order(h, values, n);
+        if n > 1 {
+            return first_without_order(h, values, n);
+        }
     }
     let mut i: usize = 0;
     while i < n {

@@ -1,5 +1,4 @@
 // The test of a group element of kind 1 on several values, whose powers by q are computed side by side.
-use crate::is_element;
 use powers::powers;
 use types::Header;
 ghost use mathlib.Core.Path.{_≡_};
@@ -21,19 +20,12 @@ fn has_order(h: Header, v: u32, power: u32) -> bool
     power == 1
 }
 
-// The first index below n at which values holds no group element of kind 1, or n where there is none. One value alone is
-// tested by its own power.
+// The first index below n at which values holds no group element of kind 1, or n where there is none.
 pub fn first_without_order(h: Header, values: [u32; 8], n: usize) -> usize
     requires { ⌜ (0 < h .modulus) × (n ≤ 8) × (h .kind ≡ 1) ⌝ }
     ensures value { λ r. ⌜ r ≡ firstFailing (isElement h) n values ⌝ }
     ensures within { λ r. ⌜ r ≤ n ⌝ }
 {
-    if n == 1 {
-        if is_element(h, values[0]) {
-            return 1;
-        }
-        return 0;
-    }
     let raised = powers(values, n, h.order, h.modulus);
     let mut i: usize = 0;
     while i < n {

@@ -43,7 +43,7 @@ is-element-requires c κs = omega arith
 returns-2 : tie.Need-returns-2 Inv-loop μ-loop
 returns-2 c =
     let at-loop = c .before .before .before in
-    let fails = sym (c .before .is-element .ensures) ∙ not-true _ (c .if2 .taken) in
+    let fails = sym (c .before .is-element .ensures) ∙ not-true _ (c .if3 .taken) in
     (sym (find-to-here _ _ _ (c .before .before .loop-test .taken) (ap not fails)) ∙ at-loop .loop .inv .1, at-loop .loop .inv .0)
 
 add-i : tie.Need-add-i Inv-loop μ-loop
@@ -54,7 +54,7 @@ loop-less c = omega arith
 
 loop-again : tie.Need-loop-again Inv-loop μ-loop
 loop-again c =
-    let passes = sym (c .before .is-element .ensures) ∙ not-false _ (c .if2 .left) in
+    let passes = sym (c .before .is-element .ensures) ∙ not-false _ (c .if3 .left) in
     (omega arith, find-to-on _ _ _ (c .before .before .loop-test .taken) (ap not passes) ∙ c .before .before .before .loop .inv .1)
 
 returns-3 : tie.Need-returns-3 Inv-loop μ-loop

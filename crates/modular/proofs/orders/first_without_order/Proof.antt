@@ -11,7 +11,6 @@ use Rattle.numbers.proofs.Search.{find-to-start, find-to-end, find-to-here, fin
 use Rattle.powers.proofs.Places.{power-at}
 use Rattle.sigma.specs.Element.{isElement}
 use Rattle.modular.specs.FirstFailing.{firstFailing}
-use Rattle.modular.proofs.FirstFailing.{first-passes, first-fails}
 use Rattle.modular.proofs.orders.first_without_order.Statement.{statement}
 use Rattle.modular.proofs.orders.first_without_order.Tie as tie
 
@@ -21,22 +20,6 @@ Inv-loop h n values raised i₀ i =
 
 abbrev μ-loop : tie.MeasureT-loop
 μ-loop h n values raised i₀ i = n - i
-
-array-read-is-element : tie.Need-array-read-is-element Inv-loop μ-loop
-array-read-is-element c = omega arith
-
-is-element-requires : tie.Need-is-element-requires Inv-loop μ-loop
-is-element-requires c κs = omega arith
-
-returns : tie.Need-returns Inv-loop μ-loop
-returns c =
-    let one = c .before .before .if1 .taken in
-    (rw one (first-passes _ _ (sym (c .before .is-element .ensures) ∙ c .if2 .taken)), omega arith)
-
-returns-2 : tie.Need-returns-2 Inv-loop μ-loop
-returns-2 c =
-    let one = c .before .before .if1 .taken in
-    (rw one (first-fails _ _ (sym (c .before .is-element .ensures) ∙ c .if2 .left)), omega arith)
 
 powers-requires : tie.Need-powers-requires Inv-loop μ-loop
 powers-requires c κs = omega arith
@@ -60,12 +43,12 @@ array-read-has-order-2 c = omega arith
 has-order-requires : tie.Need-has-order-requires Inv-loop μ-loop
 has-order-requires c κs =
     let raised = c .before .before in
-    (raised .before .before .pre .2, power-at _ _ _ _ _ (raised .powers .ensures) _ (c .loop-test .taken))
+    (raised .before .pre .2, power-at _ _ _ _ _ (raised .powers .ensures) _ (c .loop-test .taken))
 
-returns-3 : tie.Need-returns-3 Inv-loop μ-loop
-returns-3 c =
+returns : tie.Need-returns Inv-loop μ-loop
+returns c =
     let at-loop = c .before .before .before in
-    let fails = sym (c .before .has-order .ensures) ∙ not-true _ (c .if3 .taken) in
+    let fails = sym (c .before .has-order .ensures) ∙ not-true _ (c .if1 .taken) in
     (sym (find-to-here _ _ _ (c .before .before .loop-test .taken) (ap not fails)) ∙ at-loop .loop .inv .1, at-loop .loop .inv .0)
 
 add-i : tie.Need-add-i Inv-loop μ-loop
@@ -76,11 +59,11 @@ loop-less c = omega arith
 
 loop-again : tie.Need-loop-again Inv-loop μ-loop
 loop-again c =
-    let passes = sym (c .before .has-order .ensures) ∙ not-false _ (c .if3 .left) in
+    let passes = sym (c .before .has-order .ensures) ∙ not-false _ (c .if1 .left) in
     (omega arith, find-to-on _ _ _ (c .before .before .loop-test .taken) (ap not passes) ∙ c .before .before .before .loop .inv .1)
 
-returns-4 : tie.Need-returns-4 Inv-loop μ-loop
-returns-4 c = let (within, kept) = c .before .loop .inv in (sym (find-to-end _ _ _ (c .loop-test .left)) ∙ kept, within)
+returns-2 : tie.Need-returns-2 Inv-loop μ-loop
+returns-2 c = let (within, kept) = c .before .loop .inv in (sym (find-to-end _ _ _ (c .loop-test .left)) ∙ kept, within)
 
 pub first-without-order-spec : {M : Type 1} → statement M
 first-without-order-spec =
@@ -88,10 +71,6 @@ first-without-order-spec =
     (tie.spec
     Inv-loop
     μ-loop
-    array-read-is-element
-    is-element-requires
-    returns
-    returns-2
     powers-requires
     loop-holds
     mul-has-order
@@ -99,8 +78,8 @@ first-without-order-spec =
     mul-has-order-2
     array-read-has-order-2
     has-order-requires
-    returns-3
+    returns
     add-i
     loop-less
     loop-again
-    returns-4)
+    returns-2)

@@ -31,7 +31,7 @@ returns : tie.Need-returns
 returns c =
     let start = c .before .before in
     product-reduces _ _ _ (start .fits .a .fits) (start .fits .b .fits) (start .pre .0) (start .pre .1)
-    (c .before .high-product .ensures) .corrected (omega (arith, c .if1 .taken))
+    (c .before .high-product .ensures) .corrected (c .if1 .taken)
 
 cast-result : tie.Need-cast-result
 cast-result c =
@@ -42,7 +42,7 @@ returns-2 : tie.Need-returns-2
 returns-2 c =
     let start = c .before .before in
     product-reduces _ _ _ (start .fits .a .fits) (start .fits .b .fits) (start .pre .0) (start .pre .1)
-    (c .before .high-product .ensures) .done (omega (arith, c .if1 .left))
+    (c .before .high-product .ensures) .done (c .if1 .left)
 
 cast-result-2 : tie.Need-cast-result-2
 cast-result-2 c =
