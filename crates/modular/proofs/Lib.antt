@@ -4,3 +4,4 @@ pub mod FirstDivisor
 pub mod Candidates
 pub mod FirstFailing
 pub mod ElementTest
+pub mod AllUnits

@@ -1,10 +1,11 @@
 // Arithmetic modulo a 32-bit number, with products in 64 bits, and the tests of 01 that need it.
 mod divisors; // divisors.rt: the search for a divisor of an order
 mod orders; // orders.rt: the test of kind 1 on several values
+mod several; // several.rt: the test of several group elements
 
 pub use divisors::Divisor;
 pub use divisors::first_divisor;
-use orders::first_without_order;
+use several::first_of_several;
 use types::Header;
 ghost use mathlib.Core.Path.{_≡_};
 ghost use Prim.Native.Nat.{_+_, _-_, _*_, _%_, _^_, _≤_, _<_};
@@ -127,10 +128,8 @@ pub fn first_non_element(h: Header, values: [u32; 8], n: usize) -> usize
     ensures value { λ r. ⌜ r ≡ firstFailing (isElement h) n values ⌝ }
     ensures within { λ r. ⌜ r ≤ n ⌝ }
 {
-    if h.kind == 1 {
-        if n > 1 {
-            return first_without_order(h, values, n);
-        }
+    if n > 1 {
+        return first_of_several(h, values, n);
     }
     let mut i: usize = 0;
     while i < n {
@@ -148,6 +147,11 @@ pub fn first_non_coordinate(h: Header, values: [u32; 8], n: usize) -> usize
     ensures value { λ r. ⌜ r ≡ firstFailing (isCoordinate h) n values ⌝ }
     ensures within { λ r. ⌜ r ≤ n ⌝ }
 {
+    if h.kind != 1 {
+        if n > 1 {
+            return first_of_several(h, values, n);
+        }
+    }
     let mut i: usize = 0;
     while i < n {
         if !is_coordinate(h, values[i]) {

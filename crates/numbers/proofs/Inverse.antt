@@ -5,7 +5,7 @@ use mathlib.Core.Bool.{Bool, true, true≢false}
 use mathlib.Core.Logic.{inl, inr}
 use Prim.Native.Nat.{ℕ, _*_, _%_, _^_, _<_, _∣_}
 use native.Mathlib.Nat.{add-comm, mul-comm, mul-mul-mul-comm, mod-lt, mod-one, eq-zero-or-pos}
-use native.Mathlib.Nat.{dvd-mod-iff, dvd-mul-right-of-dvd, eq-one-of-dvd-one}
+use native.Mathlib.Nat.{dvd-mod-iff, dvd-mul-left-of-dvd, dvd-mul-right-of-dvd, eq-one-of-dvd-one}
 use native.Mathlib.Decide.{decLt}
 use native.Mathlib.Omega.{arith}
 use lib.Dec.{eqb}
@@ -104,3 +104,13 @@ coprime-mul m v w p q =
     let (v', g) = coprime-inverses m v p in
     let (w', h) = coprime-inverses m w q in
     inverses-coprime (inverses-cong (cong-sym (cong-mod m (v * w))) (cong-refl m (v' * w')) (inverses-mul g h))
+
+-- where the product, reduced, has no divisor in common with the modulus, neither number has
+pub coprime-factors : (m v w : ℕ) → gcd (v * w % m) m ≡ 1 → (gcd v m ≡ 1) × (gcd w m ≡ 1)
+coprime-factors m v w e = (
+  gcd-one v m .1 (λ d p q. only d (dvd-mul-right-of-dvd d p w) q),
+  gcd-one w m .1 (λ d p q. only d (dvd-mul-left-of-dvd d p v) q),
+)
+  where
+    only : (d : ℕ) → d ∣ v * w → d ∣ m → d ≡ 1
+    only d p q = gcd-one (v * w % m) m .0 e d (dvd-mod-iff d q .1 p) q
