@@ -1,18 +1,19 @@
 //! The tuned version: products by a reciprocal, powers side by side in four
 //! lanes, and squarings that all columns share. A value or a row that is alone is
-//! computed in one lane.
+//! computed as in the idiomatic version, which is quicker for it; what computes
+//! several is not inlined, so that this one can be.
 
 use std::array::from_fn;
 
 use dimkhoros_sys::Places;
 
-use super::{gcd, in_range, places, Arithmetic};
+use super::{gcd, in_range, places, Arithmetic, Idiomatic};
 
 /// Tuned Rust.
 pub struct Tuned;
 
-/// How many values are computed side by side.
-const LANES: usize = 4;
+/// Four values that are computed side by side.
+type Lanes = [u32; 4];
 
 /// A modulus with its reciprocal, (2^64 - 1) / m.
 struct Modulus {
@@ -39,14 +40,14 @@ impl Modulus {
     }
 
     /// The products of the lanes of a and b.
-    fn mul_lanes<const N: usize>(&self, a: [u32; N], b: [u32; N]) -> [u32; N] {
+    fn mul_lanes(&self, a: Lanes, b: Lanes) -> Lanes {
         from_fn(|lane| self.mul(a[lane], b[lane]))
     }
 
     /// The power of each lane by exponent, the exponent's low bit first.
-    fn pow<const N: usize>(&self, bases: [u32; N], mut exponent: u32) -> [u32; N] {
+    fn pow_lanes(&self, bases: Lanes, mut exponent: u32) -> Lanes {
         let mut squares = bases;
-        let mut powers = [1; N];
+        let mut powers = [1; 4];
         while exponent > 0 {
             if exponent & 1 == 1 {
                 powers = self.mul_lanes(powers, squares);
@@ -58,25 +59,30 @@ impl Modulus {
     }
 
     /// The power of each base by exponent.
+    #[inline(never)]
     fn powers(&self, bases: &[u32], exponent: u32) -> Places {
-        if let [base] = *bases {
-            return places(self.pow([base], exponent).into_iter());
+        let mut powers = [0; 8];
+        for (powers, bases) in powers.chunks_mut(4).zip(bases.chunks(4)) {
+            let four = self.pow_lanes(lanes(bases.iter().copied()), exponent);
+            powers[..bases.len()].copy_from_slice(&four[..bases.len()]);
         }
-        let mut values = [0; 8];
-        for (values, bases) in values.chunks_mut(LANES).zip(bases.chunks(LANES)) {
-            let powers = self.pow(lanes(bases.iter().copied()), exponent);
-            values[..bases.len()].copy_from_slice(&powers[..bases.len()]);
-        }
-        values
+        powers
+    }
+
+    /// Each factor times the power of its base by exponent.
+    #[inline(never)]
+    fn products(&self, factors: &[u32], bases: &[u32], exponent: u32) -> Places {
+        let pairs = factors.iter().zip(self.powers(bases, exponent));
+        places(pairs.map(|(&factor, power)| self.mul(factor, power)))
     }
 
     /// For at most four rows, the product over the columns of the power of the
     /// entry by the column's exponent. The squarings serve all columns at once, the
     /// exponents' high bits first.
-    fn four_products(&self, rows: &[Places], exponents: &[u32]) -> [u32; LANES] {
-        let columns: [[u32; LANES]; 8] = from_fn(|j| lanes(rows.iter().map(|row| row[j])));
+    fn four_products(&self, rows: &[Places], exponents: &[u32]) -> Lanes {
+        let columns: [Lanes; 8] = from_fn(|j| lanes(rows.iter().map(|row| row[j])));
         let bits = u32::BITS - exponents.iter().fold(0, |all, x| all | x).leading_zeros();
-        let mut products = [1; LANES];
+        let mut products = [1; 4];
         for bit in (0..bits).rev() {
             products = self.mul_lanes(products, products);
             for (&entries, x) in columns.iter().zip(exponents) {
@@ -87,11 +93,23 @@ impl Modulus {
         }
         products
     }
+
+    /// For each row, the product over the columns of the power of the entry by the
+    /// column's exponent.
+    #[inline(never)]
+    fn row_products(&self, rows: &[Places], exponents: &[u32]) -> Places {
+        let mut products = [0; 8];
+        for (products, rows) in products.chunks_mut(4).zip(rows.chunks(4)) {
+            let four = self.four_products(rows, exponents);
+            products[..rows.len()].copy_from_slice(&four[..rows.len()]);
+        }
+        products
+    }
 }
 
 /// The values in the first lanes, and ones beyond them.
-fn lanes(values: impl Iterator<Item = u32>) -> [u32; LANES] {
-    let mut lanes = [1; LANES];
+fn lanes(values: impl Iterator<Item = u32>) -> Lanes {
+    let mut lanes = [1; 4];
     for (lane, value) in lanes.iter_mut().zip(values) {
         *lane = value;
     }
@@ -111,49 +129,48 @@ impl Arithmetic for Tuned {
     }
 
     fn have_order(values: &[u32], order: u32, m: u32) -> bool {
-        if !values.iter().all(|&v| in_range(v, m)) {
-            return false;
+        if values.len() == 1 {
+            return Idiomatic::have_order(values, order, m);
         }
-        let powers = Modulus::new(m).powers(values, order);
-        powers[..values.len()].iter().all(|&power| power == 1)
+        values.iter().all(|&v| in_range(v, m)) && {
+            let powers = Modulus::new(m).powers(values, order);
+            powers[..values.len()].iter().all(|&power| power == 1)
+        }
     }
 
     /// A product has no divisor in common with m where no factor has.
     fn have_inverses(values: &[u32], m: u32) -> bool {
-        if !values.iter().all(|&v| in_range(v, m)) {
-            return false;
+        if values.len() == 1 {
+            return Idiomatic::have_inverses(values, m);
         }
-        let modulus = Modulus::new(m);
-        let product = values.iter().fold(1, |product, &v| modulus.mul(product, v));
-        gcd(product, m) == 1
+        values.iter().all(|&v| in_range(v, m)) && {
+            let modulus = Modulus::new(m);
+            let product = values.iter().fold(1, |product, &v| modulus.mul(product, v));
+            gcd(product, m) == 1
+        }
     }
 
     #[inline]
     fn powers(bases: &[u32], exponent: u32, m: u32) -> Places {
+        if bases.len() == 1 {
+            return Idiomatic::powers(bases, exponent, m);
+        }
         Modulus::new(m).powers(bases, exponent)
     }
 
     #[inline]
     fn products(factors: &[u32], bases: &[u32], exponent: u32, m: u32) -> Places {
-        let modulus = Modulus::new(m);
-        let powers = modulus.powers(bases, exponent);
-        let pairs = factors.iter().zip(powers);
-        places(pairs.map(|(&factor, power)| modulus.mul(factor, power)))
+        if bases.len() == 1 {
+            return Idiomatic::products(factors, bases, exponent, m);
+        }
+        Modulus::new(m).products(factors, bases, exponent)
     }
 
     #[inline]
     fn row_products(rows: &[Places], exponents: &[u32], m: u32) -> Places {
-        let modulus = Modulus::new(m);
-        if let [row] = rows {
-            let factors = row.iter().zip(exponents);
-            let product = factors.fold(1, |product, (&entry, &x)| {
-                modulus.mul(product, modulus.pow([entry], x)[0])
-            });
-            return places([product].into_iter());
+        if rows.len() == 1 {
+            return Idiomatic::row_products(rows, exponents, m);
         }
-        let fours = rows
-            .chunks(LANES)
-            .map(|rows| (rows.len(), modulus.four_products(rows, exponents)));
-        places(fours.flat_map(|(count, products)| products.into_iter().take(count)))
+        Modulus::new(m).row_products(rows, exponents)
     }
 }
