@@ -3,7 +3,7 @@
 
 use dimkhoros_sys::{Places, Round, LONGEST_TEXT};
 
-use crate::reference::{load, Kind};
+use crate::reference::{load, Idiomatic, Kind};
 
 /// How many rounds the round file has.
 const ROUNDS: u32 = 512;
@@ -39,6 +39,18 @@ pub const SHEETS: [fn() -> Inputs; 6] = [
     || random(exponent("8 × 8, exponent, K 65,536", 65_536), (51_234, 777)),
     || random(root("8 × 8, root, K 65,536", 65_536), (51_234, 777)),
 ];
+
+/// The inputs of sheets of two to seven rows, which are compared and not measured.
+pub fn between() -> impl Iterator<Item = Inputs> {
+    let plans = (2..8).flat_map(|size| {
+        let plan = |plan| Plan { size, ..plan };
+        [
+            plan(exponent("fewer rows, exponent, K 256", 256)),
+            plan(root("fewer rows, root, K 256", 256)),
+        ]
+    });
+    plans.map(|plan| random(plan, (200, 77)))
+}
 
 /// A large exponent sheet. The modulus is the largest prime of 32 bits that is
 /// 2 q + 1 for a prime q.
@@ -154,7 +166,7 @@ fn make(
     challenges: (u32, u32),
 ) -> Inputs {
     let ones = sheet_bytes(&plan, entries, &[1; 8][..plan.size]);
-    let values = load(&ones).unwrap_or_else(|number| panic!("refused with {number}"));
+    let values = load::<Idiomatic>(&ones).unwrap_or_else(|number| panic!("refused with {number}"));
     let statement = values.image(&witness);
     let round = |challenge| Round {
         commitment: values.image(&nonce),

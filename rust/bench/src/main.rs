@@ -1,16 +1,20 @@
-//! Measures the proved library's calls beside the same calls in Rust.
+//! Measures the proved library's calls beside the same calls in two versions in
+//! Rust, an idiomatic and a tuned one.
 //!
 //! Without words it prints a table of times in markdown, with the word `count`
-//! one of instructions. Exit status: 0 measured, 1 the two answer differently,
+//! one of instructions. Exit status: 0 measured, 1 a version answers differently,
 //! 2 wrong words or no valgrind.
 
 #![forbid(unsafe_code)]
 
+mod alike;
 mod cases;
 mod checking;
 mod counting;
 mod inputs;
+mod library;
 mod reference;
+mod rust;
 mod tables;
 mod timing;
 

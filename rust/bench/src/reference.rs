@@ -1,6 +1,6 @@
-//! The calls in idiomatic Rust, with the library's algorithms and its tests in
-//! the same order. A refusal is the number of 01. Rounds and places are the
-//! library's, since both are given the same inputs.
+//! The calls in Rust, with the library's tests in the same order, over an
+//! arithmetic of which there are two versions. A refusal is the number of 01.
+//! Rounds and places are the library's, since all are given the same inputs.
 //!
 //! No call is inlined into its caller, since no call of the library can be.
 
@@ -10,6 +10,7 @@ mod rounds;
 mod session;
 mod sheet;
 
+pub use arithmetic::{Arithmetic, Idiomatic, Tuned};
 pub use marker::mark;
 pub use rounds::{extract, judge, simulate, Verdict};
 pub use session::{Phase, Prover};

@@ -1,59 +1,67 @@
-//! The time of two functions, measured in turn.
+//! The time of a call on the library and in Rust, measured in turn.
 
 use std::hint::black_box;
 use std::time::{Duration, Instant};
 
+use crate::cases::Call;
 use crate::inputs::Inputs;
-
-/// A call on one side.
-type Call = fn(&mut Inputs);
 
 /// How long a batch of calls takes at least.
 const BATCH: Duration = Duration::from_micros(100);
 
-/// How long a case is measured, and the fewest and most pairs of batches in it.
-const CASE: Duration = Duration::from_secs(2);
+/// How long a case is measured, and the fewest and most turns in it. In a turn
+/// each side has a batch.
+const CASE: Duration = Duration::from_secs(3);
 const FEWEST: usize = 24;
 const MOST: usize = 4_000;
 
-/// Nanoseconds of a call of each, and the median over the pairs of batches of
-/// the first's time divided by the second's.
+/// The orders in which the sides have their batches.
+const ORDERS: [[usize; 3]; 6] = [
+    [0, 1, 2],
+    [2, 1, 0],
+    [1, 2, 0],
+    [0, 2, 1],
+    [2, 0, 1],
+    [1, 0, 2],
+];
+
+/// Nanoseconds of a call on each side, and for both versions in Rust the median,
+/// over the turns, of the library's time divided by the version's.
 pub struct Times {
-    pub first: f64,
-    pub second: f64,
-    pub median: f64,
+    pub sides: [f64; 3],
+    pub medians: [f64; 2],
 }
 
-/// Measures both in batches of as many calls, in the order 1 2 2 1 and so on, so
-/// that what else the machine does hits both alike. Where the stack begins is
-/// changed from pair to pair, since the time of a copy depends on it: the time
-/// of a call is the mean over these places of the quickest batch at each.
-pub fn times(inputs: &mut Inputs, first: Call, second: Call) -> Times {
-    let calls = calls_in_batch(inputs, first);
+/// Measures the sides in batches, each turn in another order, so that what else
+/// the machine does hits all alike. Where the stack begins is changed from turn to
+/// turn, since the time of a copy depends on it: the time of a call is the mean
+/// over these places of the quickest batch at each.
+pub fn times(inputs: &mut Inputs, calls: [Call; 3]) -> Times {
+    let batches = calls.map(|call| calls_in_batch(inputs, call));
     let begin = Instant::now();
-    let mut quickest = [[f64::INFINITY; 2]; PLACES.len()];
-    let mut ratios = Vec::new();
-    while ratios.len() < FEWEST || (ratios.len() < MOST && begin.elapsed() < CASE) {
-        let place = ratios.len() % PLACES.len();
-        let mut measure = |call| PLACES[place](inputs, call, calls);
-        let (a, b) = if (ratios.len() / PLACES.len()).is_multiple_of(2) {
-            let a = measure(first);
-            (a, measure(second))
-        } else {
-            let b = measure(second);
-            (measure(first), b)
-        };
-        quickest[place] = [quickest[place][0].min(a), quickest[place][1].min(b)];
-        ratios.push(a / b);
+    let mut quickest = [[f64::INFINITY; 3]; PLACES.len()];
+    let mut turns: Vec<[f64; 3]> = Vec::new();
+    while turns.len() < FEWEST || (turns.len() < MOST && begin.elapsed() < CASE) {
+        let place = turns.len() % PLACES.len();
+        let mut turn = [0.0; 3];
+        for side in ORDERS[turns.len() / PLACES.len() % ORDERS.len()] {
+            turn[side] = PLACES[place](inputs, calls[side], batches[side]);
+            quickest[place][side] = turn[side].min(quickest[place][side]);
+        }
+        turns.push(turn);
     }
-    ratios.sort_by(f64::total_cmp);
-    let mean =
-        |side: usize| quickest.iter().map(|pair| pair[side]).sum::<f64>() / PLACES.len() as f64;
+    let mean = |side: usize| quickest.iter().map(|sides| sides[side]).sum::<f64>();
     Times {
-        first: mean(0),
-        second: mean(1),
-        median: ratios[ratios.len() / 2],
+        sides: [0, 1, 2].map(|side| mean(side) / PLACES.len() as f64),
+        medians: [1, 2].map(|side| median(turns.iter().map(|turn| turn[0] / turn[side]))),
     }
+}
+
+/// The median of some numbers.
+fn median(numbers: impl Iterator<Item = f64>) -> f64 {
+    let mut numbers: Vec<f64> = numbers.collect();
+    numbers.sort_by(f64::total_cmp);
+    numbers[numbers.len() / 2]
 }
 
 /// How many calls fill a batch.

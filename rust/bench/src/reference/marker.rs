@@ -2,14 +2,15 @@
 
 use dimkhoros_sys::{Round, LONGEST_TEXT};
 
+use super::arithmetic::Arithmetic;
 use super::rounds::Verdict;
 use super::sheet::{load, word, words, Sheet};
 
 /// Puts the marker's text at the start of text and answers its length.
 #[inline(never)]
-pub fn mark(sheet: &[u8], file: &[u8], text: &mut [u8; LONGEST_TEXT]) -> usize {
+pub fn mark<A: Arithmetic>(sheet: &[u8], file: &[u8], text: &mut [u8; LONGEST_TEXT]) -> usize {
     let mut lines = Lines { text, length: 0 };
-    match load(sheet) {
+    match load::<A>(sheet) {
         Err(number) => lines.numbered(b"sheet ", number),
         Ok(sheet) => match records(&sheet, file) {
             Err(number) => lines.numbered(b"file ", number),
@@ -20,7 +21,7 @@ pub fn mark(sheet: &[u8], file: &[u8], text: &mut [u8; LONGEST_TEXT]) -> usize {
 }
 
 /// The records of a round file, or the number 12.
-fn records<'a>(sheet: &Sheet, file: &'a [u8]) -> Result<&'a [u8], u32> {
+fn records<'a, A>(sheet: &Sheet<A>, file: &'a [u8]) -> Result<&'a [u8], u32> {
     let (head, records) = file.split_first_chunk::<7>().ok_or(12u32)?;
     if head[..5] != *b"RND\x00\x01" {
         return Err(12);
@@ -33,12 +34,12 @@ fn records<'a>(sheet: &Sheet, file: &'a [u8]) -> Result<&'a [u8], u32> {
 }
 
 /// How many bytes a record has.
-fn record_length(sheet: &Sheet) -> usize {
+fn record_length<A>(sheet: &Sheet<A>) -> usize {
     4 * (sheet.rows + 1 + sheet.columns)
 }
 
 /// The round of a record.
-fn round(sheet: &Sheet, record: &[u8]) -> Round {
+fn round<A>(sheet: &Sheet<A>, record: &[u8]) -> Round {
     let (commitment, rest) = record.split_at(4 * sheet.rows);
     Round {
         commitment: words(commitment),
@@ -55,7 +56,7 @@ struct Lines<'a> {
 
 impl Lines<'_> {
     /// The lines of a file that is read.
-    fn rounds(&mut self, sheet: &Sheet, records: &[u8]) {
+    fn rounds<A: Arithmetic>(&mut self, sheet: &Sheet<A>, records: &[u8]) {
         let records = records.chunks_exact(record_length(sheet));
         self.numbered(b"rounds ", records.len() as u32);
         let mut passed = true;

@@ -2,7 +2,7 @@
 
 use dimkhoros_sys::{Places, Round};
 
-use super::arithmetic::{inverse, mul_mod, pow_mod};
+use super::arithmetic::{inverse, mul_mod, places, Arithmetic};
 use super::sheet::{load, Kind, Sheet};
 
 /// What judging a round that is not refused answers.
@@ -14,23 +14,27 @@ pub enum Verdict {
 
 /// The verdict on a round.
 #[inline(never)]
-pub fn judge(sheet: &[u8], round: &Round) -> Result<Verdict, u32> {
-    load(sheet)?.judge(round)
+pub fn judge<A: Arithmetic>(sheet: &[u8], round: &Round) -> Result<Verdict, u32> {
+    load::<A>(sheet)?.judge(round)
 }
 
 /// The simulated commitment for a challenge and a response.
 #[inline(never)]
-pub fn simulate(sheet: &[u8], challenge: u32, response: &Places) -> Result<Places, u32> {
-    load(sheet)?.simulate(challenge, response)
+pub fn simulate<A: Arithmetic>(
+    sheet: &[u8],
+    challenge: u32,
+    response: &Places,
+) -> Result<Places, u32> {
+    load::<A>(sheet)?.simulate(challenge, response)
 }
 
 /// The witness from two accepted rounds with one commitment.
 #[inline(never)]
-pub fn extract(sheet: &[u8], first: &Round, second: &Round) -> Result<Places, u32> {
-    load(sheet)?.extract(first, second)
+pub fn extract<A: Arithmetic>(sheet: &[u8], first: &Round, second: &Round) -> Result<Places, u32> {
+    load::<A>(sheet)?.extract(first, second)
 }
 
-impl Sheet {
+impl<A: Arithmetic> Sheet<A> {
     /// The verdict on a round.
     pub fn judge(&self, round: &Round) -> Result<Verdict, u32> {
         if !self.is_commitment(&round.commitment) {
@@ -57,20 +61,19 @@ impl Sheet {
 
     /// What the image of the response has to be.
     fn expected_image(&self, commitment: &Places, challenge: u32) -> Places {
-        let m = self.modulus;
-        let mut values = [0; 8];
-        for i in 0..self.rows {
-            values[i] = mul_mod(commitment[i], pow_mod(self.statement[i], challenge, m), m);
-        }
-        values
+        let rows = self.rows;
+        A::products(
+            &commitment[..rows],
+            &self.statement[..rows],
+            challenge,
+            self.modulus,
+        )
     }
 
-    /// The group element v by the exponent -n.
-    fn negative_power(&self, v: u32, n: u32) -> u32 {
-        match self.kind {
-            Kind::Exponent => pow_mod(v, self.order - n, self.modulus),
-            Kind::Root => pow_mod(inverse(v, self.modulus), n, self.modulus),
-        }
+    /// The inverse of each value of the statement modulo m.
+    fn inverses(&self) -> Places {
+        let values = self.statement[..self.rows].iter();
+        places(values.map(|&z| inverse(z, self.modulus)))
     }
 
     /// The simulated commitment for a challenge and a response.
@@ -81,12 +84,17 @@ impl Sheet {
         if !self.is_domain(response) {
             return Err(16);
         }
-        let mut values = [0; 8];
-        for (i, value) in values[..self.rows].iter_mut().enumerate() {
-            let inverse = self.negative_power(self.statement[i], challenge);
-            *value = mul_mod(self.row_image(response, i), inverse, self.modulus);
-        }
-        Ok(values)
+        let (bases, exponent) = match self.kind {
+            Kind::Exponent => (self.statement, self.order - challenge),
+            Kind::Root => (self.inverses(), challenge),
+        };
+        let (image, rows) = (self.image(response), self.rows);
+        Ok(A::products(
+            &image[..rows],
+            &bases[..rows],
+            exponent,
+            self.modulus,
+        ))
     }
 
     /// The number of 14 to 16, 18 and 19 that two rounds are refused with.
@@ -122,36 +130,23 @@ impl Sheet {
         })
     }
 
-    /// The witness from two rounds, the first with the larger challenge.
+    /// The witness from two rounds, the first with the larger challenge: b (r - s)
+    /// mod q, or z^(-a) (r/s)^b mod m, in each slot.
     fn witness(&self, first: &Round, second: &Round) -> Places {
+        let (m, q, n) = (self.modulus, self.order, self.columns);
         let delta = first.challenge - second.challenge;
-        let b = inverse(delta, self.order);
-        let a = (u64::from(delta) * u64::from(b) / u64::from(self.order)) as u32;
-        let mut values = [0; 8];
-        for (j, value) in values[..self.columns].iter_mut().enumerate() {
-            *value = self.witness_slot(
-                self.statement[j],
-                a,
-                b,
-                first.response[j],
-                second.response[j],
-            );
-        }
-        values
-    }
-
-    /// A slot of the witness: b (r - s) mod q, or z^(-a) (r/s)^b mod m.
-    fn witness_slot(&self, z: u32, a: u32, b: u32, r: u32, s: u32) -> u32 {
-        let m = self.modulus;
+        let b = inverse(delta, q);
+        let responses = first.response[..n].iter().zip(&second.response);
         match self.kind {
-            Kind::Exponent => {
-                let q = u64::from(self.order);
-                let difference = (u64::from(r) + (q - u64::from(s))) % q;
-                mul_mod(b, difference as u32, self.order)
-            }
+            Kind::Exponent => places(responses.map(|(&r, &s)| {
+                let difference = if r >= s { r - s } else { r + (q - s) };
+                mul_mod(b, difference, q)
+            })),
             Kind::Root => {
-                let quotient = mul_mod(r, inverse(s, m), m);
-                mul_mod(self.negative_power(z, a), pow_mod(quotient, b, m), m)
+                let a = (u64::from(delta) * u64::from(b) / u64::from(q)) as u32;
+                let quotients = places(responses.map(|(&r, &s)| mul_mod(r, inverse(s, m), m)));
+                let factors = A::powers(&self.inverses()[..n], a, m);
+                A::products(&factors[..n], &quotients[..n], b, m)
             }
         }
     }

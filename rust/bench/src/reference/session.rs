@@ -2,7 +2,7 @@
 
 use dimkhoros_sys::Places;
 
-use super::arithmetic::{mul_mod, pow_mod};
+use super::arithmetic::{places, Arithmetic};
 use super::sheet::{load, Kind, Sheet};
 
 /// The states that these calls lead to.
@@ -34,8 +34,8 @@ impl Prover {
 
     /// Commits to a nonce and answers the commitment.
     #[inline(never)]
-    pub fn commit(&mut self, sheet: &[u8], nonce: &Places) -> Result<Places, u32> {
-        let sheet = load(sheet)?;
+    pub fn commit<A: Arithmetic>(&mut self, sheet: &[u8], nonce: &Places) -> Result<Places, u32> {
+        let sheet = load::<A>(sheet)?;
         if !sheet.is_domain(nonce) {
             return Err(16);
         }
@@ -52,13 +52,13 @@ impl Prover {
 
     /// Responds to a challenge with a witness and answers the response.
     #[inline(never)]
-    pub fn respond(
+    pub fn respond<A: Arithmetic>(
         &mut self,
         sheet: &[u8],
         challenge: u32,
         witness: &Places,
     ) -> Result<Places, u32> {
-        let sheet = load(sheet)?;
+        let sheet = load::<A>(sheet)?;
         if challenge >= sheet.challenges {
             return Err(15);
         }
@@ -78,26 +78,21 @@ impl Prover {
     }
 
     /// Whether the held nonce and commitment are those of this sheet.
-    fn fits(&self, sheet: &Sheet) -> bool {
+    fn fits<A: Arithmetic>(&self, sheet: &Sheet<A>) -> bool {
         sheet.is_domain(&self.nonce) && sheet.image(&self.nonce) == self.commitment
     }
 }
 
-impl Sheet {
+impl<A: Arithmetic> Sheet<A> {
     /// The response: k + c x mod q, or k x^c mod m, in each slot.
     pub fn response(&self, nonce: &Places, challenge: u32, witness: &Places) -> Places {
-        let (c, m) = (challenge, self.modulus);
-        let mut values = [0; 8];
-        for j in 0..self.columns {
-            let (k, x) = (nonce[j], witness[j]);
-            values[j] = match self.kind {
-                Kind::Exponent => {
-                    let sum = u64::from(k) + u64::from(c) * u64::from(x);
-                    (sum % u64::from(self.order)) as u32
-                }
-                Kind::Root => mul_mod(k, pow_mod(x, c, m), m),
-            };
+        let (nonce, witness) = (&nonce[..self.columns], &witness[..self.columns]);
+        match self.kind {
+            Kind::Exponent => places(nonce.iter().zip(witness).map(|(&k, &x)| {
+                let sum = u64::from(k) + u64::from(challenge) * u64::from(x);
+                (sum % u64::from(self.order)) as u32
+            })),
+            Kind::Root => A::products(nonce, witness, challenge, self.modulus),
         }
-        values
     }
 }

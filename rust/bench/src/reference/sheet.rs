@@ -1,8 +1,10 @@
 //! Loading a sheet: refusals 2 to 11.
 
+use std::marker::PhantomData;
+
 use dimkhoros_sys::Places;
 
-use super::arithmetic::{gcd, has_divisor, mul_mod, pow_mod};
+use super::arithmetic::Arithmetic;
 
 /// What a sheet's table computes.
 #[derive(Clone, Copy, PartialEq, Eq)]
@@ -11,8 +13,8 @@ pub enum Kind {
     Root,
 }
 
-/// A sheet that loads.
-pub struct Sheet {
+/// A sheet that loads, and the arithmetic that is used on it.
+pub struct Sheet<A> {
     pub kind: Kind,
     pub modulus: u32,
     pub order: u32,
@@ -21,6 +23,7 @@ pub struct Sheet {
     pub columns: usize,
     pub entries: [Places; 8],
     pub statement: Places,
+    arithmetic: PhantomData<A>,
 }
 
 /// The number in the four bytes from index at on.
@@ -39,17 +42,17 @@ pub fn words(bytes: &[u8]) -> Places {
 
 /// Loads a sheet.
 #[inline(never)]
-pub fn load(bytes: &[u8]) -> Result<Sheet, u32> {
-    let sheet = shape(bytes)?;
+pub fn load<A: Arithmetic>(bytes: &[u8]) -> Result<Sheet<A>, u32> {
+    let sheet: Sheet<A> = shape(bytes)?;
     let entries = &sheet.entries[..sheet.rows];
     if sheet.kind == Kind::Exponent
         && !entries
             .iter()
-            .all(|row| sheet.all_elements(row, sheet.columns))
+            .all(|row| sheet.all_elements(&row[..sheet.columns]))
     {
         return Err(10);
     }
-    if !sheet.all_elements(&sheet.statement, sheet.rows) {
+    if !sheet.all_elements(&sheet.statement[..sheet.rows]) {
         return Err(11);
     }
     Ok(sheet)
@@ -66,7 +69,7 @@ struct Header {
 }
 
 /// The fixed fields of a sheet: refusals 2 to 8.
-fn header(head: &[u8; 20]) -> Result<Header, u32> {
+fn header<A: Arithmetic>(head: &[u8; 20]) -> Result<Header, u32> {
     if head[..3] != *b"HOM" {
         return Err(2);
     }
@@ -93,7 +96,7 @@ fn header(head: &[u8; 20]) -> Result<Header, u32> {
         return Err(7);
     }
     let challenges = word(head, 14);
-    if !(2..=65_536).contains(&challenges) || has_divisor(order, challenges) {
+    if !(2..=65_536).contains(&challenges) || A::has_divisor(order, challenges) {
         return Err(8);
     }
     Ok(Header {
@@ -107,7 +110,7 @@ fn header(head: &[u8; 20]) -> Result<Header, u32> {
 }
 
 /// The values of a sheet of the right shape: refusals 2 to 9.
-fn shape(bytes: &[u8]) -> Result<Sheet, u32> {
+fn shape<A: Arithmetic>(bytes: &[u8]) -> Result<Sheet<A>, u32> {
     let (head, body) = bytes.split_first_chunk::<20>().ok_or(2u32)?;
     let Header {
         kind,
@@ -116,7 +119,7 @@ fn shape(bytes: &[u8]) -> Result<Sheet, u32> {
         challenges,
         rows,
         columns,
-    } = header(head)?;
+    } = header::<A>(head)?;
     let count = if kind == Kind::Exponent {
         rows * columns
     } else {
@@ -139,64 +142,40 @@ fn shape(bytes: &[u8]) -> Result<Sheet, u32> {
         columns,
         entries,
         statement: words(statement),
+        arithmetic: PhantomData,
     })
 }
 
-impl Sheet {
-    /// Whether v is a group element.
-    fn is_element(&self, v: u32) -> bool {
-        if v < 1 || v >= self.modulus {
-            return false;
-        }
+impl<A: Arithmetic> Sheet<A> {
+    /// Whether the values are group elements.
+    fn all_elements(&self, values: &[u32]) -> bool {
+        let m = self.modulus;
         match self.kind {
-            Kind::Exponent => pow_mod(v, self.order, self.modulus) == 1,
-            Kind::Root => gcd(v, self.modulus) == 1,
+            Kind::Exponent => A::have_order(values, self.order, m),
+            Kind::Root => A::have_inverses(values, m),
         }
-    }
-
-    /// Whether x is a domain slot.
-    fn is_coordinate(&self, x: u32) -> bool {
-        match self.kind {
-            Kind::Exponent => x < self.order,
-            Kind::Root => self.is_element(x),
-        }
-    }
-
-    /// Whether the first count values are group elements.
-    fn all_elements(&self, values: &Places, count: usize) -> bool {
-        values[..count].iter().all(|&v| self.is_element(v))
     }
 
     /// Whether the values of a commitment are group elements.
     pub fn is_commitment(&self, values: &Places) -> bool {
-        self.all_elements(values, self.rows)
+        self.all_elements(&values[..self.rows])
     }
 
     /// Whether the slots of a nonce, witness or response are domain slots.
     pub fn is_domain(&self, x: &Places) -> bool {
-        x[..self.columns].iter().all(|&x| self.is_coordinate(x))
-    }
-
-    /// Row i of the image of x.
-    pub fn row_image(&self, x: &Places, i: usize) -> u32 {
-        let m = self.modulus;
+        let slots = &x[..self.columns];
         match self.kind {
-            Kind::Exponent => self.entries[i][..self.columns]
-                .iter()
-                .zip(x)
-                .fold(1, |value, (&entry, &x)| {
-                    mul_mod(value, pow_mod(entry, x, m), m)
-                }),
-            Kind::Root => pow_mod(x[i], self.order, m),
+            Kind::Exponent => slots.iter().all(|&x| x < self.order),
+            Kind::Root => self.all_elements(slots),
         }
     }
 
     /// The image of x, a value for each row.
     pub fn image(&self, x: &Places) -> Places {
-        let mut values = [0; 8];
-        for (i, value) in values[..self.rows].iter_mut().enumerate() {
-            *value = self.row_image(x, i);
+        let slots = &x[..self.columns];
+        match self.kind {
+            Kind::Exponent => A::row_products(&self.entries[..self.rows], slots, self.modulus),
+            Kind::Root => A::powers(slots, self.order, self.modulus),
         }
-        values
     }
 }

@@ -1,0 +1,50 @@
+//! Each call on the library, as it is timed.
+
+use std::hint::black_box;
+
+use dimkhoros_sys as proved;
+
+use crate::inputs::Inputs;
+
+pub fn load(inputs: &mut Inputs) {
+    let answer = proved::load(black_box(&inputs.sheet));
+    black_box(&answer);
+}
+
+pub fn judge(inputs: &mut Inputs) {
+    let answer = proved::judge(black_box(&inputs.sheet), black_box(&inputs.first));
+    black_box(&answer);
+}
+
+pub fn simulate(inputs: &mut Inputs) {
+    let (c, r) = black_box((inputs.first.challenge, &inputs.first.response));
+    let answer = proved::simulate(black_box(&inputs.sheet), c, r);
+    black_box(&answer);
+}
+
+pub fn extract(inputs: &mut Inputs) {
+    let (first, second) = black_box((&inputs.first, &inputs.second));
+    let answer = proved::extract(black_box(&inputs.sheet), first, second);
+    black_box(&answer);
+}
+
+pub fn commit_and_respond(inputs: &mut Inputs) {
+    let Inputs {
+        sheet,
+        nonce,
+        witness,
+        first,
+        ..
+    } = black_box(inputs);
+    let session = proved::prover_new();
+    let committed = proved::prover_commit(sheet, session, nonce);
+    let answered = proved::prover_respond(sheet, committed.session, first.challenge, witness);
+    black_box((&committed.values, &answered));
+}
+
+pub fn mark(inputs: &mut Inputs) {
+    let Inputs {
+        sheet, file, text, ..
+    } = black_box(inputs);
+    black_box(proved::mark(sheet, file, text));
+}

@@ -1,0 +1,176 @@
+//! The tuned version: products by a reciprocal, powers side by side in four
+//! lanes, and squarings that all columns share. A value or a row that is alone is
+//! computed as in the idiomatic version, which is quicker for it; what computes
+//! several is not inlined, so that this one can be.
+
+use std::array::from_fn;
+
+use dimkhoros_sys::Places;
+
+use super::{gcd, in_range, places, Arithmetic, Idiomatic};
+
+/// Tuned Rust.
+pub struct Tuned;
+
+/// Four values that are computed side by side.
+type Lanes = [u32; 4];
+
+/// A modulus with its reciprocal, (2^64 - 1) / m.
+struct Modulus {
+    m: u64,
+    reciprocal: u64,
+}
+
+impl Modulus {
+    fn new(m: u32) -> Modulus {
+        let m = u64::from(m);
+        Modulus {
+            m,
+            reciprocal: u64::MAX / m,
+        }
+    }
+
+    /// The product of a and b. The quotient by the reciprocal is right or one too
+    /// small.
+    fn mul(&self, a: u32, b: u32) -> u32 {
+        let product = u64::from(a) * u64::from(b);
+        let quotient = (u128::from(product) * u128::from(self.reciprocal)) >> 64;
+        let rest = product - quotient as u64 * self.m;
+        (if rest >= self.m { rest - self.m } else { rest }) as u32
+    }
+
+    /// The products of the lanes of a and b.
+    fn mul_lanes(&self, a: Lanes, b: Lanes) -> Lanes {
+        from_fn(|lane| self.mul(a[lane], b[lane]))
+    }
+
+    /// The power of each lane by exponent, the exponent's low bit first.
+    fn pow_lanes(&self, bases: Lanes, mut exponent: u32) -> Lanes {
+        let mut squares = bases;
+        let mut powers = [1; 4];
+        while exponent > 0 {
+            if exponent & 1 == 1 {
+                powers = self.mul_lanes(powers, squares);
+            }
+            squares = self.mul_lanes(squares, squares);
+            exponent >>= 1;
+        }
+        powers
+    }
+
+    /// The power of each base by exponent.
+    #[inline(never)]
+    fn powers(&self, bases: &[u32], exponent: u32) -> Places {
+        let mut powers = [0; 8];
+        for (powers, bases) in powers.chunks_mut(4).zip(bases.chunks(4)) {
+            let four = self.pow_lanes(lanes(bases.iter().copied()), exponent);
+            powers[..bases.len()].copy_from_slice(&four[..bases.len()]);
+        }
+        powers
+    }
+
+    /// Each factor times the power of its base by exponent.
+    #[inline(never)]
+    fn products(&self, factors: &[u32], bases: &[u32], exponent: u32) -> Places {
+        let pairs = factors.iter().zip(self.powers(bases, exponent));
+        places(pairs.map(|(&factor, power)| self.mul(factor, power)))
+    }
+
+    /// For at most four rows, the product over the columns of the power of the
+    /// entry by the column's exponent. The squarings serve all columns at once, the
+    /// exponents' high bits first.
+    fn four_products(&self, rows: &[Places], exponents: &[u32]) -> Lanes {
+        let columns: [Lanes; 8] = from_fn(|j| lanes(rows.iter().map(|row| row[j])));
+        let bits = u32::BITS - exponents.iter().fold(0, |all, x| all | x).leading_zeros();
+        let mut products = [1; 4];
+        for bit in (0..bits).rev() {
+            products = self.mul_lanes(products, products);
+            for (&entries, x) in columns.iter().zip(exponents) {
+                if (x >> bit) & 1 == 1 {
+                    products = self.mul_lanes(products, entries);
+                }
+            }
+        }
+        products
+    }
+
+    /// For each row, the product over the columns of the power of the entry by the
+    /// column's exponent.
+    #[inline(never)]
+    fn row_products(&self, rows: &[Places], exponents: &[u32]) -> Places {
+        let mut products = [0; 8];
+        for (products, rows) in products.chunks_mut(4).zip(rows.chunks(4)) {
+            let four = self.four_products(rows, exponents);
+            products[..rows.len()].copy_from_slice(&four[..rows.len()]);
+        }
+        products
+    }
+}
+
+/// The values in the first lanes, and ones beyond them.
+fn lanes(values: impl Iterator<Item = u32>) -> Lanes {
+    let mut lanes = [1; 4];
+    for (lane, value) in lanes.iter_mut().zip(values) {
+        *lane = value;
+    }
+    lanes
+}
+
+impl Arithmetic for Tuned {
+    /// Only 2, 3 and the d between their multiples are tried, up to the square root
+    /// of order; above it only order itself can be the first divisor.
+    fn has_divisor(order: u32, challenges: u32) -> bool {
+        let end = challenges.min(order.isqrt() + 1);
+        let divides = |d: u32| d < end && order.is_multiple_of(d);
+        order < challenges
+            || divides(2)
+            || divides(3)
+            || (5..end).step_by(6).any(|d| divides(d) || divides(d + 2))
+    }
+
+    fn have_order(values: &[u32], order: u32, m: u32) -> bool {
+        if values.len() == 1 {
+            return Idiomatic::have_order(values, order, m);
+        }
+        values.iter().all(|&v| in_range(v, m)) && {
+            let powers = Modulus::new(m).powers(values, order);
+            powers[..values.len()].iter().all(|&power| power == 1)
+        }
+    }
+
+    /// A product has no divisor in common with m where no factor has.
+    fn have_inverses(values: &[u32], m: u32) -> bool {
+        if values.len() == 1 {
+            return Idiomatic::have_inverses(values, m);
+        }
+        values.iter().all(|&v| in_range(v, m)) && {
+            let modulus = Modulus::new(m);
+            let product = values.iter().fold(1, |product, &v| modulus.mul(product, v));
+            gcd(product, m) == 1
+        }
+    }
+
+    #[inline]
+    fn powers(bases: &[u32], exponent: u32, m: u32) -> Places {
+        if bases.len() == 1 {
+            return Idiomatic::powers(bases, exponent, m);
+        }
+        Modulus::new(m).powers(bases, exponent)
+    }
+
+    #[inline]
+    fn products(factors: &[u32], bases: &[u32], exponent: u32, m: u32) -> Places {
+        if bases.len() == 1 {
+            return Idiomatic::products(factors, bases, exponent, m);
+        }
+        Modulus::new(m).products(factors, bases, exponent)
+    }
+
+    #[inline]
+    fn row_products(rows: &[Places], exponents: &[u32], m: u32) -> Places {
+        if rows.len() == 1 {
+            return Idiomatic::row_products(rows, exponents, m);
+        }
+        Modulus::new(m).row_products(rows, exponents)
+    }
+}
