@@ -14,29 +14,31 @@ use Rattle.sigma.specs.Image.{rowImage}
 use Rattle.sigma.specs.Instance.{tableWith, entry}
 use Rattle.sigma.proofs.ByKind.{rowImage-exponent, rowImage-root}
 
--- the product of the first j factors of row i, modulo m
-pub rowProduct : Header → List (List ℕ) → List ℕ → ℕ → ℕ → ℕ
-rowProduct h entries x i j = product j (λ k. getD (getD entries i []) k 0 ^ getD x k 0) % h .modulus
+-- the product of the first j factors of a row, modulo m
+pub rowProduct : Header → List ℕ → List ℕ → ℕ → ℕ
+rowProduct h row x j = product j (λ k. getD row k 0 ^ getD x k 0) % h .modulus
 
-module _ (h : Header) (entries : List (List ℕ)) (x : List ℕ) (i : ℕ) where
+module _ (h : Header) (row : List ℕ) (x : List ℕ) where
   -- no factor yet
-  pub row-start : 1 % h .modulus ≡ rowProduct h entries x i 0
+  pub row-start : 1 % h .modulus ≡ rowProduct h row x 0
   unfolding rowProduct
   row-start = ap (λ (k : ℕ). k % h .modulus) (sym (product-zero _))
 
   -- one factor more
-  pub row-turn : (j : ℕ) {value power next : ℕ} → value ≡ rowProduct h entries x i j
-      → power ≡ getD (getD entries i []) j 0 ^ getD x j 0 % h .modulus → next ≡ value * power % h .modulus
-      → next ≡ rowProduct h entries x i (j + 1)
+  pub row-turn : (j : ℕ) {value power next : ℕ} → value ≡ rowProduct h row x j
+      → power ≡ getD row j 0 ^ getD x j 0 % h .modulus → next ≡ value * power % h .modulus
+      → next ≡ rowProduct h row x (j + 1)
   unfolding rowProduct
   row-turn j is-value is-power is-next =
       rw (is-next, is-value, is-power, add-one j, product-suc j _) (mod-mul-both (h .modulus) _ _)
 
-  -- all factors: the row of kind 1
-  pub row-exponent : h .kind ≡ 1 → rowProduct h entries x i (h .columns) ≡ rowImage (tableWith h entries) x i
+  -- all factors: the row of kind 1 in a table that has it at i
+  pub row-exponent : (i : ℕ) → h .kind ≡ 1 → (entries : List (List ℕ)) → row ≡ getD entries i []
+      → rowProduct h row x (h .columns) ≡ rowImage (tableWith h entries) x i
   unfolding rowProduct entry
-  row-exponent kind = sym (rowImage-exponent (tableWith h entries) kind x i)
+  row-exponent i kind entries is-row = rw is-row (sym (rowImage-exponent (tableWith h entries) kind x i))
 
-  -- the row of kind 2
-  pub row-root : h .kind ≢ 1 → getD x i 0 ^ h .order % h .modulus ≡ rowImage (tableWith h entries) x i
-  row-root kind = sym (rowImage-root (tableWith h entries) kind x i)
+-- the row of kind 2
+pub row-root : (h : Header) (x : List ℕ) (i : ℕ) → h .kind ≢ 1 → (entries : List (List ℕ))
+    → getD x i 0 ^ h .order % h .modulus ≡ rowImage (tableWith h entries) x i
+row-root h x i kind entries = sym (rowImage-root (tableWith h entries) kind x i)

@@ -1,20 +1,25 @@
 -- The image, the two sides, the verdict and the response read only the places that 01 reads, and zeros behind a side do not
 -- count in a comparison.
 -- Assumes nothing.
-use mathlib.Core.Path.{_≡_, ap, ap₂}
+use mathlib.Core.Path.{_≡_, sym, ap, ap₂, _∙_}
+use mathlib.Core.Logic.{_≢_}
 use mathlib.Core.List.{List}
 use Prim.Native.Nat.{ℕ, _*_, _%_, _^_}
+use native.Mathlib.Omega.{arith}
+use lib.ListN.{getD}
 use Rattle.types.specs.declared.Header.{Header}
 use Rattle.types.specs.declared.Verdict.{Verdict}
+use Rattle.types.specs.declared.Verdict.the-variants.{Accepted, Rejected}
 use Rattle.lists.specs.Places.{places, pad8}
-use Rattle.lists.proofs.Places.{getD-pad8, getD-places, tabulate-agree}
+use Rattle.lists.proofs.Places.{getD-pad8, getD-places, getD-tabulate, tabulate-agree}
 use Rattle.numbers.proofs.Search.{find-agree}
 use Rattle.sigma.specs.Comparison.{firstDifference, differ, compareSides}
-use Rattle.sigma.specs.Image.{image}
+use Rattle.sigma.specs.Image.{rowImage, image}
 use Rattle.sigma.specs.Instance.{Instance, Table, tableOf, statementAt}
 use Rattle.sigma.specs.Round.{responseCoordinate, response, expectedImage, verdict}
 use Rattle.sigma.specs.Valid.{Valid, ValidTable}
 use Rattle.sigma.proofs.Unread.{rowImage-agree}
+use Rattle.image.proofs.TwoSides.{compare-one-row, compare-one-none}
 
 -- zeros behind two lists do not change where they first differ
 difference-pad8 : (n : ℕ) (xs ys : List ℕ) → firstDifference n (pad8 0 xs) (pad8 0 ys) ≡ firstDifference n xs ys
@@ -56,3 +61,31 @@ module _ (inst : Instance) where
   unfolding verdict
   verdict-compared v t c r is-left is-right is-answer =
       rw (is-answer, is-left, is-right, image-places (tableOf inst) (v .table) r, expected-places t c) (compare-pad8 (inst .header .rows) _ _)
+
+  -- of one row the first side is a number
+  left-number : Valid inst → (r : List ℕ) → getD (image (tableOf inst) r) 0 0 ≡ rowImage (tableOf inst) r 0
+  unfolding image
+  left-number v r = getD-tabulate (inst .header .rows) (rowImage (tableOf inst) r) 0 0 (v .table .some-row)
+
+  -- and the second
+  right-number : Valid inst → (t : List ℕ) (c : ℕ)
+      → getD (expectedImage inst t c) 0 0 ≡ getD t 0 0 * statementAt inst 0 ^ c % inst .header .modulus
+  unfolding expectedImage
+  right-number v t c = getD-tabulate (inst .header .rows) _ 0 0 (v .table .some-row)
+
+  module _ (v : Valid inst) (one : inst .header .rows ≡ 1) (t : List ℕ) (c : ℕ) (r : List ℕ) {left right : ℕ}
+      (is-left : left ≡ rowImage (tableOf inst) r 0)
+      (is-right : right ≡ getD t 0 0 * statementAt inst 0 ^ c % inst .header .modulus) where
+    -- one row whose two numbers differ is rejected
+    pub verdict-differs : left ≢ right → Rejected 0 ≡ verdict inst (places (inst .header .rows) t) c (places (inst .header .columns) r)
+    unfolding verdict
+    verdict-differs other =
+        rw (image-places (tableOf inst) (v .table) r, expected-places t c)
+        (compare-one-row _ one _ _ (λ same. other (is-left ∙ sym (left-number v r) ∙ same ∙ right-number v t c ∙ sym is-right)))
+
+    -- and one whose two numbers agree is accepted
+    pub verdict-agrees : left ≡ right → Accepted ≡ verdict inst (places (inst .header .rows) t) c (places (inst .header .columns) r)
+    unfolding verdict
+    verdict-agrees same =
+        rw (image-places (tableOf inst) (v .table) r, expected-places t c)
+        (compare-one-none _ one _ _ (left-number v r ∙ sym is-left ∙ same ∙ is-right ∙ sym (right-number v t c)))

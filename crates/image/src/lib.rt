@@ -15,9 +15,10 @@ use straus::multi_powers;
 use types::Header;
 use types::Verdict;
 ghost use mathlib.Core.Path.{_≡_};
-ghost use mathlib.Core.List.{List};
+ghost use mathlib.Core.List.{List, []};
 ghost use Prim.Native.Nat.{ℕ, _≤_, _<_};
 ghost use lib.IntN.{pos, negℤ};
+ghost use lib.ListN.{getD};
 ghost use Rattle.lists.specs.Places.{places, pad8};
 ghost use Rattle.numbers.specs.Integer.{power};
 ghost use Rattle.sigma.specs.Comparison.{firstDifference, differ, compareSides};
@@ -27,10 +28,11 @@ ghost use Rattle.sigma.specs.Round.{responseCoordinate, response, expectedImage
 ghost use Rattle.sigma.specs.Valid.{Valid};
 ghost use Rattle.sigma.specs.Instance.{tableWith, instanceWith};
 
-// Row i of the image of x: in kind 1 the product over the columns of the entry by x's slot, in kind 2 slot i by the exponent.
-pub fn row_image(h: Header, entries: [[u32; 8]; 8], x: [u32; 8], i: usize) -> u32
+// Row i of the image of x, of a table that has the entries row there: in kind 1 the product over the columns of the entry by
+// x's slot, in kind 2 slot i by the exponent.
+pub fn row_image(h: Header, row: [u32; 8], x: [u32; 8], i: usize) -> u32
     requires { ⌜ (0 < h .modulus) × (h .columns ≤ 8) × (i < 8) ⌝ }
-    ensures { λ r. ⌜ r ≡ rowImage (tableWith h entries) x i ⌝ }
+    ensures { λ r. ⌜ ((entries : List (List ℕ)) → row ≡ getD entries i [] → r ≡ rowImage (tableWith h entries) x i) ⌝ }
 {
     if h.kind != 1 {
         return pow_mod(x[i], h.order, h.modulus);
@@ -38,7 +40,7 @@ pub fn row_image(h: Header, entries: [[u32; 8]; 8], x: [u32; 8], i: usize) -> u3
     let columns = h.columns as usize;
     let mut value = 1 % h.modulus;
     for j in 0..columns {
-        value = mul_mod(value, pow_mod(entries[i][j], x[j], h.modulus), h.modulus);
+        value = mul_mod(value, pow_mod(row[j], x[j], h.modulus), h.modulus);
     }
     value
 }
@@ -67,7 +69,8 @@ pub fn image(h: Header, entries: [[u32; 8]; 8], x: [u32; 8]) -> [u32; 8]
     }
     let mut values = [0u32; 8];
     for i in 0..rows {
-        values[i] = row_image(h, entries, x, i);
+        let row = entries[i];
+        values[i] = row_image(h, row, x, i);
     }
     values
 }
@@ -138,7 +141,7 @@ fn compare(xs: [u32; 8], ys: [u32; 8], n: usize) -> Verdict
 }
 
 // The verdict on a commitment t, a challenge c and a response r: accepted where the two sides agree in every row, else
-// rejected with the first row in which they differ.
+// rejected with the first row in which they differ. The sides of one row alone are numbers, which need not wait for a copy.
 pub fn verdict(
     h: Header,
     entries: [[u32; 8]; 8],
@@ -150,11 +153,21 @@ pub fn verdict(
     requires { ⌜ Valid (instanceWith h entries statement) ⌝ }
     ensures { λ answer. ⌜ answer ≡ verdict (instanceWith h entries statement) (places (h .rows) t) c (places (h .columns) r) ⌝ }
 {
-    compare(
-        image(h, entries, r),
-        expected_image(h, statement, t, c),
-        h.rows as usize,
-    )
+    let rows = h.rows as usize;
+    if rows > 1 {
+        return compare(
+            image(h, entries, r),
+            expected_image(h, statement, t, c),
+            rows,
+        );
+    }
+    let row = entries[0];
+    let left = row_image(h, row, r, 0);
+    let right = mul_mod(t[0], pow_mod(statement[0], c, h.modulus), h.modulus);
+    if left != right {
+        return Verdict::Rejected(0);
+    }
+    Verdict::Accepted
 }
 
 // A slot of the response to c, of the nonce's slot k and the witness's slot x: k + c x mod q in kind 1, k x^c mod m in kind 2.

@@ -1,7 +1,8 @@
 // The calls on a sheet's bytes (01, "A round"): each loads the sheet, and a refused sheet's number is its answer.
-use crate::loaded::judge_loaded;
+use crate::loaded::round_refusal;
 use crate::loaded::simulate_loaded;
 use image::refused;
+use image::verdict;
 use instance::load;
 use instance::loaded_entries;
 use types::Computed;
@@ -22,9 +23,15 @@ pub fn judge(sheet: &[u8], round: Round) -> Verdict
         return Verdict::Refused(refusal);
     }
     let h = loaded.header;
+    let t = round.commitment;
+    let r = round.response;
+    let refusal = round_refusal(h, t, round.challenge, r);
+    if refusal != 0 {
+        return Verdict::Refused(refusal);
+    }
     let statement = loaded.statement;
     let entries = loaded_entries(sheet, h);
-    judge_loaded(h, entries, statement, round)
+    verdict(h, entries, statement, t, round.challenge, r)
 }
 
 // The simulated commitment for challenge c and response r; zeros beside the number, 2 to 11, 15 or 16, where it is refused.

@@ -1,45 +1,44 @@
-// Judging a round and simulating a commitment on loaded values (01, "A round"; refusals 14 to 16).
+// The tests of a round, and simulating a commitment, on loaded values (01, "A round"; refusals 14 to 16).
 use image::image;
 use image::mul_negative_powers;
 use image::negative_power;
 use image::refused;
 use image::row_image;
-use image::verdict;
 use modular::mul_mod;
 use modular::some_non_coordinate;
 use modular::some_non_element;
 use types::Computed;
 use types::Header;
-use types::Round;
-use types::Verdict;
 ghost use mathlib.Core.Path.{_≡_};
-ghost use Prim.Native.Nat.{_<_};
+ghost use mathlib.Core.List.{List};
+ghost use Prim.Native.Nat.{ℕ, _≤_, _<_};
 ghost use Rattle.lists.specs.Places.{pad8, places};
-ghost use Rattle.sigma.specs.Judge.{judgeLoaded};
+ghost use Rattle.rules.specs.Rule.{lowest};
+ghost use Rattle.sigma.specs.Judge.{judgeRules};
 ghost use Rattle.sigma.specs.Simulator.{simulated, simulateLoaded};
 ghost use Rattle.sigma.specs.Valid.{Valid};
 ghost use Rattle.sigma.specs.Instance.{instanceWith};
 
-// The verdict on a round: accepted, rejected with the first row whose two sides differ, or refused with 14 for a commitment
-// value that is no group element, 15 for a challenge of K or more, 16 for a response slot that is no domain slot.
-pub fn judge_loaded(h: Header, entries: [[u32; 8]; 8], statement: [u32; 8], round: Round) -> Verdict
-    requires { ⌜ Valid (instanceWith h entries statement) ⌝ }
-    ensures { λ r. ⌜ r ≡ judgeLoaded (instanceWith h entries statement) round ⌝ }
+// The number that a round is refused with, or 0: 14 for a commitment value that is no group element, 15 for a challenge of K or
+// more, 16 for a response slot that is no domain slot.
+pub fn round_refusal(h: Header, commitment: [u32; 8], challenge: u32, response: [u32; 8]) -> u32
+    requires { ⌜ (0 < h .modulus) × (h .rows ≤ 8) × (h .columns ≤ 8) ⌝ }
+    ensures { λ r. ⌜ ((entries : List (List ℕ)) (statement : List ℕ)
+        → r ≡ lowest (judgeRules (instanceWith h entries statement) (places (h .rows) commitment) challenge
+        (places (h .columns) response))) ⌝ }
 {
-    let commitment = round.commitment;
-    let response = round.response;
     let rows = h.rows as usize;
     let columns = h.columns as usize;
     if some_non_element(h, commitment, rows) {
-        return Verdict::Refused(14);
+        return 14;
     }
-    if round.challenge >= h.challenges {
-        return Verdict::Refused(15);
+    if challenge >= h.challenges {
+        return 15;
     }
     if some_non_coordinate(h, response, columns) {
-        return Verdict::Refused(16);
+        return 16;
     }
-    verdict(h, entries, statement, commitment, round.challenge, response)
+    0
 }
 
 // The simulated commitment for challenge c and response r: the image of r times the statement by -c, a value for each row.
@@ -60,8 +59,9 @@ fn simulated(
     }
     let mut values = [0u32; 8];
     for i in 0..rows {
+        let row = entries[i];
         values[i] = mul_mod(
-            row_image(h, entries, r, i),
+            row_image(h, row, r, i),
             negative_power(h, statement[i], c),
             h.modulus,
         );

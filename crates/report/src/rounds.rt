@@ -1,7 +1,8 @@
 // The lines of a file's rounds on loaded values.
 use crate::lines::write_result;
 use crate::lines::write_round;
-use protocol::judge_loaded;
+use image::verdict;
+use protocol::round_refusal;
 use round_file::record_start;
 use round_file::round_at;
 use types::Header;
@@ -33,7 +34,13 @@ fn verdict_at(
 {
     let start = record_start(h, k as usize);
     let round = round_at(h, file, start);
-    judge_loaded(h, entries, statement, round)
+    let t = round.commitment;
+    let r = round.response;
+    let refusal = round_refusal(h, t, round.challenge, r);
+    if refusal != 0 {
+        return Verdict::Refused(refusal);
+    }
+    verdict(h, entries, statement, t, round.challenge, r)
 }
 
 // Whether a verdict is not accepted, or one before it was not.

@@ -10,10 +10,12 @@ use types::Fetched;
 use types::Header;
 use types::Part;
 use types::Round;
-ghost use Prim.Native.Nat.{_+_, _≤_};
+ghost use Prim.Native.Nat.{_+_, _*_, _≤_};
 ghost use mathlib.Core.Path.{_≡_};
 ghost use mathlib.Core.List.{[]};
 ghost use lib.ListN.{length};
+ghost use Rattle.lists.specs.Places.{pad8};
+ghost use Rattle.encoding.specs.Bytes.{wordsAt};
 ghost use Rattle.formats.specs.RoundFile.{challengeWidth, recordLength, roundAt};
 ghost use Rattle.formats.specs.RoundCalls.{noRound, countAfter, checkAfter, locateAfter, fetchAfter};
 
@@ -69,6 +71,19 @@ pub fn locate_in(h: Header, file: &[u8], k: usize) -> Part
     }
 }
 
+// The n numbers in the 4 n bytes of a file from index at on, and 0 in the places beyond them. A number that is alone stands in
+// its array at once, so that what copies the array need not wait.
+fn places_at(file: &[u8], at: usize, n: usize) -> [u32; 8]
+    requires count { ⌜ n ≤ 8 ⌝ }
+    requires within { ⌜ at + 4 * n ≤ length (now file) ⌝ }
+    ensures { λ r. ⌜ r ≡ pad8 0 (wordsAt (now (file .entry)) at n) ⌝ }
+{
+    if n == 1 {
+        return [read_u32(file, at), 0, 0, 0, 0, 0, 0, 0];
+    }
+    read_words(file, at, n)
+}
+
 // The values of the record that begins at index at of a file.
 pub fn round_at(h: Header, file: &[u8], at: usize) -> Round
     requires rows { ⌜ h .rows ≤ 8 ⌝ }
@@ -78,9 +93,9 @@ pub fn round_at(h: Header, file: &[u8], at: usize) -> Round
 {
     let rows = h.rows as usize;
     let columns = h.columns as usize;
-    let commitment = read_words(file, at, rows);
+    let commitment = places_at(file, at, rows);
     let challenge = read_u32(file, at + 4 * rows);
-    let response = read_words(file, at + 4 * rows + 4, columns);
+    let response = places_at(file, at + 4 * rows + 4, columns);
     Round {
         commitment,
         challenge,

@@ -1,5 +1,6 @@
 -- `image::image` meets its contract. The invariant: the first i places hold the first i rows, and those beyond hold 0.
 -- The measure: how many rows are left. Assumes nothing.
+use mathlib.Core.Path.{refl}
 use Prim.Native.Nat.{_-_}
 use native.Mathlib.Omega.{arith}
 use Rattle.lists.proofs.Filling.{Filled, filled-start, filled-turn, filled-eight}
@@ -9,11 +10,11 @@ use Rattle.image.proofs.image.Statement.{statement}
 use Rattle.image.proofs.image.Tie as tie
 
 abbrev Inv-loop : tie.InvT-loop
-Inv-loop h entries x rows values₀ i₀ values i =
+Inv-loop h x entries rows values₀ i₀ values i =
     Filled values₀ rows (rowImage (tableWith h entries) x) values i
 
 abbrev μ-loop : tie.MeasureT-loop
-μ-loop h entries x rows values₀ i₀ values i = rows - i
+μ-loop h x entries rows values₀ i₀ values i = rows - i
 
 cast-rows : tie.Need-cast-rows Inv-loop μ-loop
 cast-rows c = omega arith
@@ -26,6 +27,12 @@ returns c = c .image-rows .ensures
 
 loop-holds : tie.Need-loop-holds Inv-loop μ-loop
 loop-holds c = filled-start (omega arith)
+
+mul-row : tie.Need-mul-row Inv-loop μ-loop
+mul-row c = omega arith
+
+array-copy-out-row : tie.Need-array-copy-out-row Inv-loop μ-loop
+array-copy-out-row c = omega arith
 
 row-image-requires : tie.Need-row-image-requires Inv-loop μ-loop
 row-image-requires c κs = omega arith
@@ -43,7 +50,9 @@ loop-less : tie.Need-loop-less Inv-loop μ-loop
 loop-less c = omega arith
 
 loop-again : tie.Need-loop-again Inv-loop μ-loop
-loop-again c = filled-turn (c .before .before .loop .inv) (omega arith) (c .row-image .ensures)
+loop-again c =
+    let at-loop = c .before .before .before in
+    filled-turn (at-loop .loop .inv) (omega arith) (c .row-image .ensures _ refl)
 
 returns-2 : tie.Need-returns-2 Inv-loop μ-loop
 unfolding image
@@ -59,6 +68,8 @@ image-spec =
     image-rows-requires
     returns
     loop-holds
+    mul-row
+    array-copy-out-row
     row-image-requires
     mul-values
     array-write-values

@@ -8,10 +8,10 @@ use Rattle.image.proofs.row_image.Statement.{statement}
 use Rattle.image.proofs.row_image.Tie as tie
 
 abbrev Inv-loop : tie.InvT-loop
-Inv-loop h i entries x columns value₀ j₀ value j = (j ≤ columns) × (value ≡ rowProduct h entries x i j)
+Inv-loop h i row x columns value₀ j₀ value j = (j ≤ columns) × (value ≡ rowProduct h row x j)
 
 abbrev μ-loop : tie.MeasureT-loop
-μ-loop h i entries x columns value₀ j₀ value j = columns - j
+μ-loop h i row x columns value₀ j₀ value j = columns - j
 
 mul-pow-mod : tie.Need-mul-pow-mod Inv-loop μ-loop
 mul-pow-mod c = omega arith
@@ -23,7 +23,7 @@ pow-mod-requires : tie.Need-pow-mod-requires Inv-loop μ-loop
 pow-mod-requires c κs = omega arith
 
 returns : tie.Need-returns Inv-loop μ-loop
-returns c = c .pow-mod .ensures .0 ∙ row-root _ _ _ _ (c .before .if1 .taken)
+returns c = λ entries is-row. c .pow-mod .ensures .0 ∙ row-root _ _ _ (c .before .if1 .taken) entries
 
 cast-columns : tie.Need-cast-columns Inv-loop μ-loop
 cast-columns c = omega arith
@@ -32,25 +32,19 @@ rem-value : tie.Need-rem-value Inv-loop μ-loop
 rem-value c = omega arith
 
 loop-holds : tie.Need-loop-holds Inv-loop μ-loop
-loop-holds c = (omega arith, row-start _ _ _ _)
+loop-holds c = (omega arith, row-start _ _ _)
 
 mul-pow-mod-2 : tie.Need-mul-pow-mod-2 Inv-loop μ-loop
 mul-pow-mod-2 c = omega arith
 
+array-read-pow-mod-2 : tie.Need-array-read-pow-mod-2 Inv-loop μ-loop
+array-read-pow-mod-2 c = omega arith
+
 mul-pow-mod-3 : tie.Need-mul-pow-mod-3 Inv-loop μ-loop
 mul-pow-mod-3 c = omega arith
 
-index-1-pow-mod : tie.Need-index-1-pow-mod Inv-loop μ-loop
-index-1-pow-mod c = omega arith
-
-index-2-pow-mod : tie.Need-index-2-pow-mod Inv-loop μ-loop
-index-2-pow-mod c = omega arith
-
-mul-pow-mod-4 : tie.Need-mul-pow-mod-4 Inv-loop μ-loop
-mul-pow-mod-4 c = omega arith
-
-array-read-pow-mod-2 : tie.Need-array-read-pow-mod-2 Inv-loop μ-loop
-array-read-pow-mod-2 c = omega arith
+array-read-pow-mod-3 : tie.Need-array-read-pow-mod-3 Inv-loop μ-loop
+array-read-pow-mod-3 c = omega arith
 
 pow-mod-requires-2 : tie.Need-pow-mod-requires-2 Inv-loop μ-loop
 pow-mod-requires-2 c κs = omega arith
@@ -66,14 +60,15 @@ loop-less c = omega arith
 
 loop-again : tie.Need-loop-again Inv-loop μ-loop
 loop-again c =
-    let at-loop = c .before .before .before .before in
-    (omega arith, row-turn _ _ _ _ _ (at-loop .loop .inv .1) (c .before .pow-mod2 .ensures .0) (c .mul-mod .ensures .0))
+    let at-loop = c .before .before .before in
+    (omega arith, row-turn _ _ _ _ (at-loop .loop .inv .1) (c .before .pow-mod2 .ensures .0) (c .mul-mod .ensures .0))
 
 returns-2 : tie.Need-returns-2 Inv-loop μ-loop
 returns-2 c =
     let at-loop = c .before in
     let all : at-loop .loop .j ≡ at-loop .before .before .before .before .before .args .h .columns = omega arith in
-    (rw all at (at-loop .loop .inv .1)) ∙ row-exponent _ _ _ _ (at-loop .before .before .before .if1 .left)
+    λ entries is-row.
+    (rw all at (at-loop .loop .inv .1)) ∙ row-exponent _ _ _ _ (at-loop .before .before .before .if1 .left) entries is-row
 
 pub row-image-spec : {M : Type 1} → statement M
 row-image-spec =
@@ -89,11 +84,9 @@ row-image-spec =
     rem-value
     loop-holds
     mul-pow-mod-2
-    mul-pow-mod-3
-    index-1-pow-mod
-    index-2-pow-mod
-    mul-pow-mod-4
     array-read-pow-mod-2
+    mul-pow-mod-3
+    array-read-pow-mod-3
     pow-mod-requires-2
     mul-mod-requires
     add-j

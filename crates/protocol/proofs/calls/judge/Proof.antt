@@ -1,11 +1,14 @@
--- `protocol::calls::judge` meets its contract: a refused sheet's number is the answer, else its values are loaded.
+-- `protocol::calls::judge` meets its contract: a refused sheet's number is the answer, else a refused round's, else the verdict
+-- on the loaded values.
 -- Assumes nothing.
-use mathlib.Core.Path.{sym, ap}
+use mathlib.Core.Path.{refl, sym, ap}
 use native.Mathlib.Omega.{arith}
 use Rattle.runs.specs.Calls.{judgeRound}
 use Rattle.sigma.specs.Answer.{outcome}
 use Rattle.sigma.proofs.After.{judgeAfter-clear, judgeAfter-refused}
+use Rattle.sigma.proofs.Valid.{valid-modulus}
 use Rattle.instance.proofs.Answers.{answer-refused, answer-header, answer-valid, answer-call}
+use Rattle.protocol.proofs.Judging.{judge-number, judge-verdict}
 use Rattle.protocol.proofs.calls.judge.Statement.{statement}
 use Rattle.protocol.proofs.calls.judge.Tie as tie
 
@@ -18,25 +21,54 @@ returns c =
     let (number, some) = answer-refused _ _ (c .before .load .ensures) (c .if1 .taken) in
     rw number (ap outcome (sym (judgeAfter-refused _ _ some _)))
 
-loaded-entries-requires : tie.Need-loaded-entries-requires
-loaded-entries-requires c κs =
-    let passed = c .before .before in
-    answer-header _ _ (passed .before .load .ensures) (passed .if1 .left)
-
-judge-loaded-requires : tie.Need-judge-loaded-requires
-judge-loaded-requires c κs =
+round-refusal-requires : tie.Need-round-refusal-requires
+round-refusal-requires c κs =
     let passed = c .before .before .before in
-    answer-valid _ _ (passed .before .load .ensures) (passed .if1 .left) (c .loaded-entries .ensures)
+    let valid = answer-valid _ _ (passed .before .load .ensures) (passed .if1 .left) refl in
+    (omega (arith, valid-modulus (valid .table)), valid .table .few-rows, valid .table .few-columns)
 
 returns-2 : tie.Need-returns-2
 unfolding judgeRound
 returns-2 c =
-    let passed = c .before .before .before .before in
+    let tested = c .before in
+    let passed = tested .before .before .before .before in
     let round = passed .before .before .before .args .round in
     ap outcome
     (answer-call _ _ (passed .before .load .ensures) (passed .if1 .left)
     (λ before inst none. judgeAfter-clear before inst none round)
-    (c .before .loaded-entries .ensures) (c .judge-loaded .ensures))
+    refl (judge-number _ round _ (tested .round-refusal .ensures _ _) (c .if2 .taken)))
+
+loaded-entries-requires : tie.Need-loaded-entries-requires
+loaded-entries-requires c κs =
+    let passed = c .before .before .before .before .before .before in
+    answer-header _ _ (passed .before .load .ensures) (passed .if1 .left)
+
+verdict-requires : tie.Need-verdict-requires
+verdict-requires c κs =
+    let passed = c .before .before .before .before .before .before .before in
+    answer-valid _ _ (passed .before .load .ensures) (passed .if1 .left) (c .loaded-entries .ensures)
+
+returns-3 : tie.Need-returns-3
+unfolding judgeRound
+returns-3 c =
+    let none = c .before .before .before in
+    let tested = none .before in
+    let passed = tested .before .before .before .before in
+    let round = passed .before .before .before .args .round in
+    ap outcome
+    (answer-call _ _ (passed .before .load .ensures) (passed .if1 .left)
+    (λ before inst none. judgeAfter-clear before inst none round)
+    (c .before .loaded-entries .ensures)
+    (judge-verdict _ round _ (tested .round-refusal .ensures _ _) (none .if2 .left) (c .verdict .ensures)))
 
 pub judge-spec : {M : Type 1} → statement M
-judge-spec = tie.close (tie.spec load-requires returns loaded-entries-requires judge-loaded-requires returns-2)
+judge-spec =
+    tie.close
+    (tie.spec
+    load-requires
+    returns
+    round-refusal-requires
+    returns-2
+    loaded-entries-requires
+    verdict-requires
+    returns-3)

@@ -11,9 +11,9 @@ cast-rows c = omega arith
 cast-columns : tie.Need-cast-columns
 cast-columns c = omega arith
 
-read-words-requires : tie.Need-read-words-requires
+places-at-requires : tie.Need-places-at-requires
 unfolding recordLength challengeWidth widthOf
-read-words-requires c κs = omega arith
+places-at-requires c κs = omega arith
 
 mul-read-u32 : tie.Need-mul-read-u32
 mul-read-u32 c = omega arith
@@ -26,27 +26,27 @@ read-u32-requires : tie.Need-read-u32-requires
 unfolding recordLength challengeWidth widthOf
 read-u32-requires c κs = omega arith
 
-mul-read-words : tie.Need-mul-read-words
-mul-read-words c = omega arith
+mul-places-at : tie.Need-mul-places-at
+mul-places-at c = omega arith
 
-add-read-words : tie.Need-add-read-words
+add-places-at : tie.Need-add-places-at
 unfolding recordLength challengeWidth widthOf
-add-read-words c = omega arith
+add-places-at c = omega arith
 
-add-read-words-2 : tie.Need-add-read-words-2
+add-places-at-2 : tie.Need-add-places-at-2
 unfolding recordLength challengeWidth widthOf
-add-read-words-2 c = omega arith
+add-places-at-2 c = omega arith
 
-read-words-requires-2 : tie.Need-read-words-requires-2
+places-at-requires-2 : tie.Need-places-at-requires-2
 unfolding recordLength challengeWidth widthOf
-read-words-requires-2 c κs = omega arith
+places-at-requires-2 c κs = omega arith
 
 returns : tie.Need-returns
 unfolding roundAt challengeWidth widthOf
 returns c = λ i. record {
-  commitment = c .before .before .read-words .ensures i;
+  commitment = c .before .before .places-at .ensures i;
   challenge = c .before .read-u32 .ensures i;
-  response = c .read-words2 .ensures i;
+  response = c .places-at2 .ensures i;
 }
 
 pub round-at-spec : {M : Type 1} → statement M
@@ -55,12 +55,12 @@ round-at-spec =
     (tie.spec
     cast-rows
     cast-columns
-    read-words-requires
+    places-at-requires
     mul-read-u32
     add-read-u32
     read-u32-requires
-    mul-read-words
-    add-read-words
-    add-read-words-2
-    read-words-requires-2
+    mul-places-at
+    add-places-at
+    add-places-at-2
+    places-at-requires-2
     returns)
