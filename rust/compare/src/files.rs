@@ -112,8 +112,7 @@ pub fn round_number(random: &mut Random, record: usize, file: &[u8]) -> usize {
     let inside = random.below(count);
     match random.below(14) {
         0..=4 => inside,
-        5 => 0,
-        6 => count.saturating_sub(1),
+        5 | 6 => count.saturating_sub(1),
         7 => count,
         8 => count + 1,
         9 => (1 << random.pick(&[8, 16, 31, 32, 33, 48, 63])) + inside,

@@ -240,3 +240,29 @@ fn the_page_has_a_row_for_each_refusal_and_each_call() {
         assert_eq!(numbers, given, "{}", call.name());
     }
 }
+
+/// What the page's table of the reason tells of each number, but for values of
+/// lists, whose offsets depend on the sheet.
+#[test]
+fn the_offsets_of_the_page_are_those_of_the_vectors() {
+    let rows = rows(FORMATS, "## The reason's line\n");
+    let (of_lists, fixed): (Vec<_>, Vec<_>) = rows.iter().partition(|row| row[3].contains('+'));
+    let of_lists: BTreeSet<&str> = of_lists.iter().map(|row| row[0]).collect();
+    let fixed = fixed.iter().map(|row| (row[0], row[3]));
+    let stored = calls().into_iter().filter_map(|(call, answer, _)| {
+        let line = answer
+            .strip_suffix("\\n")
+            .filter(|_| call == Call::Reason)?;
+        match line.split(' ').collect::<Vec<_>>()[..] {
+            ["refused", number, "length", _] => Some((number, "the length")),
+            ["refused", number, offset] => Some((number, offset)),
+            _ => None,
+        }
+    });
+    let stored = stored.filter(|(number, _)| !of_lists.contains(number));
+    assert_eq!(
+        fixed.collect::<BTreeSet<_>>(),
+        stored.collect::<BTreeSet<_>>()
+    );
+    assert_eq!(of_lists, ["10", "11", "14", "15", "16"].into());
+}
