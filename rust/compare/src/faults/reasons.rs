@@ -48,7 +48,8 @@ pub fn reason(fault: Fault, sheet: &[u8], file: &[u8], text: &mut [u8; LONGEST_R
     let right = Line::of(sheet, file);
     let mut line = match right {
         Line::At(2..=11, _) | Line::Length(2..=11, _) => of_sheet(fault, right, sheet, file),
-        _ => of_file(fault, right, sheet, file),
+        Line::At(12 | 13, _) | Line::Length(..) => of_file(fault, right, sheet, file),
+        _ => of_round(fault, right, sheet, file),
     }
     .text();
     if fault == Fault::ReasonNoEnd {
@@ -91,26 +92,30 @@ fn of_sheet(fault: Fault, right: Line, sheet: &[u8], file: &[u8]) -> Line {
     }
 }
 
-/// The faulty line on a file that is refused, or on its round 0.
+/// The faulty line on a file that is refused.
 fn of_file(fault: Fault, right: Line, sheet: &[u8], file: &[u8]) -> Line {
-    let header = Judge.load(sheet).header;
-    let (rows, columns) = (header.rows as usize, header.columns as usize);
-    let (record, count) = (
-        record_length(&header),
-        Judge.count(sheet, file).count as usize,
-    );
+    let fits = |record: usize| (file.len() - 7).is_multiple_of(record);
     match (fault, right) {
-        (Fault::ReasonMarkFirst, Line::Length(12, 0..7)) if !begins(file, b"RND") => {
-            Line::At(12, 0)
-        }
-        (Fault::ReasonLengthFirst, Line::At(12, _)) if (file.len() - 7) % record != 0 => {
+        (Fault::ReasonMarkFirst, Line::Length(_, 0..7)) if !begins(file, b"RND") => Line::At(12, 0),
+        (Fault::ReasonLengthFirst, Line::At(12, _))
+            if !fits(record_length(&Judge.load(sheet).header)) =>
+        {
             Line::Length(12, file.len())
         }
-        (Fault::ReasonCountFirst, Line::Length(12, 7..)) => Line::At(12, 5),
-        (Fault::ReasonLengthKept, Line::Length(12, found)) => Line::Length(12, found.min(34_824)),
+        (Fault::ReasonCountFirst, Line::Length(_, 7..)) => Line::At(12, 5),
+        (Fault::ReasonLengthKept, Line::Length(_, found)) => Line::Length(12, found.min(34_824)),
         (Fault::ReasonNoRounds, Line::At(13, _)) => Line::Accepted,
-        (Fault::ReasonFromRecord, Line::At(number @ 14.., offset)) => Line::At(number, offset - 7),
-        (Fault::ReasonLowByte, Line::At(number @ 14.., offset)) => Line::At(number, offset + 3),
+        _ => right,
+    }
+}
+
+/// The faulty line on round 0.
+fn of_round(fault: Fault, right: Line, sheet: &[u8], file: &[u8]) -> Line {
+    let header = Judge.load(sheet).header;
+    let (rows, columns) = (header.rows as usize, header.columns as usize);
+    match (fault, right) {
+        (Fault::ReasonFromRecord, Line::At(number, offset)) => Line::At(number, offset - 7),
+        (Fault::ReasonLowByte, Line::At(number, offset)) => Line::At(number, offset + 3),
         (Fault::ReasonLastCommitment, Line::At(14, _)) => {
             Line::At(14, last_stranger(sheet, file, 7, rows))
         }
@@ -121,8 +126,8 @@ fn of_file(fault: Fault, right: Line, sheet: &[u8], file: &[u8]) -> Line {
         (Fault::ReasonRowFromOne, Line::Rejected(row, left, right)) => {
             Line::Rejected(row + 1, left, right)
         }
-        (Fault::ReasonLastRound, _) if count > 1 => {
-            let last = &file[file.len() - record..];
+        (Fault::ReasonLastRound, _) => {
+            let last = &file[file.len() - record_length(&header)..];
             Line::of(sheet, &[b"RND\x00\x01\x00\x01", last].concat())
         }
         _ => right,
