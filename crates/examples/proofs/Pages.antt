@@ -1,4 +1,4 @@
--- Every starred page and every bound of a refusal hold of the definitions, by computation.
+-- Every starred page, every line of the reason and every bound of a refusal hold of the definitions, by computation.
 -- Assumes nothing.
 use mathlib.Core.Path.{refl}
 use mathlib.Core.List.{flatten}
@@ -142,6 +142,20 @@ use Rattle.runs.specs.Verifier.{
   takeChallenge,
   takeResponse,
 }
+use Rattle.reasons.specs.Reason.{
+  firstNonElement,
+  firstNonCoordinate,
+  sheetSpot,
+  fileSpot,
+  roundSpot,
+  spotOf,
+  firstVerdict,
+  spotText,
+  rowText,
+  lineText,
+  reasonLine,
+  reasonText,
+}
 use Rattle.examples.specs.Corners.{
   onesSheet,
   manyChallenges,
@@ -165,7 +179,7 @@ use Rattle.examples.specs.Corners.{
   EveryCorner,
 }
 use Rattle.examples.specs.MarkerExample.{exampleFile, exampleText}
-use Rattle.examples.specs.Pages.{array, smallRound, run, bothWays, judging, EveryPage}
+use Rattle.examples.specs.Pages.{array, smallRound, run, bothWays, judging, reasonOn, EveryPage}
 use Rattle.examples.specs.Sheets.{
   fourBytes,
   sheetBytes,
@@ -200,7 +214,8 @@ unfolding euclid gcd residue quotient power bezoutRight bezoutLeft inverse produ
     flatten onesSheet manyChallenges changed making writingIn zerosFile noBytes counting appending
     extracting simulating peggy committing responding dropping vic hearing asking telling noRounds badInUse
     appendRules recordBytes appended appendAfter append emptyFile noHeader load loadEntries encodeRules encode
-    dropRules dropSession checkRound
+    dropRules dropSession checkRound firstNonElement firstNonCoordinate sheetSpot fileSpot roundSpot spotOf firstVerdict
+    spotText rowText lineText reasonLine reasonText reasonOn
 worked-examples = (
   record {
     A = refl;
@@ -217,6 +232,10 @@ worked-examples = (
     no-rounds = refl;
     no-sheet = refl;
     no-file = refl;
+    accepted = refl;
+    rejected = refl;
+    refused = refl;
+    refused-length = refl;
   },
   record {
     refusal1 = (refl, refl);

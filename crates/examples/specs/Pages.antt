@@ -1,4 +1,4 @@
--- The starred pages and texts of the marker: what the definitions give is what 01 prints.
+-- The starred pages, texts of the marker and lines of the reason: what the definitions give is what 01 and 02 print.
 -- Assumes nothing.
 use Prim.Native.Nat.{ℕ}
 use mathlib.Core.Path.{_≡_}
@@ -24,6 +24,7 @@ use Rattle.runs.specs.Marker.{markerText}
 use Rattle.runs.specs.Prover.{newProver, commit}
 use Rattle.sigma.specs.Answer.{outcome}
 use Rattle.sigma.specs.Reads.{roundOf}
+use Rattle.reasons.specs.Reason.{reasonText}
 
 -- an array of eight places; those beyond the values hold 99, which no call may read
 unfoldable pub array : List ℕ → List ℕ
@@ -50,7 +51,13 @@ bothWays sheet first second =
 unfoldable pub judging : List ℕ → ℕ → ℕ → ℕ → ℕ
 judging sheet t c r = outcome (judgeRound sheet (smallRound t c r)) .number
 
--- the starred pages, A to J, and texts of the marker: what the definitions give is what 01 prints
+-- the line of the reason on page A's sheet and a file of the one round (t, c, r)
+unfoldable pub reasonOn : ℕ → ℕ → ℕ → List ℕ
+reasonOn t c r =
+    reasonText schnorrSheet
+    (0x52 ∷ 0x4E ∷ 0x44 ∷ 0 ∷ 1 ∷ 0 ∷ 1 ∷ 0 ∷ 0 ∷ 0 ∷ t ∷ 0 ∷ 0 ∷ 0 ∷ c ∷ 0 ∷ 0 ∷ 0 ∷ r ∷ [])
+
+-- the starred pages, A to J, texts of the marker and lines of the reason: what the definitions give is what 01 and 02 print
 pub record EveryPage : Type 0 where
   pub A : run schnorrSheet (7 ∷ []) (5 ∷ []) 3 ≡ 9 ∷ 4 ∷ 1 ∷ []
   pub B : bothWays schnorrSheet (smallRound 9 3 4) (smallRound 9 1 1) ≡ 7 ∷ 7 ∷ []
@@ -74,3 +81,16 @@ pub record EveryPage : Type 0 where
       ≡ 0x72 ∷ 0x6F ∷ 0x75 ∷ 0x6E ∷ 0x64 ∷ 0x73 ∷ 0x20 ∷ 0x30 ∷ 0x0A ∷ 0x70 ∷ 0x61 ∷ 0x73 ∷ 0x73 ∷ 0x0A ∷ []
   pub no-sheet : markerText [] exampleFile ≡ 0x73 ∷ 0x68 ∷ 0x65 ∷ 0x65 ∷ 0x74 ∷ 0x20 ∷ 0x32 ∷ 0x0A ∷ []
   pub no-file : markerText schnorrSheet [] ≡ 0x66 ∷ 0x69 ∷ 0x6C ∷ 0x65 ∷ 0x20 ∷ 0x31 ∷ 0x32 ∷ 0x0A ∷ []
+  -- the reason on the marker's example is `accepted`; on (9,1,2) it is rejected 0 4 2, on a response slot 11 refused 16 15, and on
+  -- the example without its last byte refused 12 length 54
+  pub accepted : reasonText schnorrSheet exampleFile ≡ 0x61 ∷ 0x63 ∷ 0x63 ∷ 0x65 ∷ 0x70 ∷ 0x74 ∷ 0x65 ∷ 0x64 ∷ 0x0A ∷ []
+  pub rejected :
+      reasonOn 9 1 2
+      ≡ 0x72 ∷ 0x65 ∷ 0x6A ∷ 0x65 ∷ 0x63 ∷ 0x74 ∷ 0x65 ∷ 0x64 ∷ 0x20 ∷ 0x30 ∷ 0x20 ∷ 0x34 ∷ 0x20 ∷ 0x32 ∷ 0x0A ∷ []
+  pub refused :
+      reasonOn 9 1 11
+      ≡ 0x72 ∷ 0x65 ∷ 0x66 ∷ 0x75 ∷ 0x73 ∷ 0x65 ∷ 0x64 ∷ 0x20 ∷ 0x31 ∷ 0x36 ∷ 0x20 ∷ 0x31 ∷ 0x35 ∷ 0x0A ∷ []
+  pub refused-length :
+      reasonText schnorrSheet (take 54 exampleFile)
+      ≡ 0x72 ∷ 0x65 ∷ 0x66 ∷ 0x75 ∷ 0x73 ∷ 0x65 ∷ 0x64 ∷ 0x20 ∷ 0x31 ∷ 0x32 ∷ 0x20 ∷ 0x6C ∷ 0x65 ∷ 0x6E ∷ 0x67 ∷ 0x74 ∷ 0x68 ∷
+      0x20 ∷ 0x35 ∷ 0x34 ∷ 0x0A ∷ []

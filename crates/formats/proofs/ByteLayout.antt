@@ -1,6 +1,6 @@
 -- Where the values that the calls give stand in the bytes of a sheet and of a round file.
 -- Assumes nothing.
-use Prim.Native.Nat.{ℕ, _+_, _-_, _*_, _≤_}
+use Prim.Native.Nat.{ℕ, _+_, _-_, _*_, _<_, _≤_}
 use mathlib.Core.Path.{_≡_, refl, ap, _∙_, subst}
 use mathlib.Core.Logic.{_≢_}
 use mathlib.Core.List.{List, []}
@@ -8,7 +8,7 @@ use native.Mathlib.Omega.{arith}
 use lib.ListN.{length, getD, take, drop, length-append, length-replicate, List·getD-eq-default}
 use Rattle.types.specs.declared.Counted.{Counted}
 use Rattle.types.specs.declared.Header.{Header}
-use Rattle.encoding.specs.Bytes.{numberAt}
+use Rattle.encoding.specs.Bytes.{numberAt, wordsAt}
 use Rattle.encoding.specs.Text.{ascii}
 use Rattle.encoding.proofs.Bytes.{numberAt-one}
 use Rattle.lists.specs.Places.{eightByEight, itemsAt, pad8, tabulate, zeros8}
@@ -71,6 +71,10 @@ unfolding pad8
 length-padded d xs few =
     length-append xs _ ∙ ap (λ (n : ℕ). length xs + n) (length-replicate (8 - length xs) d) ∙ omega arith
 
+-- a word read from bytes
+pub word-at : (bytes : List ℕ) (at n j : ℕ) → j < n → getD (pad8 0 (wordsAt bytes at n)) j 0 ≡ numberAt 4 bytes (at + 4 * j)
+word-at bytes at n j h = getD-pad8 0 (wordsAt bytes at n) j ∙ getD-itemsAt (numberAt 4 bytes) at 4 n j 0 h
+
 -- words read from bytes
 words-at : (bytes : List ℕ) (at n : ℕ) → n ≤ 8 → WordsAt bytes at n (pad8 0 (itemsAt (numberAt 4 bytes) at 4 n))
 words-at bytes at n few =
@@ -78,7 +82,7 @@ words-at bytes at n few =
     let count = length-itemsAt (numberAt 4 bytes) at 4 n in
     record {
       size = length-padded 0 words (omega arith);
-      within = λ j h. getD-pad8 0 words j ∙ getD-itemsAt (numberAt 4 bytes) at 4 n j 0 h;
+      within = word-at bytes at n;
       beyond = λ j h. getD-pad8 0 words j ∙ List·getD-eq-default words 0 (omega arith);
     }
 

@@ -4,3 +4,4 @@ pub mod Lowest
 pub mod Order
 pub mod Condition
 pub mod Refuses
+pub mod Explains

@@ -77,7 +77,7 @@ unfolding positionIn
 position-head y ys n e = rw (eq-eqb n y e)
 
 -- the number of a condition that holds is one of the conditions' numbers
-applies-member : (conditions : List Condition) (n : ℕ) → Applies conditions n → Member n (conditionNumbers conditions)
+pub applies-member : (conditions : List Condition) (n : ℕ) → Applies conditions n → Member n (conditionNumbers conditions)
 unfolding conditionNumbers
 applies-member [] n a = a
 applies-member ((m if P) ∷ conditions) n (inl a) = inl (a .1)

@@ -62,6 +62,10 @@ module _ {t : Bool} {P : Type 0} (s : Says t P) where
       decide true f g = inl (f refl)
       decide false f g = inr (g refl)
 
+  -- what is had where the fact holds and where it fails is had
+  pub says-elim : {A : Type 0} → (P → A) → ((¬ P) → A) → A
+  says-elim holding failing = ⊎-elim holding failing says-decides
+
   -- the opposite of a test
   pub says-not : Says (not t) (¬ P)
   says-not = record { sound = λ e. says-false .0 (not-true t e); complete = λ n. ap not (says-false .1 n) }

@@ -2,7 +2,7 @@
 -- Assumes nothing.
 use Prim.Native.Nat.{ℕ, _+_, _*_, _%_, _^_}
 use mathlib.Core.Path.{_≡_}
-use mathlib.Core.Logic.{_≢_, ⊎-elim}
+use mathlib.Core.Logic.{_≢_}
 use mathlib.Core.Bool.{true, false}
 use mathlib.Core.List.{List}
 use lib.IntN.{ℤ, pos, _-ℤ_, _*ℤ_}
@@ -11,7 +11,7 @@ use Rattle.types.specs.declared.Header.{Header}
 use Rattle.numbers.specs.Integer.{residue, power}
 use Rattle.numbers.specs.Inverse.{inverse}
 use Rattle.numbers.specs.Product.{product}
-use Rattle.rules.proofs.Says.{says-false, says-decides}
+use Rattle.rules.proofs.Says.{says-elim, says-false}
 use Rattle.sigma.specs.Instance.{Table, isExponent, entry}
 use Rattle.sigma.specs.Image.{rowImage}
 use Rattle.sigma.specs.Round.{responseCoordinate}
@@ -29,7 +29,7 @@ root-kind h = says-false (says-exponent h) .1
 
 -- what is had in kind 1 and in the other kind is had
 pub by-kind : (h : Header) {A : Type 0} → (h .kind ≡ 1 → A) → (h .kind ≢ 1 → A) → A
-by-kind h first other = ⊎-elim first other (says-decides (says-exponent h))
+by-kind h = says-elim (says-exponent h)
 
 -- ---- kind 1
 

@@ -1,0 +1,89 @@
+-- What is not refused: the line is `accepted` exactly where judging accepts round 0, and else it has the first differing row.
+-- Assumes nothing.
+use Prim.Native.Nat.{ℕ}
+use mathlib.Core.Path.{_≡_, refl, sym, ap, _∙_}
+use mathlib.Core.List.{List}
+use mathlib.Core.Logic.{_↔_, _⊎_, inl, inr, ⊎-elim}
+use native.Mathlib.Decide.{decLt}
+use native.Mathlib.Omega.{arith}
+use lib.ListN.{getD}
+use Rattle.types.specs.declared.Round.{Round}
+use Rattle.types.specs.declared.Verdict.{Verdict}
+use Rattle.types.specs.declared.Verdict.the-variants.{Accepted, Rejected, Refused}
+use Rattle.encoding.specs.Text.{ascii}
+use Rattle.lists.specs.Places.{zeros8}
+use Rattle.lists.proofs.Places.{getD-zeros8}
+use Rattle.sigma.specs.Answer.{judged, outcome}
+use Rattle.sigma.proofs.After.{judgeAfter-refused}
+use Rattle.sigma.proofs.Answer.{accepted-not-refused, judged-given, unlessRefused-positive}
+use Rattle.formats.specs.Load.{loadRefusal, loadRules}
+use Rattle.formats.specs.RoundCalls.{checkRound, fetchAfter, fetchRound, noRound}
+use Rattle.formats.specs.Sheet.{instanceOf}
+use Rattle.formats.proofs.Files.{check-runs}
+use Rattle.formats.proofs.Loads.{loads, loads-valid}
+use Rattle.runs.specs.Calls.{judgeRound}
+use Rattle.runs.proofs.Protocol.{sheet-accepted, verdicts}
+use Rattle.reasons.specs.declared.Spot.{Spot}
+use Rattle.reasons.specs.Reason.{firstVerdict, lineText, reasonLine, reasonNumber, reasonText}
+use Rattle.reasons.specs.ReasonsTrue.{RejectedLine, firstRound}
+use Rattle.reasons.proofs.Line.{checked-judged, checked-refused, text-accepted, text-rejected}
+
+-- no other verdict's line is `accepted`
+accepted-line : (v : Verdict) (spot : ℕ → Spot) (left right : List ℕ) → lineText v spot left right ≡ ascii "accepted\n"
+    → v ≡ Accepted
+unfolding lineText ascii
+accepted-line Accepted spot left right same = refl
+accepted-line (Rejected row) spot left right same = absurd (omega (arith, ap (λ (l : List ℕ). getD l 0 0) same))
+accepted-line (Refused n) spot left right same = absurd (omega (arith, ap (λ (l : List ℕ). getD l 0 0) same))
+
+-- where judging accepts a round, the sheet loads
+accepted-loads : (s : List ℕ) (round : Round) → judgeRound s round ≡ Accepted → loadRefusal s ≡ 0
+unfolding judgeRound loadRefusal
+accepted-loads s round accepted = elim (decLt 0 (loadRefusal s)) [
+  | yes refused ↦ absurd (accepted-not-refused _ (sym accepted ∙ judgeAfter-refused (loadRules s) (instanceOf s) refused round))
+  | no passed ↦ omega arith
+]
+
+module _ (s f : List ℕ) where
+  -- where nothing is refused, the check passes
+  check-passed : reasonNumber s f ≡ 0 → checkRound s f 0 ≡ 0
+  unfolding reasonNumber outcome
+  check-passed none = elim (decLt 0 (checkRound s f 0)) [
+    | yes refused ↦ absurd (omega (arith, ap (λ (v : Verdict). outcome v .number) (checked-refused s f refused)))
+    | no passed ↦ omega arith
+  ]
+
+  -- the line is then `accepted` or has the first differing row
+  pub line-judged : reasonNumber s f ≡ 0 → (reasonText s f ≡ ascii "accepted\n") ⊎ RejectedLine s f
+  unfolding reasonNumber
+  line-judged none =
+      let passed = check-passed none in
+      let same = checked-judged s f passed in
+      let number = ap (λ (v : Verdict). outcome v .number) (sym same) ∙ none in
+      let rows = verdicts s (loads s .1 (check-runs s f 0 .0 passed .0)) (firstRound s f) number in
+      ⊎-elim (λ e. inl (text-accepted s f (same ∙ e)))
+      (λ (row, e). let first = rows .rejected row .0 e in inr (row, first, text-rejected s f row (same ∙ e) (first .inside)))
+      (rows .decided)
+
+  -- a round that judging accepts stands in a file that the check lets pass: else it is read as zeros, which are no elements
+  accepted-passed : judgeRound s (firstRound s f) ≡ Accepted → checkRound s f 0 ≡ 0
+  unfolding fetchRound fetchAfter checkRound noRound
+  accepted-passed accepted = elim (decLt 0 (checkRound s f 0)) [
+    | yes refused ↦
+        let loaded = accepted-loads s (firstRound s f) accepted in
+        let fits = sheet-accepted s loaded (firstRound s f) .0 accepted .0 in
+        let element = fits .commitment 0 (loads-valid s loaded .table .some-row) in
+        let zeros : getD (firstRound s f .commitment) 0 0 ≡ getD zeros8 0 0 =
+        ap (λ (round : Round). getD (round .commitment) 0 0) (unlessRefused-positive _ noRound (checkRound s f 0) refused) in
+        absurd (omega (arith, element .positive, zeros, getD-zeros8 0))
+    | no passed ↦ omega arith
+  ]
+
+  -- `accepted` is printed exactly where judging accepts round 0
+  pub line-accepted : (reasonText s f ≡ ascii "accepted\n") ↔ (judgeRound s (firstRound s f) ≡ Accepted)
+  unfolding reasonText reasonLine firstVerdict judged
+  line-accepted =
+      let given = judged-given (checkRound s f 0) (judgeRound s (firstRound s f)) Accepted accepted-not-refused in (
+        λ same. given .0 (accepted-line (firstVerdict s f) _ _ _ same) .1,
+        λ accepted. text-accepted s f (given .1 (accepted-passed accepted, accepted)),
+      )

@@ -1,0 +1,10 @@
+-- Laws of the reason: the spot of each number, the line, long files, and that the reason is true.
+pub mod Named
+pub mod Words
+pub mod SheetSpots
+pub mod FileSpots
+pub mod RoundSpots
+pub mod Line
+pub mod Judged
+pub mod Cut
+pub mod ReasonsTrue

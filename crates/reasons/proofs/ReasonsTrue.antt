@@ -1,0 +1,84 @@
+-- The reason is true (02, card 1).
+-- Assumes nothing.
+use Prim.Native.Nat.{ℕ, _<_, _≤_}
+use mathlib.Core.Path.{_≡_, refl, subst}
+use mathlib.Core.List.{List, _++_, append-assoc}
+use mathlib.Core.Logic.{_↔_, _⊎_, inl, inr, ⊎-elim}
+use native.Mathlib.Omega.{arith}
+use lib.ListN.{length}
+use Rattle.lists.specs.Member.{Member}
+use Rattle.rules.specs.Condition.{Condition}
+use Rattle.rules.specs.Order.{isSublist, refusalOrder, sheetNumbers}
+use Rattle.rules.specs.Refuses.{Refuses, conditionNumbers}
+use Rattle.rules.proofs.Refuses.{refuses-given}
+use Rattle.formats.specs.Refusals.{loadConditions, roundConditions}
+use Rattle.formats.specs.Sheet.{headerOf, instanceOf}
+use Rattle.sigma.specs.Refusals.{judgeConditions}
+use Rattle.reasons.specs.Reason.{reasonNumber, reasonText}
+use Rattle.reasons.specs.ReasonsTrue.{
+  LengthLine,
+  OffsetLine,
+  ReasonsTrue,
+  firstRound,
+  reasonConditions,
+  reasonNumbers,
+}
+use Rattle.reasons.proofs.Cut.{line-cut}
+use Rattle.rules.proofs.Explains.{Explains, explains-append, explains-caused, explains-given, rising-first}
+use Rattle.reasons.proofs.FileSpots.{file-explained}
+use Rattle.reasons.proofs.Judged.{line-accepted, line-judged}
+use Rattle.reasons.proofs.Line.{number-given, text-length, text-offset}
+use Rattle.reasons.proofs.Named.{Broken, Named}
+use Rattle.reasons.proofs.RoundSpots.{check-none, round-explained}
+use Rattle.reasons.proofs.SheetSpots.{sheet-explained}
+
+module _ (s f : List ℕ) where
+  -- 2 to 16
+  all-explained : Explains (Named s f) (Broken s f) (reasonConditions s f)
+  all-explained =
+      let sheet = loadConditions s in
+      let file = roundConditions (headerOf s) f 0 in
+      let round = judgeConditions (instanceOf s) (firstRound s f) in
+      let before = explains-append (Named s f) (Broken s f) sheet file (sheet-explained s f) (λ none. file-explained s f) in
+      subst (Explains (Named s f) (Broken s f)) (append-assoc sheet file round)
+      (explains-append (Named s f) (Broken s f) (sheet ++ file) round before (λ none. round-explained s f (check-none s f none)))
+
+  -- the spot of the number that is given
+  named : 0 < reasonNumber s f → Named s f (reasonNumber s f)
+  named = explains-given (Named s f) (Broken s f) (reasonConditions s f) (reasonNumber s f) all-explained (number-given s f)
+
+  -- the number is 01's
+  number : Refuses reasonNumbers (reasonConditions s f) (reasonNumber s f) (Unit {0})
+  unfolding conditionNumbers sheetNumbers isSublist refusalOrder
+  number = refuses-given reasonNumbers (reasonConditions s f) refl refl (reasonNumber s f) (number-given s f) (λ some. tt)
+
+  -- a rule is broken exactly where its number is given, if no lower rule is
+  broken : (n : ℕ) → Member n reasonNumbers → (reasonNumber s f ≡ 0) ⊎ (n ≤ reasonNumber s f)
+      → (reasonNumber s f ≡ n) ↔ Broken s f n
+  unfolding conditionNumbers sheetNumbers
+  broken n member lowest = (
+    λ same.
+        let some : 0 < n = rising-first 0 reasonNumbers (omega arith) n member in
+        subst (Broken s f) same
+        (⊎-elim (λ (o, first, told). inl (o, first .breaks)) (λ (l, breaks, told). inr (l, breaks)) (named (omega arith))),
+    explains-caused (Named s f) (Broken s f) 0 (reasonConditions s f) (reasonNumber s f) n (omega arith) all-explained
+        (number-given s f) member lowest,
+  )
+
+  -- the line of a refusal
+  refused : 0 < reasonNumber s f → OffsetLine s f (reasonNumber s f) ⊎ LengthLine s f (reasonNumber s f)
+  refused some =
+      ⊎-elim (λ (o, first, told). inl (o, first, text-offset s f o some told))
+      (λ (l, breaks, told). inr (l, breaks, text-length s f l some told)) (named some)
+
+-- all of it
+pub reasons-true : ReasonsTrue
+unfolding reasonText
+reasons-true = record {
+  number = number;
+  broken = broken;
+  refused = refused;
+  judged = line-judged;
+  accepted = line-accepted;
+  kept = λ a b enough enough′ s f. line-cut a b enough enough′ s f (length s) (length f);
+}
