@@ -79,6 +79,7 @@ extern "C" {
 #define DIMKHOROS_MOST_ROUNDS 512    /* rounds in the fullest round file */
 #define DIMKHOROS_LONGEST_FILE 34823 /* bytes of the longest round file */
 #define DIMKHOROS_LONGEST_TEXT 7696  /* bytes that hold every text of the marker */
+#define DIMKHOROS_LONGEST_REASON 48  /* bytes that hold every line of the reason */
 #define DIMKHOROS_STORED_PROVER 79   /* bytes of a stored session of Peggy's */
 #define DIMKHOROS_STORED_VERIFIER 51 /* bytes of a stored session of Vic's */
 
@@ -424,7 +425,7 @@ DIMKHOROS_CHECKED
 DimkhorosWritten dimkhoros_append(const uint8_t *sheet, size_t sheet_length, uint8_t *buffer, size_t buffer_length,
                                   size_t used, DimkhorosRound round);
 
-/* --- The marker --- */
+/* --- The marker and the reason --- */
 
 /*
  * Judges a round file and writes the marker's text, in ASCII and without a zero at its end, to the start of `text`. Answers its
@@ -436,6 +437,23 @@ DimkhorosWritten dimkhoros_append(const uint8_t *sheet, size_t sheet_length, uin
 DIMKHOROS_CHECKED
 size_t dimkhoros_mark(const uint8_t *sheet, size_t sheet_length, const uint8_t *file, size_t file_length,
                       uint8_t text[DIMKHOROS_LONGEST_TEXT]);
+
+/*
+ * Says in one line what is wrong with a sheet, a round file or its round 0, and writes the line, in ASCII and without a zero at
+ * its end, to the start of `text`. Answers its length; no byte behind it is changed. The line ends in a newline and is one of
+ *
+ *     refused N OFFSET           rule N, 2 to 16, is the lowest that is broken, by the value at OFFSET and by none before it
+ *     refused N length LENGTH    the same of 2, 9 or 12 where the length of the sheet or the file, LENGTH bytes, breaks it
+ *     rejected ROW LEFT RIGHT    nothing is refused; ROW, from 0, is the first row in which the two sides of round 0 differ,
+ *                                LEFT is the value of [r] there and RIGHT that of t * z^c
+ *     accepted                   Vic accepts round 0
+ *
+ * An offset is that of the value's first byte, from the start of the file that holds it: the sheet for 2 to 11, the round file
+ * for 12 to 16. docs/FORMATS.md lists the offsets. A file of no rounds is refused with 13.
+ */
+DIMKHOROS_CHECKED
+size_t dimkhoros_reason(const uint8_t *sheet, size_t sheet_length, const uint8_t *file, size_t file_length,
+                        uint8_t text[DIMKHOROS_LONGEST_REASON]);
 
 /* --- Version --- */
 

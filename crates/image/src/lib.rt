@@ -77,7 +77,7 @@ pub fn image(h: Header, entries: [[u32; 8]; 8], x: [u32; 8]) -> [u32; 8]
 
 // What the response's image has to be: t times the statement by the challenge, a value for each row. One row alone is
 // computed by itself.
-fn expected_image(h: Header, statement: [u32; 8], t: [u32; 8], c: u32) -> [u32; 8]
+pub fn expected_image(h: Header, statement: [u32; 8], t: [u32; 8], c: u32) -> [u32; 8]
     requires { ⌜ (0 < h .modulus) × (h .rows ≤ 8) ⌝ }
     ensures { λ r. ⌜ ((entries : List (List ℕ)) → r ≡ pad8 0 (expectedImage (instanceWith h entries statement) t c)) ⌝ }
 {

@@ -10,5 +10,7 @@ pub use loading::load;
 pub use loading::loaded_entries;
 pub use shape::FIXED_FIELDS;
 pub use shape::MARK;
+pub use shape::entry_count;
+pub use shape::header;
 pub use shape::header_refusal;
 pub use shape::sheet_length;

@@ -95,7 +95,7 @@ pub fn inverse(v: u32, m: u32) -> u32
 }
 
 // Whether v is a group element: from 1 to m - 1, with v^q mod m = 1 in kind 1 and gcd(v, m) = 1 in kind 2.
-fn is_element(h: Header, v: u32) -> bool
+pub fn is_element(h: Header, v: u32) -> bool
     requires { ⌜ 0 < h .modulus ⌝ }
     ensures { λ r. ⌜ r ≡ isElement h v ⌝ }
 {

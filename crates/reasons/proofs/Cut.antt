@@ -28,9 +28,10 @@ use Rattle.formats.proofs.Files.{check-runs}
 use Rattle.formats.proofs.Loads.{loads, loads-few}
 use Rattle.formats.proofs.LongFiles.{check-cut, file-short, loads-cut, refusal-cut, sheet-short}
 use Rattle.formats.proofs.Refusals.{check-tests}
+use Rattle.reasons.specs.Lines.{refusedLine}
 use Rattle.reasons.specs.Reason.{fileSpot, reasonLine, sheetSpot, spotOf}
-use Rattle.rules.proofs.Explains.{Explained, Explains, explain, explains-given}
-use Rattle.reasons.proofs.Line.{checked-refused, line-refused, refusedLine}
+use Rattle.rules.proofs.Explains.{Explains, explain, explains-given, known}
+use Rattle.reasons.proofs.Line.{checked-refused, line-refused}
 
 -- lists cut behind their first n places differ there as before
 differ-cut : (n k : ℕ) (xs ys : List ℕ) → n ≤ k → differ n (take k xs) ys ≡ differ n xs ys
@@ -44,32 +45,28 @@ module _ (a b : ℕ) (enough : 309 ≤ a) (enough′ : 34824 ≤ b) (s f : List 
   abbrev Same : ℕ → Type 0
   Same n = spotOf (take a s) x (take b f) y n ≡ spotOf s x f y n
 
-  -- a number whose spot is the same in any case
-  same : {P : Type 0} (n : ℕ) → Same n → Explained Same (λ k. ⊥) n P
-  same n e = (λ holds. e, λ none. absurd none)
-
   -- the spots of 2 to 13 are
   spots-cut : Explains Same (λ k. ⊥) (loadConditions s ++ roundConditions (headerOf s) f 0)
   unfolding spotOf sheetSpot fileSpot headerOf fileVersion countField
   spots-cut =
-      explain (same 2 refl) λ start.
-      explain (same 3 refl) λ version.
-      explain (same 4 refl) λ kind.
-      explain (same 5 refl) λ modulus.
-      explain (same 6 refl) λ order.
-      explain (same 7 (rw (numberAt-take 1 a s 18 (omega arith)))) λ size.
-      explain (same 8 refl) λ count.
-      explain (same 9 refl) λ exact.
+      explain (known Same 2 refl) λ start.
+      explain (known Same 3 refl) λ version.
+      explain (known Same 4 refl) λ kind.
+      explain (known Same 5 refl) λ modulus.
+      explain (known Same 6 refl) λ order.
+      explain (known Same 7 (rw (numberAt-take 1 a s 18 (omega arith)))) λ size.
+      explain (known Same 8 refl) λ count.
+      explain (known Same 9 refl) λ exact.
       let rows : ¬ (8 < headerOf s .rows) = λ l. size (inr (inl l)) in
       let columns : ¬ (8 < headerOf s .columns) = λ l. size (inr (inr (inr (inl l)))) in
       let fits = says-stable (says-equal (length s) (sheetLength (headerOf s))) exact in
       let whole : take a s ≡ s = take-all a s (omega (arith, fits, sheet-short (headerOf s) (omega arith) (omega arith))) in
-      explain (same 10 (ap (λ (t : List ℕ). sheetSpot t x 10) whole)) λ entries.
-      explain (same 11 (ap (λ (t : List ℕ). sheetSpot t x 11) whole)) λ statement.
+      explain (known Same 10 (ap (λ (t : List ℕ). sheetSpot t x 10) whole)) λ entries.
+      explain (known Same 11 (ap (λ (t : List ℕ). sheetSpot t x 11) whole)) λ statement.
       let version = numberAt-take 2 b f 3 (omega arith) in
       let count = numberAt-take 2 b f 5 (omega arith) in
-      explain (same 12 (rw (differ-cut 3 b f roundMark (omega arith), version, count))) λ file.
-      explain (same 13 refl) λ number. tt
+      explain (known Same 12 (rw (differ-cut 3 b f roundMark (omega arith), version, count))) λ file.
+      explain (known Same 13 refl) λ number. tt
 
   -- the number of the check is the same
   number-cut : checkRound (take a s) (take b f) 0 ≡ checkRound s f 0

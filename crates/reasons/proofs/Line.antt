@@ -5,7 +5,7 @@ use mathlib.Core.Path.{_≡_, refl, sym, ap, ap₂, _∙_}
 use mathlib.Core.List.{List, [], _++_, append-assoc, append-nil, flatten}
 use native.Mathlib.Decide.{decLt}
 use native.Mathlib.Omega.{arith}
-use lib.ListN.{length}
+use lib.ListN.{getD, length}
 use Rattle.types.specs.declared.Round.{Round}
 use Rattle.types.specs.declared.Verdict.{Verdict}
 use Rattle.types.specs.declared.Verdict.the-variants.{Accepted, Rejected, Refused}
@@ -36,6 +36,7 @@ use Rattle.runs.proofs.Outcome.{judged-number}
 use Rattle.reasons.specs.declared.Spot.{Spot}
 use Rattle.reasons.specs.declared.Spot.the-variants.{At, Length}
 use Rattle.reasons.specs.Reason.{firstVerdict, lineText, reasonLine, reasonNumber, reasonText, rowText, spotOf, spotText}
+use Rattle.reasons.specs.Lines.{refusedLine, rejectedLine}
 use Rattle.reasons.specs.ReasonsTrue.{firstRound, leftSide, reasonConditions, rightSide}
 use Rattle.reasons.proofs.Named.{spot}
 
@@ -53,9 +54,13 @@ length-words a b c d e g = simp append-assoc
 row-words : (a b c d e g h i : List ℕ) → a ++ (b ++ c ++ d ++ e ++ g ++ h ++ []) ++ i ≡ (a ++ b) ++ c ++ d ++ e ++ g ++ h ++ i
 row-words a b c d e g h i = simp (append-assoc, append-nil)
 
--- the line of a refusal
-abbrev pub refusedLine : ℕ → Spot → List ℕ
-refusedLine n spot = ascii "refused " ++ decimal n ++ ascii " " ++ spotText spot ++ ascii "\n"
+-- the line of a rejected round, by its parts
+pub rejected-line : (row : ℕ) (spots : ℕ → Spot) (left right : List ℕ)
+    → lineText (Rejected row) spots left right ≡ rejectedLine row (getD left row 0) (getD right row 0)
+unfolding lineText rowText flatten ascii
+rejected-line row spots left right =
+    row-words (ascii "rejected") (ascii " ") (decimal row) (ascii " ") (decimal (getD left row 0)) (ascii " ")
+    (decimal (getD right row 0)) (ascii "\n")
 
 module _ (s f : List ℕ) where
   -- ---- the number
@@ -145,12 +150,9 @@ module _ (s f : List ℕ) where
 
   -- a rejected one
   pub text-rejected : (row : ℕ) → firstVerdict s f ≡ Rejected row → row < instanceOf s .header .rows
-      → reasonText s f ≡ ascii "rejected " ++ decimal row ++ ascii " " ++ decimal (leftSide s f row) ++ ascii " " ++
-      decimal (rightSide s f row) ++ ascii "\n"
-  unfolding reasonText reasonLine lineText rowText instanceOf flatten ascii
+      → reasonText s f ≡ rejectedLine row (leftSide s f row) (rightSide s f row)
+  unfolding reasonText reasonLine instanceOf
   text-rejected row e inside =
       let left = image-at (tableOf (instanceOf s)) (firstRound s f .response) row inside in
       let right = expected-image-at (instanceOf s) (firstRound s f .commitment) (firstRound s f .challenge) row inside in
-      ap (lineOf (length s) (length f)) e
-      ∙ row-words (ascii "rejected") (ascii " ") (decimal row) (ascii " ") _ (ascii " ") _ (ascii "\n")
-      ∙ ap₂ (λ (l r : ℕ). ascii "rejected " ++ decimal row ++ ascii " " ++ decimal l ++ ascii " " ++ decimal r ++ ascii "\n") left right
+      ap (lineOf (length s) (length f)) e ∙ rejected-line row (spot s f) _ _ ∙ ap₂ (rejectedLine row) left right

@@ -63,12 +63,16 @@ module _ (s f : List ℕ) where
       (in-file s f 16 (λ o none. none)) refl (λ l none. none) (pad8 0 (wordsAt f response (h .columns)))
       (word-at f response (h .columns))) λ slots. tt
 
-  -- 14 to 16 of round 0, where the check lets it pass
-  pub round-explained : checkRound s f 0 ≡ 0
-      → Explains (Named s f) (Broken s f) (judgeConditions (instanceOf s) (firstRound s f))
-  unfolding recordStart
-  round-explained passed =
-      let stands : firstRound s f ≡ roundAt (challengeWidth f) (headerOf s) f 7 =
-      ap (λ (answer : Fetched). answer .round) (fetch-given s f 0 passed)
-      ∙ ap (roundAt (challengeWidth f) (headerOf s) f) (omega arith) in
-      subst (λ (round : Round). Explains (Named s f) (Broken s f) (judgeConditions (instanceOf s) round)) (sym stands) record-explained
+  module _ (passed : checkRound s f 0 ≡ 0) where
+    -- where the check lets it pass, round 0 is that record
+    pub first-record : firstRound s f ≡ roundAt (challengeWidth f) (headerOf s) f 7
+    unfolding recordStart
+    first-record =
+        ap (λ (answer : Fetched). answer .round) (fetch-given s f 0 passed)
+        ∙ ap (roundAt (challengeWidth f) (headerOf s) f) (omega arith)
+
+    -- 14 to 16 of round 0
+    pub round-explained : Explains (Named s f) (Broken s f) (judgeConditions (instanceOf s) (firstRound s f))
+    round-explained =
+        subst (λ (round : Round). Explains (Named s f) (Broken s f) (judgeConditions (instanceOf s) round)) (sym first-record)
+        record-explained

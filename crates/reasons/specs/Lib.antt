@@ -1,4 +1,5 @@
 -- Definitions of the reason, and what makes it true.
 pub mod Breaks
 pub mod Reason
+pub mod Lines
 pub mod ReasonsTrue

@@ -5,9 +5,9 @@ use mathlib.Core.Path.{_≡_, ap, ap₂, _∙_}
 use mathlib.Core.List.{List}
 use lib.ListN.{length, take}
 use lib.Seq.{sets}
+use Rattle.encoding.specs.Front.{FrontOf}
 use Rattle.runs.specs.Marker.{markerText}
 use Rattle.runs.proofs.MarkerCut.{text-cut}
-use Rattle.report.specs.Front.{FrontOf}
 
 -- arrays of 309 and 34,824 bytes hold enough of a sheet and of a round file for the text on the whole files
 pub whole-text : (sheet rounds : List ℕ) (n k : ℕ) → 309 ≤ length sheet → 34824 ≤ length rounds

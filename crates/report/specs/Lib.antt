@@ -1,3 +1,2 @@
 -- Definitions of the report: the marker's lines on loaded values.
 pub mod Lines
-pub mod Front

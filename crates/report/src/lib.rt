@@ -12,8 +12,8 @@ ghost use mathlib.Core.Path.{_≡_};
 ghost use mathlib.Core.List.{List};
 ghost use lib.ListN.{length};
 ghost use lib.Seq.{sets};
+ghost use Rattle.encoding.specs.Front.{FrontOf};
 ghost use Rattle.runs.specs.Marker.{markerText};
-ghost use Rattle.report.specs.Front.{FrontOf};
 
 // As many bytes hold every text: `rounds 512`, 512 lines of at most 15 bytes, and `fail`.
 pub const LONGEST: usize = 7696;

@@ -15,7 +15,7 @@ pub fn write_line(text: &mut [u8], word: &[u8], number: u32) -> usize
     requires room { ⌜ length (now word) + 12 ≤ length (now text) ⌝ }
     ensures { λ r. ⌜ Placed (now (text .entry)) 0 (wordLine (now (word .entry)) number) (now (text .exit)) r ⌝ }
 {
-    let next = write_numbered(text, 0, word, number);
+    let next = write_numbered(text, 0, word, number as u64);
     write_word(text, next, b"\n")
 }
 
@@ -26,8 +26,8 @@ fn write_verdict(text: &mut [u8], at: usize, verdict: Verdict) -> usize
 {
     match verdict {
         Verdict::Accepted => write_word(text, at, b"accepted"),
-        Verdict::Rejected(row) => write_numbered(text, at, b"rejected", row),
-        Verdict::Refused(number) => write_numbered(text, at, b"refused", number),
+        Verdict::Rejected(row) => write_numbered(text, at, b"rejected", row as u64),
+        Verdict::Refused(number) => write_numbered(text, at, b"refused", number as u64),
     }
 }
 
@@ -36,7 +36,7 @@ pub fn write_round(text: &mut [u8], at: usize, number: u32, verdict: Verdict) ->
     requires room { ⌜ at + length (decimal number) + length (verdictText verdict) + 2 ≤ length (now text) ⌝ }
     ensures { λ r. ⌜ Placed (now (text .entry)) at (verdictLine number verdict) (now (text .exit)) r ⌝ }
 {
-    let space = write_decimal(text, at, number);
+    let space = write_decimal(text, at, number as u64);
     let word = write_word(text, space, b" ");
     let end = write_verdict(text, word, verdict);
     write_word(text, end, b"\n")

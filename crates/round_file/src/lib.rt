@@ -15,5 +15,6 @@ pub use layout::START;
 pub use layout::file_refusal;
 pub use layout::record_length;
 pub use layout::record_start;
+pub use reading::check_in;
 pub use reading::count_in;
 pub use reading::round_at;

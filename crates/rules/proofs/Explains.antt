@@ -73,6 +73,10 @@ Explains Goal Cause ((n if holds) ∷ conditions) = Explained Goal Cause n holds
 pub explain : {A B : Type 0} → A → B → A × B
 explain here behind = (here, behind)
 
+-- a number whose goal is had in any case
+pub known : (Goal : ℕ → Type 0) {P : Type 0} (n : ℕ) → Goal n → Explained Goal (λ k. ⊥) n P
+known Goal n goal = (λ holds. goal, λ none. absurd none)
+
 module _ (Goal Cause : ℕ → Type 0) where
   -- the number that the conditions give has its goal
   pub explains-given : (conditions : List Condition) (n : ℕ) → Explains Goal Cause conditions → Given conditions n → 0 < n → Goal n

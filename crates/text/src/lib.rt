@@ -18,7 +18,7 @@ pub fn write_word(s: &mut [u8], at: usize, word: &[u8]) -> usize
 }
 
 // Stores the one digit of a number below 10.
-fn write_digit(s: &mut [u8], at: usize, digit: u32) -> usize
+fn write_digit(s: &mut [u8], at: usize, digit: u64) -> usize
     requires digit { ⌜ digit < 10 ⌝ }
     requires room { ⌜ at + 1 ≤ length (now s) ⌝ }
     ensures { λ r. ⌜ Placed (now (s .entry)) at ((48 + digit) ∷ []) (now (s .exit)) r ⌝ }
@@ -28,7 +28,7 @@ fn write_digit(s: &mut [u8], at: usize, digit: u32) -> usize
 }
 
 // Stores a number in decimal: the digits of its tenth, and then its last digit.
-pub fn write_decimal(s: &mut [u8], at: usize, number: u32) -> usize
+pub fn write_decimal(s: &mut [u8], at: usize, number: u64) -> usize
     requires room { ⌜ at + length (decimal number) ≤ length (now s) ⌝ }
     ensures { λ r. ⌜ Placed (now (s .entry)) at (decimal number) (now (s .exit)) r ⌝ }
 {
@@ -40,7 +40,7 @@ pub fn write_decimal(s: &mut [u8], at: usize, number: u32) -> usize
 }
 
 // Stores a word, a space and a number in decimal.
-pub fn write_numbered(s: &mut [u8], at: usize, word: &[u8], number: u32) -> usize
+pub fn write_numbered(s: &mut [u8], at: usize, word: &[u8], number: u64) -> usize
     requires room { ⌜ at + length (now word) + 1 + length (decimal number) ≤ length (now s) ⌝ }
     ensures { λ r. ⌜ Placed (now (s .entry)) at (now (word .entry) ++ ascii " " ++ decimal number) (now (s .exit)) r ⌝ }
 {

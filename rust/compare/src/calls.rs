@@ -25,6 +25,7 @@ pub enum Call {
     VerifierChallenge,
     VerifierResponse,
     Mark,
+    Reason,
 }
 
 /// A call's name in the interface, without the library's own name, whether it
@@ -71,6 +72,7 @@ const CALLS: &[Entry] = &[
     entry(Call::VerifierChallenge, "verifier_challenge", true, &[15, 21]),
     entry(Call::VerifierResponse, "verifier_response", true, &[16, 21]),
     entry(Call::Mark, "mark", true, &[12, 14, 15, 16]),
+    entry(Call::Reason, "reason", true, &[12, 13, 14, 15, 16]),
 ];
 
 /// How many calls there are.
@@ -130,7 +132,7 @@ impl Call {
 
     /// Whether the call answers a verdict.
     pub fn judges(self) -> bool {
-        matches!(self, Call::Judge | Call::VerifierResponse)
+        matches!(self, Call::Judge | Call::VerifierResponse | Call::Reason)
     }
 }
 

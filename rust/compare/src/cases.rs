@@ -1,10 +1,10 @@
 //! One call, or one run of calls, with all its inputs.
 
 mod files;
-mod marking;
 mod rounds;
 mod sessions;
 mod sheets;
+mod texts;
 mod writers;
 
 use std::fmt;
@@ -14,10 +14,10 @@ use crate::library::{Header, Library, Places};
 use crate::outcome::Outcome;
 
 pub use files::{FileCall, FileCase};
-pub use marking::MarkCase;
 pub use rounds::{RoundCall, RoundCase};
 pub use sessions::{SessionCase, Step};
 pub use sheets::SheetCase;
+pub use texts::{TextCall, TextCase};
 pub use writers::{WriterCase, Writing};
 
 /// A case. As text it has the name of its call and every input.

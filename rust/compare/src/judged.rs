@@ -6,7 +6,7 @@ mod values;
 use crate::library::{
     Computed, Counted, Fetched, Header, Judgement, Loaded, Part, Places, Plan, ProverAnswer,
     ProverSession, Round, VerifierAnswer, VerifierJudgement, VerifierSession, Written,
-    LONGEST_TEXT,
+    LONGEST_REASON, LONGEST_TEXT,
 };
 use sessions::{
     prover, prover_answer, prover_session, verifier, verifier_answer, verifier_session,
@@ -163,4 +163,10 @@ pub fn mark(sheet: &[u8], file: &[u8], text: &mut [u8; LONGEST_TEXT]) -> usize {
     let marked = judge::marker(sheet, file);
     text[..marked.len()].copy_from_slice(marked.as_bytes());
     marked.len()
+}
+
+pub fn reason(sheet: &[u8], file: &[u8], text: &mut [u8; LONGEST_REASON]) -> usize {
+    let line = judge::reason(sheet, file);
+    text[..line.len()].copy_from_slice(line.as_bytes());
+    line.len()
 }

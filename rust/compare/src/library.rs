@@ -6,7 +6,7 @@ use crate::{judged, proved};
 pub use dimkhoros_sys::{
     phases, Computed, Counted, Fetched, Header, Judgement, Loaded, Part, Places, ProverAnswer,
     ProverSession, Round, VerifierAnswer, VerifierJudgement, VerifierSession, Written,
-    LONGEST_FILE, LONGEST_SHEET, LONGEST_TEXT, MOST_ROUNDS,
+    LONGEST_FILE, LONGEST_REASON, LONGEST_SHEET, LONGEST_TEXT, MOST_ROUNDS,
 };
 
 /// The numbers that the sheet maker takes.
@@ -59,7 +59,8 @@ macro_rules! calls {
 }
 
 // Entries are 64 numbers: row i, column j at place 8 i + j. The marker's text
-// is put at the start of `text`, and its length is answered.
+// and the reason's line are put at the start of `text`, and their length is
+// answered.
 calls! {
     load(sheet: &[u8]) -> Loaded;
     entries(sheet: &[u8], entries: &mut [u32; 64]) -> u32;
@@ -94,4 +95,5 @@ calls! {
     ) -> VerifierJudgement;
 
     mark(sheet: &[u8], file: &[u8], text: &mut [u8; LONGEST_TEXT]) -> usize;
+    reason(sheet: &[u8], file: &[u8], text: &mut [u8; LONGEST_REASON]) -> usize;
 }

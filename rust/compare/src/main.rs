@@ -1,12 +1,13 @@
 //! Compares the proved library with the judge.
 //!
-//! First the program `marker` is run in some folders. Then each case is one
-//! call, or a run of both sessions, with inputs made from the seed. Both
-//! libraries get it, and every field of the answers and every byte of a lent
-//! buffer must be the same. The first difference is printed and ends the run.
-//! Last page K is run in both, and demand 3 is tried on small sheets. Exit
-//! status: 0 no difference, 1 a difference, something met too seldom or no
-//! program `marker`, 2 wrong words or a place to which nothing can be written.
+//! First the programs `marker` and `reason` are run in some folders. Then each
+//! case is one call, or a run of both sessions, with inputs made from the seed.
+//! Both libraries get it, and every field of the answers and every byte of a
+//! lent buffer must be the same. The first difference is printed and ends the
+//! run. Last page K is run in both, and demand 3 is tried on small sheets. Exit
+//! status: 0 no difference, 1 a difference, something met too seldom or a
+//! program that is missing, 2 wrong words or a place to which nothing can be
+//! written.
 
 #![forbid(unsafe_code)]
 
@@ -43,7 +44,7 @@ use std::process::ExitCode;
 
 use library::Library;
 use options::{Options, COUNT};
-use program::PROGRAM;
+use program::{BUILT, PROGRAMS};
 
 /// The fewest times that a full run must meet each number, verdict and shape.
 const FEWEST: u64 = 50;
@@ -92,7 +93,9 @@ fn compare(options: &Options) -> ExitCode {
 /// Prints what comes out of each stage. An error is the text of one that fails.
 fn stages(options: &Options) -> Result<(), String> {
     if options.other == Library::Proved {
-        println!("{}", program::check(options.seed, Path::new(PROGRAM))?);
+        for program in PROGRAMS {
+            println!("{}", program.check(options.seed, Path::new(BUILT))?);
+        }
     }
     let tally = run::run(options.seed, options.count, options.other)
         .map_err(|difference| difference.to_string())?;

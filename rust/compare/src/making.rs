@@ -8,6 +8,7 @@ mod marking;
 mod patterns;
 mod phases;
 mod prover;
+mod reasons;
 mod rounds;
 mod runs;
 mod sheets;
@@ -19,12 +20,13 @@ use crate::cases::Case;
 use crate::random::Random;
 
 pub use marking::{mark_case, mark_file};
+pub use reasons::reason_case;
 
 /// Makes a case of one call or of a run.
 type Maker = fn(&mut Random) -> Box<dyn Case>;
 
 /// How often each maker is asked, among the sum of these.
-const SHARES: [(Maker, usize); 21] = [
+const SHARES: [(Maker, usize); 22] = [
     (sheets::load, 3),
     (sheets::entries, 2),
     (sheets::encode, 4),
@@ -46,6 +48,7 @@ const SHARES: [(Maker, usize); 21] = [
     (verifier::response, 5),
     (runs::run, 3),
     (marking::mark, 2),
+    (reasons::reason, 7),
 ];
 
 /// The case with this number in a run with this seed.

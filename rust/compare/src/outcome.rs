@@ -28,7 +28,7 @@ pub enum Answer {
     Verifier(VerifierAnswer),
     VerifierJudged(VerifierJudgement),
     /// The answered length, and the text of that length in the lent bytes.
-    Marked {
+    Told {
         length: usize,
         text: String,
     },
@@ -57,7 +57,7 @@ impl Answer {
             Answer::Prover(answer) => answer.refusal,
             Answer::Verifier(answer) => answer.refusal,
             Answer::VerifierJudged(answer) => answer.verdict.refusal,
-            Answer::Marked { text, .. } => marked(text),
+            Answer::Told { text, .. } => refusal_in(text),
             Answer::Part(_) | Answer::ProverNew(_) | Answer::VerifierNew(_) => 0,
         }
     }
@@ -67,21 +67,36 @@ impl Answer {
         let verdict = match self {
             Answer::Judged(verdict) => *verdict,
             Answer::VerifierJudged(answer) => answer.verdict,
+            Answer::Told { text, .. } => return verdict_in(text),
             _ => return None,
         };
         (verdict.refusal == 0).then_some(verdict)
     }
 }
 
-/// The number of a refused sheet or file, or of the first refused round, in a
-/// marker's text.
-fn marked(text: &str) -> u32 {
-    let mut numbers = text.lines().filter_map(|line| {
-        let (words, number) = line.rsplit_once(' ')?;
-        let refused = words == "sheet" || words == "file" || words.ends_with(" refused");
-        number.parse().ok().filter(|_| refused)
-    });
-    numbers.next().unwrap_or(0)
+/// The first number in a text that a sheet, a file or a round is refused with,
+/// 0 where there is none.
+fn refusal_in(text: &str) -> u32 {
+    let words: Vec<&str> = text.split_whitespace().collect();
+    let refused = |word: &str| ["sheet", "file", "refused"].contains(&word);
+    let found = words.windows(2).find(|pair| refused(pair[0]));
+    found.and_then(|pair| pair[1].parse().ok()).unwrap_or(0)
+}
+
+/// The verdict that a reason's line begins with, if it does.
+fn verdict_in(text: &str) -> Option<Judgement> {
+    let mut words = text.split_whitespace();
+    let accepted = match words.next()? {
+        "accepted" => 1,
+        "rejected" => 0,
+        _ => return None,
+    };
+    let row = words.next().and_then(|row| row.parse().ok()).unwrap_or(0);
+    Some(Judgement {
+        accepted,
+        row,
+        refusal: 0,
+    })
 }
 
 impl Outcome {
@@ -104,12 +119,24 @@ mod tests {
     use super::*;
 
     #[test]
-    fn a_marked_text_has_the_number_of_its_first_refusal() {
-        assert_eq!(marked("sheet 8\n"), 8);
-        assert_eq!(marked("file 12\n"), 12);
-        assert_eq!(marked("rounds 0\npass\n"), 0);
-        assert_eq!(marked("rounds 1\n0 rejected 7\nfail\n"), 0);
+    fn a_text_has_the_number_of_its_first_refusal() {
+        assert_eq!(refusal_in("sheet 8\n"), 8);
+        assert_eq!(refusal_in("file 12\n"), 12);
+        assert_eq!(refusal_in("rounds 0\npass\n"), 0);
+        assert_eq!(refusal_in("rounds 1\n0 rejected 7\nfail\n"), 0);
         let text = "rounds 3\n0 accepted\n1 refused 14\n2 refused 15\nfail\n";
-        assert_eq!(marked(text), 14);
+        assert_eq!(refusal_in(text), 14);
+        assert_eq!(refusal_in("refused 10 24\n"), 10);
+        assert_eq!(refusal_in("refused 9 length 400\n"), 9);
+        assert_eq!(refusal_in("rejected 7 4 2\n"), 0);
+    }
+
+    #[test]
+    fn a_reasons_line_has_a_verdict_and_a_markers_text_has_none() {
+        let verdict = |text| verdict_in(text).map(|verdict| (verdict.accepted, verdict.row));
+        assert_eq!(verdict("accepted\n"), Some((1, 0)));
+        assert_eq!(verdict("rejected 7 4 2\n"), Some((0, 7)));
+        assert_eq!(verdict("refused 14 7\n"), None);
+        assert_eq!(verdict("rounds 1\n0 accepted\npass\n"), None);
     }
 }

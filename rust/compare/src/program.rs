@@ -1,9 +1,9 @@
-//! The program `marker`, beside the judge.
+//! The programs `marker` and `reason`, beside the judge.
 //!
-//! No contract of the system's calls says which bytes the program reads and
-//! prints. So it is run in folders of its own, as `./run FOLDER` runs it, and
-//! must print the judge's text on the two files and nothing else, and exit
-//! with 0.
+//! No contract of the system's calls says which bytes a program reads and
+//! prints. So each is run in folders of its own, as `./run FOLDER` and `./run
+//! reason FOLDER` run them, and must print the judge's text on the two files
+//! and nothing else, and exit with 0.
 
 mod folders;
 mod scratch;
@@ -16,52 +16,79 @@ use std::process::{Command, ExitStatus, Output, Stdio};
 use folders::{folders, Folder};
 use scratch::Scratch;
 
-/// Where `rt check marker` puts the program.
-pub const PROGRAM: &str = concat!(env!("CARGO_MANIFEST_DIR"), "/../../target/bin/marker");
+/// Where `rt check` puts programs.
+pub const BUILT: &str = concat!(env!("CARGO_MANIFEST_DIR"), "/../../target/bin");
 
-/// Runs this program in folders made from the seed and answers the line to
-/// print. An error says that there is no program, or what differs.
-pub fn check(seed: u64, program: &Path) -> Result<String, String> {
-    let Ok(program) = fs::canonicalize(program) else {
-        return Err(format!(
-            "compare: there is no program {}; `rt check marker` at the root of the repository builds it",
-            program.display()
-        ));
-    };
-    let runs = check_runs(seed, |folder| {
-        Command::new(&program)
-            .current_dir(folder)
-            .stdin(Stdio::null())
-            .output()
-    })?;
-    Ok(format!("the program marker: {runs} folders"))
+/// A program, and the judge's text on a sheet and a round file.
+pub struct Program {
+    name: &'static str,
+    text: fn(&[u8], &[u8]) -> String,
 }
 
-/// Compares each run with the judge and answers how many there were.
-fn check_runs(seed: u64, run: impl Fn(&Path) -> io::Result<Output>) -> Result<usize, String> {
-    let failed = |error: io::Error| format!("compare: the program marker: {error}");
-    let scratch = Scratch::new().map_err(failed)?;
-    let folders = folders(seed);
-    for (number, folder) in folders.iter().enumerate() {
-        let path = scratch.path().join(number.to_string());
-        folder.make(&path).map_err(failed)?;
-        let (judged, ran) = (judged(folder), run(&path).map_err(failed)?);
-        if judged != ran {
+/// Both programs.
+pub const PROGRAMS: [Program; 2] = [
+    Program {
+        name: "marker",
+        text: judge::marker,
+    },
+    Program {
+        name: "reason",
+        text: judge::reason,
+    },
+];
+
+impl Program {
+    /// Runs the program, which stands in this folder, in folders made from the
+    /// seed and answers the line to print. An error says that there is no
+    /// program, or what differs.
+    pub fn check(&self, seed: u64, built: &Path) -> Result<String, String> {
+        let (name, path) = (self.name, built.join(self.name));
+        let Ok(program) = fs::canonicalize(&path) else {
             return Err(format!(
-                "the program marker differs in this folder:\n{folder}\n  judge: {judged:?}\n  program: {ran:?}"
+                "compare: there is no program {}; `rt check {name}` at the root of the repository builds it",
+                path.display()
             ));
-        }
+        };
+        let runs = self.check_runs(seed, |folder| {
+            Command::new(&program)
+                .current_dir(folder)
+                .stdin(Stdio::null())
+                .output()
+        })?;
+        Ok(format!("the program {name}: {runs} folders"))
     }
-    Ok(folders.len())
-}
 
-/// What a right program's run in the folder comes to.
-fn judged(folder: &Folder) -> Output {
-    let text = judge::marker(folder.sheet.bytes(), folder.rounds.bytes());
-    Output {
-        status: ExitStatus::default(),
-        stdout: text.into_bytes(),
-        stderr: Vec::new(),
+    /// Compares each run with the judge and answers how many there were.
+    fn check_runs(
+        &self,
+        seed: u64,
+        run: impl Fn(&Path) -> io::Result<Output>,
+    ) -> Result<usize, String> {
+        let name = self.name;
+        let failed = |error: io::Error| format!("compare: the program {name}: {error}");
+        let scratch = Scratch::new().map_err(failed)?;
+        let folders = folders(seed);
+        for (number, folder) in folders.iter().enumerate() {
+            let path = scratch.path().join(number.to_string());
+            folder.make(&path).map_err(failed)?;
+            let (judged, ran) = (self.judged(folder), run(&path).map_err(failed)?);
+            if judged != ran {
+                return Err(format!(
+                    "the program {name} differs in this folder:\n{folder}\n  judge: {judged:?}\n  program: {ran:?}"
+                ));
+            }
+        }
+        Ok(folders.len())
+    }
+
+    /// What a right program's run in the folder comes to.
+    fn judged(&self, folder: &Folder) -> Output {
+        let text = (self.text)(folder.sheet.bytes(), folder.rounds.bytes());
+        Output {
+            status: ExitStatus::default(),
+            stdout: text.into_bytes(),
+            stderr: Vec::new(),
+        }
     }
 }
 
@@ -69,30 +96,56 @@ fn judged(folder: &Folder) -> Output {
 mod tests {
     use std::os::unix::process::ExitStatusExt;
 
-    use super::folders::Place;
     use super::*;
     use crate::options::SEED;
 
-    /// The first bytes of a file, none where it cannot be read.
-    fn start(folder: &Path, name: &str, most: usize) -> Vec<u8> {
-        let mut bytes = fs::read(folder.join(name)).unwrap_or_default();
-        bytes.truncate(most);
-        bytes
+    const MARKER: &Program = &PROGRAMS[0];
+    const REASON: &Program = &PROGRAMS[1];
+
+    /// The bytes of a file, none where it cannot be read.
+    fn bytes(folder: &Path, name: &str) -> Vec<u8> {
+        fs::read(folder.join(name)).unwrap_or_default()
     }
 
-    /// The run of a marker that reads so many bytes of each file.
-    fn marked(folder: &Path, sheet: usize, rounds: usize) -> Output {
-        judged(&Folder {
-            sheet: Place::File(start(folder, "sheet.bin", sheet)),
-            rounds: Place::File(start(folder, "rounds.bin", rounds)),
-        })
+    /// How many bytes of the two files a program keeps.
+    #[derive(Clone, Copy)]
+    struct Kept {
+        sheet: usize,
+        rounds: usize,
     }
 
-    /// Whether the check finds no difference in a marker that reads so many
+    /// One byte more than the longest of each.
+    const ENOUGH: Kept = Kept {
+        sheet: 309,
+        rounds: 34_824,
+    };
+
+    /// The run of a program that keeps so many bytes. Where it tells a length,
+    /// it tells that of the whole file.
+    fn ran(program: &Program, folder: &Path, kept: Kept) -> Output {
+        let (sheet, rounds) = (bytes(folder, "sheet.bin"), bytes(folder, "rounds.bin"));
+        let start = |bytes: &[u8], most: usize| bytes[..bytes.len().min(most)].to_vec();
+        let mut text = (program.text)(&start(&sheet, kept.sheet), &start(&rounds, kept.rounds));
+        if let Some((words, _)) = text.split_once("length ") {
+            let of = if words == "refused 12 " {
+                rounds
+            } else {
+                sheet
+            };
+            text = format!("{words}length {}\n", of.len());
+        }
+        Output {
+            status: ExitStatus::default(),
+            stdout: text.into_bytes(),
+            stderr: Vec::new(),
+        }
+    }
+
+    /// Whether the check finds no difference in a program that keeps so many
     /// bytes of each file and whose run is then changed.
-    fn passes(sheet: usize, rounds: usize, change: impl Fn(&mut Output)) -> bool {
-        let found = check_runs(SEED, |folder| {
-            let mut ran = marked(folder, sheet, rounds);
+    fn passes(program: &Program, kept: Kept, change: impl Fn(&mut Output)) -> bool {
+        let found = program.check_runs(SEED, |folder| {
+            let mut ran = ran(program, folder, kept);
             change(&mut ran);
             Ok(ran)
         });
@@ -101,34 +154,65 @@ mod tests {
 
     #[test]
     fn one_byte_more_than_the_longest_is_enough() {
-        assert!(passes(309, 34_824, |_| {}));
-        assert!(!passes(308, 34_824, |_| {}));
-        assert!(!passes(309, 34_823, |_| {}));
-        assert!(!passes(64, 34_824, |_| {}));
-        assert!(!passes(309, 64, |_| {}));
-        assert!(!passes(309, 32_768, |_| {}));
+        for program in &PROGRAMS {
+            assert!(passes(program, ENOUGH, |_| {}));
+            for sheet in [308, 64] {
+                assert!(!passes(program, Kept { sheet, ..ENOUGH }, |_| {}));
+            }
+            for rounds in [34_823, 32_768, 64] {
+                assert!(!passes(program, Kept { rounds, ..ENOUGH }, |_| {}));
+            }
+        }
+    }
+
+    #[test]
+    fn the_length_of_what_is_kept_is_found() {
+        let found = REASON.check_runs(SEED, |folder| {
+            let start = |name: &str, most: usize| {
+                let mut bytes = bytes(folder, name);
+                bytes.truncate(most);
+                bytes
+            };
+            let (sheet, rounds) = (start("sheet.bin", 309), start("rounds.bin", 34_824));
+            Ok(Output {
+                status: ExitStatus::default(),
+                stdout: judge::reason(&sheet, &rounds).into_bytes(),
+                stderr: Vec::new(),
+            })
+        });
+        assert!(found.is_err());
     }
 
     #[test]
     fn another_text_or_status_is_found() {
-        assert!(!passes(309, 34_824, |ran| ran.stdout.clear()));
-        assert!(!passes(309, 34_824, |ran| ran.stdout.push(b'\n')));
-        assert!(!passes(309, 34_824, |ran| ran.stdout.truncate(4096)));
-        assert!(!passes(309, 34_824, |ran| ran.stderr.push(b'!')));
-        let one = ExitStatus::from_raw(1 << 8);
-        assert!(!passes(309, 34_824, |ran| ran.status = one));
+        for program in &PROGRAMS {
+            assert!(!passes(program, ENOUGH, |ran| ran.stdout.clear()));
+            assert!(!passes(program, ENOUGH, |ran| ran.stdout.push(b'\n')));
+            assert!(!passes(program, ENOUGH, |ran| ran.stderr.push(b'!')));
+            let one = ExitStatus::from_raw(1 << 8);
+            assert!(!passes(program, ENOUGH, |ran| ran.status = one));
+        }
+        assert!(!passes(MARKER, ENOUGH, |ran| ran.stdout.truncate(4096)));
     }
 
     #[test]
     fn another_program_is_found() {
-        let found = check(SEED, Path::new("/bin/sh")).unwrap_err();
-        assert!(found.starts_with("the program marker differs"), "{found}");
+        let scratch = Scratch::new().unwrap();
+        for program in &PROGRAMS {
+            fs::copy("/bin/sh", scratch.path().join(program.name)).unwrap();
+            let found = program.check(SEED, scratch.path()).unwrap_err();
+            let start = format!("the program {} differs", program.name);
+            assert!(found.starts_with(&start), "{found}");
+        }
     }
 
     #[test]
     fn a_missing_program_is_named_in_one_line() {
-        let found = check(SEED, Path::new("/no/marker")).unwrap_err();
-        assert!(found.contains("no program /no/marker"), "{found}");
-        assert_eq!(found.lines().count(), 1);
+        for program in &PROGRAMS {
+            let found = program.check(SEED, Path::new("/no")).unwrap_err();
+            let part = format!("no program /no/{}", program.name);
+            assert!(found.contains(&part), "{found}");
+            assert_eq!(found.lines().count(), 1);
+        }
     }
 }

@@ -10,6 +10,7 @@ mod pattern;
 mod places;
 mod protocol;
 mod prover;
+mod reason;
 mod refusal;
 mod refused;
 mod round_file;
@@ -23,8 +24,8 @@ mod verifier;
 mod authors {}
 
 pub use dimkhoros_sys::{
-    EMPTY_FILE, EXPONENT, Header, LONGEST_FILE, LONGEST_SHEET, LONGEST_TEXT, MOST_ROUNDS, PLACES,
-    Places, ROOT, Round, version,
+    EMPTY_FILE, EXPONENT, Header, LONGEST_FILE, LONGEST_REASON, LONGEST_SHEET, LONGEST_TEXT,
+    MOST_ROUNDS, PLACES, Places, ROOT, Round, version,
 };
 pub use instance::{Instance, Values};
 pub use marker::mark;
@@ -32,6 +33,7 @@ pub use no_response::NoResponse;
 pub use pattern::{Pattern, Plan};
 pub use places::places;
 pub use prover::{Prover, ProverParts, ProverPhase};
+pub use reason::reason;
 pub use refusal::Refusal;
 pub use refused::Refused;
 pub use round_file::{RoundFile, RoundWriter};

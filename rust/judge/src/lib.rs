@@ -1,8 +1,9 @@
 //! A plain judge for proofs of a preimage under a group homomorphism.
 //!
 //! Every call takes any bytes and any numbers. It ends in a result or in one
-//! refusal, a number from 1 to 22. The lowest number that applies is given.
-//! A refused call changes neither a lent buffer nor a session.
+//! refusal, a number from 1 to 24. The earliest that applies is given, in the
+//! order 23, 24 and then 1 to 22. A refused call changes neither a lent buffer
+//! nor a session.
 //!
 //! Each sheet is handed in as bytes and is tested on every call.
 
@@ -13,14 +14,19 @@ mod arithmetic;
 mod bytes;
 mod marker;
 mod pattern;
+// A module of its own name: its `make` stands beside 01's maker.
+pub mod pattern_file;
 mod protocol;
+mod reason;
 mod round_file;
 mod sessions;
 mod sheet;
 
 pub use marker::marker;
 pub use pattern::make;
+pub use pattern_file::Written;
 pub use protocol::{extract, judge, simulate, Round, Verdict};
+pub use reason::reason;
 pub use round_file::{append, check, count, empty, part, read};
 pub use sessions::{
     commit, drop_session, respond, take_challenge, take_commitment, take_response, Prover,

@@ -64,6 +64,25 @@ pub(crate) fn test_slots(sheet: &Sheet, slots: &[u32; 8]) -> Result<(), u32> {
     }
 }
 
+/// The two sides of every row in use, `[r]` first and then t · z^c mod m.
+///
+/// The values have passed 14 to 16.
+pub(crate) fn sides(
+    sheet: &Sheet,
+    commitment: &[u32; 8],
+    challenge: u32,
+    response: &[u32; 8],
+) -> Vec<(u32, u32)> {
+    let m = sheet.modulus;
+    let image = sheet.image(response);
+    let mut sides = Vec::new();
+    for (i, left) in image.iter().enumerate().take(sheet.s()) {
+        let factor = power(sheet.statement[i], u128::from(challenge), m);
+        sides.push((*left, multiply(commitment[i], factor, m)));
+    }
+    sides
+}
+
 /// The verdict on a round whose values have passed 14 to 16.
 pub(crate) fn verdict(
     sheet: &Sheet,
@@ -71,16 +90,11 @@ pub(crate) fn verdict(
     challenge: u32,
     response: &[u32; 8],
 ) -> Verdict {
-    let m = sheet.modulus;
-    let image = sheet.image(response);
-    for (i, left) in image.iter().enumerate().take(sheet.s()) {
-        let factor = power(sheet.statement[i], u128::from(challenge), m);
-        let right = multiply(commitment[i], factor, m);
-        if *left != right {
-            return Verdict::Rejected(i as u32);
-        }
+    let sides = sides(sheet, commitment, challenge, response);
+    match sides.iter().position(|(left, right)| left != right) {
+        Some(row) => Verdict::Rejected(row as u32),
+        None => Verdict::Accepted,
     }
-    Verdict::Accepted
 }
 
 /// The verdict on a round, after the tests 14 to 16.

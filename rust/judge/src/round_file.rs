@@ -6,9 +6,10 @@ use crate::bytes::{number, put};
 use crate::protocol::Round;
 use crate::sheet::{load, Sheet};
 
-const MARK: &[u8; 3] = b"RND";
-const HEADER: usize = 7;
-const MOST_ROUNDS: u32 = 512;
+pub(crate) const MARK: &[u8; 3] = b"RND";
+/// The bytes before the first record.
+pub(crate) const HEADER: usize = 7;
+pub(crate) const MOST_ROUNDS: u32 = 512;
 
 /// The length in bytes of one record for this sheet.
 fn record_length(sheet: &Sheet) -> usize {

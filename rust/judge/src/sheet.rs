@@ -4,7 +4,8 @@ use crate::arithmetic::{gcd, multiply, power};
 use crate::bytes::{number, put};
 
 const MARK: &[u8; 3] = b"HOM";
-const HEADER: usize = 20;
+/// The bytes before the entries.
+pub(crate) const HEADER: usize = 20;
 
 /// The values of a sheet.
 ///
@@ -145,6 +146,21 @@ impl Sheet {
     }
 }
 
+/// The sheet that the header gives, untested, with 0 for every entry and
+/// statement value.
+pub(crate) fn header(sheet: &[u8]) -> Sheet {
+    Sheet {
+        kind: number(sheet, 5, 1),
+        modulus: number(sheet, 6, 4),
+        order: number(sheet, 10, 4),
+        challenges: number(sheet, 14, 4),
+        rows: number(sheet, 18, 1),
+        columns: number(sheet, 19, 1),
+        entries: [[0; 8]; 8],
+        statement: [0; 8],
+    }
+}
+
 /// Reads the bytes of a sheet and answers its values.
 ///
 /// Refuses with 2 to 11: a short sheet or another mark (2), another version
@@ -159,16 +175,7 @@ pub fn load(sheet: &[u8]) -> Result<Sheet, u32> {
     if number(sheet, 3, 2) != 1 {
         return Err(3);
     }
-    let mut loaded = Sheet {
-        kind: number(sheet, 5, 1),
-        modulus: number(sheet, 6, 4),
-        order: number(sheet, 10, 4),
-        challenges: number(sheet, 14, 4),
-        rows: number(sheet, 18, 1),
-        columns: number(sheet, 19, 1),
-        entries: [[0; 8]; 8],
-        statement: [0; 8],
-    };
+    let mut loaded = header(sheet);
     loaded.test_header()?;
     if sheet.len() != loaded.length() {
         return Err(9);

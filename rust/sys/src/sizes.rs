@@ -70,3 +70,15 @@ pub const LONGEST_FILE: usize = 34_823;
 /// assert_eq!(LONGEST_TEXT, lines[0] + MOST_ROUNDS * lines[1] + lines[2]);
 /// ```
 pub const LONGEST_TEXT: usize = 7696;
+
+/// How many bytes are lent to the reason's line. They hold every line; that on a round file of 2^64 - 1 bytes, the longest,
+/// has 39.
+///
+/// ```
+/// # use dimkhoros_sys::LONGEST_REASON;
+/// let longest = format!("refused 12 length {}\n", u64::MAX);
+/// assert_eq!(longest.len(), 39);
+/// assert!(longest.len() <= LONGEST_REASON);
+/// assert!(format!("rejected 7 {0} {0}\n", u32::MAX).len() <= longest.len());
+/// ```
+pub const LONGEST_REASON: usize = 48;

@@ -186,4 +186,27 @@ faults! {
     MarkByteAfter, "mark-byte-after", "mark clears the byte behind the text";
     MarkRoundCut, "mark-round-cut", "mark cuts a round's number to a byte";
     MarkLastRound, "mark-last-round", "mark leaves out round 511";
+    ReasonFileFirst, "reason-file-first", "reason gives the file's line before the sheet's";
+    ReasonMarkFirst, "reason-mark-first", "reason tells another mark before too short a header";
+    ReasonUnequalRows, "reason-unequal-rows", "reason shows 18 for unequal rows and columns";
+    ReasonColumnsFirst, "reason-columns-first", "reason shows wrong columns before wrong rows";
+    ReasonOrder, "reason-order", "reason shows 10, the order's offset, for refusal 8";
+    ReasonLastEntry, "reason-last-entry", "reason shows the last wrong entry";
+    ReasonEntryByRows, "reason-entry-by-rows", "reason takes the rows for an entry's row length";
+    ReasonRootEntries, "reason-root-entries", "reason skips s times n entries in kind 2";
+    ReasonLengthFirst, "reason-length-first", "reason tells a wrong length before the mark";
+    ReasonCountFirst, "reason-count-first", "reason shows 5 for a count that does not fit";
+    ReasonLengthKept, "reason-length-kept", "reason tells 309 or 34,824 bytes at most";
+    ReasonNoRounds, "reason-no-rounds", "reason accepts a file of no rounds";
+    ReasonLastRound, "reason-last-round", "reason looks at the last round";
+    ReasonFromRecord, "reason-from-record", "reason counts a round's offsets from its record";
+    ReasonLowByte, "reason-low-byte", "reason shows the last byte of a round's value";
+    ReasonLastCommitment, "reason-last-commitment", "reason shows the last wrong commitment value";
+    ReasonChallengeLast, "reason-challenge-last", "reason takes the challenge to stand last";
+    ReasonResponseFirst, "reason-response-first", "reason leaves out the challenge before a slot";
+    ReasonSides, "reason-sides", "reason gives the two sides in the other order";
+    ReasonRowZero, "reason-row-zero", "reason compares row 0 only";
+    ReasonRowFromOne, "reason-row-from-one", "reason counts rows from 1";
+    ReasonNoEnd, "reason-no-end", "reason leaves out the line's end";
+    ReasonByteAfter, "reason-byte-after", "reason clears the byte behind the line";
 }

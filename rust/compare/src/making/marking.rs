@@ -1,7 +1,7 @@
 //! Cases of the marker.
 
 use crate::calls::SHEET_NUMBERS;
-use crate::cases::{Case, MarkCase};
+use crate::cases::{Case, TextCall, TextCase};
 use crate::damage;
 use crate::files;
 use crate::groups::Group;
@@ -18,7 +18,7 @@ pub fn mark(random: &mut Random) -> Box<dyn Case> {
 }
 
 /// A sheet and a file to mark, each of them whole, damaged or empty.
-pub fn mark_case(random: &mut Random) -> MarkCase {
+pub fn mark_case(random: &mut Random) -> TextCase {
     let group = Group::any(random);
     let instance = Instance::of_group(random, group);
     let record = record_length(&instance.sheet.header);
@@ -40,7 +40,8 @@ pub fn mark_case(random: &mut Random) -> MarkCase {
         }
         _ => instance.sheet.bytes(),
     };
-    MarkCase {
+    TextCase {
+        call: TextCall::Mark,
         sheet,
         file,
         lent: Lent::first(random, &[], LONGEST_TEXT),

@@ -8,7 +8,7 @@ use super::Given;
 use crate::calls::Call;
 use crate::library::{
     Computed, Counted, Fetched, Judgement, Library, Loaded, Plan, ProverAnswer, ProverSession,
-    VerifierSession, Written, LONGEST_TEXT,
+    VerifierSession, Written, LONGEST_REASON, LONGEST_TEXT,
 };
 
 /// A refusal, or the answer of a call that is carried out. `clean` says that a
@@ -102,6 +102,7 @@ impl Given {
                 self.verifier_step(library, call, inputs)
             }
             Call::Mark => Ok(self.mark(library)),
+            Call::Reason => Ok(self.reason(library)),
         }
     }
 
@@ -267,17 +268,27 @@ impl Given {
         Ok(told(answer.refusal, clean, || verifier(&answer.session)))
     }
 
-    /// A line's end is written `\n`. Bytes behind the text that are changed are
-    /// told of.
     fn mark(&self, library: Library) -> String {
         let mut text = [0xee; LONGEST_TEXT];
         let length = library.mark(&self.sheet, &self.file, &mut text);
-        let (text, behind) = text.split_at(length);
-        let shown = String::from_utf8_lossy(text).replace('\n', "\\n");
-        match behind.iter().all(|byte| *byte == 0xee) {
-            true => shown,
-            false => format!("{shown} and changed"),
-        }
+        written_text(&text, length)
+    }
+
+    fn reason(&self, library: Library) -> String {
+        let mut text = [0xee; LONGEST_REASON];
+        let length = library.reason(&self.sheet, &self.file, &mut text);
+        written_text(&text, length)
+    }
+}
+
+/// A text of this length in a buffer that held `ee` in every byte. A line's end
+/// is written `\n`. Bytes behind the text that are changed are told of.
+fn written_text(buffer: &[u8], length: usize) -> String {
+    let (text, behind) = buffer.split_at(length);
+    let shown = String::from_utf8_lossy(text).replace('\n', "\\n");
+    match behind.iter().all(|byte| *byte == 0xee) {
+        true => shown,
+        false => format!("{shown} and changed"),
     }
 }
 

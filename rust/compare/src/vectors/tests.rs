@@ -36,23 +36,29 @@ fn calls() -> Vec<(Call, &'static str, u32)> {
     calls
 }
 
-/// The number of a refused call.
-fn refusal(answer: &str) -> Option<u32> {
-    answer
-        .strip_prefix("refused ")
-        .map(|number| number.parse().unwrap())
+/// The numbers of what is refused: the one that a call answers, or those in a
+/// text, where a round's own number may stand before the word.
+fn refusals(answer: &str) -> impl Iterator<Item = u32> + '_ {
+    answer.split("\\n").filter_map(|line| {
+        let mut words = line
+            .split(' ')
+            .skip_while(|word| word.parse::<u32>().is_ok());
+        let refused = ["refused", "sheet", "file"].contains(&words.next()?);
+        refused.then(|| words.next().unwrap().parse().unwrap())
+    })
 }
 
-/// The numbers that a call was refused with, for the marker those in its texts.
+/// The first number of what is refused.
+fn refusal(answer: &str) -> Option<u32> {
+    refusals(answer).next()
+}
+
+/// The numbers that the answers of a call have.
 fn met(call: Call) -> BTreeSet<u32> {
     let answers = calls().into_iter().filter(|(of, ..)| *of == call);
-    let lines = answers.flat_map(|(_, answer, _)| answer.split("\\n"));
-    let number = |line: &str| {
-        let (words, number) = line.rsplit_once(' ')?;
-        let refused = words.ends_with("refused") || ["sheet", "file"].contains(&words);
-        refused.then(|| number.parse().unwrap())
-    };
-    lines.filter_map(number).collect()
+    answers
+        .flat_map(|(_, answer, _)| refusals(answer))
+        .collect()
 }
 
 /// The blocks of a page with their languages.
@@ -161,7 +167,7 @@ fn each_call_gives_its_numbers_and_no_others() {
             .filter(|number| met.contains(number))
             .count();
         let wanted = match call {
-            Call::Load => SHEET_NUMBERS.len(),
+            Call::Load | Call::Reason => SHEET_NUMBERS.len(),
             _ => usize::from(call.can_give(SHEET_NUMBERS[0])),
         };
         assert!(of_sheet >= wanted, "{name}: {met:?}");
@@ -233,4 +239,30 @@ fn the_page_has_a_row_for_each_refusal_and_each_call() {
         let given: Vec<u32> = (1..=LAST).filter(|number| call.can_give(*number)).collect();
         assert_eq!(numbers, given, "{}", call.name());
     }
+}
+
+/// What the page's table of the reason tells of each number, but for values of
+/// lists, whose offsets depend on the sheet.
+#[test]
+fn the_offsets_of_the_page_are_those_of_the_vectors() {
+    let rows = rows(FORMATS, "## The reason's line\n");
+    let (of_lists, fixed): (Vec<_>, Vec<_>) = rows.iter().partition(|row| row[3].contains('+'));
+    let of_lists: BTreeSet<&str> = of_lists.iter().map(|row| row[0]).collect();
+    let fixed = fixed.iter().map(|row| (row[0], row[3]));
+    let stored = calls().into_iter().filter_map(|(call, answer, _)| {
+        let line = answer
+            .strip_suffix("\\n")
+            .filter(|_| call == Call::Reason)?;
+        match line.split(' ').collect::<Vec<_>>()[..] {
+            ["refused", number, "length", _] => Some((number, "the length")),
+            ["refused", number, offset] => Some((number, offset)),
+            _ => None,
+        }
+    });
+    let stored = stored.filter(|(number, _)| !of_lists.contains(number));
+    assert_eq!(
+        fixed.collect::<BTreeSet<_>>(),
+        stored.collect::<BTreeSet<_>>()
+    );
+    assert_eq!(of_lists, ["10", "11", "14", "15", "16"].into());
 }

@@ -8,6 +8,7 @@ mod examples;
 mod marks;
 mod pages;
 mod readme;
+mod reasons;
 mod refusals;
 mod repeats;
 mod rounds;

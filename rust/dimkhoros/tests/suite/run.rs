@@ -1,6 +1,6 @@
-//! The script `./run`, which marks folders. It runs in a folder of its own that is laid out as the repository is, with the
-//! marker that is built there and with nothing on PATH but the tools that the script needs, so that no test starts the
-//! prover.
+//! The script `./run`, which marks folders or says the reason on them. It runs in a folder of its own that is laid out as the
+//! repository is, with the programs that are built there and with nothing on PATH but the tools that the script needs, so that
+//! no test starts the prover.
 
 use crate::cc;
 
@@ -17,23 +17,26 @@ const EXAMPLE: &str = "rounds 4\n0 accepted\n1 accepted\n2 rejected 0\n3 refused
 /// What the script needs beside the shell.
 const TOOLS: [&str; 7] = ["awk", "cat", "dirname", "find", "mkdir", "tail", "touch"];
 
-/// A list of crates in which the marker is made of three.
-const CRATES: &str = "# Ours.\nlaws:\nothers: laws\ncode: io laws\n\nmarker: io code\n";
+/// A list of crates in which the marker is made of three and the program `reason` of four.
+const CRATES: &str =
+    "# Ours.\nlaws:\nothers: laws\ncode: io laws\n\nmarker: io code\nreason: io code others\n";
 
-/// What the marker says where its text cannot be written.
-const UNWRITTEN: &str = "marker: the text cannot be written whole\n";
-
-/// The marker as `rt check marker` builds it.
-fn built_marker() -> PathBuf {
-    let marker = cc::root().join("target/bin/marker");
-    assert!(
-        marker.exists(),
-        "there is no {marker:?}; `rt check marker` at the root of the repository builds it"
-    );
-    marker
+/// What a program says where its text cannot be written.
+fn unwritten(program: &str) -> String {
+    format!("{program}: the text cannot be written whole")
 }
 
-/// A folder laid out as the repository is, with a program `marker` in it that is up to date.
+/// A program as `rt check` builds it.
+fn built(name: &str) -> PathBuf {
+    let program = cc::root().join("target/bin").join(name);
+    assert!(
+        program.exists(),
+        "there is no {program:?}; `rt check {name}` at the root of the repository builds it"
+    );
+    program
+}
+
+/// A folder laid out as the repository is, with the programs `marker` and `reason` in it, which are up to date.
 struct Home(PathBuf);
 
 /// How a command ended, and what it wrote.
@@ -64,7 +67,9 @@ impl Home {
                 env::split_paths(&path).map(|folder| folder.join(tool)).find(|tool| tool.exists());
             symlink(found.unwrap(), home.join("tools").join(tool)).unwrap();
         }
-        copy(&built_marker(), &home.join("target/bin/marker"));
+        for program in ["marker", "reason"] {
+            copy(&built(program), &home.join("target/bin").join(program));
+        }
         Home(home)
     }
 
@@ -175,8 +180,38 @@ fn wrong_words_mark_nothing() {
 fn help_is_printed_and_marks_nothing() {
     let help = Home::new("help").run(&["--help"]);
     assert_eq!((help.status, help.stderr.as_str()), (Some(0), ""));
-    assert!(help.stdout.starts_with("usage: ./run [--] [FOLDER...]\n"));
+    let usage = "usage: ./run [--] [FOLDER...]\n       ./run reason [--] [FOLDER...]\n";
+    assert!(help.stdout.starts_with(usage));
     assert!(!help.stdout.contains("rounds 4"));
+}
+
+#[test]
+fn behind_the_word_reason_each_folder_gets_its_line() {
+    let home = Home::new("reason");
+    assert_eq!(home.run(&["reason"]), marked("accepted\n"));
+    assert_eq!(home.run(&["reason", "--", "crates/marker/data"]), marked("accepted\n"));
+    assert_eq!(home.run(&["reason", "no files"]), marked("refused 2 length 0\n"));
+    let several = "no files:\nrefused 2 length 0\ncrates/marker/data:\naccepted\n";
+    assert_eq!(home.run(&["reason", "no files", "crates/marker/data"]), marked(several));
+    let missing = failed(1, "there is no folder nobody that can be entered");
+    assert_eq!(home.run(&["reason", "nobody"]), missing);
+    assert_eq!(home.run(&["reason", ""]), failed(2, "a folder's name is empty"));
+    assert_eq!(home.run(&["reason", "--help"]), home.run(&["--help"]));
+}
+
+/// The word is one only where it stands first.
+#[test]
+fn a_folder_called_reason_is_marked() {
+    let home = Home::new("called");
+    fs::create_dir(home.0.join("reason")).unwrap();
+    let sheet = fs::read(home.0.join("crates/marker/data/sheet.bin")).unwrap();
+    fs::write(home.0.join("reason/sheet.bin"), &sheet[..27]).unwrap();
+    for words in [&["./reason"][..], &["--", "reason"]] {
+        assert_eq!(home.run(words), marked("sheet 9\n"));
+    }
+    let both = "no files:\nsheet 2\nreason:\nsheet 9\n";
+    assert_eq!(home.run(&["no files", "reason"]), marked(both));
+    assert_eq!(home.run(&["reason", "reason"]), marked("refused 9 length 27\n"));
 }
 
 /// The README's script is told a pass by the last line.
@@ -199,7 +234,7 @@ fn a_script_tells_a_pass() {
 fn a_copy_of_the_marker_is_used_alone() {
     let home = Home::new("alone");
     let copied = home.0.join("crates/marker/data/copy");
-    copy(&built_marker(), &copied);
+    copy(&built("marker"), &copied);
     let mut alone = Command::new(&copied);
     assert_eq!(ended(alone.current_dir(copied.parent().unwrap()).env_clear()), marked(EXAMPLE));
 }
@@ -217,11 +252,13 @@ fn two_hyphens_end_the_options() {
 fn a_text_that_cannot_be_written_is_told_of() {
     let home = Home::new("full");
     let full = || OpenOptions::new().write(true).open("/dev/full").unwrap();
-    let marker =
-        ended(Command::new(built_marker()).current_dir(home.0.join("no files")).stdout(full()));
-    assert_eq!(marker, Ended { stderr: UNWRITTEN.to_string(), ..marked("") });
-    let run = ended(home.command(&["no files"]).stdout(full()));
-    assert_eq!(run, failed(1, UNWRITTEN.trim_end()));
+    for (program, words) in [("marker", &["no files"][..]), ("reason", &["reason", "no files"])] {
+        let line = unwritten(program);
+        let mut alone = Command::new(built(program));
+        let alone = ended(alone.current_dir(home.0.join("no files")).stdout(full()));
+        assert_eq!(alone, Ended { stderr: format!("{line}\n"), ..marked("") });
+        assert_eq!(ended(home.command(words).stdout(full())), failed(1, &line));
+    }
     let several = ended(home.command(&["no files", "no files"]).stdout(full()));
     assert_eq!(several, failed(1, "the text cannot be written"));
 }
@@ -234,7 +271,7 @@ fn a_reader_that_has_gone_away_is_told_of() {
     let pipe = reader.stdin.take().unwrap();
     assert!(reader.wait().unwrap().success());
     let run = ended(home.command(&["no files"]).stdout(pipe));
-    assert_eq!(run, failed(1, UNWRITTEN.trim_end()));
+    assert_eq!(run, failed(1, &unwritten("marker")));
 }
 
 #[test]
@@ -271,6 +308,24 @@ fn an_old_marker_is_built_once() {
     assert_eq!(home.run(&[]), marked(EXAMPLE));
     assert_eq!(fs::read_to_string(home.0.join("asked")).unwrap(), "check marker\n");
     assert_eq!(fs::read_to_string(home.0.join("target/run.log")).unwrap(), "rt: ok\n");
+}
+
+/// Each program is built where it is asked for and old, whatever the other one is.
+#[test]
+fn an_old_program_reason_is_built_for_itself() {
+    let home = Home::new("reason-build");
+    home.date("target/bin/reason", false);
+    home.put_rt("echo \"$@\" >>asked\necho 'rt: ok'");
+    assert_eq!(home.run(&[]), marked(EXAMPLE));
+    let built = home.run(&["reason"]);
+    assert_eq!((built.status, built.stdout.as_str()), (Some(0), "accepted\n"));
+    assert!(
+        built.stderr.starts_with("run: proving 4 crates and building reason; "),
+        "{}",
+        built.stderr
+    );
+    assert_eq!(home.run(&["reason"]), marked("accepted\n"));
+    assert_eq!(fs::read_to_string(home.0.join("asked")).unwrap(), "check reason\n");
 }
 
 #[test]

@@ -6,7 +6,7 @@ use crate::naive::*;
 use crate::tools::*;
 
 /// A random small sheet that loads, with its bytes.
-fn small(shifts: &mut Shifts) -> (Vec<u8>, Sheet) {
+pub fn small(shifts: &mut Shifts) -> (Vec<u8>, Sheet) {
     let kind = 1 + shifts.below(2) as u32;
     let modulus = 3 + shifts.below(80) as u32;
     let order = 2 + shifts.below(40) as u32;
@@ -169,6 +169,20 @@ fn try_files(sheet: &[u8], file: &[u8], number: u64) {
     let _ = count(sheet, file);
     let text = marker(sheet, file);
     assert!(text.ends_with('\n'));
+    let line = reason(sheet, file);
+    assert!(line.starts_with(&reason_start(&text)), "{text} {line}");
+    assert_eq!(line.find('\n'), Some(line.len() - 1));
+}
+
+/// How the reason's line must start beside this text of the marker.
+fn reason_start(text: &str) -> String {
+    let (first, rest) = text.split_once('\n').unwrap();
+    match first.split_once(' ').unwrap() {
+        ("rounds", "0") => String::from("refused 13 "),
+        ("rounds", _) if rest.starts_with("0 accepted\n") => String::from("accepted\n"),
+        ("rounds", _) => format!("{} ", &rest[2..rest.find('\n').unwrap()]),
+        (_, number) => format!("refused {number} "),
+    }
 }
 
 fn try_rounds(sheet: &[u8], first: &Round, second: &Round) {
@@ -201,6 +215,9 @@ fn try_sheet_writers(shifts: &mut Shifts, before: &[u8], long: u64) {
     let made = |pattern, buffer: &mut [u8]| make(pattern, m, l, k, &values, &statement, buffer);
     try_writer(before, |buffer| made(long % 9, buffer).is_err());
     assert_eq!(made(long | 8, &mut before.to_vec()), Err(1));
+    try_pattern_files(shifts, before, |file, number, buffer| {
+        pattern_file::make(file, number, m, l, k, &values, &statement, buffer)
+    });
     let any = Sheet {
         kind: shifts.below(4) as u32,
         modulus: m,
@@ -212,6 +229,24 @@ fn try_sheet_writers(shifts: &mut Shifts, before: &[u8], long: u64) {
         statement: shifts.edges(),
     };
     try_writer(before, |buffer| encode(&any, buffer).is_err());
+}
+
+/// The maker over the shipped file, often with some of its bytes changed.
+fn try_pattern_files(
+    shifts: &mut Shifts,
+    before: &[u8],
+    made: impl Fn(&[u8], u32, &mut [u8]) -> Written,
+) {
+    let mut file = pattern_file::SHIPPED.to_vec();
+    for _ in 0..shifts.below(3) {
+        file[shifts.below(34) as usize] = shifts.edge() as u8;
+    }
+    let number = shifts.edge() % 40;
+    try_writer(before, |buffer| made(&file, number, buffer).is_err());
+    file.truncate(shifts.below(34) as usize);
+    try_writer(before, |buffer| made(&file, number, buffer).is_err());
+    // The bytes in the buffer have another mark.
+    assert_eq!(made(before, number, &mut before.to_vec()), Err(23));
 }
 
 /// A refused call hands the prover's session back, and no other does.

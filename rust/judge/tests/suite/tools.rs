@@ -83,6 +83,15 @@ pub fn file(count: u16, words: &[u32]) -> Vec<u8> {
     bytes
 }
 
+/// A pattern file of these patterns. Each is given as its bytes: rows,
+/// columns, number of public values and then the digits.
+pub fn pattern_bytes(patterns: &[&[u8]]) -> Vec<u8> {
+    let mut bytes = b"PAT\x00\x01".to_vec();
+    bytes.push(patterns.len() as u8);
+    bytes.extend(patterns.concat());
+    bytes
+}
+
 /// Eight places, with 0 beyond the given ones.
 pub fn eight(values: &[u32]) -> [u32; 8] {
     eight_with(values, 0)

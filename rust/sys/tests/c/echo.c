@@ -248,6 +248,28 @@ static void marks(void) {
     printf("%zu\n%.*s", length, (int)length, (const char *)text);
 }
 
+/* The length of the reason's line on two files, two bytes behind it, which stay, and the line. */
+static void print_reason(const uint8_t *sheet, size_t sheet_length, const uint8_t *file, size_t file_length) {
+    uint8_t text[DIMKHOROS_LONGEST_REASON];
+    memset(text, 238, sizeof text);
+    size_t length = dimkhoros_reason(sheet, sheet_length, file, file_length, text);
+    printf("%zu %u %u %.*s", length, text[length], text[sizeof text - 1], (int)length, (const char *)text);
+}
+
+static void reasons(void) {
+    uint8_t file[200];
+    uint32_t wrong[8];
+    memcpy(wrong, response, sizeof wrong);
+    wrong[5] = 0;
+    size_t used = dimkhoros_empty(file, sizeof file).length;
+    used = dimkhoros_append(wide, sizeof wide, file, sizeof file, used, honest_round(1, wrong)).length;
+    print_reason(wide, sizeof wide, file, used);
+    print_reason(wide, sizeof wide, file, used - 1);
+    print_reason(wide, sizeof wide - 2, file, used - 1);
+    print_reason(NULL, 0, file, used);
+    print_reason(wide, sizeof wide, NULL, 0);
+}
+
 /* Every slice of every call is empty. */
 static void empty_slices(void) {
     print_entries(NULL, 0);
@@ -285,6 +307,7 @@ int main(void) {
     provers();
     verifiers();
     marks();
+    reasons();
     empty_slices();
     return 0;
 }

@@ -160,6 +160,28 @@ fn marks(text: &mut String) {
     text.push_str(std::str::from_utf8(&marked[..length]).unwrap());
 }
 
+/// The length of the reason's line on two files, two bytes behind it, which stay, and the line.
+fn reason_over(sheet: &[u8], file: &[u8]) -> String {
+    let mut text = [238; LONGEST_REASON];
+    let length = reason(sheet, file, &mut text);
+    let line = std::str::from_utf8(&text[..length]).unwrap();
+    format!("{length} {} {} {line}", text[length], text[LONGEST_REASON - 1])
+}
+
+fn reasons(text: &mut String) {
+    let wide = wide();
+    let mut file = [0; 200];
+    let mut wrong = RESPONSE;
+    wrong[5] = 0;
+    empty(&mut file);
+    let used = append(&wide, &mut file, 7, &honest_round(1, wrong)).length;
+    text.push_str(&reason_over(&wide, &file[..used]));
+    text.push_str(&reason_over(&wide, &file[..used - 1]));
+    text.push_str(&reason_over(&wide[..LONGEST_SHEET - 2], &file[..used - 1]));
+    text.push_str(&reason_over(&[], &file[..used]));
+    text.push_str(&reason_over(&wide, &[]));
+}
+
 /// Every slice of every call is empty.
 fn empty_slices(text: &mut String) {
     let wide = wide();
@@ -199,6 +221,7 @@ fn fields_cross_from_rust() {
     provers(&mut text);
     verifiers(&mut text);
     marks(&mut text);
+    reasons(&mut text);
     empty_slices(&mut text);
     assert_eq!(text, EXPECTED);
 }

@@ -9,7 +9,7 @@ use std::fmt::Write;
 use std::fs;
 
 /// The constants of this crate, under their names in C and in the order of the C program.
-const CONSTANTS: [(&str, usize); 17] = [
+const CONSTANTS: [(&str, usize); 18] = [
     ("PLACES", PLACES),
     ("ENTRIES", ENTRIES),
     ("LONGEST_SHEET", LONGEST_SHEET),
@@ -17,6 +17,7 @@ const CONSTANTS: [(&str, usize); 17] = [
     ("MOST_ROUNDS", MOST_ROUNDS),
     ("LONGEST_FILE", LONGEST_FILE),
     ("LONGEST_TEXT", LONGEST_TEXT),
+    ("LONGEST_REASON", LONGEST_REASON),
     ("EXPONENT", EXPONENT as usize),
     ("ROOT", ROOT as usize),
     ("PROVER_NEW", prover::NEW as usize),

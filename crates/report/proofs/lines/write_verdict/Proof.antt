@@ -26,6 +26,9 @@ enum-known-verdict c = search needs
 slice-aggregate-write-numbered : tie.Need-slice-aggregate-write-numbered
 slice-aggregate-write-numbered c = search needs
 
+cast-write-numbered : tie.Need-cast-write-numbered
+cast-write-numbered c = omega arith
+
 write-numbered-requires : tie.Need-write-numbered-requires
 unfolding verdictText ascii
 write-numbered-requires c κs = omega (arith, ap (λ (v : Verdict). length (verdictText v)) (c .before .before .before .verdict .given .1))
@@ -35,6 +38,9 @@ enum-known-verdict-2 c = search needs
 
 slice-aggregate-write-numbered-2 : tie.Need-slice-aggregate-write-numbered-2
 slice-aggregate-write-numbered-2 c = search needs
+
+cast-write-numbered-2 : tie.Need-cast-write-numbered-2
+cast-write-numbered-2 c = omega arith
 
 write-numbered-requires-2 : tie.Need-write-numbered-requires-2
 unfolding verdictText ascii
@@ -76,9 +82,11 @@ write-verdict-spec =
     write-word-requires
     enum-known-verdict
     slice-aggregate-write-numbered
+    cast-write-numbered
     write-numbered-requires
     enum-known-verdict-2
     slice-aggregate-write-numbered-2
+    cast-write-numbered-2
     write-numbered-requires-2
     same-length
     returns

@@ -1,0 +1,5 @@
+-- Laws that the proofs of the functions cite: the pieces of a line, the line on a round, the whole line, and whole files.
+pub mod Pieces
+pub mod JudgedLine
+pub mod WholeLine
+pub mod WholeFiles

@@ -1,0 +1,102 @@
+-- `diagnosis::judged::write_judged` meets its contract: each arm stores the line of its verdict.
+-- Assumes nothing.
+use native.Mathlib.Omega.{arith}
+use borrow.Author.Needs.{needs}
+use Rattle.encoding.specs.Text.{ascii}
+use Rattle.diagnosis.proofs.JudgedLine.{accepted-told, refused-told, rejected-inside, rejected-told}
+use Rattle.diagnosis.proofs.judged.write_judged.Statement.{statement}
+use Rattle.diagnosis.proofs.judged.write_judged.Tie as tie
+
+round-at-requires : tie.Need-round-at-requires
+round-at-requires c κs = omega arith
+
+judge-loaded-requires : tie.Need-judge-loaded-requires
+judge-loaded-requires c κs = c .before .before .before .pre .0
+
+enum-told : tie.Need-enum-told
+enum-told c = search needs
+
+slice-aggregate-write-word : tie.Need-slice-aggregate-write-word
+slice-aggregate-write-word c = search needs
+
+write-word-requires : tie.Need-write-word-requires
+write-word-requires c κs = omega arith
+
+enum-known-row : tie.Need-enum-known-row
+enum-known-row c = search needs
+
+write-sides-requires : tie.Need-write-sides-requires
+write-sides-requires c κs =
+    let row = c .before .before in
+    let judged = row .before .before in
+    let (valid, (within, room)) = judged .before .before .before .before .pre in
+    let is-round = judged .before .round-at .ensures in
+    (valid, (rejected-inside _ _ is-round (judged .judge-loaded .ensures) valid _ (row .row .given .1), omega arith))
+
+enum-known-number : tie.Need-enum-known-number
+enum-known-number c = search needs
+
+round-spot-requires : tie.Need-round-spot-requires
+round-spot-requires c κs = omega arith
+
+write-refused-requires : tie.Need-write-refused-requires
+write-refused-requires c κs = omega arith
+
+same-length : tie.Need-same-length
+same-length c = omega arith
+
+returns : tie.Need-returns
+unfolding ascii
+returns c =
+    let written = c .before .before in
+    let told = written .before .before .before in
+    let judged = told .before .before in
+    let is-round = judged .before .round-at .ensures in
+    let line = accepted-told _ _ is-round (judged .judge-loaded .ensures) (told .enum-told .given .1) in
+    (rw line (written .write-word .ensures), omega (arith, written .write-word .ensures .behind))
+
+same-length-2 : tie.Need-same-length-2
+same-length-2 c = omega arith
+
+returns-2 : tie.Need-returns-2
+returns-2 c =
+    let written = c .before .before in
+    let row = written .before .before .before in
+    let judged = row .before .before in
+    let is-round = judged .before .round-at .ensures in
+    let line = rejected-told _ _ is-round (judged .judge-loaded .ensures) _ (row .row .given .1) in
+    (rw line (written .write-sides .ensures .0), written .write-sides .ensures .1)
+
+same-length-3 : tie.Need-same-length-3
+same-length-3 c = omega arith
+
+returns-3 : tie.Need-returns-3
+returns-3 c =
+    let written = c .before .before in
+    let spot = written .before in
+    let number = spot .before .before .before in
+    let judged = number .before .before in
+    let is-round = judged .before .round-at .ensures in
+    let line = refused-told _ _ is-round (judged .judge-loaded .ensures) _ (number .number .given .1) in
+    (rw (line, ← spot .round-spot .ensures) (written .write-refused .ensures .0), written .write-refused .ensures .1)
+
+pub write-judged-spec : {M : Type 1} → statement M
+write-judged-spec =
+    tie.close
+    (tie.spec
+    round-at-requires
+    judge-loaded-requires
+    enum-told
+    slice-aggregate-write-word
+    write-word-requires
+    enum-known-row
+    write-sides-requires
+    enum-known-number
+    round-spot-requires
+    write-refused-requires
+    same-length
+    returns
+    same-length-2
+    returns-2
+    same-length-3
+    returns-3)

@@ -1,0 +1,2 @@
+-- Definitions of the diagnosis: the line on loaded values.
+pub mod Judged

@@ -1,0 +1,73 @@
+// The line on round 0 of a file that reads, on loaded values.
+use crate::lines::write_refused;
+use crate::lines::write_rejected;
+use image::expected_image;
+use image::image;
+use protocol::judge_loaded;
+use round_file::START;
+use round_file::round_at;
+use spots::round_spot;
+use text::write_word;
+use types::Header;
+use types::Round;
+use types::Verdict;
+ghost use Prim.Native.Nat.{_+_, _≤_, _<_};
+ghost use lib.ListN.{getD, length};
+ghost use Rattle.encoding.specs.Placed.{Placed};
+ghost use Rattle.formats.specs.RoundFile.{challengeWidth, recordLength};
+ghost use Rattle.sigma.specs.Image.{image};
+ghost use Rattle.sigma.specs.Instance.{instanceWith, tableWith};
+ghost use Rattle.sigma.specs.Round.{expectedImage};
+ghost use Rattle.sigma.specs.Valid.{Valid};
+ghost use Rattle.reasons.specs.Lines.{rejectedLine};
+ghost use Rattle.diagnosis.specs.Judged.{judgedLine};
+
+// Stores the line of a round that is rejected with the row, at the start: the row, its value of [r] and its value of t z^c.
+fn write_sides(
+    text: &mut [u8],
+    h: Header,
+    entries: [[u32; 8]; 8],
+    statement: [u32; 8],
+    round: Round,
+    row: u32,
+) -> usize
+    requires valid { ⌜ Valid (instanceWith h entries statement) ⌝ }
+    requires row { ⌜ row < h .rows ⌝ }
+    requires room { ⌜ 48 ≤ length (now text) ⌝ }
+    ensures placed { λ r. ⌜ Placed (now (text .entry)) 0
+        (rejectedLine row (getD (image (tableWith h entries) (round .response)) row 0)
+        (getD (expectedImage (instanceWith h entries statement) (round .commitment) (round .challenge)) row 0))
+        (now (text .exit)) r ⌝ }
+    ensures short { λ r. ⌜ r ≤ 48 ⌝ }
+{
+    let response = round.response;
+    let commitment = round.commitment;
+    let left = image(h, entries, response);
+    let right = expected_image(h, statement, commitment, round.challenge);
+    let i = row as usize;
+    write_rejected(text, row, left[i], right[i])
+}
+
+// Stores the line on the round that stands first in a file, at the start: `accepted`, the first differing row with both its
+// values, or a refusal with the offset of the first value that breaks its rule.
+pub fn write_judged(
+    text: &mut [u8],
+    h: Header,
+    entries: [[u32; 8]; 8],
+    statement: [u32; 8],
+    file: &[u8],
+) -> usize
+    requires valid { ⌜ Valid (instanceWith h entries statement) ⌝ }
+    requires within { ⌜ 7 + recordLength (challengeWidth (now file)) h ≤ length (now file) ⌝ }
+    requires room { ⌜ 48 ≤ length (now text) ⌝ }
+    ensures placed { λ r. ⌜ Placed (now (text .entry)) 0 (judgedLine (instanceWith h entries statement) (now (file .entry)))
+        (now (text .exit)) r ⌝ }
+    ensures short { λ r. ⌜ r ≤ 48 ⌝ }
+{
+    let round = round_at(h, file, START);
+    match judge_loaded(h, entries, statement, round) {
+        Verdict::Accepted => write_word(text, 0, b"accepted\n"),
+        Verdict::Rejected(row) => write_sides(text, h, entries, statement, round, row),
+        Verdict::Refused(number) => write_refused(text, number, round_spot(h, file, number)),
+    }
+}

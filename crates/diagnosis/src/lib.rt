@@ -1,0 +1,102 @@
+// The reason why a sheet, a round file or its round 0 is turned down, as the one line that is printed (02, card 1).
+mod judged; // judged.rt: the line on a round of a file that reads
+mod lines; // lines.rt: the text of a line
+
+use instance::load;
+use instance::loaded_entries;
+use judged::write_judged;
+use lines::write_refused;
+use round_file::check_in;
+use spots::file_spot;
+use spots::sheet_spot;
+ghost use Prim.Native.Nat.{ℕ, _≤_, _<_};
+ghost use mathlib.Core.List.{List};
+ghost use mathlib.Core.Logic.{_↔_};
+ghost use mathlib.Core.Path.{_≡_};
+ghost use lib.ListN.{length};
+ghost use lib.Seq.{sets};
+ghost use Rattle.encoding.specs.Front.{FrontOf};
+ghost use Rattle.encoding.specs.Placed.{Placed};
+ghost use Rattle.reasons.specs.Reason.{reasonLine, reasonText};
+
+// As many bytes hold every line: the longest is a refusal with a length of twenty digits.
+pub const LONGEST: usize = 48;
+
+// How many bytes of a sheet have to be kept: one more than the longest has, so that the line on what is kept of a longer one,
+// with its length, is the line on the whole.
+pub const SHEET: usize = 309;
+
+// The same of a round file.
+pub const ROUNDS: usize = 34824;
+
+// Stores the line on the bytes at hand of a sheet and a round file that have so many bytes in all, at the start of text, and
+// answers its length. The file has under 7 bytes in all exactly where the bytes at hand are.
+fn write_reason(
+    sheet: &[u8],
+    sheet_length: usize,
+    file: &[u8],
+    file_length: usize,
+    text: &mut [u8; LONGEST],
+) -> usize
+    ensures inside { λ r. ⌜ r ≤ length (now (text .exit)) ⌝ }
+    ensures line { λ r. ⌜ ((«file_length» < 7) ↔ (length (now (file .entry)) < 7) →
+        Placed (now (text .entry)) 0 (reasonLine (now (sheet .entry)) «sheet_length» (now (file .entry)) «file_length»)
+        (now (text .exit)) r) ⌝ }
+{
+    let loaded = load(sheet);
+    let refusal = loaded.refusal;
+    if refusal != 0 {
+        let spot = sheet_spot(sheet, sheet_length, refusal);
+        return write_refused(text, refusal, spot);
+    }
+    let h = loaded.header;
+    let refusal = check_in(h, file, 0);
+    if refusal != 0 {
+        let spot = file_spot(file, file_length, refusal);
+        return write_refused(text, refusal, spot);
+    }
+    let entries = loaded_entries(sheet, h);
+    let statement = loaded.statement;
+    write_judged(text, h, entries, statement, file)
+}
+
+// Stores the reason on a sheet and a round file at the start of text and answers its length; no byte behind it is changed. It
+// is one line: `refused`, the number and the offset of the first value that breaks that rule, or `length` and the length that
+// does; `rejected`, the first differing row and both its values; or `accepted`.
+pub fn reason(sheet: &[u8], file: &[u8], text: &mut [u8; LONGEST]) -> usize
+    ensures inside { λ r. ⌜ r ≤ length (now (text .exit)) ⌝ }
+    ensures answer { λ r. ⌜ r ≡ length (reasonText (now (sheet .entry)) (now (file .entry))) ⌝ }
+    ensures bytes { λ _. ⌜ now (text .exit) ≡ sets (now (text .entry)) 0 (reasonText (now (sheet .entry)) (now (file .entry))) ⌝ }
+{
+    write_reason(sheet, sheet.len(), file, file.len(), text)
+}
+
+// Stores the reason on two files of which only the first bytes were kept, so many of a sheet and so many of a round file, and
+// answers its length: it is the reason on the whole files, however long they are, if they have so many bytes in all.
+pub fn reason_files(
+    sheet: &[u8; SHEET],
+    sheet_kept: usize,
+    sheet_length: usize,
+    rounds: &[u8; ROUNDS],
+    rounds_kept: usize,
+    rounds_length: usize,
+    text: &mut [u8; LONGEST],
+) -> usize
+    requires sheet { ⌜ «sheet_kept» ≤ length (now sheet) ⌝ }
+    requires rounds { ⌜ «rounds_kept» ≤ length (now rounds) ⌝ }
+    ensures inside { λ r. ⌜ r ≤ length (now (text .exit)) ⌝ }
+    ensures whole { λ r. ⌜ ((s f : List ℕ) →
+        FrontOf (now (sheet .entry)) «sheet_kept» s → FrontOf (now (rounds .entry)) «rounds_kept» f →
+        length s ≡ «sheet_length» → length f ≡ «rounds_length» →
+        (r ≡ length (reasonText s f)) × (now (text .exit) ≡ sets (now (text .entry)) 0 (reasonText s f))) ⌝ }
+{
+    let sheet: &[u8] = sheet;
+    let rounds: &[u8] = rounds;
+    write_reason(
+        &sheet[..sheet_kept],
+        sheet_length,
+        &rounds[..rounds_kept],
+        rounds_length,
+        text,
+    )
+}

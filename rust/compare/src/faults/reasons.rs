@@ -1,0 +1,153 @@
+//! Faults of the reason.
+
+use crate::faults::Fault;
+use crate::groups::Group;
+use crate::library::Library::Judge;
+use crate::library::LONGEST_REASON;
+use crate::sheets::record_length;
+
+/// A line, by its parts: a refusal's number with an offset or a length, a
+/// rejected round's row and its two sides.
+#[derive(Clone, Copy)]
+enum Line {
+    At(u32, usize),
+    Length(u32, usize),
+    Rejected(u32, u32, u32),
+    Accepted,
+}
+
+impl Line {
+    /// The judge's line on these bytes.
+    fn of(sheet: &[u8], file: &[u8]) -> Line {
+        let mut text = [0; LONGEST_REASON];
+        let length = Judge.reason(sheet, file, &mut text);
+        let text = String::from_utf8_lossy(&text[..length]);
+        let numbers: Vec<usize> = text
+            .split_whitespace()
+            .filter_map(|word| word.parse().ok())
+            .collect();
+        match numbers[..] {
+            [number, found] if text.contains("length") => Line::Length(number as u32, found),
+            [number, offset] => Line::At(number as u32, offset),
+            [row, left, right] => Line::Rejected(row as u32, left as u32, right as u32),
+            _ => Line::Accepted,
+        }
+    }
+
+    fn text(self) -> String {
+        match self {
+            Line::At(number, offset) => format!("refused {number} {offset}\n"),
+            Line::Length(number, found) => format!("refused {number} length {found}\n"),
+            Line::Rejected(row, left, right) => format!("rejected {row} {left} {right}\n"),
+            Line::Accepted => String::from("accepted\n"),
+        }
+    }
+}
+
+pub fn reason(fault: Fault, sheet: &[u8], file: &[u8], text: &mut [u8; LONGEST_REASON]) -> usize {
+    let right = Line::of(sheet, file);
+    let mut line = match right {
+        Line::At(2..=11, _) | Line::Length(2..=11, _) => of_sheet(fault, right, sheet, file),
+        Line::At(12 | 13, _) | Line::Length(..) => of_file(fault, right, sheet, file),
+        _ => of_round(fault, right, sheet, file),
+    }
+    .text();
+    if fault == Fault::ReasonNoEnd {
+        line.pop();
+    }
+    text[..line.len()].copy_from_slice(line.as_bytes());
+    if fault == Fault::ReasonByteAfter {
+        text[line.len()] = 0;
+    }
+    line.len()
+}
+
+/// The faulty line on a sheet that is refused.
+fn of_sheet(fault: Fault, right: Line, sheet: &[u8], file: &[u8]) -> Line {
+    let byte = |place: usize| sheet.get(place).map_or(0, |byte| usize::from(*byte));
+    let (kind, rows, columns) = (byte(5), byte(18), byte(19));
+    match (fault, right) {
+        (Fault::ReasonFileFirst, _) if file.len() < 7 => Line::Length(12, file.len()),
+        (Fault::ReasonMarkFirst, Line::Length(2, _)) if !begins(sheet, b"HOM") => Line::At(2, 0),
+        (Fault::ReasonUnequalRows, Line::At(7, 19)) if (1..=8).contains(&columns) => {
+            Line::At(7, 18)
+        }
+        (Fault::ReasonColumnsFirst, Line::At(7, 18)) if !(1..=8).contains(&columns) => {
+            Line::At(7, 19)
+        }
+        (Fault::ReasonOrder, Line::At(8, _)) => Line::At(8, 10),
+        (Fault::ReasonLengthKept, Line::Length(9, found)) => Line::Length(9, found.min(309)),
+        (Fault::ReasonLastEntry, Line::At(10, _)) => {
+            Line::At(10, last_stranger(sheet, sheet, 20, rows * columns))
+        }
+        (Fault::ReasonEntryByRows, Line::At(10, offset)) => {
+            let place = (offset - 20) / 4;
+            let (i, j) = (place / columns, place % columns);
+            Line::At(10, 20 + 4 * (rows * i + j))
+        }
+        (Fault::ReasonRootEntries, Line::At(11, offset)) if kind == 2 => {
+            Line::At(11, offset + 4 * rows * columns)
+        }
+        _ => right,
+    }
+}
+
+/// The faulty line on a file that is refused.
+fn of_file(fault: Fault, right: Line, sheet: &[u8], file: &[u8]) -> Line {
+    let fits = |record: usize| (file.len() - 7).is_multiple_of(record);
+    match (fault, right) {
+        (Fault::ReasonMarkFirst, Line::Length(_, 0..7)) if !begins(file, b"RND") => Line::At(12, 0),
+        (Fault::ReasonLengthFirst, Line::At(12, _))
+            if !fits(record_length(&Judge.load(sheet).header)) =>
+        {
+            Line::Length(12, file.len())
+        }
+        (Fault::ReasonCountFirst, Line::Length(_, 7..)) => Line::At(12, 5),
+        (Fault::ReasonLengthKept, Line::Length(_, found)) => Line::Length(12, found.min(34_824)),
+        (Fault::ReasonNoRounds, Line::At(13, _)) => Line::Accepted,
+        _ => right,
+    }
+}
+
+/// The faulty line on round 0.
+fn of_round(fault: Fault, right: Line, sheet: &[u8], file: &[u8]) -> Line {
+    let header = Judge.load(sheet).header;
+    let (rows, columns) = (header.rows as usize, header.columns as usize);
+    match (fault, right) {
+        (Fault::ReasonFromRecord, Line::At(number, offset)) => Line::At(number, offset - 7),
+        (Fault::ReasonLowByte, Line::At(number, offset)) => Line::At(number, offset + 3),
+        (Fault::ReasonLastCommitment, Line::At(14, _)) => {
+            Line::At(14, last_stranger(sheet, file, 7, rows))
+        }
+        (Fault::ReasonChallengeLast, Line::At(15, _)) => Line::At(15, 7 + 4 * (rows + columns)),
+        (Fault::ReasonResponseFirst, Line::At(16, offset)) => Line::At(16, offset - 4),
+        (Fault::ReasonSides, Line::Rejected(row, left, right)) => Line::Rejected(row, right, left),
+        (Fault::ReasonRowZero, Line::Rejected(1.., ..)) => Line::Accepted,
+        (Fault::ReasonRowFromOne, Line::Rejected(row, left, right)) => {
+            Line::Rejected(row + 1, left, right)
+        }
+        (Fault::ReasonLastRound, _) => {
+            let last = &file[file.len() - record_length(&header)..];
+            Line::of(sheet, &[b"RND\x00\x01\x00\x01", last].concat())
+        }
+        _ => right,
+    }
+}
+
+/// Whether the bytes, as far as they go, are those of the mark.
+fn begins(bytes: &[u8], mark: &[u8; 3]) -> bool {
+    bytes.iter().zip(mark).all(|(byte, other)| byte == other)
+}
+
+/// The offset of the last of so many values from `start` on that is no group
+/// element of the sheet.
+fn last_stranger(sheet: &[u8], bytes: &[u8], start: usize, count: usize) -> usize {
+    let word = |bytes: &[u8], at: usize| {
+        let four = bytes[at..].first_chunk().copied().unwrap_or_default();
+        u32::from_be_bytes(four)
+    };
+    let group = Group::new(u32::from(sheet[5]), word(sheet, 6), word(sheet, 10));
+    let offsets = (0..count).rev().map(|place| start + 4 * place);
+    let mut strangers = offsets.filter(|at| !group.is_element(word(bytes, *at)));
+    strangers.next().unwrap_or(start)
+}

@@ -1,0 +1,125 @@
+//! The reason: one line for a student who was turned down.
+
+use crate::bytes::number;
+use crate::protocol::{sides, tested_verdict, Round, Verdict};
+use crate::round_file::{self, file_count, file_round};
+use crate::sheet::{self, header, load, Sheet};
+
+/// The place of the first value that breaks a rule.
+enum Place {
+    /// The offset of the value's first byte in the file that holds it.
+    Offset(usize),
+    /// The length found, where the length is the fault.
+    Length(usize),
+}
+
+/// Answers one line on the bytes of a sheet and of a round file: on the sheet,
+/// on the file or on its round 0. It refuses nothing itself.
+///
+/// The line is `refused`, the number and the offset of the first value that
+/// breaks that rule, or the word `length` and the length found instead of an
+/// offset. Otherwise it is `rejected`, the first differing row and its two
+/// sides, `[r]` first. Otherwise it is `accepted`.
+pub fn reason(sheet: &[u8], file: &[u8]) -> String {
+    let loaded = match load(sheet) {
+        Ok(loaded) => loaded,
+        Err(number) => return refused(number, sheet_place(number, sheet)),
+    };
+    if let Err(number) = file_count(&loaded, file) {
+        return refused(number, file_place(file));
+    }
+    let round = match file_round(&loaded, file, 0) {
+        Ok(round) => round,
+        // Only 13 is left here. The card gives it the count's offset.
+        Err(number) => return refused(number, Place::Offset(5)),
+    };
+    match tested_verdict(&loaded, &round) {
+        Ok(Verdict::Accepted) => String::from("accepted\n"),
+        Ok(Verdict::Rejected(row)) => rejected(&loaded, &round, row),
+        Ok(Verdict::Refused(number)) | Err(number) => {
+            refused(number, Place::Offset(round_offset(number, &loaded, &round)))
+        }
+    }
+}
+
+/// The line of a refusal.
+fn refused(number: u32, place: Place) -> String {
+    match place {
+        Place::Offset(offset) => format!("refused {number} {offset}\n"),
+        Place::Length(length) => format!("refused {number} length {length}\n"),
+    }
+}
+
+/// The line of a round that was rejected in this row.
+fn rejected(sheet: &Sheet, round: &Round, row: u32) -> String {
+    let sides = sides(sheet, &round.commitment, round.challenge, &round.response);
+    let (left, right) = sides[row as usize];
+    format!("rejected {row} {left} {right}\n")
+}
+
+/// The place in a sheet that was refused by this number, 2 to 11.
+fn sheet_place(number: u32, sheet: &[u8]) -> Place {
+    let offset = match number {
+        2 if sheet.len() < sheet::HEADER => return Place::Length(sheet.len()),
+        2 => 0,
+        3 => 3,
+        4 => 5,
+        5 => 6,
+        6 => 10,
+        // Decision: a row count outside 1 to 8 is the first value to break 7,
+        // also in kind 2 where the columns differ from it. Rows in range leave
+        // the columns, and unequal ones show 19 by the card.
+        7 if !(1..=8).contains(&sheet[18]) => 18,
+        7 => 19,
+        8 => 14,
+        9 => return Place::Length(sheet.len()),
+        _ => stranger_offset(sheet),
+    };
+    Place::Offset(offset)
+}
+
+/// The offset of the first entry or statement value that is no group element,
+/// in a sheet that was refused by 10 or 11.
+///
+/// The entries stand before the statement. So with 10 it is the first such
+/// entry, and with 11, where every entry is a group element, the first such
+/// statement value.
+fn stranger_offset(sheet: &[u8]) -> usize {
+    let fields = header(sheet);
+    let mut at = sheet::HEADER;
+    while fields.is_group_element(number(sheet, at, 4)) {
+        at += 4;
+    }
+    at
+}
+
+/// The place in a round file that was refused by 12.
+fn file_place(file: &[u8]) -> Place {
+    if file.len() < round_file::HEADER {
+        Place::Length(file.len())
+    } else if !file.starts_with(round_file::MARK) {
+        Place::Offset(0)
+    } else if number(file, 3, 2) != 1 {
+        Place::Offset(3)
+    } else if number(file, 5, 2) > round_file::MOST_ROUNDS {
+        Place::Offset(5)
+    } else {
+        Place::Length(file.len())
+    }
+}
+
+/// The offset in the file of the first value of round 0 that breaks the rule
+/// with this number, 14 to 16.
+fn round_offset(number: u32, sheet: &Sheet, round: &Round) -> usize {
+    let (element, slot) = (
+        |v: &&u32| sheet.is_group_element(**v),
+        |v: &&u32| sheet.is_domain_slot(**v),
+    );
+    // The values of a record are t, c and r, of 4 bytes each.
+    let before = match number {
+        14 => round.commitment.iter().take_while(element).count(),
+        15 => sheet.s(),
+        _ => sheet.s() + 1 + round.response.iter().take_while(slot).count(),
+    };
+    round_file::HEADER + 4 * before
+}

@@ -1,0 +1,216 @@
+//! The reason's line on random sheets and files, against the slow rules.
+
+use std::collections::BTreeSet;
+
+use judge::*;
+
+use crate::naive::*;
+use crate::random::small;
+use crate::tools::*;
+
+/// The number in a few bytes, high byte first.
+fn stored(bytes: &[u8]) -> u64 {
+    bytes
+        .iter()
+        .fold(0, |sum, byte| sum * 256 + u64::from(*byte))
+}
+
+/// The words from an offset on.
+fn words(bytes: &[u8], from: usize) -> Vec<u32> {
+    let chunks = bytes[from..].chunks_exact(4);
+    chunks.map(|chunk| stored(chunk) as u32).collect()
+}
+
+/// Whether the bytes from `at` on hold a right number, and otherwise the line.
+fn field(file: &[u8], rule: u32, at: usize, size: usize, good: &[u64]) -> Result<u64, String> {
+    let value = stored(&file[at..at + size]);
+    if good.contains(&value) {
+        Ok(value)
+    } else {
+        Err(format!("refused {rule} {at}\n"))
+    }
+}
+
+/// The header's tests, for moduli, orders and challenge counts below 1000.
+fn slow_header(bytes: &[u8]) -> Result<Sheet, String> {
+    if bytes.len() < 20 {
+        return Err(format!("refused 2 length {}\n", bytes.len()));
+    }
+    let upward = |least: u64| (least..1000).collect::<Vec<u64>>();
+    field(bytes, 2, 0, 3, &[0x48_4F_4D])?;
+    field(bytes, 3, 3, 2, &[1])?;
+    let kind = field(bytes, 4, 5, 1, &[1, 2])?;
+    let modulus = field(bytes, 5, 6, 4, &upward(3))?;
+    let order = field(bytes, 6, 10, 4, &upward(2))?;
+    let wide: Vec<u64> = (1..=8).collect();
+    let rows = field(bytes, 7, 18, 1, &wide)?;
+    let wide = if kind == 1 { wide } else { vec![rows] };
+    let columns = field(bytes, 7, 19, 1, &wide)?;
+    // K may reach ℓ's smallest divisor above 1 and not pass it.
+    let divisor = (2..=order).find(|d| order % d == 0).unwrap();
+    let counts: Vec<u64> = (2..=divisor).collect();
+    let challenges = field(bytes, 8, 14, 4, &counts)?;
+    Ok(Sheet {
+        kind: kind as u32,
+        modulus: modulus as u32,
+        order: order as u32,
+        challenges: challenges as u32,
+        rows: rows as u32,
+        columns: columns as u32,
+        entries: [[0; 8]; 8],
+        statement: [0; 8],
+    })
+}
+
+/// The sheet, or the line that refuses it.
+fn slow_sheet(bytes: &[u8]) -> Result<Sheet, String> {
+    let mut sheet = slow_header(bytes)?;
+    let (s, n) = (sheet.rows as usize, sheet.columns as usize);
+    let table = if sheet.kind == 1 { s * n } else { 0 };
+    if bytes.len() != 20 + 4 * table + 4 * s {
+        return Err(format!("refused 9 length {}\n", bytes.len()));
+    }
+    for (place, value) in words(bytes, 20).into_iter().enumerate() {
+        let rule = if place < table { 10 } else { 11 };
+        if !slow_element(&sheet, value) {
+            return Err(format!("refused {rule} {}\n", 20 + 4 * place));
+        }
+        if place < table {
+            sheet.entries[place / n][place % n] = value;
+        } else {
+            sheet.statement[place - table] = value;
+        }
+    }
+    Ok(sheet)
+}
+
+/// The words of round 0, or the line that refuses the file or the round.
+fn slow_round(sheet: &Sheet, file: &[u8]) -> Result<Vec<u32>, String> {
+    if file.len() < 7 {
+        return Err(format!("refused 12 length {}\n", file.len()));
+    }
+    field(file, 12, 0, 3, &[0x52_4E_44])?;
+    field(file, 12, 3, 2, &[1])?;
+    let count = field(file, 12, 5, 2, &(0..=512).collect::<Vec<u64>>())?;
+    let (s, n) = (sheet.rows as usize, sheet.columns as usize);
+    if file.len() as u64 != 7 + count * 4 * (s as u64 + n as u64 + 1) {
+        return Err(format!("refused 12 length {}\n", file.len()));
+    }
+    field(file, 13, 5, 2, &(1..=512).collect::<Vec<u64>>())?;
+    let words = words(&file[..7 + 4 * (s + 1 + n)], 7);
+    for (place, value) in words.iter().enumerate() {
+        let (rule, good) = match place {
+            _ if place < s => (14, slow_element(sheet, *value)),
+            _ if place == s => (15, *value < sheet.challenges),
+            _ => (16, slots(sheet).contains(value)),
+        };
+        if !good {
+            return Err(format!("refused {rule} {}\n", 7 + 4 * place));
+        }
+    }
+    Ok(words)
+}
+
+/// The line by the slow rules.
+fn slow_line(sheet: &[u8], file: &[u8]) -> Result<String, String> {
+    let sheet = slow_sheet(sheet)?;
+    let words = slow_round(&sheet, file)?;
+    let s = sheet.rows as usize;
+    let (t, c, r) = (eight(&words[..s]), words[s], eight(&words[s + 1..]));
+    let Some(row) = slow_row(&sheet, &t, c, &r) else {
+        return Ok(String::from("accepted\n"));
+    };
+    let i = row as usize;
+    let power = slow_power(sheet.statement[i], c, sheet.modulus);
+    let right = t[i] * power % sheet.modulus;
+    let left = slow_image(&sheet, &r)[i];
+    Ok(format!("rejected {row} {left} {right}\n"))
+}
+
+/// A file of up to three rounds. Round 0 is accepted, or has one t anew.
+fn rounds(shifts: &mut Shifts, bytes: &[u8], sheet: &Sheet) -> Vec<u8> {
+    let count = shifts.below(8).min(3);
+    let mut words = Vec::new();
+    for _ in 0..count {
+        let c = shifts.below(u64::from(sheet.challenges)) as u32;
+        let r = shifts.picks(&slots(sheet));
+        let mut t = simulate(bytes, c, &r).unwrap();
+        if shifts.below(2) == 0 {
+            let row = shifts.below(u64::from(sheet.rows)) as usize;
+            t[row] = shifts.pick(&elements(sheet));
+        }
+        words.extend(&t[..sheet.rows as usize]);
+        words.push(c);
+        words.extend(&r[..sheet.columns as usize]);
+    }
+    file(count as u16, &words)
+}
+
+/// Makes one byte wrong that keeps the numbers of a header small, or changes
+/// the length.
+fn spoil(shifts: &mut Shifts, bytes: &mut Vec<u8>, header: &[usize], values: usize) {
+    let value = shifts.below(12) as u8;
+    match shifts.below(8) {
+        0 => bytes.push(value),
+        1 => bytes.truncate(shifts.below(bytes.len() as u64 + 1) as usize),
+        2..=4 => {
+            let at = header[shifts.below(header.len() as u64) as usize];
+            if at < bytes.len() {
+                bytes[at] = value;
+            }
+        }
+        _ if bytes.len() <= values => {}
+        _ => {
+            let at = values + shifts.below((bytes.len() - values) as u64) as usize;
+            bytes[at] = shifts.word() as u8;
+        }
+    }
+}
+
+/// A line without its values: a verdict, or `refused`, the number and the word
+/// `length` where it is there.
+fn form(line: &str) -> String {
+    let words: Vec<&str> = line.split_whitespace().collect();
+    match words[..] {
+        ["refused", _, "length", _] => words[..3].join(" "),
+        ["refused", ..] => words[..2].join(" "),
+        _ => words[0].to_string(),
+    }
+}
+
+#[test]
+fn random_files_follow_the_slow_rules() {
+    let mut shifts = Shifts(0x5EED_0F0F_5EED_0F0F);
+    let mut seen = BTreeSet::new();
+    for _ in 0..20_000 {
+        let (mut sheet, loaded) = small(&mut shifts);
+        let mut file = rounds(&mut shifts, &sheet, &loaded);
+        for _ in 0..shifts.below(3) {
+            // Of m and ℓ only the low byte, so that the slow rules stay quick.
+            spoil(
+                &mut shifts,
+                &mut sheet,
+                &[0, 2, 4, 5, 9, 13, 15, 17, 18, 19],
+                20,
+            );
+        }
+        for _ in 0..shifts.below(4) {
+            spoil(&mut shifts, &mut file, &[0, 2, 3, 4, 5, 6], 7);
+        }
+        let line = reason(&sheet, &file);
+        let expected = slow_line(&sheet, &file);
+        assert_eq!(line, expected.unwrap_or_else(|line| line));
+        seen.insert((loaded.kind, form(&line)));
+    }
+    // Every refusal with each form it has, and both verdicts, in both kinds.
+    // Kind 2 has no entries, so no 10, unless its kind was made 1.
+    let forms = "accepted,rejected,refused 2,refused 2 length,refused 3,refused 4,refused 5,\
+                 refused 6,refused 7,refused 8,refused 9 length,refused 11,refused 12,\
+                 refused 12 length,refused 13,refused 14,refused 15,refused 16";
+    for kind in [1, 2] {
+        for form in forms.split(',') {
+            assert!(seen.contains(&(kind, form.to_string())), "{kind} {form}");
+        }
+    }
+    assert!(seen.contains(&(1, String::from("refused 10"))));
+}
