@@ -1,4 +1,5 @@
 // The calls of 01, for programs in other languages: each export hands its arguments to the call and its answer back, in forms that cross.
+mod explaining; // explaining.rt: the reason
 mod judging; // judging.rt: the calls on a round's values
 mod marking; // marking.rt: the marker's text
 mod proving; // proving.rt: the calls on Peggy's session

@@ -4,15 +4,15 @@
 //!
 //! - A slice crosses as its pointer and length, and the library reads or writes nothing outside it. It uses no pointer of an
 //!   empty slice, so that a dangling one does no harm.
-//! - An array crosses as the pointer to its 8 or 64 numbers or its 7,696 bytes.
+//! - An array crosses as the pointer to its 8 or 64 numbers or its 7,696 or 48 bytes.
 //! - What is written to is borrowed as `&mut`, so it shares no byte with the rest, and all borrows live through the call.
 //! - The structs have the layout of C, and any bits are values of their fields.
 
 use crate::exports::*;
 use crate::{
-    Computed, Counted, ENTRIES, Fetched, Header, Judgement, LONGEST_TEXT, Loaded, Part, Places,
-    ProverAnswer, ProverSession, Round, VerifierAnswer, VerifierJudgement, VerifierSession,
-    Written,
+    Computed, Counted, ENTRIES, Fetched, Header, Judgement, LONGEST_REASON, LONGEST_TEXT, Loaded,
+    Part, Places, ProverAnswer, ProverSession, Round, VerifierAnswer, VerifierJudgement,
+    VerifierSession, Written,
 };
 
 /// Loads a sheet: answers its fixed fields and its statement.
@@ -141,6 +141,14 @@ pub fn mark(sheet: &[u8], file: &[u8], text: &mut [u8; LONGEST_TEXT]) -> usize {
     let (pointer, length) = (sheet.as_ptr(), sheet.len());
     // SAFETY: the slices are given by their pointers and lengths, and `text` has the bytes that may be written.
     unsafe { dimkhoros_mark(pointer, length, file.as_ptr(), file.len(), text.as_mut_ptr()) }
+}
+
+/// Writes the reason on a sheet and a round file, which is one line, to the start of `text`, and answers its length.
+#[inline]
+pub fn reason(sheet: &[u8], file: &[u8], text: &mut [u8; LONGEST_REASON]) -> usize {
+    let (pointer, length) = (sheet.as_ptr(), sheet.len());
+    // SAFETY: the slices are given by their pointers and lengths, and `text` has the bytes that may be written.
+    unsafe { dimkhoros_reason(pointer, length, file.as_ptr(), file.len(), text.as_mut_ptr()) }
 }
 
 /// A new session of Peggy's, with zeros.

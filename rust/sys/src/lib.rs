@@ -32,7 +32,8 @@ mod structs;
 pub use calls::*;
 pub use kinds::{EXPONENT, ROOT};
 pub use sizes::{
-    EMPTY_FILE, ENTRIES, LONGEST_FILE, LONGEST_SHEET, LONGEST_TEXT, MOST_ROUNDS, PLACES, Places,
+    EMPTY_FILE, ENTRIES, LONGEST_FILE, LONGEST_REASON, LONGEST_SHEET, LONGEST_TEXT, MOST_ROUNDS,
+    PLACES, Places,
 };
 pub use structs::*;
 

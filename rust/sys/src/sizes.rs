@@ -70,3 +70,12 @@ pub const LONGEST_FILE: usize = 34_823;
 /// assert_eq!(LONGEST_TEXT, lines[0] + MOST_ROUNDS * lines[1] + lines[2]);
 /// ```
 pub const LONGEST_TEXT: usize = 7696;
+
+/// How many bytes are lent to the reason, which is one line. They hold every line.
+///
+/// ```
+/// # use dimkhoros_sys::LONGEST_REASON;
+/// assert!(format!("refused 12 length {}\n", u64::MAX).len() <= LONGEST_REASON);
+/// assert!(format!("rejected 7 {} {}\n", u32::MAX, u32::MAX).len() <= LONGEST_REASON);
+/// ```
+pub const LONGEST_REASON: usize = 48;
