@@ -3,7 +3,8 @@ use crate::lines::write_refused;
 use crate::lines::write_rejected;
 use image::expected_image;
 use image::image;
-use protocol::judge_loaded;
+use image::verdict;
+use protocol::round_refusal;
 use round_file::START;
 use round_file::round_at;
 use spots::round_spot;
@@ -11,12 +12,14 @@ use text::write_word;
 use types::Header;
 use types::Round;
 use types::Verdict;
+ghost use mathlib.Core.Path.{_≡_};
 ghost use Prim.Native.Nat.{_+_, _≤_, _<_};
 ghost use lib.ListN.{getD, length};
 ghost use Rattle.encoding.specs.Placed.{Placed};
 ghost use Rattle.formats.specs.RoundFile.{challengeWidth, recordLength};
 ghost use Rattle.sigma.specs.Image.{image};
 ghost use Rattle.sigma.specs.Instance.{instanceWith, tableWith};
+ghost use Rattle.sigma.specs.Judge.{judgeLoaded};
 ghost use Rattle.sigma.specs.Round.{expectedImage};
 ghost use Rattle.sigma.specs.Valid.{Valid};
 ghost use Rattle.reasons.specs.Lines.{rejectedLine};
@@ -46,6 +49,20 @@ fn write_sides(
     let right = expected_image(h, statement, commitment, round.challenge);
     let i = row as usize;
     write_rejected(text, row, left[i], right[i])
+}
+
+// The verdict on a round of a loaded sheet.
+fn judge_loaded(h: Header, entries: [[u32; 8]; 8], statement: [u32; 8], round: Round) -> Verdict
+    requires { ⌜ Valid (instanceWith h entries statement) ⌝ }
+    ensures { λ r. ⌜ r ≡ judgeLoaded (instanceWith h entries statement) round ⌝ }
+{
+    let t = round.commitment;
+    let r = round.response;
+    let refusal = round_refusal(h, t, round.challenge, r);
+    if refusal != 0 {
+        return Verdict::Refused(refusal);
+    }
+    verdict(h, entries, statement, t, round.challenge, r)
 }
 
 // Stores the line on the round that stands first in a file, at the start: `accepted`, the first differing row with both its
