@@ -4,6 +4,7 @@ use Rattle.examples.proofs.Pages.{worked-examples}
 use Rattle.formats.proofs.ByteLayout.{layout}
 use Rattle.formats.proofs.PatternMeaning.{patterns-mean}
 use Rattle.formats.proofs.Writers.{writers}
+use Rattle.reasons.proofs.ReasonsTrue.{reasons-true}
 use Rattle.runs.proofs.Demand1.{demand1}
 use Rattle.runs.proofs.Demand3.{demand3}
 use Rattle.runs.proofs.MainProtocol.{main-protocol}
@@ -31,4 +32,7 @@ demands = record {
   knowledge = demand3;
   pages = worked-examples .0;
   corners = worked-examples .1;
+  cards = record {
+    reason = reasons-true;
+  };
 }

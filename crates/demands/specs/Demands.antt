@@ -17,6 +17,7 @@ use Rattle.runs.specs.Protocol.{Protocol}
 use Rattle.runs.specs.Sessions.{Sessions}
 use Rattle.sigma.specs.Answer.{VerdictOutcomes}
 use Rattle.demands.specs.Arithmetic.{Arithmetic}
+use Rattle.demands.specs.Cards.{Cards}
 use Rattle.demands.specs.MarksFiles.{MarksFiles}
 use Rattle.demands.specs.ReadsBack.{ReadsBack}
 
@@ -51,3 +52,5 @@ pub record Demands : Type 0 where
   -- the starred pages, and for each refusal inputs on both sides of its bounds
   pub pages : EveryPage
   pub corners : EveryCorner
+  -- what the cards of 02 ask
+  pub cards : Cards

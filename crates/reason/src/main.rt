@@ -25,6 +25,6 @@ fn main() {
         &mut text,
     );
     if !io::write_all(STDOUT_FILENO, &text[..length]) {
-        io::write_all(STDERR_FILENO, b"reason: the line cannot be written whole\n");
+        io::write_all(STDERR_FILENO, b"reason: the text cannot be written whole\n");
     }
 }

@@ -9,7 +9,7 @@ use Rattle.diagnosis.proofs.judged.judge_loaded.Tie as tie
 
 round-refusal-requires : tie.Need-round-refusal-requires
 round-refusal-requires c κs =
-    let valid = c .before .before .before .pre in
+    let valid = c .before .before .pre in
     (omega (arith, valid-modulus (valid .table)), valid .table .few-rows, valid .table .few-columns)
 
 returns : tie.Need-returns
@@ -20,7 +20,7 @@ returns c =
     judge-number inst (args .round) _ (tested .round-refusal .ensures _ _) (c .if1 .taken)
 
 verdict-requires : tie.Need-verdict-requires
-verdict-requires c κs = c .before .before .before .before .before .pre
+verdict-requires c κs = c .before .before .before .before .pre
 
 returns-2 : tie.Need-returns-2
 returns-2 c =
