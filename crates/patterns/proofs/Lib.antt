@@ -1,0 +1,1 @@
+-- Laws of pattern files and of the sheet maker over them.
