@@ -19,7 +19,7 @@ use Rattle.sigma.specs.Comparison.{differ, firstDifference}
 use Rattle.sigma.specs.Instance.{Instance}
 use Rattle.formats.specs.Encode.{sheetOf}
 use Rattle.formats.specs.Outcome.{Keeps, Puts}
-use Rattle.formats.specs.Write.{Writing, short, written, writtenAtStart}
+use Rattle.formats.specs.Write.{short, written, writtenAtStart}
 use Rattle.formats.proofs.Tests.{says-short}
 use Rattle.formats.proofs.Writing.{short-passes, start-written, written-refusal, written-refused}
 use Rattle.patterns.specs.Maker.{asked, askedKind, askedPattern, badAsked, madeRules, makeFrom, makeRules}
@@ -78,7 +78,7 @@ module _ (buffer : List ℕ) where
 -- ---- its sheets
 
 -- neither 23 nor 24 applies to it
-shipped-passes : (badPatternFile shipped ≡ false) × (badDigits shipped ≡ false)
+pub shipped-passes : (badPatternFile shipped ≡ false) × (badDigits shipped ≡ false)
 unfolding badPatternFile badDigits badSizes misnamed patternAt patternCount patternEnd patternFrom patternMark patternStart
     patternVersion differ firstDifference any find numberAt ascii tabulate itemsAt
 shipped-passes = (ap badPatternFile shipped-bytes, ap badDigits shipped-bytes)

@@ -1,6 +1,6 @@
 -- What each test of a pattern file, and of what is asked of it, says (02, card 2; refusals 23, 24 and 1).
 -- Assumes nothing.
-use Prim.Native.Nat.{ℕ, suc, _-_, _*_, _<_, _≤_}
+use Prim.Native.Nat.{ℕ, suc, _-_, _*_, _<_}
 use mathlib.Core.Path.{_≡_, _∙_}
 use mathlib.Core.Logic.{_⊎_, _≢_}
 use mathlib.Core.Bool.{or-assoc}

@@ -13,7 +13,7 @@ use Rattle.numbers.specs.Product.{product}
 use Rattle.rules.specs.Order.{isSublist, refusalOrder}
 use Rattle.rules.specs.Refuses.{Refuses}
 use Rattle.sigma.specs.Image.{rowImage}
-use Rattle.sigma.specs.Instance.{Instance, entry, statementAt, tableOf}
+use Rattle.sigma.specs.Instance.{entry, statementAt, tableOf}
 use Rattle.formats.specs.Encode.{sheetOf}
 use Rattle.formats.specs.Outcome.{Keeps, Puts}
 use Rattle.patterns.specs.Maker.{asked, askedPattern, makeFrom}
