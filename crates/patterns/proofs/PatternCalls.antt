@@ -24,6 +24,7 @@ use Rattle.patterns.proofs.Shipped.{
   asks-root,
   old-sheet,
   old-values,
+  others,
   same,
   same-values,
   shipped-bytes,
@@ -76,6 +77,7 @@ pattern-calls = record {
   ships = shipped-puts;
   same = same;
   same-root = old-sheet asks-root;
+  others = others;
   same-values = same-values;
   same-root-values = old-values asks-root;
 }

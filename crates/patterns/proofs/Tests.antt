@@ -13,17 +13,7 @@ use Rattle.sigma.proofs.Calculus.{says-any}
 use Rattle.sigma.proofs.Comparison.{says-differ}
 use Rattle.patterns.specs.Maker.{askedPattern, badAsked}
 use Rattle.patterns.specs.Pattern.{Pattern}
-use Rattle.patterns.specs.PatternFile.{
-  badDigits,
-  badPatternFile,
-  badSizes,
-  misnamed,
-  patternAt,
-  patternCount,
-  patternMark,
-  patternStart,
-  patternVersion,
-}
+use Rattle.patterns.specs.PatternFile.{badDigits, badPatternFile, badSizes, misnamed, patternAt, patternCount}
 use Rattle.patterns.specs.Refusals.{Misnamed, Missized, Refusal23, Refusal24}
 
 -- rows, columns or number of public values lie outside 1 to 8
