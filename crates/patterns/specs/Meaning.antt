@@ -1,4 +1,5 @@
--- The shape of 01's six patterns, and what each of them states ("The patterns").
+-- The shape of 01's six patterns, under 01's numbers for them, and what each of them states ("The patterns"). From pattern files
+-- on, the root, 01's 6, is asked for as 0.
 -- Assumes nothing.
 use Prim.Native.Nat.{ℕ, _+_, _-_, _*_, _%_, _^_, _≤_}
 use mathlib.Core.Path.{_≡_}
@@ -9,7 +10,7 @@ use lib.ListN.{getD}
 use Rattle.sigma.specs.Element.{Element}
 use Rattle.sigma.specs.Image.{image}
 use Rattle.sigma.specs.Instance.{statementAt, tableOf}
-use Rattle.formats.specs.Pattern.{made, madeHeader, patternOf, pedersen}
+use Rattle.patterns.specs.Table.{made, madeHeader, patternOf, pedersen}
 
 -- the image of a secret under the table of a pattern over public values, for m, ℓ and K
 abbrev pub madeImage : ℕ → ℕ → ℕ → ℕ → List ℕ → List ℕ → List ℕ
