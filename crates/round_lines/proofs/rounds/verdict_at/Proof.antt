@@ -1,4 +1,4 @@
--- `report::rounds::verdict_at` meets its contract: the record lies inside the file, and its values are judged.
+-- `round_lines::rounds::verdict_at` meets its contract: the record lies inside the file, and its values are judged.
 -- Assumes nothing.
 use native.Mathlib.Omega.{arith}
 use Rattle.formats.proofs.Files.{file-width}
@@ -6,9 +6,9 @@ use Rattle.formats.proofs.Part.{record-inside}
 use Rattle.sigma.specs.Instance.{instanceWith}
 use Rattle.sigma.proofs.Valid.{valid-modulus}
 use Rattle.protocol.proofs.Judging.{judge-number, judge-verdict}
-use Rattle.report.specs.Lines.{verdictIn}
-use Rattle.report.proofs.rounds.verdict_at.Statement.{statement}
-use Rattle.report.proofs.rounds.verdict_at.Tie as tie
+use Rattle.round_lines.specs.Lines.{verdictIn}
+use Rattle.round_lines.proofs.rounds.verdict_at.Statement.{statement}
+use Rattle.round_lines.proofs.rounds.verdict_at.Tie as tie
 
 record-start-requires : tie.Need-record-start-requires
 record-start-requires c κs =

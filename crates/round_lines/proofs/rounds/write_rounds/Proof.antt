@@ -1,4 +1,4 @@
--- `report::rounds::write_rounds` meets its contract. The invariant: the lines of the first k rounds are placed, and the flag
+-- `round_lines::rounds::write_rounds` meets its contract. The invariant: the lines of the first k rounds are placed, and the flag
 -- says whether one of them fails. The measure: how many rounds are left.
 -- Assumes nothing.
 use Prim.Native.Nat.{_≤_, _-_}
@@ -7,10 +7,10 @@ use native.Mathlib.Omega.{arith}
 use lib.ListN.{length}
 use Rattle.encoding.specs.Placed.{Placed}
 use Rattle.sigma.specs.Instance.{instanceWith}
-use Rattle.report.specs.Lines.{failsIn, linesIn}
-use Rattle.report.proofs.LineByLine.{none-placed, none-fails, line-placed, fails-next, line-fits, result-placed, result-fits}
-use Rattle.report.proofs.rounds.write_rounds.Statement.{statement}
-use Rattle.report.proofs.rounds.write_rounds.Tie as tie
+use Rattle.round_lines.specs.Lines.{failsIn, linesIn}
+use Rattle.round_lines.proofs.LineByLine.{none-placed, none-fails, line-placed, fails-next, line-fits}
+use Rattle.round_lines.proofs.rounds.write_rounds.Statement.{statement}
+use Rattle.round_lines.proofs.rounds.write_rounds.Tie as tie
 
 abbrev Inv-loop : tie.InvT-loop
 Inv-loop text₀ at h entries statement file count next₀ failed₀ k₀ text next failed k =
@@ -59,23 +59,15 @@ loop-again c =
       omega arith,
     )
 
-write-result-requires : tie.Need-write-result-requires Inv-loop μ-loop
-write-result-requires c κs =
-    let at-loop = c .before .before in
-    let whole : at-loop .loop .k ≡ at-loop .before .before .before .args .count = omega arith in
-    let (lines, failed, few, size) = at-loop .loop .inv in
-    result-fits _ _ _ lines _ (rw whole (omega arith))
-
 same-length : tie.Need-same-length Inv-loop μ-loop
 same-length c = omega arith
 
 returns : tie.Need-returns Inv-loop μ-loop
 returns c =
-    let last = c .before .before in
-    let at-loop = last .before .before .before in
+    let at-loop = c .before in
     let whole : at-loop .loop .k ≡ at-loop .before .before .before .args .count = omega arith in
     let (lines, failed, few, size) = at-loop .loop .inv in
-    rw (← whole) (result-placed _ _ _ lines failed (last .write-result .ensures))
+    (rw (← whole) lines, rw (← whole) failed)
 
 pub write-rounds-spec : {M : Type 1} → statement M
 write-rounds-spec =
@@ -90,6 +82,5 @@ write-rounds-spec =
     add-k
     loop-less
     loop-again
-    write-result-requires
     same-length
     returns)

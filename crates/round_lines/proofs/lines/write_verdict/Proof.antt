@@ -1,4 +1,4 @@
--- `report::lines::write_verdict` meets its contract: each arm stores the words of its verdict.
+-- `round_lines::lines::write_verdict` meets its contract: each arm stores the words of its verdict.
 -- Assumes nothing.
 use mathlib.Core.Path.{ap}
 use native.Mathlib.Omega.{arith}
@@ -7,8 +7,8 @@ use borrow.Author.Needs.{needs}
 use Rattle.types.specs.declared.Verdict.{Verdict}
 use Rattle.encoding.specs.Text.{ascii}
 use Rattle.runs.specs.Marker.{verdictText}
-use Rattle.report.proofs.lines.write_verdict.Statement.{statement}
-use Rattle.report.proofs.lines.write_verdict.Tie as tie
+use Rattle.round_lines.proofs.lines.write_verdict.Statement.{statement}
+use Rattle.round_lines.proofs.lines.write_verdict.Tie as tie
 
 enum-told : tie.Need-enum-told
 enum-told c = search needs

@@ -1,11 +1,11 @@
--- `report::lines::write_result` meets its contract: each branch stores its word and the line's end.
+-- `round_lines::lines::write_result` meets its contract: each branch stores its word and the line's end.
 -- Assumes nothing.
 use native.Mathlib.Omega.{arith}
 use borrow.Author.Needs.{needs}
 use Rattle.encoding.specs.Text.{ascii}
 use Rattle.runs.specs.Marker.{newline, resultLine}
-use Rattle.report.proofs.lines.write_result.Statement.{statement}
-use Rattle.report.proofs.lines.write_result.Tie as tie
+use Rattle.round_lines.proofs.lines.write_result.Statement.{statement}
+use Rattle.round_lines.proofs.lines.write_result.Tie as tie
 
 slice-aggregate-write-word : tie.Need-slice-aggregate-write-word
 slice-aggregate-write-word c = search needs

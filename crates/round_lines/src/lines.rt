@@ -42,7 +42,7 @@ pub fn write_round(text: &mut [u8], at: usize, number: u32, verdict: Verdict) ->
     write_word(text, end, b"\n")
 }
 
-// Stores the last line: `fail` where some round is not accepted, else `pass`.
+// Stores the last line: `fail` where the file fails, else `pass`.
 pub fn write_result(text: &mut [u8], at: usize, failed: bool) -> usize
     requires room { ⌜ at + 5 ≤ length (now text) ⌝ }
     ensures { λ r. ⌜ Placed (now (text .entry)) at (resultLine failed) (now (text .exit)) r ⌝ }

@@ -2,7 +2,7 @@
 -- Assumes nothing.
 use Prim.Native.Nat.{ℕ}
 use mathlib.Core.Bool.{Bool, not}
-use mathlib.Core.List.{List, _++_, flatten}
+use mathlib.Core.List.{List, flatten}
 use Rattle.types.specs.declared.Verdict.{Verdict}
 use Rattle.numbers.specs.Search.{any}
 use Rattle.lists.specs.Places.{tabulate}
@@ -10,7 +10,7 @@ use Rattle.sigma.specs.Answer.{isAccepted}
 use Rattle.sigma.specs.Instance.{Instance}
 use Rattle.sigma.specs.Judge.{judgeLoaded}
 use Rattle.formats.specs.RoundFile.{challengeWidth, recordStart, roundAt}
-use Rattle.runs.specs.Marker.{resultLine, verdictLine}
+use Rattle.runs.specs.Marker.{verdictLine}
 
 -- the verdict on the values in record k
 unfoldable pub verdictIn : Instance → List ℕ → ℕ → Verdict
@@ -23,7 +23,3 @@ linesIn inst f n = flatten (tabulate n (λ k. verdictLine k (verdictIn inst f k)
 -- whether one of them is not accepted
 unfoldable pub failsIn : Instance → List ℕ → ℕ → Bool
 failsIn inst f n = any n (λ k. not (isAccepted (verdictIn inst f k)))
-
--- the lines of the first n records, and the last line
-unfoldable pub roundsIn : Instance → List ℕ → ℕ → List ℕ
-roundsIn inst f n = linesIn inst f n ++ resultLine (failsIn inst f n)

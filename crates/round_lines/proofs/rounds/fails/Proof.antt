@@ -1,11 +1,11 @@
--- `report::rounds::fails` meets its contract: an accepted verdict leaves what was, and any other fails.
+-- `round_lines::rounds::fails` meets its contract: an accepted verdict leaves what was, and any other fails.
 -- Assumes nothing.
 use mathlib.Core.Path.{sym}
 use mathlib.Core.Bool.{or-false, or-true}
 use borrow.Author.Needs.{needs}
 use Rattle.sigma.specs.Answer.{isAccepted}
-use Rattle.report.proofs.rounds.fails.Statement.{statement}
-use Rattle.report.proofs.rounds.fails.Tie as tie
+use Rattle.round_lines.proofs.rounds.fails.Statement.{statement}
+use Rattle.round_lines.proofs.rounds.fails.Tie as tie
 
 enum-told : tie.Need-enum-told
 enum-told c = search needs

@@ -1,4 +1,4 @@
--- `report::lines::write_line` meets its contract: the word and the number, and then the line's end.
+-- `round_lines::lines::write_line` meets its contract: the word and the number, and then the line's end.
 -- Assumes nothing.
 use native.Mathlib.Omega.{arith}
 use borrow.Author.Needs.{needs}
@@ -7,8 +7,8 @@ use Rattle.encoding.proofs.Placed.{placed-behind}
 use Rattle.encoding.specs.Text.{ascii}
 use Rattle.encoding.proofs.Text.{decimal-length}
 use Rattle.runs.specs.Marker.{newline, wordLine}
-use Rattle.report.proofs.lines.write_line.Statement.{statement}
-use Rattle.report.proofs.lines.write_line.Tie as tie
+use Rattle.round_lines.proofs.lines.write_line.Statement.{statement}
+use Rattle.round_lines.proofs.lines.write_line.Tie as tie
 
 write-numbered-requires : tie.Need-write-numbered-requires
 write-numbered-requires c κs =

@@ -1,5 +1,4 @@
 // The lines of a file's rounds on loaded values.
-use crate::lines::write_result;
 use crate::lines::write_round;
 use image::verdict;
 use protocol::round_refusal;
@@ -17,7 +16,13 @@ ghost use Rattle.formats.specs.RoundFile.{countField};
 ghost use Rattle.sigma.specs.Instance.{instanceWith};
 ghost use Rattle.sigma.specs.Answer.{isAccepted};
 ghost use Rattle.sigma.specs.Valid.{Valid};
-ghost use Rattle.report.specs.Lines.{roundsIn, verdictIn};
+ghost use Rattle.round_lines.specs.Lines.{failsIn, linesIn, verdictIn};
+
+// What the lines of a file's rounds leave: the index behind them, and whether a round failed.
+pub struct Written {
+    pub next: usize,
+    pub failed: bool,
+}
 
 // The verdict on round k of a file.
 fn verdict_at(
@@ -54,8 +59,8 @@ fn fails(before: bool, verdict: Verdict) -> bool
     }
 }
 
-// Stores a line for each of the count rounds of a file from an index on, and then `pass` if every round is accepted, else
-// `fail`; no other byte is changed. Answers the index behind them.
+// Stores a line for each of the count rounds of a file from an index on; no other byte is changed. Answers the index behind
+// them, and whether some round is not accepted.
 pub fn write_rounds(
     text: &mut [u8],
     at: usize,
@@ -64,13 +69,14 @@ pub fn write_rounds(
     statement: [u32; 8],
     file: &[u8],
     count: u32,
-) -> usize
+) -> Written
     requires valid { ⌜ Valid (instanceWith h entries statement) ⌝ }
     requires file { ⌜ IsRoundFile h (now file) ⌝ }
     requires count { ⌜ count ≡ countField (now file) ⌝ }
-    requires room { ⌜ at + length (roundsIn (instanceWith h entries statement) (now file) count) ≤ length (now text) ⌝ }
-    ensures { λ r. ⌜ Placed (now (text .entry)) at (roundsIn (instanceWith h entries statement) (now (file .entry)) count)
-        (now (text .exit)) r ⌝ }
+    requires room { ⌜ at + length (linesIn (instanceWith h entries statement) (now file) count) ≤ length (now text) ⌝ }
+    ensures lines { λ r. ⌜ Placed (now (text .entry)) at (linesIn (instanceWith h entries statement) (now (file .entry)) count)
+        (now (text .exit)) (r .next) ⌝ }
+    ensures failed { λ r. ⌜ r .failed ≡ failsIn (instanceWith h entries statement) (now (file .entry)) count ⌝ }
 {
     let mut next = at;
     let mut failed = false;
@@ -79,5 +85,5 @@ pub fn write_rounds(
         next = write_round(text, next, k, verdict);
         failed = fails(failed, verdict);
     }
-    write_result(text, next, failed)
+    Written { next, failed }
 }

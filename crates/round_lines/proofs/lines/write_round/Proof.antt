@@ -1,12 +1,12 @@
--- `report::lines::write_round` meets its contract: the parts of the line are placed one behind the other.
+-- `round_lines::lines::write_round` meets its contract: the parts of the line are placed one behind the other.
 -- Assumes nothing.
 use native.Mathlib.Omega.{arith}
 use borrow.Author.Needs.{needs}
 use Rattle.encoding.proofs.Placed.{placed-behind}
 use Rattle.encoding.specs.Text.{ascii}
 use Rattle.runs.specs.Marker.{newline, verdictLine}
-use Rattle.report.proofs.lines.write_round.Statement.{statement}
-use Rattle.report.proofs.lines.write_round.Tie as tie
+use Rattle.round_lines.proofs.lines.write_round.Statement.{statement}
+use Rattle.round_lines.proofs.lines.write_round.Tie as tie
 
 write-decimal-requires : tie.Need-write-decimal-requires
 write-decimal-requires c κs = omega arith

@@ -1,4 +1,4 @@
--- The rounds' lines, one by one: one line more, the last line, and the room that they need.
+-- The rounds' lines, one by one: one line more, and the room that it needs.
 -- Assumes nothing.
 use Prim.Native.Nat.{ℕ, zero, suc, _+_, _<_, _≤_}
 use mathlib.Core.Path.{_≡_, refl, ap, _∙_}
@@ -20,9 +20,8 @@ use Rattle.encoding.proofs.Placed.{placed-behind}
 use Rattle.encoding.specs.Text.{ascii, decimal}
 use Rattle.sigma.specs.Answer.{isAccepted}
 use Rattle.sigma.specs.Instance.{Instance}
-use Rattle.runs.specs.Marker.{newline, resultLine, verdictLine, verdictText}
-use Rattle.runs.proofs.MarkerLength.{length-resultLine}
-use Rattle.report.specs.Lines.{failsIn, linesIn, roundsIn, verdictIn}
+use Rattle.runs.specs.Marker.{newline, verdictLine, verdictText}
+use Rattle.round_lines.specs.Lines.{failsIn, linesIn, verdictIn}
 
 -- the length of a round's line
 length-verdictLine : (k : ℕ) (v : Verdict) → length (verdictLine k v) ≡ length (decimal k) + length (verdictText v) + 2
@@ -50,21 +49,12 @@ module _ (i : Instance) (f : List ℕ) where
     | no last ↦ omega (arith, ap (λ (j : ℕ). length (linesIn i f j)) {x = k} {y = suc n} (omega arith))
   ]
 
-  -- ---- room
-
   -- the room of all lines holds the line of a round behind those before it
   line-room : (k n : ℕ) → k < n
-      → length (linesIn i f k) + length (decimal k) + length (verdictText (verdictIn i f k)) + 2 ≤ length (roundsIn i f n)
-  unfolding roundsIn
+      → length (linesIn i f k) + length (decimal k) + length (verdictText (verdictIn i f k)) + 2 ≤ length (linesIn i f n)
   line-room k n h =
       let size = length-append (linesIn i f k) (verdictLine k (verdictIn i f k)) in
-      simp length-append
-      (omega (arith, ap length (lines-suc k), lines-grow (suc k) n (omega arith), length-verdictLine k (verdictIn i f k)))
-
-  -- and the last line behind all others
-  result-room : (n : ℕ) → length (linesIn i f n) + 5 ≡ length (roundsIn i f n)
-  unfolding roundsIn
-  result-room n = simp length-append (omega (arith, length-resultLine (failsIn i f n)))
+      omega (arith, ap length (lines-suc k), lines-grow (suc k) n (omega arith), length-verdictLine k (verdictIn i f k))
 
   -- ---- placed
 
@@ -85,19 +75,9 @@ module _ (i : Instance) (f : List ℕ) where
     line-placed e line = rw (add-one k, lines-suc k, ← e) (placed-behind lines line)
 
     -- which has room where all lines have
-    pub line-fits : (n size : ℕ) {v : Verdict} → v ≡ verdictIn i f k → k < n → at + length (roundsIn i f n) ≤ size
+    pub line-fits : (n size : ℕ) {v : Verdict} → v ≡ verdictIn i f k → k < n → at + length (linesIn i f n) ≤ size
         → x + length (decimal k) + length (verdictText v) + 2 ≤ size
     line-fits n size e before room = rw e (omega (arith, lines .behind, line-room k n before))
-
-    -- the last line behind all others
-    pub result-placed : {p : List ℕ} {y : ℕ} {failed : Bool} → failed ≡ failsIn i f k → Placed m x (resultLine failed) p y
-        → Placed l at (roundsIn i f k) p y
-    unfolding roundsIn
-    result-placed e result = rw (← e) (placed-behind lines result)
-
-    -- which has room where all lines have
-    pub result-fits : (size : ℕ) → at + length (roundsIn i f k) ≤ size → x + 5 ≤ size
-    result-fits size room = omega (arith, lines .behind, result-room k)
 
   -- whether a round fails, one round more
   pub fails-next : (k : ℕ) {failed next : Bool} {v : Verdict} → failed ≡ failsIn i f k → v ≡ verdictIn i f k
