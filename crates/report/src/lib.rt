@@ -1,4 +1,4 @@
-// The marker's text on a sheet and a round file (01, "The marker's lines").
+// The marker's text on a sheet and a round file (01, "The marker's lines"), and the verdict on a round of a file.
 mod lines; // lines.rt: the text of one line
 mod rounds; // rounds.rt: a line for each round, and the last line
 
@@ -6,6 +6,7 @@ use instance::load;
 use instance::loaded_entries;
 use lines::write_line;
 use round_file::count_in;
+pub use rounds::verdict_at;
 use rounds::write_rounds;
 ghost use Prim.Native.Nat.{ℕ, _≤_};
 ghost use mathlib.Core.Path.{_≡_};

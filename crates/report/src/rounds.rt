@@ -20,7 +20,7 @@ ghost use Rattle.sigma.specs.Valid.{Valid};
 ghost use Rattle.report.specs.Lines.{roundsIn, verdictIn};
 
 // The verdict on round k of a file.
-fn verdict_at(
+pub fn verdict_at(
     h: Header,
     entries: [[u32; 8]; 8],
     statement: [u32; 8],
