@@ -1,4 +1,4 @@
-/* Vic keeps a file of rounds, and a marker judges each of them. */
+/* Vic keeps a file of rounds, a marker judges each of them, and a student is told the reason. */
 #include "common.h"
 
 static const DimkhorosRound rounds[] = {
@@ -8,11 +8,14 @@ static const DimkhorosRound rounds[] = {
     {{5}, 0, {0}},
 };
 
-/* Writes the file of all rounds and answers its length. */
-static size_t write_file(const uint8_t *sheet, size_t length, uint8_t file[DIMKHOROS_LONGEST_FILE]) {
+static const size_t all = sizeof rounds / sizeof rounds[0];
+
+/* Writes the file of the rounds from one on, so many of them, and answers its length. */
+static size_t write_file(const uint8_t *sheet, size_t length, size_t first, size_t count,
+                         uint8_t file[DIMKHOROS_LONGEST_FILE]) {
     DimkhorosWritten written = dimkhoros_empty(file, DIMKHOROS_LONGEST_FILE);
     expect(written.refusal);
-    for (size_t i = 0; i < sizeof rounds / sizeof rounds[0]; i++) {
+    for (size_t i = first; i < first + count; i++) {
         written = dimkhoros_append(sheet, length, file, DIMKHOROS_LONGEST_FILE, written.length, rounds[i]);
         expect(written.refusal);
     }
@@ -40,11 +43,20 @@ static void show_round(const uint8_t *sheet, size_t length, const uint8_t *file,
     }
 }
 
+/* Shows the reason's line on a file of one round. */
+static void show_reason(const uint8_t *sheet, size_t length, size_t number) {
+    uint8_t file[DIMKHOROS_LONGEST_FILE];
+    uint8_t line[DIMKHOROS_LONGEST_REASON];
+    size_t file_length = write_file(sheet, length, number, 1, file);
+    size_t line_length = dimkhoros_reason(sheet, length, file, file_length, line);
+    printf("The reason on round %zu alone: %.*s", number, (int)line_length, (const char *)line);
+}
+
 int main(void) {
     uint8_t sheet[DIMKHOROS_LONGEST_SHEET];
     uint8_t file[DIMKHOROS_LONGEST_FILE];
     size_t length = page_a(sheet);
-    size_t file_length = write_file(sheet, length, file);
+    size_t file_length = write_file(sheet, length, 0, all, file);
     DimkhorosCounted counted = dimkhoros_count(sheet, length, file, file_length);
     expect(counted.refusal);
     printf("The file: %u rounds in %zu bytes.\n", counted.count, file_length);
@@ -54,5 +66,8 @@ int main(void) {
     uint8_t text[DIMKHOROS_LONGEST_TEXT];
     size_t text_length = dimkhoros_mark(sheet, length, file, file_length, text);
     printf("The marker's text:\n%.*s", (int)text_length, (const char *)text);
+    for (size_t number = 0; number < all; number++) {
+        show_reason(sheet, length, number);
+    }
     return 0;
 }

@@ -19,14 +19,14 @@ use Rattle.sigma.specs.Instance.{instanceWith, tableOf}
 use Rattle.sigma.specs.Judge.{judgeLoaded}
 use Rattle.sigma.specs.Round.{expectedImage}
 use Rattle.formats.specs.Load.{load, loadRefusal, loadRules}
+use Rattle.formats.specs.Meaning.{IsRoundFile}
 use Rattle.formats.specs.Refusals.{roundConditions}
 use Rattle.formats.specs.RoundCalls.{checkAfter, checkRound, roundRules}
-use Rattle.formats.specs.RoundFile.{challengeWidth, recordLength, recordStart}
+use Rattle.formats.specs.RoundFile.{countField}
 use Rattle.formats.specs.Sheet.{entriesOf, headerOf, instanceOf}
 use Rattle.formats.proofs.After.{checkAfter-clear, checkAfter-refused}
 use Rattle.formats.proofs.Files.{check-runs}
 use Rattle.formats.proofs.Loads.{loads}
-use Rattle.formats.proofs.Part.{record-inside}
 use Rattle.formats.proofs.Refusals.{round-tests}
 use Rattle.runs.specs.Marker.{verdictOn}
 use Rattle.runs.proofs.Loaded.{judge-loaded}
@@ -136,12 +136,11 @@ module _ (s f : List ℕ) {loaded : Loaded} (is-load : loaded ≡ load s) where
         check-line s f x y n (sym checks) (omega arith) (file-number s f x y n low high)
 
     module _ (reads : n ≡ 0) where
-      -- the first record lies inside the file
-      pub first-inside : 7 + recordLength (challengeWidth f) (loaded .header) ≤ length f
-      unfolding recordStart
-      first-inside =
+      -- the file is one of the sheet's and has a round
+      pub file-read : IsRoundFile (loaded .header) f × (0 < countField f)
+      file-read =
           let (sheet, file, some) = check-runs s f 0 .0 (sym checks ∙ reads) in
-          rw (answer-header s loaded is-load passed .1) (omega (arith, record-inside file 0 some))
+          rw (answer-header s loaded is-load passed .1) (file, some)
 
       -- the line on round 0
       pub judged-line : {entries : List (List ℕ)} → entries ≡ entriesOf s (loaded .header) → (x y : ℕ)

@@ -3,23 +3,21 @@ use crate::lines::write_refused;
 use crate::lines::write_rejected;
 use image::expected_image;
 use image::image;
-use image::verdict;
-use protocol::round_refusal;
 use round_file::START;
 use round_file::round_at;
+use round_lines::verdict_at;
 use spots::round_spot;
 use text::write_word;
 use types::Header;
 use types::Round;
 use types::Verdict;
-ghost use mathlib.Core.Path.{_≡_};
-ghost use Prim.Native.Nat.{_+_, _≤_, _<_};
+ghost use Prim.Native.Nat.{_≤_, _<_};
 ghost use lib.ListN.{getD, length};
 ghost use Rattle.encoding.specs.Placed.{Placed};
-ghost use Rattle.formats.specs.RoundFile.{challengeWidth, recordLength};
+ghost use Rattle.formats.specs.Meaning.{IsRoundFile};
+ghost use Rattle.formats.specs.RoundFile.{countField};
 ghost use Rattle.sigma.specs.Image.{image};
 ghost use Rattle.sigma.specs.Instance.{instanceWith, tableWith};
-ghost use Rattle.sigma.specs.Judge.{judgeLoaded};
 ghost use Rattle.sigma.specs.Round.{expectedImage};
 ghost use Rattle.sigma.specs.Valid.{Valid};
 ghost use Rattle.reasons.specs.Lines.{rejectedLine};
@@ -51,20 +49,6 @@ fn write_sides(
     write_rejected(text, row, left[i], right[i])
 }
 
-// The verdict on a round of a loaded sheet.
-fn judge_loaded(h: Header, entries: [[u32; 8]; 8], statement: [u32; 8], round: Round) -> Verdict
-    requires { ⌜ Valid (instanceWith h entries statement) ⌝ }
-    ensures { λ r. ⌜ r ≡ judgeLoaded (instanceWith h entries statement) round ⌝ }
-{
-    let t = round.commitment;
-    let r = round.response;
-    let refusal = round_refusal(h, t, round.challenge, r);
-    if refusal != 0 {
-        return Verdict::Refused(refusal);
-    }
-    verdict(h, entries, statement, t, round.challenge, r)
-}
-
 // Stores the line on the round that stands first in a file, at the start: `accepted`, the first differing row with both its
 // values, or a refusal with the offset of the first value that breaks its rule.
 pub fn write_judged(
@@ -75,16 +59,19 @@ pub fn write_judged(
     file: &[u8],
 ) -> usize
     requires valid { ⌜ Valid (instanceWith h entries statement) ⌝ }
-    requires within { ⌜ 7 + recordLength (challengeWidth (now file)) h ≤ length (now file) ⌝ }
+    requires file { ⌜ IsRoundFile h (now file) ⌝ }
+    requires some { ⌜ 0 < countField (now file) ⌝ }
     requires room { ⌜ 48 ≤ length (now text) ⌝ }
     ensures placed { λ r. ⌜ Placed (now (text .entry)) 0 (judgedLine (instanceWith h entries statement) (now (file .entry)))
         (now (text .exit)) r ⌝ }
     ensures short { λ r. ⌜ r ≤ 48 ⌝ }
 {
-    let round = round_at(h, file, START);
-    match judge_loaded(h, entries, statement, round) {
+    match verdict_at(h, entries, statement, file, 0) {
         Verdict::Accepted => write_word(text, 0, b"accepted\n"),
-        Verdict::Rejected(row) => write_sides(text, h, entries, statement, round, row),
+        Verdict::Rejected(row) => {
+            let round = round_at(h, file, START);
+            write_sides(text, h, entries, statement, round, row)
+        }
         Verdict::Refused(number) => write_refused(text, number, round_spot(h, file, number)),
     }
 }

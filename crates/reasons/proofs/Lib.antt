@@ -4,6 +4,7 @@ pub mod Words
 pub mod SheetSpots
 pub mod FileSpots
 pub mod RoundSpots
+pub mod Apart
 pub mod Line
 pub mod Judged
 pub mod Cut

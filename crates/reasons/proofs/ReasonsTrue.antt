@@ -23,6 +23,7 @@ use Rattle.reasons.specs.ReasonsTrue.{
   reasonConditions,
   reasonNumbers,
 }
+use Rattle.reasons.proofs.Apart.{apart}
 use Rattle.reasons.proofs.Cut.{line-cut}
 use Rattle.rules.proofs.Explains.{Explains, explains-append, explains-caused, explains-given, rising-first}
 use Rattle.reasons.proofs.FileSpots.{file-explained}
@@ -78,6 +79,7 @@ reasons-true = record {
   number = number;
   broken = broken;
   refused = refused;
+  apart = λ s f n o l. apart s f o l n;
   judged = line-judged;
   accepted = line-accepted;
   kept = λ a b enough enough′ s f. line-cut a b enough enough′ s f (length s) (length f);

@@ -71,6 +71,8 @@ pub record ReasonsTrue : Type 0 where
       → (reasonNumber s f ≡ n) ↔ (((o : ℕ) × Breaks s f n o) ⊎ ((l : ℕ) × LengthBreaks s f n l))
   -- a refusal is told with the offset of the first value that breaks its rule, or with the length that does
   pub refused : (s f : List ℕ) → 0 < reasonNumber s f → OffsetLine s f (reasonNumber s f) ⊎ LengthLine s f (reasonNumber s f)
+  -- no rule is broken by a value and by a length, so a length is told exactly where one breaks the rule
+  pub apart : (s f : List ℕ) (n o l : ℕ) → Breaks s f n o → ¬ LengthBreaks s f n l
   -- where nothing is refused, the line is `accepted`, or it has the first differing row and both sides' values, that of [r] first
   pub judged : (s f : List ℕ) → reasonNumber s f ≡ 0 → (reasonText s f ≡ ascii "accepted\n") ⊎ RejectedLine s f
   -- `accepted` is printed exactly where judging accepts round 0

@@ -1,8 +1,10 @@
-// The marker's lines (01, "The marker's lines"): of a word and a number, of each round of a file, and the last.
+// The marker's lines (01, "The marker's lines"): of a word and a number, of each round of a file, and the last; and the verdict
+// on a round of a file.
 mod lines; // lines.rt: the text of one line
 mod rounds; // rounds.rt: a line for each round
 
 pub use lines::write_line;
 pub use lines::write_result;
 pub use rounds::Written;
+pub use rounds::verdict_at;
 pub use rounds::write_rounds;

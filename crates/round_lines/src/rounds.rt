@@ -25,7 +25,7 @@ pub struct Written {
 }
 
 // The verdict on round k of a file.
-fn verdict_at(
+pub fn verdict_at(
     h: Header,
     entries: [[u32; 8]; 8],
     statement: [u32; 8],

@@ -1,11 +1,11 @@
-//! Vic keeps a file of rounds, and a marker judges each of them.
+//! Vic keeps a file of rounds, a marker judges each of them, and a student is told the reason.
 
 mod common;
 
 use common::page_a;
 use dimkhoros::{
-    EMPTY_FILE, Instance, LONGEST_FILE, LONGEST_TEXT, Refusal, Round, RoundFile, RoundWriter, mark,
-    places,
+    EMPTY_FILE, Instance, LONGEST_FILE, LONGEST_REASON, LONGEST_TEXT, Refusal, Round, RoundFile,
+    RoundWriter, mark, places, reason,
 };
 
 /// A round of page A's sheet.
@@ -26,12 +26,22 @@ fn describe(instance: &Instance, file: &RoundFile<'_>, number: usize) -> Result<
     Ok(format!("{length} bytes from byte {offset} on, t = {t}, c = {c}, r = {r}, {verdict}"))
 }
 
+/// The reason's line on a file of one round.
+fn reason_alone(instance: &Instance, round: &Round) -> Result<String, Refusal> {
+    let mut buffer = [0; LONGEST_FILE];
+    let mut writer = RoundWriter::start(instance, &mut buffer)?;
+    writer.append(round)?;
+    let mut line = [0; LONGEST_REASON];
+    Ok(reason(instance.bytes(), writer.file().bytes(), &mut line).to_string())
+}
+
 fn main() -> Result<(), Refusal> {
     let instance = page_a()?;
+    let rounds = [round(9, 3, 4), round(9, 1, 1), round(9, 1, 2), round(5, 0, 0)];
     let mut buffer = [0; LONGEST_FILE];
     let mut writer = RoundWriter::start(&instance, &mut buffer)?;
-    for round in [round(9, 3, 4), round(9, 1, 1), round(9, 1, 2), round(5, 0, 0)] {
-        writer.append(&round)?;
+    for round in &rounds {
+        writer.append(round)?;
     }
     let file = writer.file();
     println!("The file: {} rounds in {} bytes.", file.count(), file.bytes().len());
@@ -43,5 +53,8 @@ fn main() -> Result<(), Refusal> {
     }
     let mut text = [0; LONGEST_TEXT];
     print!("The marker's text:\n{}", mark(instance.bytes(), file.bytes(), &mut text));
+    for (number, round) in rounds.iter().enumerate() {
+        print!("The reason on round {number} alone: {}", reason_alone(&instance, round)?);
+    }
     Ok(())
 }

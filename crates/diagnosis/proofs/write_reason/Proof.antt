@@ -5,7 +5,7 @@ use native.Mathlib.Omega.{arith}
 use Rattle.instance.proofs.Answers.{answer-few, answer-header, answer-number, answer-valid}
 use Rattle.reasons.specs.Lines.{refusedLine}
 use Rattle.diagnosis.proofs.Pieces.{line-inside, placed-as}
-use Rattle.diagnosis.proofs.WholeLine.{file-line, first-inside, judged-line, sheet-line}
+use Rattle.diagnosis.proofs.WholeLine.{file-line, file-read, judged-line, sheet-line}
 use Rattle.diagnosis.proofs.write_reason.Statement.{statement}
 use Rattle.diagnosis.proofs.write_reason.Tie as tie
 
@@ -66,8 +66,8 @@ write-judged-requires c κs =
     let loaded = checked .before .before in
     let is-load = loaded .before .load .ensures in
     let passed = loaded .if1 .left in
-    let inside = first-inside _ _ is-load passed (checked .check-in .ensures) (entered .before .if2 .left) in
-    (answer-valid _ _ is-load passed (entered .loaded-entries .ensures), (inside, omega arith))
+    let (file, some) = file-read _ _ is-load passed (checked .check-in .ensures) (entered .before .if2 .left) in
+    (answer-valid _ _ is-load passed (entered .loaded-entries .ensures), (file, (some, omega arith)))
 
 returns-3 : tie.Need-returns-3
 returns-3 c =

@@ -3,15 +3,14 @@
 use native.Mathlib.Omega.{arith}
 use borrow.Author.Needs.{needs}
 use Rattle.encoding.specs.Text.{ascii}
-use Rattle.diagnosis.proofs.JudgedLine.{accepted-told, refused-told, rejected-inside, rejected-told}
+use Rattle.diagnosis.proofs.JudgedLine.{accepted-told, first-inside, refused-told, rejected-inside, rejected-told}
 use Rattle.diagnosis.proofs.judged.write_judged.Statement.{statement}
 use Rattle.diagnosis.proofs.judged.write_judged.Tie as tie
 
-round-at-requires : tie.Need-round-at-requires
-round-at-requires c κs = omega arith
-
-judge-loaded-requires : tie.Need-judge-loaded-requires
-judge-loaded-requires c κs = c .before .before .before .pre .0
+verdict-at-requires : tie.Need-verdict-at-requires
+verdict-at-requires c κs =
+    let (valid, (file, (some, room))) = c .before .before .pre in
+    (valid, (file, some))
 
 enum-told : tie.Need-enum-told
 enum-told c = search needs
@@ -25,19 +24,25 @@ write-word-requires c κs = omega arith
 enum-known-row : tie.Need-enum-known-row
 enum-known-row c = search needs
 
+round-at-requires : tie.Need-round-at-requires
+round-at-requires c κs =
+    let (valid, (file, (some, room))) = c .before .before .before .before .before .before .pre in
+    (valid .table .few-rows, (valid .table .few-columns, first-inside file some))
+
 write-sides-requires : tie.Need-write-sides-requires
 write-sides-requires c κs =
-    let row = c .before .before in
+    let row = c .before .before .before in
     let judged = row .before .before in
-    let (valid, (within, room)) = judged .before .before .before .before .pre in
-    let is-round = judged .before .round-at .ensures in
-    (valid, (rejected-inside _ _ is-round (judged .judge-loaded .ensures) valid _ (row .row .given .1), omega arith))
+    let valid = judged .before .before .before .pre .0 in
+    (valid, (rejected-inside _ _ (judged .verdict-at .ensures) valid _ (row .row .given .1), omega arith))
 
 enum-known-number : tie.Need-enum-known-number
 enum-known-number c = search needs
 
 round-spot-requires : tie.Need-round-spot-requires
-round-spot-requires c κs = omega arith
+round-spot-requires c κs =
+    let (valid, (file, (some, room))) = c .before .before .before .before .before .before .before .pre in
+    (omega arith, (valid .table .few-rows, (valid .table .few-columns, first-inside file some)))
 
 write-refused-requires : tie.Need-write-refused-requires
 write-refused-requires c κs = omega arith
@@ -51,8 +56,7 @@ returns c =
     let written = c .before .before in
     let told = written .before .before .before in
     let judged = told .before .before in
-    let is-round = judged .before .round-at .ensures in
-    let line = accepted-told _ _ is-round (judged .judge-loaded .ensures) (told .enum-told .given .1) in
+    let line = accepted-told _ _ (judged .verdict-at .ensures) (told .enum-told .given .1) in
     (rw line (written .write-word .ensures), omega (arith, written .write-word .ensures .behind))
 
 same-length-2 : tie.Need-same-length-2
@@ -61,10 +65,10 @@ same-length-2 c = omega arith
 returns-2 : tie.Need-returns-2
 returns-2 c =
     let written = c .before .before in
-    let row = written .before .before .before in
+    let read = written .before .before in
+    let row = read .before .before in
     let judged = row .before .before in
-    let is-round = judged .before .round-at .ensures in
-    let line = rejected-told _ _ is-round (judged .judge-loaded .ensures) _ (row .row .given .1) in
+    let line = rejected-told _ _ (judged .verdict-at .ensures) (read .round-at .ensures) _ (row .row .given .1) in
     (rw line (written .write-sides .ensures .0), written .write-sides .ensures .1)
 
 same-length-3 : tie.Need-same-length-3
@@ -76,20 +80,19 @@ returns-3 c =
     let spot = written .before in
     let number = spot .before .before .before in
     let judged = number .before .before in
-    let is-round = judged .before .round-at .ensures in
-    let line = refused-told _ _ is-round (judged .judge-loaded .ensures) _ (number .number .given .1) in
+    let line = refused-told _ _ (judged .verdict-at .ensures) _ (number .number .given .1) in
     (rw (line, ← spot .round-spot .ensures) (written .write-refused .ensures .0), written .write-refused .ensures .1)
 
 pub write-judged-spec : {M : Type 1} → statement M
 write-judged-spec =
     tie.close
     (tie.spec
-    round-at-requires
-    judge-loaded-requires
+    verdict-at-requires
     enum-told
     slice-aggregate-write-word
     write-word-requires
     enum-known-row
+    round-at-requires
     write-sides-requires
     enum-known-number
     round-spot-requires
