@@ -1,4 +1,4 @@
-//! Vic keeps a file of rounds, and a marker judges each of them.
+//! Vic keeps a file of rounds, and a marker judges each of them and says whether they are enough for a level.
 
 mod common;
 
@@ -26,13 +26,31 @@ fn describe(instance: &Instance, file: &RoundFile<'_>, number: usize) -> Result<
     Ok(format!("{length} bytes from byte {offset} on, t = {t}, c = {c}, r = {r}, {verdict}"))
 }
 
+/// Writes the file of these rounds to a buffer.
+fn write_file<'a>(
+    instance: &'a Instance,
+    rounds: &[Round],
+    buffer: &'a mut [u8],
+) -> Result<RoundWriter<'a>, Refusal> {
+    let mut writer = RoundWriter::start(instance, buffer)?;
+    for round in rounds {
+        writer.append(round)?;
+    }
+    Ok(writer)
+}
+
+/// Shows the marker's text on a file at a level, the byte of a level file.
+fn show_mark(instance: &Instance, file: &RoundFile<'_>, level: u8) {
+    let mut text = [0; LONGEST_TEXT];
+    let marked = mark(instance.bytes(), file.bytes(), &[level], &mut text);
+    print!("The marker's text at the level {level}:\n{marked}");
+}
+
 fn main() -> Result<(), Refusal> {
     let instance = page_a()?;
     let mut buffer = [0; LONGEST_FILE];
-    let mut writer = RoundWriter::start(&instance, &mut buffer)?;
-    for round in [round(9, 3, 4), round(9, 1, 1), round(9, 1, 2), round(5, 0, 0)] {
-        writer.append(&round)?;
-    }
+    let mixed = [round(9, 3, 4), round(9, 1, 1), round(9, 1, 2), round(5, 0, 0)];
+    let writer = write_file(&instance, &mixed, &mut buffer)?;
     let file = writer.file();
     println!("The file: {} rounds in {} bytes.", file.count(), file.bytes().len());
     for number in 0..=file.count() {
@@ -41,7 +59,11 @@ fn main() -> Result<(), Refusal> {
             describe(&instance, &file, number).unwrap_or_else(|refusal| refusal.to_string())
         );
     }
-    let mut text = [0; LONGEST_TEXT];
-    print!("The marker's text:\n{}", mark(instance.bytes(), file.bytes(), &mut text));
+    show_mark(&instance, &file, 7);
+    let accepted = [round(9, 3, 4), round(9, 1, 1), round(2, 3, 0)];
+    for (count, level) in [(2, 7), (3, 7), (3, 65)] {
+        let writer = write_file(&instance, &accepted[..count], &mut buffer)?;
+        show_mark(&instance, &writer.file(), level);
+    }
     Ok(())
 }
