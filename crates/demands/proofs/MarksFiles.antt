@@ -1,17 +1,24 @@
 -- The marker's text is what the verdicts of the rounds make it: each line is the one that the statement has as text.
 -- Assumes nothing.
 use Prim.Native.Nat.{ℕ}
-use mathlib.Core.Path.{_≡_, refl, ap, _∙_}
+use mathlib.Core.Path.{_≡_, refl, ap, sym, _∙_}
+use mathlib.Core.Logic.{_⊎_, inl, inr}
+use mathlib.Core.Bool.{Bool, true, false, false≢true}
 use mathlib.Core.List.{List, _++_, append-assoc, flatten}
 use Rattle.types.specs.declared.Verdict.{Verdict}
 use Rattle.types.specs.declared.Verdict.the-variants.{Accepted, Rejected, Refused}
 use Rattle.lists.specs.Places.{tabulate}
 use Rattle.lists.proofs.Places.{tabulate-agree}
 use Rattle.encoding.specs.Text.{ascii, digits, decimal}
+use Rattle.formats.specs.RoundCalls.{countRounds}
 use Rattle.formats.specs.RoundFile.{countField}
-use Rattle.runs.specs.Marker.{newline, wordLine, verdictText, verdictLine, verdictOn, roundLine}
-use Rattle.runs.proofs.Marker.{sheet-line, file-line, round-lines, pass-line, fail-line, round-refusal}
-use Rattle.demands.specs.MarksFiles.{printed, textEnding, MarksFiles}
+use Rattle.formats.specs.Sheet.{headerOf}
+use Rattle.runs.specs.Level.{badLevel, levelOf}
+use Rattle.runs.specs.Marker.{newline, wordLine, verdictText, verdictLine, resultLine, verdictOn, roundLine, failsAt, markerText}
+use Rattle.runs.proofs.Level.{level-passes, says-badLevel}
+use Rattle.runs.proofs.Marker.{empty-fails, passes-at, result-line, round-lines, round-refusal}
+use Rattle.runs.proofs.MarkerRefusal.{file-line, level-line, sheet-line}
+use Rattle.demands.specs.MarksFiles.{printed, textEnding, Passes, MarksFiles}
 
 -- the line of a round
 line-printed : (k : ℕ) (verdict : Verdict) → verdictLine k verdict ≡ printed k verdict
@@ -21,14 +28,28 @@ line-printed k (Rejected row) = simp append-assoc
 line-printed k (Refused number) = simp append-assoc
 
 -- the lines of all rounds behind the count, with a last line
-lines-printed : (sheet f word : List ℕ)
-    → wordLine (ascii "rounds") (countField f) ++ flatten (tabulate (countField f) (roundLine sheet f)) ++ word ++ newline
-    ≡ textEnding sheet f (word ++ newline)
+lines-printed : (sheet f last : List ℕ)
+    → wordLine (ascii "rounds") (countField f) ++ flatten (tabulate (countField f) (roundLine sheet f)) ++ last
+    ≡ textEnding sheet f last
 unfolding wordLine roundLine newline ascii countField
-lines-printed sheet f word =
-    append-assoc (wordLine (ascii "rounds") (countField f) ++ flatten (tabulate (countField f) (roundLine sheet f))) word newline
-    ∙ ap (λ (lines : List (List ℕ)). wordLine (ascii "rounds") (countField f) ++ flatten lines ++ (word ++ newline))
+lines-printed sheet f last =
+    ap (λ (lines : List (List ℕ)). wordLine (ascii "rounds") (countField f) ++ flatten lines ++ last)
     (tabulate-agree (countField f) _ _ (λ k h. line-printed k (verdictOn sheet f k)))
+
+-- the last line is `pass` where the file passes, else `fail`
+ends : (sheet f level : List ℕ) → countRounds sheet f .refusal ≡ 0 → badLevel level ≡ false
+    → (failed : Bool) → failsAt sheet f (levelOf level) (countField f) ≡ failed
+    → (Passes sheet f level × (markerText sheet f level ≡ textEnding sheet f (ascii "pass\n")))
+    ⊎ ((¬ Passes sheet f level) × (markerText sheet f level ≡ textEnding sheet f (ascii "fail\n")))
+unfolding headerOf countField resultLine newline ascii
+ends sheet f level e good false none = inl (
+  passes-at sheet f (levelOf level) (countField f) .0 none,
+  round-lines sheet f level e good ∙ result-line sheet f (levelOf level) (countField f) false none ∙ lines-printed sheet f _,
+)
+ends sheet f level e good true fails = inr (
+  λ passes. false≢true (sym (passes-at sheet f (levelOf level) (countField f) .1 passes) ∙ fails),
+  round-lines sheet f level e good ∙ result-line sheet f (levelOf level) (countField f) true fails ∙ lines-printed sheet f _,
+)
 
 pub marks-files : MarksFiles
 unfolding verdictOn wordLine newline ascii decimal digits countField
@@ -36,8 +57,8 @@ marks-files = record {
   verdicts = λ sheet f k. refl;
   refused-sheet = sheet-line;
   refused-file = file-line;
-  passes = λ sheet f e all. round-lines sheet f e ∙ pass-line sheet f (countField f) all ∙ lines-printed sheet f (ascii "pass");
-  fails = λ sheet f e k h other.
-      round-lines sheet f e ∙ fail-line sheet f (countField f) k h other ∙ lines-printed sheet f (ascii "fail");
+  refused-level = λ sheet f level e refused. level-line sheet f level e (says-badLevel level .complete refused);
+  ending = λ sheet f level e is-level. ends sheet f level e (level-passes level .1 is-level) _ refl;
+  empty-fails = λ sheet f level e is-level z. empty-fails sheet f level e (level-passes level .1 is-level) z;
   round-refusals = round-refusal;
 }

@@ -1,4 +1,4 @@
--- What the cards of 02 ask beyond 01, a field for each card.
+-- What the cards of 02 ask beyond 01, a field for each card. Card 3, which changes the marker, stands in Demand1 and MarksFiles.
 -- Assumes nothing.
 use Rattle.reasons.specs.ReasonsTrue.{ReasonsTrue}
 

@@ -44,7 +44,7 @@ pub record Demands : Type 0 where
   pub patterns : PatternsMean
   -- what is written reads back as what it was, and what reads is written back byte by byte
   pub files : ReadsBack
-  -- the marker's text on a sheet and a round file is what these verdicts make it, word for word
+  -- the marker's text on a sheet, a round file and a level is what these verdicts make it, word for word
   pub marker : MarksFiles
   -- 3: the extractor gives a witness, and simulated and honest rounds are exactly the accepted ones, each met once, for every
   -- sheet that loads

@@ -1,11 +1,13 @@
--- Demand 2's verdicts on whole files (00; 01, "The marker's lines"): the marker's text names the file's own count, has a line
--- for each round with what judging answers on the round as it reads, and ends in `pass` exactly where every round is accepted.
--- A sheet or file that is refused gives one line with its number. The words stand here as text.
+-- Demand 2's verdicts on whole files (00; 01, "The marker's lines"; 02, card 3): the marker's text names the file's own count,
+-- has a line for each round with what judging answers on the round as it reads, and ends in `pass` exactly where every round is
+-- accepted and K to the count of rounds is at least 2^w. A sheet, file or level that is refused gives one line with its number.
+-- The words, the numbers and the places of K, w and the count stand here as they are.
 -- Assumes nothing.
-use Prim.Native.Nat.{ℕ, _<_}
+use Prim.Native.Nat.{ℕ, _^_, _<_, _≤_}
 use mathlib.Core.Path.{_≡_}
-use mathlib.Core.Logic.{_≢_}
+use mathlib.Core.Logic.{_⊎_, _≢_}
 use mathlib.Core.List.{List, [], _∷_, _++_, flatten}
+use lib.ListN.{getD, length}
 use Rattle.types.specs.declared.Verdict.{Verdict}
 use Rattle.types.specs.declared.Verdict.the-variants.{Accepted, Rejected, Refused}
 use Rattle.lists.specs.Member.{Member}
@@ -29,23 +31,36 @@ textEnding sheet f last =
     ascii "rounds " ++ decimal (numberAt 2 f 5) ++ ascii "\n" ++
     flatten (tabulate (numberAt 2 f 5) (λ k. printed k (verdictOn sheet f k))) ++ last
 
+-- a level file of one byte from 1 to 64
+abbrev pub IsLevel : List ℕ → Type 0
+IsLevel level = (length level ≡ 1) × (1 ≤ getD level 0 0) × (getD level 0 0 ≤ 64)
+
+-- every round of a file is accepted, and K, in bytes 14 to 17 of the sheet, to the count of rounds is at least 2^w
+abbrev pub Passes : List ℕ → List ℕ → List ℕ → Type 0
+Passes sheet f level =
+    ((k : ℕ) → k < numberAt 2 f 5 → verdictOn sheet f k ≡ Accepted) ×
+    (2 ^ getD level 0 0 ≤ numberAt 4 sheet 14 ^ numberAt 2 f 5)
+
 pub record MarksFiles : Type 0 where
   -- a round's verdict is what judging answers on the round as the read call gives it
   pub verdicts : (sheet f : List ℕ) (k : ℕ) → verdictOn sheet f k ≡ judgeRound sheet (fetchRound sheet f k .round)
-  -- a refused sheet gives the one line `sheet N`
-  pub refused-sheet : (sheet f : List ℕ) → 0 < loadRefusal sheet
-      → markerText sheet f ≡ ascii "sheet " ++ decimal (loadRefusal sheet) ++ ascii "\n"
-  -- a refused file of a sheet that loads gives the one line `file 12`
-  pub refused-file : (sheet f : List ℕ) → loadRefusal sheet ≡ 0 → 0 < countRounds sheet f .refusal
-      → markerText sheet f ≡ ascii "file 12\n"
-  -- any other file passes where every round is accepted
-  pub passes : (sheet f : List ℕ) → countRounds sheet f .refusal ≡ 0
-      → ((k : ℕ) → k < numberAt 2 f 5 → verdictOn sheet f k ≡ Accepted)
-      → markerText sheet f ≡ textEnding sheet f (ascii "pass\n")
-  -- and fails where some round is not
-  pub fails : (sheet f : List ℕ) → countRounds sheet f .refusal ≡ 0
-      → (k : ℕ) → k < numberAt 2 f 5 → verdictOn sheet f k ≢ Accepted
-      → markerText sheet f ≡ textEnding sheet f (ascii "fail\n")
+  -- a refused sheet gives the one line `sheet N`, whatever the file and the level are
+  pub refused-sheet : (sheet f level : List ℕ) → 0 < loadRefusal sheet
+      → markerText sheet f level ≡ ascii "sheet " ++ decimal (loadRefusal sheet) ++ ascii "\n"
+  -- a refused file of a sheet that loads gives the one line `file 12`, whatever the level is
+  pub refused-file : (sheet f level : List ℕ) → loadRefusal sheet ≡ 0 → 0 < countRounds sheet f .refusal
+      → markerText sheet f level ≡ ascii "file 12\n"
+  -- a level that is not one byte from 1 to 64, beside a file that reads, gives the one line `level 25`
+  pub refused-level : (sheet f level : List ℕ) → countRounds sheet f .refusal ≡ 0
+      → (length level ≢ 1) ⊎ (getD level 0 0 < 1) ⊎ (64 < getD level 0 0)
+      → markerText sheet f level ≡ ascii "level 25\n"
+  -- any other text ends in `pass` exactly where the file passes, else in `fail`
+  pub ending : (sheet f level : List ℕ) → countRounds sheet f .refusal ≡ 0 → IsLevel level
+      → (Passes sheet f level × (markerText sheet f level ≡ textEnding sheet f (ascii "pass\n")))
+      ⊎ ((¬ Passes sheet f level) × (markerText sheet f level ≡ textEnding sheet f (ascii "fail\n")))
+  -- so a file of no rounds fails at every level
+  pub empty-fails : (sheet f level : List ℕ) → countRounds sheet f .refusal ≡ 0 → IsLevel level → numberAt 2 f 5 ≡ 0
+      → markerText sheet f level ≡ ascii "rounds 0\nfail\n"
   -- of a sheet that loads, a round is refused with 14, 15 or 16
   pub round-refusals : (sheet f : List ℕ) → loadRefusal sheet ≡ 0 → (k number : ℕ) → verdictOn sheet f k ≡ Refused number
       → Member number (14 ∷ 15 ∷ 16 ∷ [])

@@ -100,6 +100,7 @@ use Rattle.formats.specs.Sheet.{
 use Rattle.formats.specs.Write.{short, written, writtenAtStart}
 use Rattle.runs.specs.Calls.{judgeRound, simulateCommitment, extractWitness}
 use Rattle.runs.specs.Knowledge.{honestRound}
+use Rattle.runs.specs.Level.{badLevel, strongEnough}
 use Rattle.runs.specs.Marker.{
   newline,
   wordLine,
@@ -108,7 +109,11 @@ use Rattle.runs.specs.Marker.{
   resultLine,
   verdictOn,
   roundLine,
+  failsAt,
   roundLines,
+  markRules,
+  markRefusal,
+  refusedWord,
   markerText,
 }
 use Rattle.runs.specs.Prover.{
@@ -167,6 +172,8 @@ use Rattle.examples.specs.Corners.{
   noBytes,
   counting,
   appending,
+  marking,
+  lastLine,
   extracting,
   simulating,
   peggy,
@@ -180,7 +187,7 @@ use Rattle.examples.specs.Corners.{
   EveryCorner,
 }
 use Rattle.examples.specs.MarkerExample.{exampleFile, exampleText}
-use Rattle.examples.specs.Pages.{array, smallRound, run, bothWays, judging, reasonOn, EveryPage}
+use Rattle.examples.specs.Pages.{array, smallRound, run, bothWays, judging, repeated, reasonOn, EveryPage}
 use Rattle.examples.specs.Sheets.{
   fourBytes,
   sheetBytes,
@@ -216,7 +223,8 @@ unfolding euclid gcd residue quotient power bezoutRight bezoutLeft inverse produ
     extracting simulating peggy committing responding dropping vic hearing asking telling noRounds badInUse
     appendRules recordBytes appended appendAfter append emptyFile noHeader load loadEntries encodeRules encode
     dropRules dropSession checkRound firstNonElement firstNonCoordinate sheetSpot fileSpot roundSpot spotOf firstVerdict
-    spotText rowText lineText reasonLine reasonText reasonOn
+    spotText rowText lineText reasonLine reasonText repeated reasonOn badLevel strongEnough failsAt markRules markRefusal
+    refusedWord marking lastLine
 worked-examples = (
   record {
     A = refl;
@@ -233,6 +241,9 @@ worked-examples = (
     no-rounds = refl;
     no-sheet = refl;
     no-file = refl;
+    no-level = refl;
+    two-rounds = refl;
+    three-rounds = refl;
     accepted = refl;
     rejected = refl;
     refused = refl;
@@ -261,5 +272,7 @@ worked-examples = (
     refusal20 = (refl, refl);
     refusal21 = (refl, refl);
     refusal22 = (refl, refl);
+    refusal25 = (refl, refl);
+    enough = (refl, refl);
   },
 )

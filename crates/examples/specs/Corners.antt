@@ -1,10 +1,10 @@
 -- 01's refusals at their bounds ("Turned back"): for each number inputs just inside its condition's bounds, which are not
 -- refused, and inputs outside, which are refused with it.
 -- Assumes nothing.
-use Prim.Native.Nat.{ℕ}
+use Prim.Native.Nat.{ℕ, _-_}
 use mathlib.Core.Path.{_≡_}
 use mathlib.Core.List.{List, [], _∷_, _++_, map}
-use lib.ListN.{length, replicate, take}
+use lib.ListN.{drop, length, replicate, take}
 use lib.Seq.{sets}
 use Rattle.types.specs.declared.Prover.{Prover}
 use Rattle.types.specs.declared.ProverPhase.{ProverPhase}
@@ -12,8 +12,9 @@ use Rattle.types.specs.declared.ProverPhase.the-variants.{New, Committed, Answe
 use Rattle.types.specs.declared.Verifier.{Verifier}
 use Rattle.types.specs.declared.VerifierPhase.{VerifierPhase}
 use Rattle.types.specs.declared.VerifierPhase.the-variants.{Waiting, Holding, Asked, Judged}
+use Rattle.encoding.specs.Text.{ascii}
 use Rattle.examples.specs.MarkerExample.{exampleFile}
-use Rattle.examples.specs.Pages.{array, judging, smallRound}
+use Rattle.examples.specs.Pages.{array, judging, repeated, smallRound}
 use Rattle.examples.specs.Sheets.{schnorrSheet, sheetBytes, smallSheet}
 use Rattle.formats.specs.Append.{append, emptyFile}
 use Rattle.formats.specs.Encode.{encode}
@@ -21,6 +22,7 @@ use Rattle.formats.specs.Load.{loadRefusal, loaded}
 use Rattle.formats.specs.Pattern.{fromPattern}
 use Rattle.formats.specs.RoundCalls.{checkRound, countRounds}
 use Rattle.runs.specs.Calls.{extractWitness, simulateCommitment}
+use Rattle.runs.specs.Marker.{markRefusal, markerText}
 use Rattle.runs.specs.Prover.{commit, dropSession, respond}
 use Rattle.runs.specs.Verifier.{takeChallenge, takeCommitment, takeResponse}
 use Rattle.sigma.specs.Answer.{outcome}
@@ -80,6 +82,18 @@ counting file = countRounds schnorrSheet file .refusal
 unfoldable pub appending : ℕ → ℕ → ℕ → ℕ → ℕ
 appending high low bytes used = append schnorrSheet (zerosFile high low bytes) used (smallRound 9 3 4) .answer .refusal
 
+-- ---- the marker
+
+-- the number of the marker's one line on the marker's example at a level
+unfoldable pub marking : List ℕ → ℕ
+marking level = markRefusal schnorrSheet exampleFile level
+
+-- the last line on so many rounds (1, 0, 0) of the sheet m 3, q 65,537, K 65,536
+unfoldable pub lastLine : ℕ → ℕ → List ℕ
+lastLine count w =
+    let text : List ℕ = markerText (manyChallenges 0) (repeated count 1 0 0) (w ∷ []) in
+    drop (length text - 5) text
+
 -- ---- rounds and sessions of page A's sheet, and of page G's where a sheet is named
 
 -- the extractor's number for the rounds (9, 3, 4) and (t, c, r)
@@ -120,7 +134,7 @@ asking c v = takeChallenge schnorrSheet v c .refusal
 unfoldable pub telling : ℕ → Verifier → ℕ
 telling r v = outcome (takeResponse schnorrSheet v (array (r ∷ [])) .verdict) .number
 
--- every refusal of 01 at its bounds
+-- every refusal at its bounds
 pub record EveryCorner : Type 0 where
   -- sheets
   pub refusal1 :
@@ -203,3 +217,7 @@ pub record EveryCorner : Type 0 where
   pub refusal22 :
       Corner 22 (writingIn 28 ++ emptyFile (replicate 7 0) .answer .refusal ∷ appending 0 0 12 7 ∷ [])
       (writingIn 27 ++ emptyFile (replicate 6 0) .answer .refusal ∷ appending 0 0 11 7 ∷ [])
+  -- the marker's level (02, card 3)
+  pub refusal25 : Corner 25 (map marking ((1 ∷ []) ∷ (64 ∷ []) ∷ [])) (map marking ([] ∷ (7 ∷ 7 ∷ []) ∷ (0 ∷ []) ∷ (65 ∷ []) ∷ []))
+  -- and how many rounds it asks for: four of K 65,536 are exactly 2^64, and three are less
+  pub enough : (lastLine 4 64 ≡ ascii "pass\n") × (lastLine 3 64 ≡ ascii "fail\n")

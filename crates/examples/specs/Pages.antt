@@ -2,12 +2,14 @@
 -- Assumes nothing.
 use Prim.Native.Nat.{ℕ}
 use mathlib.Core.Path.{_≡_}
-use mathlib.Core.List.{List, [], _∷_, _++_, map}
+use mathlib.Core.List.{List, [], _∷_, _++_, flatten, map}
 use lib.ListN.{replicate, take}
 use Rattle.types.specs.declared.Round.{Round}
 use Rattle.lists.specs.Places.{places}
+use Rattle.encoding.specs.Text.{ascii}
 use Rattle.examples.specs.MarkerExample.{exampleFile, exampleText}
 use Rattle.examples.specs.Sheets.{
+  fourBytes,
   smallSheet,
   schnorrSheet,
   okamotoSheet,
@@ -51,11 +53,14 @@ bothWays sheet first second =
 unfoldable pub judging : List ℕ → ℕ → ℕ → ℕ → ℕ
 judging sheet t c r = outcome (judgeRound sheet (smallRound t c r)) .number
 
+-- a file that has the round (t, c, r) so many times, for numbers below 256
+unfoldable pub repeated : ℕ → ℕ → ℕ → ℕ → List ℕ
+repeated count t c r =
+    0x52 ∷ 0x4E ∷ 0x44 ∷ 0 ∷ 1 ∷ 0 ∷ count ∷ [] ++ flatten (replicate count (fourBytes t ++ fourBytes c ++ fourBytes r))
+
 -- the line of the reason on page A's sheet and a file of the one round (t, c, r)
 unfoldable pub reasonOn : ℕ → ℕ → ℕ → List ℕ
-reasonOn t c r =
-    reasonText schnorrSheet
-    (0x52 ∷ 0x4E ∷ 0x44 ∷ 0 ∷ 1 ∷ 0 ∷ 1 ∷ 0 ∷ 0 ∷ 0 ∷ t ∷ 0 ∷ 0 ∷ 0 ∷ c ∷ 0 ∷ 0 ∷ 0 ∷ r ∷ [])
+reasonOn t c r = reasonText schnorrSheet (repeated 1 t c r)
 
 -- the starred pages, A to J, texts of the marker and lines of the reason: what the definitions give is what 01 and 02 print
 pub record EveryPage : Type 0 where
@@ -73,14 +78,19 @@ pub record EveryPage : Type 0 where
       map loadRefusal (smallSheet 23 11 11 2 13 ∷ smallSheet 23 11 12 2 13 ∷ smallSheet 31 15 3 1 1 ∷ smallSheet 31 15 4 1 1 ∷ [])
       ≡ 0 ∷ 8 ∷ 0 ∷ 8 ∷ []
   pub J : judging schnorrSheet 5 0 0 ∷ judging schnorrSheet 9 0 10 ∷ judging schnorrSheet 9 0 11 ∷ [] ≡ 14 ∷ 0 ∷ 16 ∷ []
-  -- the marker's example; on a file of no rounds it prints rounds 0 and pass, on a sheet of no bytes sheet 2, on a file of no
-  -- bytes file 12
-  pub marker : markerText schnorrSheet exampleFile ≡ exampleText
+  -- the marker's example at the level 7; on a file of no rounds it prints rounds 0 and fail at the least level, on a sheet of no
+  -- bytes sheet 2 and on a file of no bytes file 12, though there is no level, and on a level of no bytes level 25
+  pub marker : markerText schnorrSheet exampleFile (7 ∷ []) ≡ exampleText
   pub no-rounds :
-      markerText schnorrSheet (take 5 exampleFile ++ 0 ∷ 0 ∷ [])
-      ≡ 0x72 ∷ 0x6F ∷ 0x75 ∷ 0x6E ∷ 0x64 ∷ 0x73 ∷ 0x20 ∷ 0x30 ∷ 0x0A ∷ 0x70 ∷ 0x61 ∷ 0x73 ∷ 0x73 ∷ 0x0A ∷ []
-  pub no-sheet : markerText [] exampleFile ≡ 0x73 ∷ 0x68 ∷ 0x65 ∷ 0x65 ∷ 0x74 ∷ 0x20 ∷ 0x32 ∷ 0x0A ∷ []
-  pub no-file : markerText schnorrSheet [] ≡ 0x66 ∷ 0x69 ∷ 0x6C ∷ 0x65 ∷ 0x20 ∷ 0x31 ∷ 0x32 ∷ 0x0A ∷ []
+      markerText schnorrSheet (take 5 exampleFile ++ 0 ∷ 0 ∷ []) (1 ∷ [])
+      ≡ 0x72 ∷ 0x6F ∷ 0x75 ∷ 0x6E ∷ 0x64 ∷ 0x73 ∷ 0x20 ∷ 0x30 ∷ 0x0A ∷ 0x66 ∷ 0x61 ∷ 0x69 ∷ 0x6C ∷ 0x0A ∷ []
+  pub no-sheet : markerText [] exampleFile [] ≡ 0x73 ∷ 0x68 ∷ 0x65 ∷ 0x65 ∷ 0x74 ∷ 0x20 ∷ 0x32 ∷ 0x0A ∷ []
+  pub no-file : markerText schnorrSheet [] [] ≡ 0x66 ∷ 0x69 ∷ 0x6C ∷ 0x65 ∷ 0x20 ∷ 0x31 ∷ 0x32 ∷ 0x0A ∷ []
+  pub no-level : markerText schnorrSheet exampleFile [] ≡ 0x6C ∷ 0x65 ∷ 0x76 ∷ 0x65 ∷ 0x6C ∷ 0x20 ∷ 0x32 ∷ 0x35 ∷ 0x0A ∷ []
+  -- 02, card 3: with K 11 and the level 7 two accepted rounds fail (121), and three do not
+  pub two-rounds : markerText schnorrSheet (repeated 2 9 3 4) (7 ∷ []) ≡ ascii "rounds 2\n0 accepted\n1 accepted\nfail\n"
+  pub three-rounds :
+      markerText schnorrSheet (repeated 3 9 3 4) (7 ∷ []) ≡ ascii "rounds 3\n0 accepted\n1 accepted\n2 accepted\npass\n"
   -- the reason on the marker's example is `accepted`; on (9,1,2) it is rejected 0 4 2, on a response slot 11 refused 16 15, and on
   -- the example without its last byte refused 12 length 54
   pub accepted : reasonText schnorrSheet exampleFile ≡ 0x61 ∷ 0x63 ∷ 0x63 ∷ 0x65 ∷ 0x70 ∷ 0x74 ∷ 0x65 ∷ 0x64 ∷ 0x0A ∷ []

@@ -4,3 +4,4 @@ pub mod Reduction
 pub mod Power
 pub mod Lanes
 pub mod Places
+pub mod Bounded

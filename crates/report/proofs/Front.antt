@@ -9,13 +9,14 @@ use Rattle.encoding.specs.Front.{FrontOf}
 use Rattle.runs.specs.Marker.{markerText}
 use Rattle.runs.proofs.MarkerCut.{text-cut}
 
--- arrays of 309 and 34,824 bytes hold enough of a sheet and of a round file for the text on the whole files
-pub whole-text : (sheet rounds : List ℕ) (n k : ℕ) → 309 ≤ length sheet → 34824 ≤ length rounds
+-- arrays of 309, 34,824 and two bytes hold enough of a sheet, of a round file and of a level for the text on the whole files
+pub whole-text : (sheet rounds level : List ℕ) (n k j : ℕ) → 309 ≤ length sheet → 34824 ≤ length rounds → 2 ≤ length level
     → (before : List ℕ) {after : List ℕ} {r : ℕ}
-    → r ≡ length (markerText (take n sheet) (take k rounds)) → after ≡ sets before 0 (markerText (take n sheet) (take k rounds))
-    → (s f : List ℕ) → FrontOf sheet n s → FrontOf rounds k f
-    → (r ≡ length (markerText s f)) × (after ≡ sets before 0 (markerText s f))
-whole-text sheet rounds n k enough enough′ before answered stored s f is-front is-front′ =
-    let same : markerText (take n sheet) (take k rounds) ≡ markerText s f =
-    ap₂ markerText is-front is-front′ ∙ text-cut (length sheet) (length rounds) enough enough′ s f in
+    → r ≡ length (markerText (take n sheet) (take k rounds) (take j level))
+    → after ≡ sets before 0 (markerText (take n sheet) (take k rounds) (take j level))
+    → (s f w : List ℕ) → FrontOf sheet n s → FrontOf rounds k f → FrontOf level j w
+    → (r ≡ length (markerText s f w)) × (after ≡ sets before 0 (markerText s f w))
+whole-text sheet rounds level n k j enough enough′ enough″ before answered stored s f w is-sheet is-file is-level =
+    let same : markerText (take n sheet) (take k rounds) (take j level) ≡ markerText s f w =
+    rw (is-sheet, is-file, is-level) (text-cut (length sheet) (length rounds) (length level) enough enough′ enough″ s f w) in
     (answered ∙ ap length same, stored ∙ ap (sets before 0) same)

@@ -1,4 +1,4 @@
--- Laws that the proofs of the functions cite: the rounds' lines one by one, and the whole text.
-pub mod LineByLine
+-- Laws that the proofs of the functions cite: the level, the whole text, and the text on long files.
+pub mod AtLevel
 pub mod WholeText
 pub mod Front

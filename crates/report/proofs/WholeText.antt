@@ -1,10 +1,10 @@
--- The whole text (01, "The marker's lines") by what loading the sheet and counting the file answer.
+-- The whole text (01, "The marker's lines"; 02, card 3) by what loading the sheet, counting the file and testing the level answer.
 -- Assumes nothing.
 use Prim.Native.Nat.{ℕ, _+_, _≤_, _<_}
-use mathlib.Core.Path.{_≡_, sym, ap, _∙_}
+use mathlib.Core.Path.{_≡_, refl, sym, ap, _∙_}
 use mathlib.Core.Logic.{_≢_}
-use mathlib.Core.Bool.{not}
-use mathlib.Core.List.{List, [], _++_, append-assoc, flatten}
+use mathlib.Core.Bool.{Bool, false, not, _||_}
+use mathlib.Core.List.{List, [], _∷_, _++_, flatten}
 use native.Mathlib.Omega.{arith}
 use lib.ListN.{length, length-append}
 use lib.Seq.{length-sets, sets}
@@ -17,28 +17,33 @@ use Rattle.lists.specs.Places.{tabulate}
 use Rattle.lists.proofs.Places.{tabulate-agree}
 use Rattle.encoding.specs.Placed.{Placed}
 use Rattle.encoding.specs.Text.{ascii}
+use Rattle.rules.specs.Rule.{_when_, lowest}
 use Rattle.sigma.specs.Answer.{isAccepted}
 use Rattle.formats.specs.Load.{load}
 use Rattle.formats.specs.Meaning.{IsRoundFile}
 use Rattle.formats.specs.RoundCalls.{countAfter, countRounds}
 use Rattle.formats.specs.RoundFile.{countField}
-use Rattle.formats.specs.Sheet.{entriesOf, instanceOf}
+use Rattle.formats.specs.Sheet.{entriesOf, headerOf, instanceOf}
 use Rattle.formats.proofs.After.{countAfter-clear}
 use Rattle.formats.proofs.Files.{count-given, count-runs}
-use Rattle.runs.specs.Marker.{markerText, roundLine, roundLines, verdictLine, verdictOn, wordLine}
-use Rattle.runs.proofs.Marker.{file-line, file-refusal, round-lines, sheet-line, verdict-on-record}
-use Rattle.runs.proofs.MarkerLength.{text-short}
+use Rattle.runs.specs.Level.{badLevel, levelOf, strongEnough}
+use Rattle.runs.specs.Marker.{failsAt, markerText, resultLine, roundLine, roundLines, verdictLine, verdictOn, wordLine}
+use Rattle.runs.proofs.Marker.{round-lines, verdict-on-record}
+use Rattle.runs.proofs.MarkerLength.{length-resultLine, text-short}
+use Rattle.runs.proofs.MarkerRefusal.{file-line, file-refusal, level-line, sheet-line}
 use Rattle.instance.proofs.Answers.{answer-number, answer-header, answer-instance, answer-header-call}
 use Rattle.sigma.specs.Instance.{instanceWith}
-use Rattle.report.specs.Lines.{failsIn, linesIn, roundsIn, verdictIn}
+use Rattle.round_lines.specs.Lines.{failsIn, linesIn, verdictIn}
+use Rattle.report.proofs.AtLevel.{level-bad, level-good}
 
 -- the marker's text placed at the start of 7,696 bytes is what the contract asks for
-pub text-placed : (s f : List ℕ) {l bytes m : List ℕ} {r : ℕ} → 7696 ≤ length l → markerText s f ≡ bytes → Placed l 0 bytes m r
-    → (r ≤ length m) × ((r ≡ length (markerText s f)) × (m ≡ sets l 0 (markerText s f)))
-text-placed s f {l} {bytes} {m} {r} room e placed =
-    let size : r ≡ length (markerText s f) = rw e (omega (arith, placed .behind)) in
+pub text-placed : (s f level : List ℕ) {l bytes m : List ℕ} {r : ℕ} → 7696 ≤ length l → markerText s f level ≡ bytes
+    → Placed l 0 bytes m r
+    → (r ≤ length m) × ((r ≡ length (markerText s f level)) × (m ≡ sets l 0 (markerText s f level)))
+text-placed s f level {l} {bytes} {m} {r} room e placed =
+    let size : r ≡ length (markerText s f level) = rw e (omega (arith, placed .behind)) in
     let kept : length m ≡ length l = rw (placed .stored) (length-sets l 0 bytes) in
-    (omega (arith, text-short s f), (size, rw e (placed .stored)))
+    (omega (arith, text-short s f level), (size, rw e (placed .stored)))
 
 -- ---- the rounds of a sheet that loads and a file that reads
 
@@ -59,19 +64,23 @@ module _ (s f : List ℕ) (e : countRounds s f .refusal ≡ 0) where
   unfolding failsIn
   fails-same = any-agree (countField f) _ _ (λ k h. ap (λ (v : Verdict). not (isAccepted v)) (verdict-same k h))
 
-  -- the whole text
-  rounds-same : markerText s f ≡ wordLine (ascii "rounds") (countField f) ++ roundsIn (instanceOf s) f (countField f)
-  unfolding roundLines roundsIn
-  rounds-same = round-lines s f e ∙ rw (lines-same, fails-same) (simp append-assoc)
+  -- the whole text at a level
+  rounds-same : (level : List ℕ) → badLevel level ≡ false
+      → markerText s f level
+      ≡ wordLine (ascii "rounds") (countField f) ++ linesIn (instanceOf s) f (countField f)
+      ++ resultLine (failsIn (instanceOf s) f (countField f)
+      || not (strongEnough (headerOf s .challenges) (countField f) (levelOf level)))
+  unfolding roundLines failsAt
+  rounds-same level good = round-lines s f level e good ∙ rw (lines-same, fails-same)
 
 module _ (s f : List ℕ) {loaded : Loaded} (is-load : loaded ≡ load s) where
   -- ---- one line
 
   -- a refused sheet
-  pub sheet-text : loaded .refusal ≢ 0 → markerText s f ≡ wordLine (ascii "sheet") (loaded .refusal)
-  sheet-text some =
+  pub sheet-text : (level : List ℕ) → loaded .refusal ≢ 0 → markerText s f level ≡ wordLine (ascii "sheet") (loaded .refusal)
+  sheet-text level some =
       let number = answer-number s loaded is-load in
-      rw number (sheet-line s f (omega arith))
+      rw number (sheet-line s f level (omega arith))
 
   module _ (passed : loaded .refusal ≡ 0) {counted : Counted} (is-count : counted ≡ countAfter [] (loaded .header) f) where
     -- counting answers the sheet's and the file's number
@@ -80,17 +89,15 @@ module _ (s f : List ℕ) {loaded : Loaded} (is-load : loaded ≡ load s) where
     counts = answer-header-call s loaded is-load passed (λ before h none. countAfter-clear before h none f) is-count
 
     -- a refused file
-    pub file-text : counted .refusal ≢ 0 → markerText s f ≡ wordLine (ascii "file") (counted .refusal)
-    file-text some =
+    pub file-text : (level : List ℕ) → counted .refusal ≢ 0 → markerText s f level ≡ wordLine (ascii "file") (counted .refusal)
+    file-text level some =
         let same : counted .refusal ≡ countRounds s f .refusal = ap (λ (c : Counted). c .refusal) counts in
         let loads = answer-header s loaded is-load passed .0 in
         let refused : 0 < countRounds s f .refusal = omega arith in
-        rw (same, file-refusal s f loads refused) (file-line s f loads refused)
-
-    -- ---- a line for each round
+        rw (same, file-refusal s f loads refused) (file-line s f level loads refused)
 
     module _ (reads : counted .refusal ≡ 0) where
-      -- nothing is refused
+      -- nothing is refused of the sheet and the file
       counted-zero : countRounds s f .refusal ≡ 0
       counted-zero = ap (λ (c : Counted). c .refusal) (sym counts) ∙ reads
 
@@ -101,18 +108,48 @@ module _ (s f : List ℕ) {loaded : Loaded} (is-load : loaded ≡ load s) where
         ap (λ (c : Counted). c .count) (counts ∙ count-given s f counted-zero),
       )
 
-      module _ {entries : List (List ℕ)} (is-entries : entries ≡ entriesOf s (loaded .header)) where
-        -- the whole text
-        pub rounds-text : markerText s f
-            ≡ wordLine (ascii "rounds") (counted .count)
-            ++ roundsIn (instanceWith (loaded .header) entries (loaded .statement)) f (counted .count)
-        rounds-text = rw (answer-instance s loaded is-load passed is-entries, file-reads .1) (rounds-same s f counted-zero)
+      module _ (level : List ℕ) {number : ℕ} (is-number : number ≡ lowest ((25 when badLevel level) ∷ [])) where
+        -- a refused level
+        pub level-text : number ≢ 0 → markerText s f level ≡ wordLine (ascii "level") number
+        level-text some =
+            let (bad, same) = level-bad level is-number some in
+            rw same (level-line s f level counted-zero bad)
 
-        -- which has room
-        pub rounds-fit : length (wordLine (ascii "rounds") (counted .count))
-            + length (roundsIn (instanceWith (loaded .header) entries (loaded .statement)) f (counted .count))
-            ≤ 7696
-        rounds-fit =
-            let line = wordLine (ascii "rounds") (counted .count) in
-            let rounds = roundsIn (instanceWith (loaded .header) entries (loaded .statement)) f (counted .count) in
-            omega (arith, text-short s f, ap length rounds-text, length-append line rounds)
+        -- ---- a line for each round
+
+        module _ (given : number ≡ 0) {entries : List (List ℕ)} (is-entries : entries ≡ entriesOf s (loaded .header)) where
+          -- the whole text
+          pub rounds-text : {round-failed failed : Bool}
+              → round-failed ≡ failsIn (instanceWith (loaded .header) entries (loaded .statement)) f (counted .count)
+              → failed ≡ round-failed || not (strongEnough (loaded .header .challenges) (counted .count) (levelOf level))
+              → markerText s f level
+              ≡ wordLine (ascii "rounds") (counted .count)
+              ++ linesIn (instanceWith (loaded .header) entries (loaded .statement)) f (counted .count) ++ resultLine failed
+          rounds-text is-round is-failed =
+              rw (
+                is-failed,
+                is-round,
+                answer-instance s loaded is-load passed is-entries,
+                answer-header s loaded is-load passed .1,
+                file-reads .1,
+              )
+              (rounds-same s f counted-zero level (level-good level is-number given))
+
+          -- which has room
+          pub rounds-fit : length (wordLine (ascii "rounds") (counted .count))
+              + length (linesIn (instanceWith (loaded .header) entries (loaded .statement)) f (counted .count)) + 5
+              ≤ 7696
+          rounds-fit =
+              let line = wordLine (ascii "rounds") (counted .count) in
+              let rounds = linesIn (instanceWith (loaded .header) entries (loaded .statement)) f (counted .count) in
+              let failed =
+              failsIn (instanceWith (loaded .header) entries (loaded .statement)) f (counted .count)
+              || not (strongEnough (loaded .header .challenges) (counted .count) (levelOf level)) in
+              omega (
+                arith,
+                text-short s f level,
+                ap length (rounds-text refl refl),
+                length-append (line ++ rounds) (resultLine failed),
+                length-append line rounds,
+                length-resultLine failed,
+              )

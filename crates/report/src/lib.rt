@@ -1,12 +1,14 @@
-// The marker's text on a sheet and a round file (01, "The marker's lines").
-mod lines; // lines.rt: the text of one line
-mod rounds; // rounds.rt: a line for each round, and the last line
+// The marker's text on a sheet, a round file and a level (01, "The marker's lines"; 02, card 3).
+mod level; // level.rt: the level, and whether it is reached
 
 use instance::load;
 use instance::loaded_entries;
-use lines::write_line;
+use level::fails_at;
+use level::level_refusal;
 use round_file::count_in;
-use rounds::write_rounds;
+use round_lines::write_line;
+use round_lines::write_result;
+use round_lines::write_rounds;
 ghost use Prim.Native.Nat.{ℕ, _≤_};
 ghost use mathlib.Core.Path.{_≡_};
 ghost use mathlib.Core.List.{List};
@@ -25,12 +27,17 @@ pub const SHEET: usize = 309;
 // The same of a round file.
 pub const ROUNDS: usize = 34824;
 
+// The same of a level, which has one byte.
+pub const LEVEL: usize = 2;
+
 // Stores the marker's text at the start of text and answers its length; no byte behind it is changed. A refused sheet gives
-// the one line `sheet N` and a refused file `file N`; else the text has the count, a line for each round, and `pass` or `fail`.
-pub fn mark(sheet: &[u8], file: &[u8], text: &mut [u8; LONGEST]) -> usize
+// the one line `sheet N`, a refused file `file N` and a refused level `level N`; else the text has the count, a line for each
+// round, and `pass` or `fail`.
+pub fn mark(sheet: &[u8], file: &[u8], level: &[u8], text: &mut [u8; LONGEST]) -> usize
     ensures inside { λ r. ⌜ r ≤ length (now (text .exit)) ⌝ }
-    ensures answer { λ r. ⌜ r ≡ length (markerText (now (sheet .entry)) (now (file .entry))) ⌝ }
-    ensures bytes { λ _. ⌜ now (text .exit) ≡ sets (now (text .entry)) 0 (markerText (now (sheet .entry)) (now (file .entry))) ⌝ }
+    ensures answer { λ r. ⌜ r ≡ length (markerText (now (sheet .entry)) (now (file .entry)) (now (level .entry))) ⌝ }
+    ensures bytes { λ _. ⌜ now (text .exit)
+        ≡ sets (now (text .entry)) 0 (markerText (now (sheet .entry)) (now (file .entry)) (now (level .entry))) ⌝ }
 {
     let loaded = load(sheet);
     let refusal = loaded.refusal;
@@ -43,30 +50,46 @@ pub fn mark(sheet: &[u8], file: &[u8], text: &mut [u8; LONGEST]) -> usize
     if refusal != 0 {
         return write_line(text, b"file", refusal);
     }
+    let refusal = level_refusal(level);
+    if refusal != 0 {
+        return write_line(text, b"level", refusal);
+    }
     let count = counted.count;
     let entries = loaded_entries(sheet, h);
     let statement = loaded.statement;
     let next = write_line(text, b"rounds", count);
-    write_rounds(text, next, h, entries, statement, file, count)
+    let written = write_rounds(text, next, h, entries, statement, file, count);
+    let failed = fails_at(written.failed, h.challenges, count, level);
+    write_result(text, written.next, failed)
 }
 
-// Stores the marker's text on two files of which only the first bytes were read, so many of a sheet and so many of a round
-// file, and answers its length: it is the text on the whole files, however long they are.
+// Stores the marker's text on three files of which only the first bytes were read, so many of a sheet, of a round file and of a
+// level, and answers its length: it is the text on the whole files, however long they are.
 pub fn mark_files(
     sheet: &[u8; SHEET],
     sheet_bytes: usize,
     rounds: &[u8; ROUNDS],
     round_bytes: usize,
+    level: &[u8; LEVEL],
+    level_bytes: usize,
     text: &mut [u8; LONGEST],
 ) -> usize
     requires sheet { ⌜ «sheet_bytes» ≤ length (now sheet) ⌝ }
     requires rounds { ⌜ «round_bytes» ≤ length (now rounds) ⌝ }
+    requires level { ⌜ «level_bytes» ≤ length (now level) ⌝ }
     ensures inside { λ r. ⌜ r ≤ length (now (text .exit)) ⌝ }
-    ensures whole { λ r. ⌜ ((s f : List ℕ) →
+    ensures whole { λ r. ⌜ ((s f w : List ℕ) →
         FrontOf (now (sheet .entry)) «sheet_bytes» s → FrontOf (now (rounds .entry)) «round_bytes» f →
-        (r ≡ length (markerText s f)) × (now (text .exit) ≡ sets (now (text .entry)) 0 (markerText s f))) ⌝ }
+        FrontOf (now (level .entry)) «level_bytes» w →
+        (r ≡ length (markerText s f w)) × (now (text .exit) ≡ sets (now (text .entry)) 0 (markerText s f w))) ⌝ }
 {
     let sheet: &[u8] = sheet;
     let rounds: &[u8] = rounds;
-    mark(&sheet[..sheet_bytes], &rounds[..round_bytes], text)
+    let level: &[u8] = level;
+    mark(
+        &sheet[..sheet_bytes],
+        &rounds[..round_bytes],
+        &level[..level_bytes],
+        text,
+    )
 }

@@ -36,8 +36,10 @@ use Rattle.sigma.proofs.Answer.{judged-positive, unlessRefused-positive}
 use Rattle.sigma.proofs.Verdict.{verdict-not-refused}
 use Rattle.runs.specs.Calls.{judgeRound, simulateCommitment, extractWitness}
 use Rattle.runs.specs.Demand1.{Demand1}
+use Rattle.runs.specs.Marker.{markRefusal}
 use Rattle.runs.specs.Prover.{commit, respond}
 use Rattle.runs.specs.Verifier.{takeCommitment, takeChallenge, takeResponse}
+use Rattle.runs.proofs.MarkerRefusal.{mark-tests, one-line}
 use Rattle.runs.proofs.Numbers.{judge-number, simulate-number, extract-number, commit-number, respond-number, drop-number}
 use Rattle.runs.proofs.Numbers.{takeCommitment-number, takeChallenge-number, takeResponse-number}
 use Rattle.runs.proofs.Outcome.{judged-number}
@@ -59,9 +61,10 @@ pub demand1 : Demand1
 unfolding conditionNumbers isSublist refusalOrder sheetNumbers load loadRefusal encode fromPattern writtenAtStart written
     countRounds countAfter checkRound checkAfter fetchRound fetchAfter emptyFile append appendAfter judgeRound judgeAfter
     simulateCommitment simulateAfter extractWitness extractAfter computed eightPlaces commit respond takeCommitment
-    takeChallenge takeResponse noHeader zeros8 zeros64 noRound
+    takeChallenge takeResponse noHeader zeros8 zeros64 noRound markRefusal
 demand1 = record {
   order = (order-rises, order-distinct);
+  inserted = refl;
   loading = λ sheet.
       refuses-tested _ _ refl refl _ (load-tests sheet)
       (λ some.
@@ -100,4 +103,5 @@ demand1 = record {
   taking-response = λ sheet v r.
       refuses-given _ _ refl refl _ (takeResponse-number sheet v r)
       (takeResponseAfter-kept (loadRules sheet) (instanceOf sheet) v r);
+  marking = λ sheet file level. refuses-tested _ _ refl refl _ (mark-tests sheet file level) (one-line sheet file level);
 }

@@ -2,7 +2,6 @@
 pub mod Tests
 pub mod Witness
 pub mod Loaded
-pub mod Demand1
 pub mod Sessions
 pub mod Protocol
 pub mod Demand3
@@ -22,6 +21,9 @@ pub mod VerifierCalls
 pub mod OrderOfSteps
 pub mod Verdicts
 pub mod JointRun
+pub mod Level
+pub mod MarkerRefusal
+pub mod Demand1
 pub mod Marker
 pub mod MarkerVerdict
 pub mod MarkerLength

@@ -2,35 +2,24 @@
 -- Assumes nothing.
 use Prim.Native.Nat.{ℕ, zero, suc, _+_, _*_, _<_, _≤_}
 use mathlib.Core.Path.{_≡_, refl, ap, _∙_}
-use mathlib.Core.Logic.{_⊎_, inl, inr}
-use mathlib.Core.Bool.{Bool, true, false, not, _&&_}
+use mathlib.Core.Bool.{Bool, true, false}
 use mathlib.Core.List.{List, [], _∷_, _++_, flatten}
 use native.Mathlib.Decide.{decLt}
 use native.Mathlib.Omega.{arith}
-use lib.Dec.{T, ltb}
 use lib.ListN.{length, length-append}
-use borrow.Author.Tests.{ltb-true}
 use Rattle.types.specs.declared.Verdict.{Verdict}
 use Rattle.types.specs.declared.Verdict.the-variants.{Accepted, Rejected, Refused}
-use Rattle.lists.specs.Member.{Member}
 use Rattle.lists.specs.Places.{itemsAt, tabulate}
 use Rattle.lists.proofs.Places.{tabulate-suc}
 use Rattle.lists.proofs.Rows.{flatten-append}
 use Rattle.encoding.specs.Text.{ascii, decimal}
 use Rattle.encoding.proofs.Text.{decimal-length}
-use Rattle.numbers.specs.Search.{any}
-use Rattle.rules.specs.Refuses.{conditionNumbers}
-use Rattle.rules.specs.Rule.{lowest}
-use Rattle.rules.proofs.Refuses.{given-among}
-use Rattle.rules.proofs.Condition.{given}
-use Rattle.formats.specs.Load.{loadRules, loadRefusal}
-use Rattle.formats.specs.Refusals.{loadConditions}
+use Rattle.formats.specs.Load.{loadRefusal}
 use Rattle.formats.specs.RoundCalls.{countRounds, fetchRound}
 use Rattle.formats.specs.RoundFile.{countField}
 use Rattle.formats.proofs.Files.{count-runs}
-use Rattle.formats.proofs.Loads.{loads-valid}
-use Rattle.formats.proofs.Refusals.{load-tests}
-use Rattle.sigma.specs.Answer.{isAccepted}
+use Rattle.formats.proofs.Loads.{loads, loads-valid}
+use Rattle.runs.specs.Level.{badLevel, levelOf}
 use Rattle.runs.specs.Marker.{
   newline,
   wordLine,
@@ -39,27 +28,13 @@ use Rattle.runs.specs.Marker.{
   resultLine,
   verdictOn,
   roundLine,
+  failsAt,
   roundLines,
   markerText,
 }
 use Rattle.runs.proofs.Protocol.{sheet-rejected}
-use Rattle.runs.proofs.Marker.{sheet-line, file-line, round-lines, round-refusal}
-
--- every number of a list is below 100
-abbrev allSmall : List ℕ → Bool
-allSmall [] = true
-allSmall (n ∷ ns) = ltb n 100 && allSmall ns
-
--- a member of such a list is below 100
-member-small : (n : ℕ) (ns : List ℕ) → T (allSmall ns) → Member n ns → n < 100
-member-small n [] all m = absurd m
-member-small n (k ∷ ns) all m = first (ltb k 100) (ltb-true k 100) (λ rest later. member-small n ns rest later) all m
-  where
-    first : (b : Bool) → (b ≡ true → k < 100) → (T (allSmall ns) → Member n ns → n < 100) → T (b && allSmall ns)
-        → (n ≡ k) ⊎ Member n ns → n < 100
-    first true small later all (inl e) = omega (arith, small refl)
-    first true small later all (inr m) = later all m
-    first false small later all m = absurd all
+use Rattle.runs.proofs.Marker.{round-lines, round-refusal}
+use Rattle.runs.proofs.MarkerRefusal.{file-line, level-line, member-below, sheet-line, sheet-low}
 
 -- ---- one line
 
@@ -85,7 +60,7 @@ module _ (sheet f : List ℕ) where
         let few = loads-valid sheet loaded .table .few-rows in
         simp length-append (omega (arith, decimal-length 0 row (omega arith)))
     short k (Refused number) e =
-        let small : number < 100 = member-small number (14 ∷ 15 ∷ 16 ∷ []) tt (round-refusal sheet f loaded k number e) in
+        let small : number < 100 = member-below 100 number (14 ∷ 15 ∷ 16 ∷ []) tt (round-refusal sheet f loaded k number e) in
         simp length-append (omega (arith, decimal-length 1 number small))
 
     -- a round's line
@@ -105,35 +80,38 @@ module _ (sheet f : List ℕ) where
         rw more (simp length-append (omega (arith, lines-short n (omega arith), line-short n (omega arith))))
 
     -- all lines
-    rounds-short : (n : ℕ) → n ≤ 512 → length (roundLines sheet f n) ≤ 7696
+    rounds-short : (w n : ℕ) → n ≤ 512 → length (roundLines sheet f w n) ≤ 7696
     unfolding roundLines ascii
-    rounds-short n few =
+    rounds-short w n few =
         let head = length-wordLine (ascii "rounds") n in
         let count = decimal-length 2 n (omega arith) in
-        let last = length-resultLine (any n (λ k. not (isAccepted (verdictOn sheet f k)))) in
+        let last = length-resultLine (failsAt sheet f w n) in
         simp length-append (omega (arith, lines-short n few))
 
-  -- the number of a refused sheet
-  sheet-small : loadRefusal sheet < 100
-  unfolding loadRefusal conditionNumbers
-  sheet-small = elim (given-among (loadConditions sheet) _ (given (loadRules sheet) (loadConditions sheet) (load-tests sheet))) [
-    | inl none ↦ omega arith
-    | inr m ↦ member-small (lowest (loadRules sheet)) (conditionNumbers (loadConditions sheet)) tt m
-  ]
+module _ (sheet f level : List ℕ) where
+  -- at a level that is one or is not
+  levelled : countRounds sheet f .refusal ≡ 0 → (bad : Bool) → badLevel level ≡ bad → length (markerText sheet f level) ≤ 7696
+  unfolding ascii
+  levelled e true is-bad =
+      let number = decimal-length 1 25 (omega arith) in
+      rw (level-line sheet f level e is-bad) (omega (arith, length-wordLine (ascii "level") 25))
+  levelled e false good =
+      let (sheet-loads, file) = count-runs sheet f .0 e in
+      rw (round-lines sheet f level e good)
+      (rounds-short sheet f (loads sheet .1 sheet-loads) (levelOf level) (countField f) (file .few))
 
   -- the whole text
-  pub text-short : length (markerText sheet f) ≤ 7696
+  pub text-short : length (markerText sheet f level) ≤ 7696
   unfolding ascii
   text-short = elim (decLt 0 (loadRefusal sheet)) [
     | yes refused ↦
-        let number = decimal-length 1 (loadRefusal sheet) sheet-small in
-        rw (sheet-line sheet f refused) (omega (arith, length-wordLine (ascii "sheet") (loadRefusal sheet)))
+        let low = sheet-low sheet in
+        let number = decimal-length 1 (loadRefusal sheet) (omega arith) in
+        rw (sheet-line sheet f level refused) (omega (arith, length-wordLine (ascii "sheet") (loadRefusal sheet)))
     | no loaded ↦ elim (decLt 0 (countRounds sheet f .refusal)) [
       | yes refused ↦
           let number = decimal-length 1 12 (omega arith) in
-          rw (file-line sheet f (omega arith) refused) (omega (arith, length-wordLine (ascii "file") 12))
-      | no passed ↦
-          let e : countRounds sheet f .refusal ≡ 0 = omega arith in
-          rw (round-lines sheet f e) (rounds-short (omega arith) (countField f) (count-runs sheet f .0 e .1 .few))
+          rw (file-line sheet f level (omega arith) refused) (omega (arith, length-wordLine (ascii "file") 12))
+      | no passed ↦ levelled (omega arith) (badLevel level) refl
     ]
   ]

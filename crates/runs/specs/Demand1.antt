@@ -1,10 +1,10 @@
 -- Demand 1 (00): every call of 01, for any bytes and any numbers, ends in a result or in one of its refusals, whose conditions
 -- are fixed, and a refused call changes neither a lent buffer nor a session.
 -- Assumes nothing.
-use Prim.Native.Nat.{ℕ, suc}
+use Prim.Native.Nat.{ℕ, suc, _≤_}
 use mathlib.Core.Path.{_≡_}
 use mathlib.Core.Bool.{true}
-use mathlib.Core.Logic.{_↔_, _≢_}
+use mathlib.Core.Logic.{_↔_, _≢_, _⊎_}
 use mathlib.Core.List.{List, [], _∷_, _++_}
 use lib.ListN.{replicate}
 use Rattle.types.specs.declared.Prover.{Prover}
@@ -14,6 +14,7 @@ use Rattle.types.specs.declared.Verdict.the-variants.{Refused}
 use Rattle.types.specs.declared.Verifier.{Verifier}
 use Rattle.lists.specs.Member.{EachOnce}
 use Rattle.lists.specs.Places.{tabulate, zeros8}
+use Rattle.encoding.specs.Text.{ascii, decimal}
 use Rattle.rules.specs.Refuses.{Refuses}
 use Rattle.rules.specs.Condition.{Condition}
 use Rattle.rules.specs.Order.{refusalOrder, sheetNumbers, isSublist}
@@ -31,6 +32,8 @@ use Rattle.sigma.specs.Instance.{Instance}
 use Rattle.sigma.specs.Reads.{roundOf}
 use Rattle.sigma.specs.Refusals.{judgeConditions, simulateConditions, extractConditions}
 use Rattle.runs.specs.Calls.{judgeRound, simulateCommitment, extractWitness}
+use Rattle.runs.specs.Level.{markConditions}
+use Rattle.runs.specs.Marker.{markRefusal, markerText}
 use Rattle.runs.specs.Prover.{commit, respond, dropSession}
 use Rattle.runs.specs.Refusals.{commitConditions, respondConditions, dropConditions}
 use Rattle.runs.specs.Refusals.{takeCommitmentConditions, takeChallengeConditions, takeResponseConditions}
@@ -44,11 +47,18 @@ RefusesOn sheet numbers conditions n Left = Refuses (sheetNumbers ++ numbers) (l
 abbrev pub Unmoved : Prover → ProverStep → Type 0
 Unmoved p step = (step .session ≡ p) × (step .values ≡ zeros8)
 
--- demand 1: every call but the two that make a new session, which take nothing and refuse nothing, and the marker's, whose
--- lines name what is refused
+-- a text is the one line of a refusal: of the sheet with its number, of the file with 12 or of the level with 25
+abbrev pub OneLine : ℕ → List ℕ → Type 0
+OneLine number text =
+    ((number ≤ 11) × (text ≡ ascii "sheet " ++ decimal number ++ ascii "\n")) ⊎
+    ((number ≡ 12) × (text ≡ ascii "file 12\n")) ⊎ ((number ≡ 25) × (text ≡ ascii "level 25\n"))
+
+-- demand 1: every call but the two that make a new session, which take nothing and refuse nothing
 pub record Demand1 : Type 0 where
-  -- 01's numbers 1 to 22 stand in its order in rising order, and none twice: the first of a call's numbers is the lowest
+  -- 01's numbers 1 to 22 stand in its order in rising order, and no number twice: the first of a call's numbers is the lowest
   pub order : (isSublist (tabulate 22 suc) refusalOrder ≡ true) × EachOnce refusalOrder
+  -- 02's numbers stand where its cards put them: 25 behind 12
+  pub inserted : isSublist (12 ∷ 25 ∷ 13 ∷ []) refusalOrder ≡ true
   -- ---- the calls that load and make sheets
   -- loading; a refused sheet gives zeros beside the number
   pub loading : (sheet : List ℕ)
@@ -120,3 +130,7 @@ pub record Demand1 : Type 0 where
       → RefusesOn sheet (16 ∷ 21 ∷ []) (takeResponseConditions (instanceOf sheet) v r)
       (outcome (takeResponse sheet v r .verdict) .number)
       (takeResponse sheet v r ≡ record { verdict = Refused (outcome (takeResponse sheet v r .verdict) .number); session = v })
+  -- ---- the marker's text; a refused sheet, file or level gives one line
+  pub marking : (sheet file level : List ℕ)
+      → RefusesOn sheet (12 ∷ 25 ∷ []) (markConditions (headerOf sheet) file level) (markRefusal sheet file level)
+      (OneLine (markRefusal sheet file level) (markerText sheet file level))

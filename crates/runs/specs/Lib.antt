@@ -10,9 +10,10 @@ pub mod ProverCalls
 pub mod VerifierCalls
 pub mod JointRun
 pub mod Knowledge
-pub mod Demand1
 pub mod Sessions
 pub mod Protocol
 pub mod MainProtocol
 pub mod Demand3
+pub mod Level
 pub mod Marker
+pub mod Demand1

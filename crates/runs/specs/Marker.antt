@@ -1,18 +1,22 @@
--- The marker's text (01, "The marker's lines"), as the bytes that it prints.
+-- The marker's text (01, "The marker's lines"; 02, card 3), as the bytes that it prints.
 -- Assumes nothing.
 use Prim.Native.Nat.{ℕ}
-use mathlib.Core.Bool.{Bool, not, cond}
+use mathlib.Core.Bool.{Bool, not, cond, _||_}
 use mathlib.Core.List.{List, [], _∷_, _++_, flatten}
+use lib.Dec.{eqb}
 use Rattle.types.specs.declared.Verdict.{Verdict}
 use Rattle.types.specs.declared.Verdict.the-variants.{Accepted, Rejected, Refused}
 use Rattle.lists.specs.Places.{tabulate}
 use Rattle.encoding.specs.Text.{ascii, decimal}
 use Rattle.numbers.specs.Search.{any}
 use Rattle.rules.specs.Answer.{unlessRefused}
-use Rattle.formats.specs.Load.{loadRefusal}
-use Rattle.formats.specs.RoundCalls.{countRounds, fetchRound}
+use Rattle.rules.specs.Rule.{Rule, _when_, lowest}
+use Rattle.formats.specs.Load.{loadRules}
+use Rattle.formats.specs.RoundCalls.{countRounds, fetchRound, fileRules}
+use Rattle.formats.specs.Sheet.{headerOf}
 use Rattle.sigma.specs.Answer.{isAccepted}
 use Rattle.runs.specs.Calls.{judgeRound}
+use Rattle.runs.specs.Level.{badLevel, levelOf, strongEnough}
 
 -- a line's end
 unfoldable pub newline : List ℕ
@@ -32,7 +36,7 @@ verdictText (Refused number) = ascii "refused " ++ decimal number
 unfoldable pub verdictLine : ℕ → Verdict → List ℕ
 verdictLine k verdict = decimal k ++ ascii " " ++ verdictText verdict ++ newline
 
--- the last line: `fail` where some round is not accepted, else `pass`
+-- the last line
 unfoldable pub resultLine : Bool → List ℕ
 resultLine failed = cond failed (ascii "fail") (ascii "pass") ++ newline
 
@@ -44,16 +48,30 @@ verdictOn sheet f k = judgeRound sheet (fetchRound sheet f k .round)
 unfoldable pub roundLine : List ℕ → List ℕ → ℕ → List ℕ
 roundLine sheet f k = verdictLine k (verdictOn sheet f k)
 
--- the lines of a file that reads: the count, a line per round, and `pass` if every round is accepted
-unfoldable pub roundLines : List ℕ → List ℕ → ℕ → List ℕ
-roundLines sheet f count =
-    wordLine (ascii "rounds") count ++ flatten (tabulate count (roundLine sheet f)) ++
-    resultLine (any count (λ k. not (isAccepted (verdictOn sheet f k))))
+-- whether a file fails at the level w: some round is not accepted, or its rounds are not enough for the level
+unfoldable pub failsAt : List ℕ → List ℕ → ℕ → ℕ → Bool
+failsAt sheet f w count =
+    any count (λ k. not (isAccepted (verdictOn sheet f k))) || not (strongEnough (headerOf sheet .challenges) count w)
 
--- the marker's whole text on a sheet and a round file
-unfoldable pub markerText : List ℕ → List ℕ → List ℕ
-markerText sheet f =
-    unlessRefused (loadRefusal sheet)
-    (unlessRefused (countRounds sheet f .refusal) (roundLines sheet f (countRounds sheet f .count))
-    (wordLine (ascii "file") (countRounds sheet f .refusal)))
-    (wordLine (ascii "sheet") (loadRefusal sheet))
+-- the lines of a file that reads: the count, a line per round, and `fail` if it fails at the level w, else `pass`
+unfoldable pub roundLines : List ℕ → List ℕ → ℕ → ℕ → List ℕ
+roundLines sheet f w count =
+    wordLine (ascii "rounds") count ++ flatten (tabulate count (roundLine sheet f)) ++ resultLine (failsAt sheet f w count)
+
+-- what is asked before any round is judged: the sheet's rules, the file's and the level's
+unfoldable pub markRules : List ℕ → List ℕ → List ℕ → List Rule
+markRules sheet f level = loadRules sheet ++ fileRules (headerOf sheet) f ++ (25 when badLevel level) ∷ []
+
+-- the number of the one line of a sheet, a file or a level that is refused, 0 where none is
+unfoldable pub markRefusal : List ℕ → List ℕ → List ℕ → ℕ
+markRefusal sheet f level = lowest (markRules sheet f level)
+
+-- the word of that line: which of the three is refused
+unfoldable pub refusedWord : ℕ → List ℕ
+refusedWord number = cond (eqb number 25) (ascii "level") (cond (eqb number 12) (ascii "file") (ascii "sheet"))
+
+-- the marker's whole text on a sheet, a round file and a level
+unfoldable pub markerText : List ℕ → List ℕ → List ℕ → List ℕ
+markerText sheet f level =
+    let refusal : ℕ = markRefusal sheet f level in
+    unlessRefused refusal (roundLines sheet f (levelOf level) (countRounds sheet f .count)) (wordLine (refusedWord refusal) refusal)

@@ -1,2 +1,0 @@
--- Definitions of the report: the marker's lines on loaded values.
-pub mod Lines

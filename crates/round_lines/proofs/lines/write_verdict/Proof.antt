@@ -1,0 +1,96 @@
+-- `round_lines::lines::write_verdict` meets its contract: each arm stores the words of its verdict.
+-- Assumes nothing.
+use mathlib.Core.Path.{ap}
+use native.Mathlib.Omega.{arith}
+use lib.ListN.{length}
+use borrow.Author.Needs.{needs}
+use Rattle.types.specs.declared.Verdict.{Verdict}
+use Rattle.encoding.specs.Text.{ascii}
+use Rattle.runs.specs.Marker.{verdictText}
+use Rattle.round_lines.proofs.lines.write_verdict.Statement.{statement}
+use Rattle.round_lines.proofs.lines.write_verdict.Tie as tie
+
+enum-told : tie.Need-enum-told
+enum-told c = search needs
+
+slice-aggregate-write-word : tie.Need-slice-aggregate-write-word
+slice-aggregate-write-word c = search needs
+
+write-word-requires : tie.Need-write-word-requires
+unfolding verdictText ascii
+write-word-requires c κs = omega (arith, ap (λ (v : Verdict). length (verdictText v)) (c .before .before .enum-told .given .1))
+
+enum-known-verdict : tie.Need-enum-known-verdict
+enum-known-verdict c = search needs
+
+slice-aggregate-write-numbered : tie.Need-slice-aggregate-write-numbered
+slice-aggregate-write-numbered c = search needs
+
+cast-write-numbered : tie.Need-cast-write-numbered
+cast-write-numbered c = omega arith
+
+write-numbered-requires : tie.Need-write-numbered-requires
+unfolding verdictText ascii
+write-numbered-requires c κs = omega (arith, ap (λ (v : Verdict). length (verdictText v)) (c .before .before .before .verdict .given .1))
+
+enum-known-verdict-2 : tie.Need-enum-known-verdict-2
+enum-known-verdict-2 c = search needs
+
+slice-aggregate-write-numbered-2 : tie.Need-slice-aggregate-write-numbered-2
+slice-aggregate-write-numbered-2 c = search needs
+
+cast-write-numbered-2 : tie.Need-cast-write-numbered-2
+cast-write-numbered-2 c = omega arith
+
+write-numbered-requires-2 : tie.Need-write-numbered-requires-2
+unfolding verdictText ascii
+write-numbered-requires-2 c κs = omega (arith, ap (λ (v : Verdict). length (verdictText v)) (c .before .before .before .verdict2 .given .1))
+
+same-length : tie.Need-same-length
+same-length c = omega arith
+
+returns : tie.Need-returns
+unfolding verdictText ascii
+returns c =
+    let written = c .before .before in
+    rw (written .before .before .before .enum-told .given .1) (written .write-word .ensures)
+
+same-length-2 : tie.Need-same-length-2
+same-length-2 c = omega arith
+
+returns-2 : tie.Need-returns-2
+unfolding verdictText ascii
+returns-2 c =
+    let written = c .before .before in
+    rw (written .before .before .before .before .verdict .given .1) (written .write-numbered .ensures)
+
+same-length-3 : tie.Need-same-length-3
+same-length-3 c = omega arith
+
+returns-3 : tie.Need-returns-3
+unfolding verdictText ascii
+returns-3 c =
+    let written = c .before .before in
+    rw (written .before .before .before .before .verdict2 .given .1) (written .write-numbered2 .ensures)
+
+pub write-verdict-spec : {M : Type 1} → statement M
+write-verdict-spec =
+    tie.close
+    (tie.spec
+    enum-told
+    slice-aggregate-write-word
+    write-word-requires
+    enum-known-verdict
+    slice-aggregate-write-numbered
+    cast-write-numbered
+    write-numbered-requires
+    enum-known-verdict-2
+    slice-aggregate-write-numbered-2
+    cast-write-numbered-2
+    write-numbered-requires-2
+    same-length
+    returns
+    same-length-2
+    returns-2
+    same-length-3
+    returns-3)

@@ -1,0 +1,2 @@
+-- Definitions of the marker's lines on loaded values.
+pub mod Lines

@@ -1,0 +1,89 @@
+// The lines of a file's rounds on loaded values.
+use crate::lines::write_round;
+use image::verdict;
+use protocol::round_refusal;
+use round_file::record_start;
+use round_file::round_at;
+use types::Header;
+use types::Verdict;
+ghost use Prim.Native.Nat.{_+_, _≤_, _<_};
+ghost use mathlib.Core.Bool.{not, _||_};
+ghost use mathlib.Core.Path.{_≡_};
+ghost use lib.ListN.{length};
+ghost use Rattle.encoding.specs.Placed.{Placed};
+ghost use Rattle.formats.specs.Meaning.{IsRoundFile};
+ghost use Rattle.formats.specs.RoundFile.{countField};
+ghost use Rattle.sigma.specs.Instance.{instanceWith};
+ghost use Rattle.sigma.specs.Answer.{isAccepted};
+ghost use Rattle.sigma.specs.Valid.{Valid};
+ghost use Rattle.round_lines.specs.Lines.{failsIn, linesIn, verdictIn};
+
+// What the lines of a file's rounds leave: the index behind them, and whether a round failed.
+pub struct Written {
+    pub next: usize,
+    pub failed: bool,
+}
+
+// The verdict on round k of a file.
+fn verdict_at(
+    h: Header,
+    entries: [[u32; 8]; 8],
+    statement: [u32; 8],
+    file: &[u8],
+    k: u32,
+) -> Verdict
+    requires valid { ⌜ Valid (instanceWith h entries statement) ⌝ }
+    requires file { ⌜ IsRoundFile h (now file) ⌝ }
+    requires number { ⌜ k < countField (now file) ⌝ }
+    ensures { λ r. ⌜ r ≡ verdictIn (instanceWith h entries statement) (now (file .entry)) k ⌝ }
+{
+    let start = record_start(h, k as usize);
+    let round = round_at(h, file, start);
+    let t = round.commitment;
+    let r = round.response;
+    let refusal = round_refusal(h, t, round.challenge, r);
+    if refusal != 0 {
+        return Verdict::Refused(refusal);
+    }
+    verdict(h, entries, statement, t, round.challenge, r)
+}
+
+// Whether a verdict is not accepted, or one before it was not.
+fn fails(before: bool, verdict: Verdict) -> bool
+    ensures { λ r. ⌜ r ≡ before || not (isAccepted verdict) ⌝ }
+{
+    match verdict {
+        Verdict::Accepted => before,
+        Verdict::Rejected(_) => true,
+        Verdict::Refused(_) => true,
+    }
+}
+
+// Stores a line for each of the count rounds of a file from an index on; no other byte is changed. Answers the index behind
+// them, and whether some round is not accepted.
+pub fn write_rounds(
+    text: &mut [u8],
+    at: usize,
+    h: Header,
+    entries: [[u32; 8]; 8],
+    statement: [u32; 8],
+    file: &[u8],
+    count: u32,
+) -> Written
+    requires valid { ⌜ Valid (instanceWith h entries statement) ⌝ }
+    requires file { ⌜ IsRoundFile h (now file) ⌝ }
+    requires count { ⌜ count ≡ countField (now file) ⌝ }
+    requires room { ⌜ at + length (linesIn (instanceWith h entries statement) (now file) count) ≤ length (now text) ⌝ }
+    ensures lines { λ r. ⌜ Placed (now (text .entry)) at (linesIn (instanceWith h entries statement) (now (file .entry)) count)
+        (now (text .exit)) (r .next) ⌝ }
+    ensures failed { λ r. ⌜ r .failed ≡ failsIn (instanceWith h entries statement) (now (file .entry)) count ⌝ }
+{
+    let mut next = at;
+    let mut failed = false;
+    for k in 0..count {
+        let verdict = verdict_at(h, entries, statement, file, k);
+        next = write_round(text, next, k, verdict);
+        failed = fails(failed, verdict);
+    }
+    Written { next, failed }
+}
