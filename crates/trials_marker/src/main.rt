@@ -1,7 +1,7 @@
-// Prints the marker's text on stored sheets and round files; its stdout is what the judge says of them.
+// Prints the marker's text on stored sheets, round files and levels; its stdout is what the judge says of them.
 //
-// The file `cases.bin`, in the folder that it is run in, has case after case: the sheet's length in two bytes, the round
-// file's in four, high byte first, then the bytes of both.
+// The file `cases.bin`, in the folder that it is run in, has case after case: the sheet's length in two bytes, the round file's
+// in four and the level's in two, high byte first, then the bytes of the three.
 use fields::read_u16;
 use fields::read_u32;
 use files::read_file;
@@ -14,13 +14,13 @@ ghost use lib.ListN.{length};
 // How many bytes of stored cases are read.
 const CASES: usize = 100000;
 
-// How many bytes the two lengths have that stand in front of a case.
-const LENGTHS: usize = 6;
+// How many bytes the three lengths have that stand in front of a case.
+const LENGTHS: usize = 8;
 
-// Prints the marker's text on a sheet and a round file.
-fn print_text(sheet: &[u8], file: &[u8]) {
+// Prints the marker's text on a sheet, a round file and a level.
+fn print_text(sheet: &[u8], file: &[u8], level: &[u8]) {
     let mut text = [0u8; LONGEST];
-    let length = mark(sheet, file, &mut text);
+    let length = mark(sheet, file, level, &mut text);
     io::write_all(STDOUT_FILENO, &text[..length]);
 }
 
@@ -31,15 +31,18 @@ fn print_first(cases: &[u8]) -> usize
     if cases.len() < LENGTHS {
         return 0;
     }
-    let sheet = read_u16(cases, 0) as usize;
-    let file = read_u32(cases, 2) as usize;
-    let start = LENGTHS + sheet;
-    let end = start + file;
-    if cases.len() < end {
+    let sheet_end = LENGTHS + read_u16(cases, 0) as usize;
+    let file_end = sheet_end + read_u32(cases, 2) as usize;
+    let level_end = file_end + read_u16(cases, 6) as usize;
+    if cases.len() < level_end {
         return 0;
     }
-    print_text(&cases[LENGTHS..start], &cases[start..end]);
-    end
+    print_text(
+        &cases[LENGTHS..sheet_end],
+        &cases[sheet_end..file_end],
+        &cases[file_end..level_end],
+    );
+    level_end
 }
 
 // Prints the text on each case. At a case that is not whole it prints a line that says so, and ends.

@@ -23,6 +23,15 @@ slice-aggregate-read-file-4 c = search needs
 read-file-requires-2 : tie.Need-read-file-requires-2
 read-file-requires-2 c κs = search needs
 
+slice-aggregate-read-file-5 : tie.Need-slice-aggregate-read-file-5
+slice-aggregate-read-file-5 c = search needs
+
+slice-aggregate-read-file-6 : tie.Need-slice-aggregate-read-file-6
+slice-aggregate-read-file-6 c = search needs
+
+read-file-requires-3 : tie.Need-read-file-requires-3
+read-file-requires-3 c κs = search needs
+
 mark-files-requires : tie.Need-mark-files-requires
 mark-files-requires c κs = search needs
 
@@ -57,6 +66,9 @@ main-spec =
     slice-aggregate-read-file-3
     slice-aggregate-read-file-4
     read-file-requires-2
+    slice-aggregate-read-file-5
+    slice-aggregate-read-file-6
+    read-file-requires-3
     mark-files-requires
     array-share-prefix-text
     slice-aggregate-write-all
