@@ -9,7 +9,16 @@ use crate::making::{needed, HIGHEST};
 const CHALLENGES: [u32; 8] = [2, 3, 11, 256, 257, 4096, 65_535, 65_536];
 
 /// Bytes that are no level.
-const NO_LEVELS: [&[u8]; 8] = [&[], &[0], &[65], &[255], &[7, 7], &[0, 7], &[7, 0], &[7; 300]];
+const NO_LEVELS: [&[u8]; 8] = [
+    &[],
+    &[0],
+    &[65],
+    &[255],
+    &[7, 7],
+    &[0, 7],
+    &[7, 0],
+    &[7; 300],
+];
 
 /// Rounds of the sheet below, with each K: an accepted, a rejected and a refused
 /// one.

@@ -78,7 +78,10 @@ fn met(sheet: &[u8], file: &[u8], level: &[u8], text: &str) -> BTreeSet<String> 
         ("no file", file.is_empty()),
         ("no level", level.is_empty() && of_level),
         ("two bytes", level.len() == 2 && of_level),
-        ("too few", !text.contains(" re") && text.ends_with("accepted\nfail\n")),
+        (
+            "too few",
+            !text.contains(" re") && text.ends_with("accepted\nfail\n"),
+        ),
     ] {
         if holds {
             met.insert(name.to_string());

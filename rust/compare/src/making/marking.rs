@@ -142,9 +142,15 @@ mod tests {
         assert!(met.iter().all(|times| *times > 3), "{met:?}");
     }
 
-    /// K, the count of rounds and the level's bytes, where all rounds are
-    /// accepted or the level is refused, and whether the file passes.
-    fn shape(case: &TextCase) -> Option<(u32, usize, &[u8], bool)> {
+    /// K, the count of rounds, the level's bytes, and whether the file passes.
+    type Shape<'a> = (u32, usize, &'a [u8], bool);
+
+    /// A name, and which cases have it by their shape.
+    type Named = (&'static str, fn(Shape) -> bool);
+
+    /// The shape of a case, where all its rounds are accepted or its level is
+    /// refused.
+    fn shape(case: &TextCase) -> Option<Shape<'_>> {
         let text = judge::marker(&case.sheet, &case.file, &case.level);
         let alike = text == "level 25\n" || text.starts_with("rounds") && !text.contains(" re");
         let header = crate::sheets::header(&case.sheet).filter(|_| alike)?;
@@ -155,8 +161,7 @@ mod tests {
 
     #[test]
     fn levels_are_met_at_their_bounds() {
-        type Shape<'a> = (u32, usize, &'a [u8], bool);
-        let shapes: [(&str, fn(Shape) -> bool); 12] = [
+        let shapes: [Named; 12] = [
             ("just reached", |(k, n, w, passes)| {
                 passes && w == [reached(k, n) as u8]
             }),

@@ -128,7 +128,13 @@ fn examples() -> Vec<Folder> {
 fn levels() -> Vec<Folder> {
     let mut levels: Vec<Vec<u8>> = [1, 6, 7, 10, 11, 63, 64].map(|level| vec![level]).into();
     levels.extend([0, 65, 128, 255].map(|level| vec![level]));
-    levels.extend([vec![7, 7], vec![7, 0], vec![0, 7], vec![7; 3], vec![7; 5000]]);
+    levels.extend([
+        vec![7, 7],
+        vec![7, 0],
+        vec![0, 7],
+        vec![7; 3],
+        vec![7; 5000],
+    ]);
     let (head, round) = (&EXAMPLE_ROUNDS[..6], &EXAMPLE_ROUNDS[7..19]);
     let folders = [2, 3].into_iter().flat_map(|count: u8| {
         let rounds = [head, &[count], &round.repeat(count.into())].concat();

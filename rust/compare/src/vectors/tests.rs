@@ -184,10 +184,9 @@ fn stored_bytes() -> Vec<Vec<u8>> {
             let given = ["sheet ", "file "]
                 .iter()
                 .find_map(|word| line.strip_prefix(word));
-            let written = line.split(' ').filter_map(|word| {
-                word.strip_prefix("buffer=")
-                    .or(word.strip_prefix("level="))
-            });
+            let written = line
+                .split(' ')
+                .filter_map(|word| word.strip_prefix("buffer=").or(word.strip_prefix("level=")));
             given.into_iter().chain(written)
         });
     words.map(|word| bytes::read(word).unwrap()).collect()
