@@ -273,6 +273,6 @@ worked-examples = (
     refusal21 = (refl, refl);
     refusal22 = (refl, refl);
     refusal25 = (refl, refl);
-    enough = (refl, refl);
+    enough = refl;
   },
 )

@@ -1,9 +1,9 @@
 -- The level (02, card 3): its number by its one byte, and the power that it asks for by one number less.
 -- Assumes nothing.
-use Prim.Native.Nat.{ℕ, _+_, _^_, _<_, _≤_}
-use mathlib.Core.Path.{_≡_, refl, sym, _∙_}
-use mathlib.Core.Logic.{_≢_, inl, inr}
-use mathlib.Core.Bool.{Bool, true, false, not, _||_}
+use Prim.Native.Nat.{ℕ, _+_, _^_, _≤_}
+use mathlib.Core.Path.{_≡_, sym, _∙_}
+use mathlib.Core.Logic.{_≢_}
+use mathlib.Core.Bool.{Bool, true, false}
 use mathlib.Core.List.{List, [], _∷_}
 use native.Mathlib.Decide.{decLt}
 use native.Mathlib.Omega.{arith}
@@ -11,7 +11,8 @@ use lib.Dec.{leb, ltb}
 use lib.ListN.{length}
 use borrow.Author.Tests.{le-leb, le-ltb, lt-leb, lt-ltb}
 use Rattle.rules.specs.Rule.{_when_, lowest}
-use Rattle.rules.proofs.Lowest.{lowest-clear, pass, stop}
+use Rattle.rules.proofs.Lowest.{clear-lowest, lowest-clear, pass, stop}
+use Rattle.rules.proofs.Says.{says-elim, says-false}
 use Rattle.runs.specs.Level.{badLevel, levelOf, strongEnough, Refusal25}
 use Rattle.runs.proofs.Level.{level-passes, says-badLevel}
 
@@ -27,19 +28,14 @@ module _ (level : List ℕ) where
   module _ {number : ℕ} (is-number : number ≡ lowest ((25 when badLevel level) ∷ [])) where
     -- a level that gives 0 is not refused
     pub level-good : number ≡ 0 → badLevel level ≡ false
-    level-good none = choose (badLevel level) refl
-      where
-        choose : (bad : Bool) → badLevel level ≡ bad → badLevel level ≡ false
-        choose true is-bad = let given = is-number ∙ stop 25 [] is-bad in absurd (omega arith)
-        choose false good = good
+    level-good none = clear-lowest ((25 when badLevel level) ∷ []) tt (sym is-number ∙ none) .0
 
     -- any other is, with 25
     pub level-bad : number ≢ 0 → (badLevel level ≡ true) × (number ≡ 25)
-    level-bad some = choose (badLevel level) refl
-      where
-        choose : (bad : Bool) → badLevel level ≡ bad → (badLevel level ≡ true) × (number ≡ 25)
-        choose true is-bad = (is-bad, is-number ∙ stop 25 [] is-bad)
-        choose false good = absurd (some (is-number ∙ pass 25 [] good ∙ lowest-clear [] tt))
+    level-bad some =
+        says-elim (says-badLevel level)
+        (λ refused. (says-badLevel level .complete refused, is-number ∙ bad-number refused))
+        (λ fine. absurd (some (is-number ∙ pass 25 [] (says-false (says-badLevel level) .1 fine) ∙ lowest-clear [] tt)))
 
 -- a power is at least 2^w exactly where it is above the number one below
 above-below : (below power n : ℕ) → below + 1 ≡ n → ltb below power ≡ leb n power
