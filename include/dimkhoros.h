@@ -131,7 +131,8 @@ extern "C" {
     REFUSAL(19, CHALLENGES_EQUAL, "the two rounds have the same challenge")                                       \
     REFUSAL(20, ROUND_REJECTED, "one of the two rounds, or both, would be rejected")                              \
     REFUSAL(21, SESSION, "the session's state does not allow the call, or what it holds does not fit this sheet") \
-    REFUSAL(22, BUFFER, "the buffer is too short for the result")
+    REFUSAL(22, BUFFER, "the buffer is too short for the result")                                                 \
+    REFUSAL(25, LEVEL, "the level has to be one byte from 1 to 64")
 
 /* The refusals by name: DIMKHOROS_REFUSED_PATTERN is 1, and so on through the list. */
 enum {
@@ -428,15 +429,18 @@ DimkhorosWritten dimkhoros_append(const uint8_t *sheet, size_t sheet_length, uin
 /* --- The marker and the reason --- */
 
 /*
- * Judges a round file and writes the marker's text, in ASCII and without a zero at its end, to the start of `text`. Answers its
- * length; no byte behind it is changed. A refused sheet gives the one line `sheet N` and a refused file `file N`, N being
- * the refusal. Else there are a line `rounds` with the count, a line for each round (its number from 0 and `accepted`,
- * `rejected` with the first row that differs, or `refused` with 14 to 16), and `pass` if every round is accepted or `fail`.
- * Each line ends in a newline.
+ * Judges a round file at a level and writes the marker's text, in ASCII and without a zero at its end, to the start of `text`.
+ * Answers its length; no byte behind it is changed. The level is the bytes of a level file: one byte w, from 1 to 64.
+ *
+ * A refused sheet gives the one line `sheet N`, N being 2 to 11; else a refused file gives `file 12`; else a refused level
+ * gives `level 25`, a number that no call answers in another way. Else there are a line `rounds` with the count, a line for
+ * each round (its number from 0 and `accepted`, `rejected` with the first row that differs, or `refused` with 14 to 16), and
+ * `pass` if every round is accepted and the product of one K for each round is at least 2^w, else `fail`. The product is 1 for
+ * no rounds, so that a file of none fails at every level. Each line ends in a newline.
  */
 DIMKHOROS_CHECKED
 size_t dimkhoros_mark(const uint8_t *sheet, size_t sheet_length, const uint8_t *file, size_t file_length,
-                      uint8_t text[DIMKHOROS_LONGEST_TEXT]);
+                      const uint8_t *level, size_t level_length, uint8_t text[DIMKHOROS_LONGEST_TEXT]);
 
 /*
  * Says in one line what is wrong with a sheet, a round file or its round 0, and writes the line, in ASCII and without a zero at

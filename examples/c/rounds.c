@@ -1,21 +1,26 @@
-/* Vic keeps a file of rounds, a marker judges each of them, and a student is told the reason. */
+/* Vic keeps a file of rounds, a marker judges each of them and says whether they are enough for a level, and a student is told
+ * the reason. */
 #include "common.h"
 
-static const DimkhorosRound rounds[] = {
+static const DimkhorosRound mixed[] = {
     {{9}, 3, {4}},
     {{9}, 1, {1}},
     {{9}, 1, {2}},
     {{5}, 0, {0}},
 };
 
-static const size_t all = sizeof rounds / sizeof rounds[0];
+static const DimkhorosRound accepted[] = {
+    {{9}, 3, {4}},
+    {{9}, 1, {1}},
+    {{2}, 3, {0}},
+};
 
-/* Writes the file of the rounds from one on, so many of them, and answers its length. */
-static size_t write_file(const uint8_t *sheet, size_t length, size_t first, size_t count,
+/* Writes the file of so many rounds and answers its length. */
+static size_t write_file(const uint8_t *sheet, size_t length, const DimkhorosRound *rounds, size_t count,
                          uint8_t file[DIMKHOROS_LONGEST_FILE]) {
     DimkhorosWritten written = dimkhoros_empty(file, DIMKHOROS_LONGEST_FILE);
     expect(written.refusal);
-    for (size_t i = first; i < first + count; i++) {
+    for (size_t i = 0; i < count; i++) {
         written = dimkhoros_append(sheet, length, file, DIMKHOROS_LONGEST_FILE, written.length, rounds[i]);
         expect(written.refusal);
     }
@@ -43,11 +48,18 @@ static void show_round(const uint8_t *sheet, size_t length, const uint8_t *file,
     }
 }
 
+/* Shows the marker's text on a file at a level, the byte of a level file. */
+static void show_mark(const uint8_t *sheet, size_t length, const uint8_t *file, size_t file_length, uint8_t level) {
+    uint8_t text[DIMKHOROS_LONGEST_TEXT];
+    size_t text_length = dimkhoros_mark(sheet, length, file, file_length, &level, 1, text);
+    printf("The marker's text at the level %u:\n%.*s", level, (int)text_length, (const char *)text);
+}
+
 /* Shows the reason's line on a file of one round. */
 static void show_reason(const uint8_t *sheet, size_t length, size_t number) {
     uint8_t file[DIMKHOROS_LONGEST_FILE];
     uint8_t line[DIMKHOROS_LONGEST_REASON];
-    size_t file_length = write_file(sheet, length, number, 1, file);
+    size_t file_length = write_file(sheet, length, &mixed[number], 1, file);
     size_t line_length = dimkhoros_reason(sheet, length, file, file_length, line);
     printf("The reason on round %zu alone: %.*s", number, (int)line_length, (const char *)line);
 }
@@ -56,17 +68,20 @@ int main(void) {
     uint8_t sheet[DIMKHOROS_LONGEST_SHEET];
     uint8_t file[DIMKHOROS_LONGEST_FILE];
     size_t length = page_a(sheet);
-    size_t file_length = write_file(sheet, length, 0, all, file);
+    size_t file_length = write_file(sheet, length, mixed, 4, file);
     DimkhorosCounted counted = dimkhoros_count(sheet, length, file, file_length);
     expect(counted.refusal);
     printf("The file: %u rounds in %zu bytes.\n", counted.count, file_length);
     for (size_t number = 0; number <= counted.count; number++) {
         show_round(sheet, length, file, file_length, number);
     }
-    uint8_t text[DIMKHOROS_LONGEST_TEXT];
-    size_t text_length = dimkhoros_mark(sheet, length, file, file_length, text);
-    printf("The marker's text:\n%.*s", (int)text_length, (const char *)text);
-    for (size_t number = 0; number < all; number++) {
+    show_mark(sheet, length, file, file_length, 7);
+    for (size_t count = 2; count <= 3; count++) {
+        file_length = write_file(sheet, length, accepted, count, file);
+        show_mark(sheet, length, file, file_length, 7);
+    }
+    show_mark(sheet, length, file, file_length, 65);
+    for (size_t number = 0; number < 4; number++) {
         show_reason(sheet, length, number);
     }
     return 0;

@@ -54,8 +54,15 @@ pub fn commit_and_respond<A: Arithmetic>(inputs: &mut Inputs) -> bool {
 pub fn mark<A: Arithmetic>(inputs: &mut Inputs) -> bool {
     let mut text = [0; LONGEST_TEXT];
     inputs.text.fill(0);
-    let length = proved::mark(&inputs.sheet, &inputs.file, &mut inputs.text);
-    length == reference::mark::<A>(&inputs.sheet, &inputs.file, &mut text) && *inputs.text == text
+    let Inputs {
+        sheet,
+        file,
+        level,
+        text: proved_text,
+        ..
+    } = inputs;
+    let length = proved::mark(sheet, file, level, proved_text);
+    length == reference::mark::<A>(sheet, file, level, &mut text) && **proved_text == text
 }
 
 /// What the library has to answer where loading in Rust gives this.

@@ -1,5 +1,5 @@
-//! The sheets that are measured, and for each a session, two rounds and a round
-//! file of 512 rounds.
+//! The sheets that are measured, and for each a session, two rounds, a round
+//! file of 512 rounds and a level.
 
 use dimkhoros_sys::{Places, Round, LONGEST_TEXT};
 
@@ -7,6 +7,9 @@ use crate::reference::{load, Idiomatic, Kind};
 
 /// How many rounds the round file has.
 const ROUNDS: u32 = 512;
+
+/// The highest level, for which the most rounds are counted.
+const LEVEL: u8 = 64;
 
 /// What the calls take. The text is lent to the marker.
 pub struct Inputs {
@@ -17,6 +20,7 @@ pub struct Inputs {
     pub first: Round,
     pub second: Round,
     pub file: Vec<u8>,
+    pub level: Vec<u8>,
     pub text: Box<[u8; LONGEST_TEXT]>,
 }
 
@@ -185,6 +189,7 @@ fn make(
         first: round(challenges.0),
         second: round(challenges.1),
         file,
+        level: vec![LEVEL],
         text: Box::new([0; LONGEST_TEXT]),
     }
 }

@@ -44,7 +44,11 @@ pub fn commit_and_respond(inputs: &mut Inputs) {
 
 pub fn mark(inputs: &mut Inputs) {
     let Inputs {
-        sheet, file, text, ..
+        sheet,
+        file,
+        level,
+        text,
+        ..
     } = black_box(inputs);
-    black_box(proved::mark(sheet, file, text));
+    black_box(proved::mark(sheet, file, level, text));
 }

@@ -43,7 +43,11 @@ pub fn commit_and_respond<A: Arithmetic>(inputs: &mut Inputs) {
 
 pub fn mark<A: Arithmetic>(inputs: &mut Inputs) {
     let Inputs {
-        sheet, file, text, ..
+        sheet,
+        file,
+        level,
+        text,
+        ..
     } = black_box(inputs);
-    black_box(reference::mark::<A>(sheet, file, text));
+    black_box(reference::mark::<A>(sheet, file, level, text));
 }

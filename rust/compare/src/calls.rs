@@ -29,7 +29,7 @@ pub enum Call {
 }
 
 /// A call's name in the interface, without the library's own name, whether it
-/// loads a sheet, and the other numbers that it can give.
+/// loads a sheet, and the other numbers that it can give, in their order.
 struct Entry {
     call: Call,
     name: &'static str,
@@ -71,12 +71,18 @@ const CALLS: &[Entry] = &[
     entry(Call::VerifierCommitment, "verifier_commitment", true, &[14, 21]),
     entry(Call::VerifierChallenge, "verifier_challenge", true, &[15, 21]),
     entry(Call::VerifierResponse, "verifier_response", true, &[16, 21]),
-    entry(Call::Mark, "mark", true, &[12, 14, 15, 16]),
+    entry(Call::Mark, "mark", true, &[12, 25, 14, 15, 16]),
     entry(Call::Reason, "reason", true, &[12, 13, 14, 15, 16]),
 ];
 
 /// How many calls there are.
 pub const CALL_COUNT: usize = CALLS.len();
+
+/// All numbers in the order in which they are tested, the cards' numbers where
+/// 02 puts them. Of several that apply the first here is given.
+pub const ORDER: [u32; 23] = [
+    1, 2, 3, 4, 5, 6, 7, 8, 9, 10, 11, 12, 25, 13, 14, 15, 16, 17, 18, 19, 20, 21, 22,
+];
 
 /// The numbers that the loading of a sheet can give.
 pub const SHEET_NUMBERS: [u32; 10] = [2, 3, 4, 5, 6, 7, 8, 9, 10, 11];
@@ -145,5 +151,21 @@ mod tests {
         for (place, call) in Call::all().enumerate() {
             assert_eq!(call as usize, place);
         }
+    }
+
+    #[test]
+    fn numbers_stand_in_their_order() {
+        let given = |number: &u32| Call::all().any(|call| call.can_give(*number));
+        let mut all = ORDER;
+        all.sort();
+        assert!(all.into_iter().eq((1..=LAST).filter(given)));
+        let ordered = |numbers: &[u32]| {
+            let places = numbers
+                .iter()
+                .map(|number| ORDER.iter().position(|n| n == number));
+            places.is_sorted()
+        };
+        assert!(ordered(&SHEET_NUMBERS));
+        assert!(Call::all().all(|call| ordered(call.others())));
     }
 }

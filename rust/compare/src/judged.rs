@@ -159,8 +159,8 @@ pub fn verifier_response(
     VerifierJudgement { verdict, session }
 }
 
-pub fn mark(sheet: &[u8], file: &[u8], text: &mut [u8; LONGEST_TEXT]) -> usize {
-    let marked = judge::marker(sheet, file);
+pub fn mark(sheet: &[u8], file: &[u8], level: &[u8], text: &mut [u8; LONGEST_TEXT]) -> usize {
+    let marked = judge::marker(sheet, file, level);
     text[..marked.len()].copy_from_slice(marked.as_bytes());
     marked.len()
 }

@@ -94,6 +94,6 @@ calls! {
         sheet: &[u8], session: VerifierSession, response: &Places
     ) -> VerifierJudgement;
 
-    mark(sheet: &[u8], file: &[u8], text: &mut [u8; LONGEST_TEXT]) -> usize;
+    mark(sheet: &[u8], file: &[u8], level: &[u8], text: &mut [u8; LONGEST_TEXT]) -> usize;
     reason(sheet: &[u8], file: &[u8], text: &mut [u8; LONGEST_REASON]) -> usize;
 }

@@ -4,10 +4,10 @@
 //! case is one call, or a run of both sessions, with inputs made from the seed.
 //! Both libraries get it, and every field of the answers and every byte of a
 //! lent buffer must be the same. The first difference is printed and ends the
-//! run. Last page K is run in both, and demand 3 is tried on small sheets. Exit
-//! status: 0 no difference, 1 a difference, something met too seldom or a
-//! program that is missing, 2 wrong words or a place to which nothing can be
-//! written.
+//! run. Last page K and files at every level are run in both, and demand 3 is
+//! tried on small sheets. Exit status: 0 no difference, 1 a difference, something
+//! met too seldom or a program that is missing, 2 wrong words or a place to which
+//! nothing can be written.
 
 #![forbid(unsafe_code)]
 
@@ -22,6 +22,7 @@ mod groups;
 mod instance;
 mod judged;
 mod lent;
+mod levels;
 mod library;
 mod making;
 mod options;
@@ -105,6 +106,7 @@ fn stages(options: &Options) -> Result<(), String> {
         return Err(lacks.join("\n"));
     }
     println!("{}", page_k::check(options.other)?);
+    println!("{}", levels::check(options.other)?);
     println!("{}", demand_three::check(options.other)?);
     Ok(())
 }

@@ -4,6 +4,7 @@
 mod brought;
 mod files;
 mod inputs;
+mod levels;
 mod marking;
 mod patterns;
 mod phases;
@@ -19,6 +20,7 @@ use std::iter::repeat_n;
 use crate::cases::Case;
 use crate::random::Random;
 
+pub use levels::{needed, HIGHEST};
 pub use marking::{mark_case, mark_file};
 pub use reasons::reason_case;
 
@@ -47,7 +49,7 @@ const SHARES: [(Maker, usize); 22] = [
     (verifier::challenge, 3),
     (verifier::response, 5),
     (runs::run, 3),
-    (marking::mark, 2),
+    (marking::mark, 3),
     (reasons::reason, 7),
 ];
 

@@ -74,11 +74,11 @@ impl Answer {
     }
 }
 
-/// The first number in a text that a sheet, a file or a round is refused with,
-/// 0 where there is none.
+/// The first number in a text that a sheet, a file, a level or a round is
+/// refused with, 0 where there is none.
 fn refusal_in(text: &str) -> u32 {
     let words: Vec<&str> = text.split_whitespace().collect();
-    let refused = |word: &str| ["sheet", "file", "refused"].contains(&word);
+    let refused = |word: &str| ["sheet", "file", "level", "refused"].contains(&word);
     let found = words.windows(2).find(|pair| refused(pair[0]));
     found.and_then(|pair| pair[1].parse().ok()).unwrap_or(0)
 }
@@ -122,7 +122,8 @@ mod tests {
     fn a_text_has_the_number_of_its_first_refusal() {
         assert_eq!(refusal_in("sheet 8\n"), 8);
         assert_eq!(refusal_in("file 12\n"), 12);
-        assert_eq!(refusal_in("rounds 0\npass\n"), 0);
+        assert_eq!(refusal_in("level 25\n"), 25);
+        assert_eq!(refusal_in("rounds 0\nfail\n"), 0);
         assert_eq!(refusal_in("rounds 1\n0 rejected 7\nfail\n"), 0);
         let text = "rounds 3\n0 accepted\n1 refused 14\n2 refused 15\nfail\n";
         assert_eq!(refusal_in(text), 14);

@@ -2,7 +2,7 @@
 //!
 //! No contract of the system's calls says which bytes a program reads and
 //! prints. So each is run in folders of its own, as `./run FOLDER` and `./run
-//! reason FOLDER` run them, and must print the judge's text on the two files
+//! reason FOLDER` run them, and must print the judge's text on the files there
 //! and nothing else, and exit with 0.
 
 mod folders;
@@ -19,10 +19,10 @@ use scratch::Scratch;
 /// Where `rt check` puts programs.
 pub const BUILT: &str = concat!(env!("CARGO_MANIFEST_DIR"), "/../../target/bin");
 
-/// A program, and the judge's text on a sheet and a round file.
+/// A program, and the judge's text on a sheet, a round file and a level file.
 pub struct Program {
     name: &'static str,
-    text: fn(&[u8], &[u8]) -> String,
+    text: fn(&[u8], &[u8], &[u8]) -> String,
 }
 
 /// Both programs.
@@ -33,7 +33,7 @@ pub const PROGRAMS: [Program; 2] = [
     },
     Program {
         name: "reason",
-        text: judge::reason,
+        text: |sheet, rounds, _| judge::reason(sheet, rounds),
     },
 ];
 
@@ -83,7 +83,12 @@ impl Program {
 
     /// What a right program's run in the folder comes to.
     fn judged(&self, folder: &Folder) -> Output {
-        let text = (self.text)(folder.sheet.bytes(), folder.rounds.bytes());
+        let Folder {
+            sheet,
+            rounds,
+            level,
+        } = folder;
+        let text = (self.text)(sheet.bytes(), rounds.bytes(), level.bytes());
         Output {
             status: ExitStatus::default(),
             stdout: text.into_bytes(),
@@ -107,25 +112,32 @@ mod tests {
         fs::read(folder.join(name)).unwrap_or_default()
     }
 
-    /// How many bytes of the two files a program keeps.
+    /// How many bytes of each file a program keeps.
     #[derive(Clone, Copy)]
     struct Kept {
         sheet: usize,
         rounds: usize,
+        level: usize,
     }
 
     /// One byte more than the longest of each.
     const ENOUGH: Kept = Kept {
         sheet: 309,
         rounds: 34_824,
+        level: 2,
     };
 
     /// The run of a program that keeps so many bytes. Where it tells a length,
     /// it tells that of the whole file.
     fn ran(program: &Program, folder: &Path, kept: Kept) -> Output {
         let (sheet, rounds) = (bytes(folder, "sheet.bin"), bytes(folder, "rounds.bin"));
+        let level = bytes(folder, "level.bin");
         let start = |bytes: &[u8], most: usize| bytes[..bytes.len().min(most)].to_vec();
-        let mut text = (program.text)(&start(&sheet, kept.sheet), &start(&rounds, kept.rounds));
+        let mut text = (program.text)(
+            &start(&sheet, kept.sheet),
+            &start(&rounds, kept.rounds),
+            &start(&level, kept.level),
+        );
         if let Some((words, _)) = text.split_once("length ") {
             let of = if words == "refused 12 " {
                 rounds
@@ -162,6 +174,10 @@ mod tests {
             for rounds in [34_823, 32_768, 64] {
                 assert!(!passes(program, Kept { rounds, ..ENOUGH }, |_| {}));
             }
+        }
+        for level in [0, 1] {
+            assert!(!passes(MARKER, Kept { level, ..ENOUGH }, |_| {}));
+            assert!(passes(REASON, Kept { level, ..ENOUGH }, |_| {}));
         }
     }
 

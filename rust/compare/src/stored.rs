@@ -1,5 +1,5 @@
-//! Stored cases of the marker: sheets and round files with the judge's text on
-//! them, for a program that is run where the judge is not.
+//! Stored cases of the marker: sheets, round files and levels with the judge's
+//! text on them, for a program that is run where the judge is not.
 
 use std::collections::BTreeSet;
 use std::fs;
@@ -7,6 +7,7 @@ use std::io;
 use std::path::Path;
 
 use crate::calls::SHEET_NUMBERS;
+use crate::cases::TextCase;
 use crate::making::mark_case;
 use crate::options::SEED;
 use crate::random::Random;
@@ -23,13 +24,18 @@ pub struct Stored {
 }
 
 impl Stored {
-    /// Adds a case: the sheet's length in two bytes, the file's in four, high
-    /// byte first, and the bytes of both.
-    fn push(&mut self, sheet: &[u8], file: &[u8], text: &str) {
+    /// Adds a case: the sheet's length in two bytes, the file's in four and the
+    /// level's in two, high byte first, and the bytes of the three.
+    fn push(&mut self, case: &TextCase, text: &str) {
+        let TextCase {
+            sheet, file, level, ..
+        } = case;
         self.cases.extend((sheet.len() as u16).to_be_bytes());
         self.cases.extend((file.len() as u32).to_be_bytes());
-        self.cases.extend(sheet);
-        self.cases.extend(file);
+        self.cases.extend((level.len() as u16).to_be_bytes());
+        for bytes in [sheet, file, level] {
+            self.cases.extend(bytes);
+        }
         self.texts += text;
     }
 
@@ -40,23 +46,24 @@ impl Stored {
     }
 }
 
-/// What the cases are to meet: each line, a round's without its number, and an
-/// empty sheet and file. Lines on a sheet that loads are to be met in each kind.
+/// What the cases are to meet: each line, a round's without its number, an empty
+/// sheet, file and level, a level of two bytes, and accepted rounds that are not
+/// enough. Lines on a sheet that loads are to be met in each kind.
 fn wanted() -> BTreeSet<String> {
     let mut lines: Vec<String> = vec!["pass".into(), "fail".into(), "accepted".into()];
     lines.extend([0, 512].map(|count| format!("rounds {count}")));
     lines.extend((0..8).map(|row| format!("rejected {row}")));
     lines.extend([14, 15, 16].map(|number| format!("refused {number}")));
-    lines.push("file 12".into());
+    lines.extend(["file 12", "level 25"].map(String::from));
     let kinds = [1, 2].into_iter();
     let of_kinds = kinds.flat_map(|kind| lines.iter().map(move |line| format!("{line}, {kind}")));
     let sheets = SHEET_NUMBERS.iter().map(|number| format!("sheet {number}"));
-    let empty = ["no sheet", "no file"].map(String::from);
-    of_kinds.chain(sheets).chain(empty).collect()
+    let others = ["no sheet", "no file", "no level", "two bytes", "too few"].map(String::from);
+    of_kinds.chain(sheets).chain(others).collect()
 }
 
 /// What a case meets, in the words of what is wanted.
-fn met(sheet: &[u8], file: &[u8], text: &str) -> BTreeSet<String> {
+fn met(sheet: &[u8], file: &[u8], level: &[u8], text: &str) -> BTreeSet<String> {
     let mut met = BTreeSet::new();
     for line in text.lines() {
         let line = line.trim_start_matches(|letter: char| letter.is_ascii_digit() || letter == ' ');
@@ -65,8 +72,18 @@ fn met(sheet: &[u8], file: &[u8], text: &str) -> BTreeSet<String> {
             _ => line.to_string(),
         });
     }
-    for (bytes, name) in [(sheet, "no sheet"), (file, "no file")] {
-        if bytes.is_empty() {
+    let of_level = text == "level 25\n";
+    for (name, holds) in [
+        ("no sheet", sheet.is_empty()),
+        ("no file", file.is_empty()),
+        ("no level", level.is_empty() && of_level),
+        ("two bytes", level.len() == 2 && of_level),
+        (
+            "too few",
+            !text.contains(" re") && text.ends_with("accepted\nfail\n"),
+        ),
+    ] {
+        if holds {
             met.insert(name.to_string());
         }
     }
@@ -85,10 +102,10 @@ pub fn stored() -> Stored {
         if case.sheet.len() + case.file.len() > LARGEST {
             continue;
         }
-        let text = judge::marker(&case.sheet, &case.file);
-        let met = met(&case.sheet, &case.file, &text);
+        let text = judge::marker(&case.sheet, &case.file, &case.level);
+        let met = met(&case.sheet, &case.file, &case.level, &text);
         if !left.is_disjoint(&met) {
-            stored.push(&case.sheet, &case.file, &text);
+            stored.push(&case, &text);
             left.retain(|thing| !met.contains(thing));
         }
     }
@@ -116,12 +133,13 @@ mod tests {
         assert!(cases.len() < 100_000);
         let (mut rest, mut left, mut said) = (&cases[..], wanted(), String::new());
         let mut count = 0;
-        while let Some((lengths, bytes)) = rest.split_first_chunk::<6>() {
-            let [a, b, c, d, e, f] = *lengths;
+        while let Some((lengths, bytes)) = rest.split_first_chunk::<8>() {
+            let [a, b, c, d, e, f, g, h] = *lengths;
             let (sheet, bytes) = bytes.split_at(u16::from_be_bytes([a, b]).into());
             let (file, bytes) = bytes.split_at(u32::from_be_bytes([c, d, e, f]) as usize);
-            let text = judge::marker(sheet, file);
-            let met = met(sheet, file, &text);
+            let (level, bytes) = bytes.split_at(u16::from_be_bytes([g, h]).into());
+            let text = judge::marker(sheet, file, level);
+            let met = met(sheet, file, level, &text);
             left.retain(|thing| !met.contains(thing));
             said += &text;
             rest = bytes;

@@ -3,7 +3,7 @@
 
 use std::fmt;
 
-use crate::calls::{Call, CALL_COUNT, LAST};
+use crate::calls::{Call, CALL_COUNT, LAST, ORDER};
 use crate::cases::Case;
 use crate::library::Judgement;
 use crate::outcome::Outcome;
@@ -21,6 +21,11 @@ pub struct Tally {
     numbers: [[u64; LAST as usize + 1]; CALL_COUNT],
     verdicts: [[u64; VERDICTS.len()]; CALL_COUNT],
     shapes: Shapes,
+}
+
+/// 0, which stands for no refusal, and the numbers in their order.
+fn columns() -> impl Iterator<Item = u32> {
+    [0].into_iter().chain(ORDER)
 }
 
 /// The place of a verdict among all.
@@ -71,7 +76,7 @@ impl Tally {
         let mut lacks = Vec::new();
         for call in Call::all() {
             let name = call.name();
-            for number in 0..=LAST {
+            for number in columns() {
                 let met = self.met(call, number);
                 if call.can_give(number) && met < fewest {
                     lacks.push(format!("{name} gave {number} only {met} times"));
@@ -99,13 +104,13 @@ impl Tally {
 impl fmt::Display for Tally {
     fn fmt(&self, out: &mut fmt::Formatter) -> fmt::Result {
         write!(out, "{:<20}", "number")?;
-        for number in 0..=LAST {
+        for number in columns() {
             write!(out, "{number:>6}")?;
         }
         write!(out, "{:>8}", "all")?;
         for call in Call::all() {
             write!(out, "\n{:<20}", call.name())?;
-            for number in 0..=LAST {
+            for number in columns() {
                 let met = self.met(call, number);
                 if call.can_give(number) || met > 0 {
                     write!(out, "{met:>6}")?;

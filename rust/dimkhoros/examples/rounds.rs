@@ -1,4 +1,5 @@
-//! Vic keeps a file of rounds, a marker judges each of them, and a student is told the reason.
+//! Vic keeps a file of rounds, a marker judges each of them and says whether they are enough for a level, and a student is
+//! told the reason.
 
 mod common;
 
@@ -26,23 +27,39 @@ fn describe(instance: &Instance, file: &RoundFile<'_>, number: usize) -> Result<
     Ok(format!("{length} bytes from byte {offset} on, t = {t}, c = {c}, r = {r}, {verdict}"))
 }
 
+/// Writes the file of these rounds to a buffer.
+fn write_file<'a>(
+    instance: &'a Instance,
+    rounds: &[Round],
+    buffer: &'a mut [u8],
+) -> Result<RoundWriter<'a>, Refusal> {
+    let mut writer = RoundWriter::start(instance, buffer)?;
+    for round in rounds {
+        writer.append(round)?;
+    }
+    Ok(writer)
+}
+
+/// Shows the marker's text on a file at a level, the byte of a level file.
+fn show_mark(instance: &Instance, file: &RoundFile<'_>, level: u8) {
+    let mut text = [0; LONGEST_TEXT];
+    let marked = mark(instance.bytes(), file.bytes(), &[level], &mut text);
+    print!("The marker's text at the level {level}:\n{marked}");
+}
+
 /// The reason's line on a file of one round.
-fn reason_alone(instance: &Instance, round: &Round) -> Result<String, Refusal> {
+fn reason_alone(instance: &Instance, round: Round) -> Result<String, Refusal> {
     let mut buffer = [0; LONGEST_FILE];
-    let mut writer = RoundWriter::start(instance, &mut buffer)?;
-    writer.append(round)?;
+    let writer = write_file(instance, &[round], &mut buffer)?;
     let mut line = [0; LONGEST_REASON];
     Ok(reason(instance.bytes(), writer.file().bytes(), &mut line).to_string())
 }
 
 fn main() -> Result<(), Refusal> {
     let instance = page_a()?;
-    let rounds = [round(9, 3, 4), round(9, 1, 1), round(9, 1, 2), round(5, 0, 0)];
     let mut buffer = [0; LONGEST_FILE];
-    let mut writer = RoundWriter::start(&instance, &mut buffer)?;
-    for round in &rounds {
-        writer.append(round)?;
-    }
+    let mixed = [round(9, 3, 4), round(9, 1, 1), round(9, 1, 2), round(5, 0, 0)];
+    let writer = write_file(&instance, &mixed, &mut buffer)?;
     let file = writer.file();
     println!("The file: {} rounds in {} bytes.", file.count(), file.bytes().len());
     for number in 0..=file.count() {
@@ -51,9 +68,13 @@ fn main() -> Result<(), Refusal> {
             describe(&instance, &file, number).unwrap_or_else(|refusal| refusal.to_string())
         );
     }
-    let mut text = [0; LONGEST_TEXT];
-    print!("The marker's text:\n{}", mark(instance.bytes(), file.bytes(), &mut text));
-    for (number, round) in rounds.iter().enumerate() {
+    show_mark(&instance, &file, 7);
+    let accepted = [round(9, 3, 4), round(9, 1, 1), round(2, 3, 0)];
+    for (count, level) in [(2, 7), (3, 7), (3, 65)] {
+        let writer = write_file(&instance, &accepted[..count], &mut buffer)?;
+        show_mark(&instance, &writer.file(), level);
+    }
+    for (number, round) in mixed.into_iter().enumerate() {
         print!("The reason on round {number} alone: {}", reason_alone(&instance, round)?);
     }
     Ok(())

@@ -3,7 +3,7 @@
 use core::error::Error;
 use core::fmt;
 
-/// Makes the enum, with its sentences as the documentation, and the table out of one list.
+/// Makes the enum, with its sentences as the documentation, and the list of all out of one table.
 macro_rules! refusals {
     ($($number:literal, $name:ident, $sentence:literal;)*) => {
         /// Why a call was refused. Where several refusals apply, the one with the lowest number is given.
@@ -26,8 +26,15 @@ macro_rules! refusals {
             )*
         }
 
-        /// Every refusal with its sentence, that of number k at place k - 1.
-        const TABLE: [(Refusal, &str); [$($number),*].len()] = [$((Refusal::$name, $sentence)),*];
+        /// Every refusal.
+        const ALL: [Refusal; [$($number),*].len()] = [$(Refusal::$name),*];
+
+        /// What a refusal says.
+        const fn sentence_of(refusal: Refusal) -> &'static str {
+            match refusal {
+                $(Refusal::$name => $sentence,)*
+            }
+        }
     };
 }
 
@@ -54,6 +61,7 @@ refusals! {
     20, RoundRejected, "one of the two rounds, or both, would be rejected";
     21, Session, "the session's state does not allow the call, or what it holds does not fit this sheet";
     22, Buffer, "the buffer is too short for the result";
+    25, Level, "the level has to be one byte from 1 to 64";
 }
 
 impl Refusal {
@@ -75,7 +83,7 @@ impl Refusal {
     /// assert_eq!(Refusal::from_number(0), None);
     /// ```
     pub fn from_number(number: u32) -> Option<Refusal> {
-        TABLE.into_iter().map(|(refusal, _)| refusal).find(|refusal| refusal.number() == number)
+        ALL.into_iter().find(|refusal| refusal.number() == number)
     }
 
     /// What the refusal says, in one sentence without its number.
@@ -84,7 +92,7 @@ impl Refusal {
     /// assert_eq!(dimkhoros::Refusal::RoundNumber.sentence(), "the file has no round of this number");
     /// ```
     pub const fn sentence(self) -> &'static str {
-        TABLE[self as usize - 1].1
+        sentence_of(self)
     }
 
     /// The refusal that an answer of the library names, none where it is 0.

@@ -4,13 +4,40 @@ use crate::protocol::{tested_verdict, Verdict};
 use crate::round_file::{file_count, file_round};
 use crate::sheet::load;
 
-/// Answers the marker's text for the bytes of a sheet and of a round file.
+/// The level w of a level file, or 25 when it is not one byte from 1 to 64.
+fn file_level(level: &[u8]) -> Result<u32, u32> {
+    match level {
+        [w @ 1..=64] => Ok(u32::from(*w)),
+        _ => Err(25),
+    }
+}
+
+/// Whether the product of one K per round, 1 for no rounds, is at least 2^w.
 ///
-/// A refused sheet gives the one line `sheet N`, a refused file the one line
-/// `file N`. Otherwise the text has the count of rounds, a line for each round
-/// and then `pass` when every round is accepted, else `fail`. It refuses
+/// A product that has reached 2^w takes no more factors, since none is below
+/// 2. One that has not is below 2^64, and by 8 no K is above 2^16. So the
+/// product stays below 2^80.
+fn is_enough(count: u32, challenges: u32, w: u32) -> bool {
+    let wanted = 1_u128 << w;
+    let mut product = 1_u128;
+    for _ in 0..count {
+        if product < wanted {
+            product *= u128::from(challenges);
+        }
+    }
+    product >= wanted
+}
+
+/// Answers the marker's text for the bytes of a sheet, of a round file and of
+/// a level file. A file that is missing or can't be read is one of no bytes.
+///
+/// A refused sheet gives the one line `sheet N`, a refused round file the one
+/// line `file N` and a refused level the one line `level 25`, the first of
+/// them that applies. Otherwise the text has the count of rounds, a line for
+/// each round and then `pass` or `fail`. It is `pass` when every round is
+/// accepted and the product of one K per round is at least 2^w. It refuses
 /// nothing itself.
-pub fn marker(sheet: &[u8], file: &[u8]) -> String {
+pub fn marker(sheet: &[u8], file: &[u8], level: &[u8]) -> String {
     // Decision: every line, the last one too, ends in one line feed.
     let sheet = match load(sheet) {
         Ok(sheet) => sheet,
@@ -20,8 +47,14 @@ pub fn marker(sheet: &[u8], file: &[u8]) -> String {
         Ok(count) => count,
         Err(number) => return format!("file {number}\n"),
     };
+    // Decision: a refused level is "the one line", so no round is shown, also
+    // where a round is rejected or refused and the file fails at every level.
+    let w = match file_level(level) {
+        Ok(w) => w,
+        Err(number) => return format!("level {number}\n"),
+    };
     let mut text = format!("rounds {count}\n");
-    let mut last = "pass\n";
+    let mut passes = is_enough(count, sheet.challenges, w);
     for number in 0..count {
         let round = file_round(&sheet, file, u64::from(number));
         let verdict = round.and_then(|round| tested_verdict(&sheet, &round));
@@ -30,11 +63,9 @@ pub fn marker(sheet: &[u8], file: &[u8]) -> String {
             Ok(Verdict::Rejected(row)) => format!("rejected {row}"),
             Ok(Verdict::Refused(refusal)) | Err(refusal) => format!("refused {refusal}"),
         };
-        if verdict != Ok(Verdict::Accepted) {
-            last = "fail\n";
-        }
+        passes = passes && verdict == Ok(Verdict::Accepted);
         text += &format!("{number} {words}\n");
     }
-    text += last;
+    text += if passes { "pass\n" } else { "fail\n" };
     text
 }

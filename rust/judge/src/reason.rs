@@ -14,7 +14,7 @@ enum Place {
 }
 
 /// Answers one line on the bytes of a sheet and of a round file: on the sheet,
-/// on the file or on its round 0. It refuses nothing itself.
+/// on the file or on its round 0. It reads no level and refuses nothing itself.
 ///
 /// The line is `refused`, the number and the offset of the first value that
 /// breaks that rule, or the word `length` and the length found instead of an

@@ -146,12 +146,21 @@ pub fn extract(sheet: &[u8], first: &Round, second: &Round) -> Computed {
     unsafe { dimkhoros_extract(sheet.as_ptr(), sheet.len(), *first, *second) }
 }
 
-/// Writes the marker's text on a sheet and a round file to the start of `text`, and answers its length.
+/// Writes the marker's text on a sheet, a round file and a level file to the start of `text`, and answers its length.
 #[inline]
-pub fn mark(sheet: &[u8], file: &[u8], text: &mut [u8; LONGEST_TEXT]) -> usize {
-    let (pointer, length) = (sheet.as_ptr(), sheet.len());
+pub fn mark(sheet: &[u8], file: &[u8], level: &[u8], text: &mut [u8; LONGEST_TEXT]) -> usize {
     // SAFETY: the slices are given by their pointers and lengths, and `text` has the bytes that may be written.
-    unsafe { dimkhoros_mark(pointer, length, file.as_ptr(), file.len(), text.as_mut_ptr()) }
+    unsafe {
+        dimkhoros_mark(
+            sheet.as_ptr(),
+            sheet.len(),
+            file.as_ptr(),
+            file.len(),
+            level.as_ptr(),
+            level.len(),
+            text.as_mut_ptr(),
+        )
+    }
 }
 
 /// Writes the reason's line on a sheet, a round file or its round 0 to the start of `text`, and answers its length.

@@ -96,6 +96,8 @@ unsafe extern "C" {
         sheet_length: usize,
         file: *const u8,
         file_length: usize,
+        level: *const u8,
+        level_length: usize,
         text: *mut u8,
     ) -> usize;
 

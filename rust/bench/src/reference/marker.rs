@@ -1,4 +1,4 @@
-//! The marker's text on a sheet and a round file.
+//! The marker's text on a sheet, a round file and a level.
 
 use dimkhoros_sys::{Round, LONGEST_TEXT};
 
@@ -8,16 +8,35 @@ use super::sheet::{load, word, words, Sheet};
 
 /// Puts the marker's text at the start of text and answers its length.
 #[inline(never)]
-pub fn mark<A: Arithmetic>(sheet: &[u8], file: &[u8], text: &mut [u8; LONGEST_TEXT]) -> usize {
+pub fn mark<A: Arithmetic>(
+    sheet: &[u8],
+    file: &[u8],
+    level: &[u8],
+    text: &mut [u8; LONGEST_TEXT],
+) -> usize {
     let mut lines = Lines { text, length: 0 };
     match load::<A>(sheet) {
         Err(number) => lines.numbered(b"sheet ", number),
-        Ok(sheet) => match records(&sheet, file) {
-            Err(number) => lines.numbered(b"file ", number),
-            Ok(records) => lines.rounds(&sheet, records),
+        Ok(sheet) => match (records(&sheet, file), level) {
+            (Err(number), _) => lines.numbered(b"file ", number),
+            (Ok(records), &[level @ 1..=64]) => lines.rounds(&sheet, records, level),
+            (Ok(_), _) => lines.numbered(b"level ", 25),
         },
     }
     lines.length
+}
+
+/// Whether the product of one K for each round is at least 2^level. It takes no
+/// further factor once it is, and so stays below 2^80.
+fn is_enough(challenges: u32, count: usize, level: u8) -> bool {
+    let (mut product, wanted) = (1u128, 1u128 << level);
+    for _ in 0..count {
+        if product >= wanted {
+            break;
+        }
+        product *= u128::from(challenges);
+    }
+    product >= wanted
 }
 
 /// The records of a round file, or the number 12.
@@ -56,10 +75,10 @@ struct Lines<'a> {
 
 impl Lines<'_> {
     /// The lines of a file that is read.
-    fn rounds<A: Arithmetic>(&mut self, sheet: &Sheet<A>, records: &[u8]) {
+    fn rounds<A: Arithmetic>(&mut self, sheet: &Sheet<A>, records: &[u8], level: u8) {
         let records = records.chunks_exact(record_length(sheet));
         self.numbered(b"rounds ", records.len() as u32);
-        let mut passed = true;
+        let mut passed = is_enough(sheet.challenges, records.len(), level);
         for (number, record) in records.enumerate() {
             self.decimal(number as u32);
             match sheet.judge(&round(sheet, record)) {

@@ -1,5 +1,5 @@
-//! The calls that write a text on a sheet and a round file: the marker's text
-//! and the reason's line.
+//! The calls that write a text on a sheet and a round file: the marker's text,
+//! which takes a level too, and the reason's line.
 
 use std::fmt;
 
@@ -18,12 +18,14 @@ pub enum TextCall {
     Reason,
 }
 
-/// A sheet, a round file, and as many lent bytes as the text takes.
+/// A sheet, a round file, a level file, which the reason does not take, and as
+/// many lent bytes as the text takes.
 #[derive(Debug)]
 pub struct TextCase {
     pub call: TextCall,
     pub sheet: Vec<u8>,
     pub file: Vec<u8>,
+    pub level: Vec<u8>,
     pub lent: Lent,
 }
 
@@ -48,7 +50,7 @@ impl Case for TextCase {
     fn run(&self, library: Library) -> Outcome {
         let (sheet, file, mut lent) = (&self.sheet, &self.file, self.lent.clone());
         let length = match self.call {
-            TextCall::Mark => library.mark(sheet, file, lent_text(&mut lent)),
+            TextCall::Mark => library.mark(sheet, file, &self.level, lent_text(&mut lent)),
             TextCall::Reason => library.reason(sheet, file, lent_text(&mut lent)),
         };
         let text = lent.buffer();
@@ -70,6 +72,7 @@ impl fmt::Display for TextCase {
         writeln!(out, "{}", self.call().name())?;
         writeln!(out, "    sheet {}", hex(&self.sheet))?;
         writeln!(out, "    file {}", hex(&self.file))?;
+        writeln!(out, "    level {}", hex(&self.level))?;
         write!(out, "{}", self.lent)
     }
 }

@@ -178,7 +178,7 @@ faults! {
     AnswerFromHolding, "answer-from-holding", "Vic's response call lets Holding through";
     MarkCountInvented, "mark-count-invented", "mark always says 4 rounds";
     MarkFileFirst, "mark-file-first", "mark gives the file's line before the sheet's";
-    MarkEmptyFails, "mark-empty-fails", "mark says fail for a file of no rounds";
+    MarkEmptyPasses, "mark-empty-passes", "mark says pass for a file of no rounds";
     MarkRefusedPasses, "mark-refused-passes", "mark says pass where rounds are only refused";
     MarkRowZero, "mark-row-zero", "mark compares row 0 only";
     MarkStops, "mark-stops", "mark stops behind the first round not accepted";
@@ -186,6 +186,18 @@ faults! {
     MarkByteAfter, "mark-byte-after", "mark clears the byte behind the text";
     MarkRoundCut, "mark-round-cut", "mark cuts a round's number to a byte";
     MarkLastRound, "mark-last-round", "mark leaves out round 511";
+    MarkLevelWraps, "mark-level-wraps", "mark multiplies one K per round in 64 bits, which wrap around";
+    MarkLevelAbove, "mark-level-above", "mark asks for more than 2^w";
+    MarkLevelIgnored, "mark-level-ignored", "mark passes accepted rounds at every level";
+    MarkLevelRounds, "mark-level-rounds", "mark asks for w rounds, whatever K is";
+    MarkEnoughAccepted, "mark-enough-accepted", "mark passes enough accepted rounds beside another";
+    MarkLevelFirst, "mark-level-first", "mark gives the level's line before the file's";
+    MarkLevelBeforeSheet, "mark-level-before-sheet", "mark gives the level's line before the sheet's";
+    MarkLevelLast, "mark-level-last", "mark gives the level's line behind those of the rounds";
+    MarkLevelFront, "mark-level-front", "mark keeps one byte of the level";
+    MarkLevelMissing, "mark-level-missing", "mark takes the level 1 where there is none";
+    MarkLevelZero, "mark-level-zero", "mark takes the level 0 as 1";
+    MarkLevelCut, "mark-level-cut", "mark takes a level above 64 as 64";
     ReasonFileFirst, "reason-file-first", "reason gives the file's line before the sheet's";
     ReasonMarkFirst, "reason-mark-first", "reason tells another mark before too short a header";
     ReasonUnequalRows, "reason-unequal-rows", "reason shows 18 for unequal rows and columns";

@@ -3,17 +3,21 @@
 use crate::faults::Fault;
 use crate::library::Library::Judge;
 use crate::library::LONGEST_TEXT;
+use crate::sheets::header;
 
-pub fn mark(fault: Fault, sheet: &[u8], file: &[u8], text: &mut [u8; LONGEST_TEXT]) -> usize {
-    let mut whole = [0; LONGEST_TEXT];
-    let length = Judge.mark(sheet, file, &mut whole);
-    let right = String::from_utf8_lossy(&whole[..length]);
+pub fn mark(
+    fault: Fault,
+    sheet: &[u8],
+    file: &[u8],
+    level: &[u8],
+    text: &mut [u8; LONGEST_TEXT],
+) -> usize {
+    let right = judged(sheet, file, level);
     let marked = if right.starts_with("rounds") {
-        marked(fault, &right)
-    } else if fault == Fault::MarkFileFirst && right.starts_with("sheet") && file.len() < 7 {
-        String::from("file 12\n")
+        let challenges = header(sheet).map_or(0, |header| header.challenges);
+        marked(fault, &right, challenges, level[0])
     } else {
-        right.into_owned()
+        refused(fault, &right, sheet, file, level)
     };
     text[..marked.len()].copy_from_slice(marked.as_bytes());
     if fault == Fault::MarkByteAfter {
@@ -22,14 +26,60 @@ pub fn mark(fault: Fault, sheet: &[u8], file: &[u8], text: &mut [u8; LONGEST_TEX
     marked.len()
 }
 
+/// The judge's text.
+fn judged(sheet: &[u8], file: &[u8], level: &[u8]) -> String {
+    let mut whole = [0; LONGEST_TEXT];
+    let length = Judge.mark(sheet, file, level, &mut whole);
+    String::from_utf8_lossy(&whole[..length]).into_owned()
+}
+
+/// The text where a sheet, a file or a level is refused. Where a level is let
+/// through the text is the judge's at another.
+fn refused(fault: Fault, right: &str, sheet: &[u8], file: &[u8], level: &[u8]) -> String {
+    let of = |word: &str| right.starts_with(word);
+    let at = |level: u8| judged(sheet, file, &[level]);
+    let no_level = !matches!(level, [1..=64]);
+    match (fault, level) {
+        (Fault::MarkFileFirst, _) if of("sheet") && file.len() < 7 => String::from("file 12\n"),
+        (Fault::MarkLevelFirst, _) if of("file") && no_level => String::from("level 25\n"),
+        (Fault::MarkLevelBeforeSheet, _) if of("sheet") && no_level => String::from("level 25\n"),
+        (Fault::MarkLevelFront, [first @ 1..=64, _, ..]) if of("level") => at(*first),
+        (Fault::MarkLevelMissing, []) if of("level") => at(1),
+        (Fault::MarkLevelZero, [0]) if of("level") => at(1),
+        (Fault::MarkLevelCut, [65..=255]) if of("level") => at(64),
+        (Fault::MarkLevelLast, _) if of("level") => {
+            let text = at(64);
+            let lines = text.strip_suffix("fail\n").or(text.strip_suffix("pass\n"));
+            format!("{}level 25\n", lines.unwrap_or_default())
+        }
+        _ => right.to_string(),
+    }
+}
+
 /// The text for a file that reads.
-fn marked(fault: Fault, right: &str) -> String {
+fn marked(fault: Fault, right: &str, challenges: u32, level: u8) -> String {
     let mut lines: Vec<String> = right.lines().map(String::from).collect();
+    let count = lines.len() - 2;
+    let accepted = right.matches(" accepted\n").count();
+    let all = accepted == count;
     match fault {
         Fault::MarkCountInvented => lines[0] = String::from("rounds 4"),
-        Fault::MarkEmptyFails if lines.len() == 2 => lines[1] = String::from("fail"),
-        Fault::MarkRefusedPasses if !right.contains("rejected") => pass(&mut lines),
-        Fault::MarkRowZero => accept_rows(&mut lines),
+        Fault::MarkEmptyPasses => end(&mut lines, right.ends_with("pass\n") || count == 0),
+        Fault::MarkLevelIgnored => end(&mut lines, all && count > 0),
+        Fault::MarkLevelWraps => end(&mut lines, all && wrapped(challenges, count) >= 1 << level),
+        Fault::MarkLevelAbove => end(&mut lines, all && capped(challenges, count) > 1 << level),
+        Fault::MarkLevelRounds => end(&mut lines, all && count >= level.into()),
+        Fault::MarkEnoughAccepted => {
+            end(&mut lines, capped(challenges, accepted) >= 1 << level);
+        }
+        Fault::MarkRefusedPasses if !right.contains("rejected") => {
+            end(&mut lines, capped(challenges, count) >= 1 << level);
+        }
+        Fault::MarkRowZero => {
+            accept_rows(&mut lines);
+            let all = !lines.iter().any(|line| line.contains(" re"));
+            end(&mut lines, all && capped(challenges, count) >= 1 << level);
+        }
         Fault::MarkStops => {
             let bad = lines.iter().position(|line| line.contains(" re"));
             if let Some(bad) = bad {
@@ -45,10 +95,21 @@ fn marked(fault: Fault, right: &str) -> String {
     lines.join("\n") + "\n"
 }
 
-/// Makes the last line `pass`.
-fn pass(lines: &mut [String]) {
+/// The product of one K per round, but 2^65 at most.
+fn capped(challenges: u32, count: usize) -> u128 {
+    let factors = std::iter::repeat_n(u128::from(challenges), count);
+    factors.fold(1, |product, factor| (product * factor).min(1 << 65))
+}
+
+/// The same product in 64 bits.
+fn wrapped(challenges: u32, count: usize) -> u128 {
+    u64::from(challenges).wrapping_pow(count as u32).into()
+}
+
+/// Sets the last line.
+fn end(lines: &mut [String], passes: bool) {
     if let Some(last) = lines.last_mut() {
-        *last = String::from("pass");
+        *last = String::from(if passes { "pass" } else { "fail" });
     }
 }
 
@@ -60,9 +121,6 @@ fn accept_rows(lines: &mut [String]) {
                 *line = format!("{number} accepted");
             }
         }
-    }
-    if !lines.iter().any(|line| line.contains(" re")) {
-        pass(lines);
     }
 }
 

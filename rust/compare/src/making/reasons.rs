@@ -32,6 +32,7 @@ pub fn reason_case(random: &mut Random) -> TextCase {
         call: TextCall::Reason,
         sheet,
         file,
+        level: Vec::new(),
         lent: Lent::first(random, &[], LONGEST_REASON),
     }
 }

@@ -1,6 +1,6 @@
-//! Folders with a sheet and a round file: files that are missing, empty, as
-//! long as they can be and longer, and those of the marker's and the reason's
-//! cases.
+//! Folders with a sheet, a round file and a level file: files that are missing,
+//! empty, as long as they can be and longer, and those of the marker's and the
+//! reason's cases.
 
 use std::fmt;
 use std::fs;
@@ -20,6 +20,7 @@ const CASES: u64 = 60;
 /// 01's example, which the programs are also run on by `./run`.
 const EXAMPLE_SHEET: &[u8] = include_bytes!("../../../../crates/marker/data/sheet.bin");
 const EXAMPLE_ROUNDS: &[u8] = include_bytes!("../../../../crates/marker/data/rounds.bin");
+const EXAMPLE_LEVEL: &[u8] = include_bytes!("../../../../crates/marker/data/level.bin");
 
 /// What stands in the place of a file.
 #[derive(Clone)]
@@ -33,6 +34,7 @@ pub enum Place {
 pub struct Folder {
     pub sheet: Place,
     pub rounds: Place,
+    pub level: Place,
 }
 
 impl Place {
@@ -68,20 +70,23 @@ impl Folder {
     pub fn make(&self, path: &Path) -> io::Result<()> {
         fs::create_dir(path)?;
         self.sheet.make(&path.join("sheet.bin"))?;
-        self.rounds.make(&path.join("rounds.bin"))
+        self.rounds.make(&path.join("rounds.bin"))?;
+        self.level.make(&path.join("level.bin"))
     }
 }
 
 impl fmt::Display for Folder {
     fn fmt(&self, out: &mut fmt::Formatter) -> fmt::Result {
         writeln!(out, "    sheet.bin {}", self.sheet)?;
-        write!(out, "    rounds.bin {}", self.rounds)
+        writeln!(out, "    rounds.bin {}", self.rounds)?;
+        write!(out, "    level.bin {}", self.level)
     }
 }
 
 /// Every folder, with the cases of this seed.
 pub fn folders(seed: u64) -> Vec<Folder> {
     let mut folders = examples();
+    folders.extend(levels());
     folders.extend(longest(&mut Random::new(seed)));
     folders.extend(long_and_wrong(&mut Random::new(seed)));
     for make in [mark_case, reason_case] {
@@ -90,6 +95,7 @@ pub fn folders(seed: u64) -> Vec<Folder> {
             Folder {
                 sheet: Place::File(case.sheet),
                 rounds: Place::File(case.file),
+                level: Place::File(case.level),
             }
         }));
     }
@@ -106,11 +112,44 @@ fn examples() -> Vec<Folder> {
     let mut folders = Vec::new();
     for sheet in places(EXAMPLE_SHEET) {
         for rounds in places(EXAMPLE_ROUNDS) {
-            let sheet = sheet.clone();
-            folders.push(Folder { sheet, rounds });
+            folders.extend(places(EXAMPLE_LEVEL).map(|level| Folder {
+                sheet: sheet.clone(),
+                rounds: rounds.clone(),
+                level,
+            }));
         }
     }
     folders
+}
+
+/// The example's sheet with two and with three accepted rounds, of which the
+/// second is enough for the level 7, at levels that are taken and refused, and
+/// with level files that are longer.
+fn levels() -> Vec<Folder> {
+    let mut levels: Vec<Vec<u8>> = [1, 6, 7, 10, 11, 63, 64].map(|level| vec![level]).into();
+    levels.extend([0, 65, 128, 255].map(|level| vec![level]));
+    levels.extend([
+        vec![7, 7],
+        vec![7, 0],
+        vec![0, 7],
+        vec![7; 3],
+        vec![7; 5000],
+    ]);
+    let (head, round) = (&EXAMPLE_ROUNDS[..6], &EXAMPLE_ROUNDS[7..19]);
+    let folders = [2, 3].into_iter().flat_map(|count: u8| {
+        let rounds = [head, &[count], &round.repeat(count.into())].concat();
+        levels.iter().map(move |level| Folder {
+            sheet: Place::File(EXAMPLE_SHEET.to_vec()),
+            rounds: Place::File(rounds.clone()),
+            level: Place::File(level.clone()),
+        })
+    });
+    folders.collect()
+}
+
+/// The level of the example.
+fn example_level() -> Place {
+    Place::File(EXAMPLE_LEVEL.to_vec())
 }
 
 /// The longest sheet with the longest file of it, and each of them with more
@@ -135,6 +174,7 @@ fn longest(random: &mut Random) -> Vec<Folder> {
     let folders = lengths.map(|(sheet_length, file_length)| Folder {
         sheet: extended(&sheet, sheet_length),
         rounds: extended(&rounds, file_length),
+        level: example_level(),
     });
     folders.into()
 }
@@ -155,10 +195,12 @@ fn long_and_wrong(random: &mut Random) -> Vec<Folder> {
     let mut folders = vec![Folder {
         sheet: spoiled(&sheet, 5, 3, 400),
         rounds: Place::File(rounds.clone()),
+        level: example_level(),
     }];
     folders.extend([(0, b'S'), (4, 2), (5, 3)].map(|(place, value)| Folder {
         sheet: Place::File(sheet.clone()),
         rounds: spoiled(&rounds, place, value, 100_000),
+        level: example_level(),
     }));
     folders
 }
@@ -180,7 +222,12 @@ mod tests {
     use crate::options::SEED;
 
     fn text(folder: &Folder) -> String {
-        judge::marker(folder.sheet.bytes(), folder.rounds.bytes())
+        let Folder {
+            sheet,
+            rounds,
+            level,
+        } = folder;
+        judge::marker(sheet.bytes(), rounds.bytes(), level.bytes())
     }
 
     fn reason(folder: &Folder) -> String {
@@ -192,6 +239,38 @@ mod tests {
         let expected = "rounds 4\n0 accepted\n1 accepted\n2 rejected 0\n3 refused 14\nfail\n";
         assert_eq!(text(&examples()[0]), expected);
         assert_eq!(reason(&examples()[0]), "accepted\n");
+    }
+
+    #[test]
+    fn the_first_refused_of_the_three_files_is_told() {
+        let mut met = [0; 4];
+        for folder in examples() {
+            let sheet = folder.sheet.bytes().is_empty();
+            let rounds = folder.rounds.bytes().is_empty();
+            let level = folder.level.bytes().is_empty();
+            let (place, start) = match (sheet, rounds, level) {
+                (true, ..) => (0, "sheet 2\n"),
+                (_, true, _) => (1, "file 12\n"),
+                (.., true) => (2, "level 25\n"),
+                _ => (3, "rounds 4\n"),
+            };
+            assert!(text(&folder).starts_with(start), "{folder}");
+            met[place] += 1;
+        }
+        assert_eq!(met, [48, 12, 3, 1]);
+    }
+
+    #[test]
+    fn two_rounds_fail_and_three_pass_at_the_level_7() {
+        let lines: Vec<String> = levels().iter().map(text).collect();
+        let (two, three) = lines.split_at(16);
+        let last = |text: &String| text.lines().last().map(String::from);
+        let last: Vec<_> = [two, three].map(|texts| last(&texts[2])).into();
+        assert_eq!(last, ["fail", "pass"].map(|word| Some(word.to_string())));
+        for texts in [two, three] {
+            let refused = texts.iter().filter(|text| *text == "level 25\n");
+            assert_eq!(refused.count(), 9);
+        }
     }
 
     #[test]

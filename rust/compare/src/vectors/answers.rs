@@ -101,7 +101,7 @@ impl Given {
             Call::VerifierCommitment | Call::VerifierChallenge | Call::VerifierResponse => {
                 self.verifier_step(library, call, inputs)
             }
-            Call::Mark => Ok(self.mark(library)),
+            Call::Mark => Ok(self.mark(library, &inputs.bytes("level")?)),
             Call::Reason => Ok(self.reason(library)),
         }
     }
@@ -268,9 +268,9 @@ impl Given {
         Ok(told(answer.refusal, clean, || verifier(&answer.session)))
     }
 
-    fn mark(&self, library: Library) -> String {
+    fn mark(&self, library: Library, level: &[u8]) -> String {
         let mut text = [0xee; LONGEST_TEXT];
-        let length = library.mark(&self.sheet, &self.file, &mut text);
+        let length = library.mark(&self.sheet, &self.file, level, &mut text);
         written_text(&text, length)
     }
 

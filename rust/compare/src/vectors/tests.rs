@@ -1,7 +1,7 @@
 use std::collections::BTreeSet;
 
 use super::*;
-use crate::calls::{LAST, SHEET_NUMBERS};
+use crate::calls::{ORDER, SHEET_NUMBERS};
 use crate::faults::FAULTS;
 use crate::library::Library::{Faulty, Judge, Proved};
 
@@ -43,7 +43,7 @@ fn refusals(answer: &str) -> impl Iterator<Item = u32> + '_ {
         let mut words = line
             .split(' ')
             .skip_while(|word| word.parse::<u32>().is_ok());
-        let refused = ["refused", "sheet", "file"].contains(&words.next()?);
+        let refused = ["refused", "sheet", "file", "level"].contains(&words.next()?);
         refused.then(|| words.next().unwrap().parse().unwrap())
     })
 }
@@ -124,7 +124,7 @@ fn a_line_that_cannot_be_read_is_named() {
 
 #[test]
 fn each_refusal_has_lines_inside_and_outside_its_bounds() {
-    for number in 1..=LAST {
+    for number in ORDER {
         let calls = calls()
             .into_iter()
             .filter(|(.., section)| *section == number);
@@ -174,8 +174,8 @@ fn each_call_gives_its_numbers_and_no_others() {
     }
 }
 
-/// The bytes that stand in the vectors: sheets, files, and buffers that calls
-/// were lent or wrote to.
+/// The bytes that stand in the vectors: sheets, files, levels, and buffers that
+/// calls were lent or wrote to.
 fn stored_bytes() -> Vec<Vec<u8>> {
     let words = STORED
         .lines()
@@ -186,7 +186,7 @@ fn stored_bytes() -> Vec<Vec<u8>> {
                 .find_map(|word| line.strip_prefix(word));
             let written = line
                 .split(' ')
-                .filter_map(|word| word.strip_prefix("buffer="));
+                .filter_map(|word| word.strip_prefix("buffer=").or(word.strip_prefix("level=")));
             given.into_iter().chain(written)
         });
     words.map(|word| bytes::read(word).unwrap()).collect()
@@ -217,12 +217,11 @@ fn the_pages_show_stored_bytes_and_lines() {
 fn the_page_has_a_row_for_each_refusal_and_each_call() {
     let refusals = rows(FORMATS, "## Refusals\n");
     let numbers: Vec<&str> = refusals.iter().map(|row| row[0]).collect();
-    assert_eq!(
-        numbers,
-        (1..=LAST)
-            .map(|number| number.to_string())
-            .collect::<Vec<_>>()
-    );
+    let mut rising = ORDER;
+    rising.sort();
+    assert_eq!(numbers, rising.map(|number| number.to_string()));
+    let order = ORDER.map(|number| number.to_string()).join(", ");
+    assert!(FORMATS.contains(&format!(" in this order is given: {order}. ")));
     let sheet = SHEET_NUMBERS.map(|number| number.to_string()).join(" ");
     let rows = rows(FORMATS, "### Which call gives which number\n");
     assert_eq!(rows.len(), Call::all().count());
@@ -236,8 +235,8 @@ fn the_page_has_a_row_for_each_refusal_and_each_call() {
             .split_whitespace()
             .map(|word| word.parse().unwrap())
             .collect();
-        let given: Vec<u32> = (1..=LAST).filter(|number| call.can_give(*number)).collect();
-        assert_eq!(numbers, given, "{}", call.name());
+        let given = ORDER.into_iter().filter(|number| call.can_give(*number));
+        assert_eq!(numbers, given.collect::<Vec<_>>(), "{}", call.name());
     }
 }
 

@@ -5,6 +5,7 @@ mod boxes;
 #[path = "../../../sys/tests/suite/cc.rs"]
 mod cc;
 mod examples;
+mod levels;
 mod marks;
 mod pages;
 mod readme;

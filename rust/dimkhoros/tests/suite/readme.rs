@@ -69,7 +69,7 @@ fn the_pieces_in_rust_run() {
     command.args(["run", "--offline", "--quiet"]).current_dir(&folder);
     let printed = cc::succeed(&mut command);
     let expected = "8 the challenge count K has to be 2 to 65536, and no number from 2 to K - 1 may divide the order or \
-                    exponent\nsend 9\nsend 4\nrejected 0 4 2\nrefused 12 length 9\n";
+                    exponent\nsend 9\nsend 4\nrounds 1\n0 accepted\npass\nrejected 0 4 2\nrefused 12 length 9\n";
     assert_eq!(printed, expected);
 }
 

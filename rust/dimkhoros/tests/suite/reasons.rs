@@ -52,7 +52,7 @@ fn the_number_is_the_markers() {
         for place in 0..instance.bytes().len() {
             let mut sheet = instance.bytes().to_vec();
             sheet[place] ^= 0x80;
-            let marked = mark(&sheet, b"", &mut [0; LONGEST_TEXT]).to_string();
+            let marked = mark(&sheet, b"", b"", &mut [0; LONGEST_TEXT]).to_string();
             let number = line(&sheet, b"").split(' ').nth(1).unwrap().to_string();
             assert_eq!(marked.trim_end().split(' ').next_back().unwrap(), number, "{marked}");
             assert!(Refusal::from_number(number.parse().unwrap()).is_some());

@@ -57,8 +57,10 @@ impl Home {
         for folder in ["crates/marker/data", "target/bin", "tools", "no files"] {
             fs::create_dir_all(home.join(folder)).unwrap();
         }
-        for file in ["run", "crates/marker/data/sheet.bin", "crates/marker/data/rounds.bin"] {
-            copy(&cc::root().join(file), &home.join(file));
+        copy(&cc::root().join("run"), &home.join("run"));
+        for file in ["sheet.bin", "rounds.bin", "level.bin"] {
+            let file = Path::new("crates/marker/data").join(file);
+            copy(&cc::root().join(&file), &home.join(&file));
         }
         fs::write(home.join("crates.txt"), CRATES).unwrap();
         for tool in TOOLS {
@@ -214,13 +216,26 @@ fn a_folder_called_reason_is_marked() {
     assert_eq!(home.run(&["reason", "reason"]), marked("refused 9 length 27\n"));
 }
 
-/// The README's script is told a pass by the last line.
+/// The level stands beside the other two files, and the program `reason` does not read it.
+#[test]
+fn a_folder_without_a_level_is_not_marked_by_rounds() {
+    let home = Home::new("level");
+    fs::remove_file(home.0.join("crates/marker/data/level.bin")).unwrap();
+    home.date("crates/marker/data", false);
+    assert_eq!(home.run(&[]), marked("level 25\n"));
+    assert_eq!(home.run(&["reason"]), marked("accepted\n"));
+}
+
+/// The README's script is told a pass by the last line. With K = 11 one round passes at the level 3.
 #[test]
 fn a_script_tells_a_pass() {
     let home = Home::new("script");
-    fs::create_dir(home.0.join("passing")).unwrap();
-    copy(&cc::root().join("crates/marker/data/sheet.bin"), &home.0.join("passing/sheet.bin"));
-    fs::write(home.0.join("passing/rounds.bin"), b"RND\0\x01\0\0").unwrap();
+    let passing = home.0.join("passing");
+    fs::create_dir(&passing).unwrap();
+    copy(&cc::root().join("crates/marker/data/sheet.bin"), &passing.join("sheet.bin"));
+    let rounds = b"RND\0\x01\0\x01\0\0\0\x09\0\0\0\x03\0\0\0\x04";
+    fs::write(passing.join("rounds.bin"), rounds).unwrap();
+    fs::write(passing.join("level.bin"), [3]).unwrap();
     let readme = fs::read_to_string(cc::root().join("README.md")).unwrap();
     let script = readme.lines().find(|line| line.contains("= pass ]")).unwrap();
     for (folder, said) in [("passing", "passing passes\n"), ("crates/marker/data", "")] {

@@ -21,7 +21,7 @@ fn c_name(name: impl Debug) -> String {
 #[test]
 fn version_refusals_and_patterns_are_the_same_in_c() {
     let mut text = format!("{}\n", env!("CARGO_PKG_VERSION"));
-    for refusal in (1..).map_while(Refusal::from_number) {
+    for refusal in (1..=99).filter_map(Refusal::from_number) {
         let name = c_name(refusal);
         writeln!(text, "{} {name} {}", refusal.number(), refusal.sentence()).unwrap();
     }

@@ -2,6 +2,7 @@
 
 mod demand_three;
 mod files;
+mod levels;
 mod marking;
 mod naive;
 mod pages;

@@ -57,6 +57,27 @@ pub fn slow_image(sheet: &Sheet, x: &[u32; 8]) -> [u32; 8] {
     image
 }
 
+/// The whole product of one K per round, 1 for no rounds, as its bits, lowest
+/// first. The highest bit is 1.
+pub fn slow_product(challenges: u32, rounds: u32) -> Vec<bool> {
+    let mut bits = vec![true];
+    for _ in 0..rounds {
+        let mut product = Vec::new();
+        let mut carry = 0_u64;
+        for bit in bits {
+            carry += u64::from(bit) * u64::from(challenges);
+            product.push(carry % 2 == 1);
+            carry /= 2;
+        }
+        while carry > 0 {
+            product.push(carry % 2 == 1);
+            carry /= 2;
+        }
+        bits = product;
+    }
+    bits
+}
+
 /// The first row that differs, for values that are in range.
 pub fn slow_row(sheet: &Sheet, t: &[u32; 8], c: u32, r: &[u32; 8]) -> Option<u32> {
     let m = u64::from(sheet.modulus);

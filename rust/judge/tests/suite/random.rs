@@ -167,7 +167,7 @@ fn try_files(sheet: &[u8], file: &[u8], number: u64) {
     assert_eq!(part(sheet, file, number).is_empty(), refusal != 0);
     assert_eq!(read(sheet, file, number).err().unwrap_or(0), refusal);
     let _ = count(sheet, file);
-    let text = marker(sheet, file);
+    let text = marker(sheet, file, &[1]);
     assert!(text.ends_with('\n'));
     let line = reason(sheet, file);
     assert!(line.starts_with(&reason_start(&text)), "{text} {line}");
@@ -182,6 +182,22 @@ fn reason_start(text: &str) -> String {
         ("rounds", _) if rest.starts_with("0 accepted\n") => String::from("accepted\n"),
         ("rounds", _) => format!("{} ", &rest[2..rest.find('\n').unwrap()]),
         (_, number) => format!("refused {number} "),
+    }
+}
+
+/// Any level bytes change the marker's text in its last line only, or make it
+/// `level 25` where neither sheet nor file is refused.
+fn try_level(sheet: &[u8], file: &[u8], level: &[u8]) {
+    let easy = marker(sheet, file, &[1]);
+    let text = marker(sheet, file, level);
+    if !easy.starts_with("rounds ") {
+        assert_eq!(text, easy);
+    } else if level.len() != 1 || level[0] < 1 || level[0] > 64 {
+        assert_eq!(text, "level 25\n");
+    } else {
+        // Both last lines have five bytes.
+        assert_eq!(text[..text.len() - 5], easy[..easy.len() - 5]);
+        assert!(text.ends_with("\nfail\n") || text == easy);
     }
 }
 
@@ -300,6 +316,8 @@ fn no_call_panics_and_refused_calls_change_nothing() {
         let number = if shifts.below(2) == 0 { long % 5 } else { long };
         loaded += u32::from(load(&sheet).is_ok());
         try_files(&sheet, &file, number);
+        let level = long.to_be_bytes();
+        try_level(&sheet, &file, &level[..shifts.below(4) as usize]);
         let (first, second) = (any_round(&mut shifts), any_round(&mut shifts));
         try_rounds(&sheet, &first, &second);
         let before = bytes(&mut shifts);

@@ -89,7 +89,7 @@ fn every_call_with_a_sheet_refuses_it_first() {
         assert_eq!((answer, &back), (Err(number), &verifier));
         let (answer, back) = take_response(&sheet, verifier.clone(), &[99; 8]);
         assert_eq!((answer, &back), (Verdict::Refused(number), &verifier));
-        assert_eq!(marker(&sheet, &[]), format!("sheet {number}\n"));
+        assert_eq!(marker(&sheet, &[], &[]), format!("sheet {number}\n"));
     }
 }
 

@@ -233,19 +233,28 @@ static void verifiers(void) {
     print_verifier_judgement(dimkhoros_verifier_response(wide, sizeof wide, odd, response));
 }
 
-/* The marker's text on two files, and the bytes behind it, which stay. */
-static void marks(void) {
-    uint8_t file[200];
+/* The length of the marker's text on three files, the text, and two bytes behind it, which stay. */
+static void print_mark(const uint8_t *sheet, size_t sheet_length, const uint8_t *file, size_t file_length,
+                       const uint8_t *level, size_t level_length) {
     uint8_t text[DIMKHOROS_LONGEST_TEXT];
     memset(text, 238, sizeof text);
+    size_t length = dimkhoros_mark(sheet, sheet_length, file, file_length, level, level_length, text);
+    printf("%zu\n%.*s%u %u\n", length, (int)length, (const char *)text, text[length], text[sizeof text - 1]);
+}
+
+/* A file of one round with K = 5 passes at the level 2 and not at 3. */
+static void marks(void) {
+    const uint8_t levels[2] = {2, 3};
+    uint8_t file[200];
     size_t used = dimkhoros_empty(file, sizeof file).length;
     used = dimkhoros_append(wide, sizeof wide, file, sizeof file, used, honest_round(1, response)).length;
+    print_mark(wide, sizeof wide, file, used, levels, 1);
+    print_mark(wide, sizeof wide, file, used, levels + 1, 1);
+    print_mark(wide, sizeof wide, file, used, levels, 2);
+    print_mark(wide, sizeof wide, file, used, NULL, 0);
     used = dimkhoros_append(wide, sizeof wide, file, sizeof file, used, honest_round(5, response)).length;
-    size_t length = dimkhoros_mark(wide, sizeof wide, file, used, text);
-    printf("%zu\n%.*s", length, (int)length, (const char *)text);
-    printf("%u %u\n", text[length], text[sizeof text - 1]);
-    length = dimkhoros_mark(NULL, 0, NULL, 0, text);
-    printf("%zu\n%.*s", length, (int)length, (const char *)text);
+    print_mark(wide, sizeof wide, file, used, levels, 1);
+    print_mark(NULL, 0, NULL, 0, NULL, 0);
 }
 
 /* The length of the reason's line on two files, two bytes behind it, which stay, and the line. */

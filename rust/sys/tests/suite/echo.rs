@@ -143,21 +143,26 @@ fn verifiers(text: &mut String) {
     );
 }
 
-/// The marker's text on two files, and the bytes behind it, which stay.
+/// The length of the marker's text on three files, the text, and two bytes behind it, which stay.
+fn mark_over(sheet: &[u8], file: &[u8], level: &[u8]) -> String {
+    let mut text = [238; LONGEST_TEXT];
+    let length = mark(sheet, file, level, &mut text);
+    let marked = std::str::from_utf8(&text[..length]).unwrap();
+    format!("{length}\n{marked}{} {}\n", text[length], text[LONGEST_TEXT - 1])
+}
+
+/// A file of one round with K = 5 passes at the level 2 and not at 3.
 fn marks(text: &mut String) {
     let wide = wide();
     let mut file = [0; 200];
-    let mut marked = [238; LONGEST_TEXT];
     empty(&mut file);
-    append(&wide, &mut file, 7, &honest_round(1, RESPONSE));
-    let used = append(&wide, &mut file, 75, &honest_round(5, RESPONSE)).length;
-    let length = mark(&wide, &file[..used], &mut marked);
-    writeln!(text, "{length}").unwrap();
-    text.push_str(std::str::from_utf8(&marked[..length]).unwrap());
-    writeln!(text, "{} {}", marked[length], marked[LONGEST_TEXT - 1]).unwrap();
-    let length = mark(&[], &[], &mut marked);
-    writeln!(text, "{length}").unwrap();
-    text.push_str(std::str::from_utf8(&marked[..length]).unwrap());
+    let used = append(&wide, &mut file, 7, &honest_round(1, RESPONSE)).length;
+    for level in [&[2][..], &[3], &[2, 3], &[]] {
+        text.push_str(&mark_over(&wide, &file[..used], level));
+    }
+    let used = append(&wide, &mut file, used, &honest_round(5, RESPONSE)).length;
+    text.push_str(&mark_over(&wide, &file[..used], &[2]));
+    text.push_str(&mark_over(&[], &[], &[]));
 }
 
 /// The length of the reason's line on two files, two bytes behind it, which stay, and the line.
