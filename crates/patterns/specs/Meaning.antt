@@ -1,4 +1,5 @@
--- The shape of 01's six patterns, and what each of them states ("The patterns").
+-- The shape of 01's six patterns, under 01's numbers for them, and what each of them states ("The patterns"). From pattern files
+-- on, the root, 01's 6, is asked for as 0.
 -- Assumes nothing.
 use Prim.Native.Nat.{ℕ, _+_, _-_, _*_, _%_, _^_, _≤_}
 use mathlib.Core.Path.{_≡_}

@@ -1,13 +1,16 @@
--- What 02's second card asks: which bytes are a pattern file, which pattern a number gives, which refusals the calls on pattern
--- files give, what the sheet maker writes and what that means, and that the shipped file gives 01's sheets.
+-- What 02's second card asks: which refusals the calls on pattern files give, which bytes are a pattern file, which pattern a
+-- number gives, what the sheet maker writes and what that means, and that the shipped file gives 01's sheets.
 -- Assumes nothing.
 use Prim.Native.Nat.{ℕ, suc, _+_, _*_, _%_, _^_, _<_, _≤_}
 use mathlib.Core.Path.{_≡_}
 use mathlib.Core.Logic.{_↔_}
+use mathlib.Core.Bool.{true}
 use mathlib.Core.List.{List, [], _∷_, map, flatten}
 use lib.ListN.{length, getD, replicate}
 use Rattle.lists.specs.Member.{Member}
+use Rattle.lists.specs.Places.{tabulate}
 use Rattle.numbers.specs.Product.{product}
+use Rattle.rules.specs.Order.{isSublist, refusalOrder}
 use Rattle.rules.specs.Refuses.{Refuses}
 use Rattle.sigma.specs.Image.{rowImage}
 use Rattle.sigma.specs.Instance.{Instance, entry, statementAt, tableOf}
@@ -17,7 +20,20 @@ use Rattle.patterns.specs.Maker.{asked, askedPattern, makeFrom}
 use Rattle.patterns.specs.Pattern.{Pattern, entryOf, root}
 use Rattle.patterns.specs.PatternFile.{patternCount}
 use Rattle.patterns.specs.Refusals.{Refusal23, Refusal24, makeConditions, shippedConditions}
-use Rattle.patterns.specs.Table.{fromPattern, shipped, writeShipped}
+use Rattle.patterns.specs.Table.{fromPattern, made, shipped, writeShipped}
+
+-- ---- demand 1, of the calls on pattern files
+
+pub record PatternRefusals : Type 0 where
+  -- 23 and 24 stand before 1 in the order of the numbers
+  pub order : isSublist (23 ∷ 24 ∷ tabulate 22 suc) refusalOrder ≡ true
+  -- the sheet maker; a refused call keeps the buffer's bytes and answers length 0
+  pub making : (f : List ℕ) (number m ℓ K : ℕ) (values z buffer : List ℕ)
+      → Refuses (23 ∷ 24 ∷ 1 ∷ 5 ∷ 6 ∷ 8 ∷ 10 ∷ 11 ∷ 22 ∷ []) (makeConditions f number values z (asked f number m ℓ K values z) buffer)
+      (makeFrom f number m ℓ K values z buffer .answer .refusal) (Keeps buffer (makeFrom f number m ℓ K values z buffer))
+  -- the call that writes the shipped file; likewise
+  pub shipping : (buffer : List ℕ)
+      → Refuses (22 ∷ []) (shippedConditions buffer) (writeShipped buffer .answer .refusal) (Keeps buffer (writeShipped buffer))
 
 -- ---- pattern files
 
@@ -52,11 +68,9 @@ pub record PatternCalls : Type 0 where
   -- the file's count is that of its patterns, and number k gives the k-th
   pub count : (ps : List Pattern) (f : List ℕ) → Spells ps f → patternCount f ≡ length ps
   pub number : (ps : List Pattern) (f : List ℕ) → Spells ps f → (k : ℕ) → k < length ps → askedPattern f (suc k) ≡ getD ps k root
-  -- the sheet maker's refusals; a refused call keeps the buffer's bytes and answers length 0
-  pub making : (f : List ℕ) (number m ℓ K : ℕ) (values z buffer : List ℕ)
-      → Refuses (23 ∷ 24 ∷ 1 ∷ 5 ∷ 6 ∷ 8 ∷ 10 ∷ 11 ∷ 22 ∷ []) (makeConditions f number values z (asked f number m ℓ K values z) buffer)
-      (makeFrom f number m ℓ K values z buffer .answer .refusal) (Keeps buffer (makeFrom f number m ℓ K values z buffer))
-  -- where nothing is refused, it puts the sheet of the asked values at the buffer's start
+  -- 0 asks for the root, which has no public value and one row
+  pub root-asked : (f : List ℕ) → (askedPattern f 0 .values ≡ 0) × (askedPattern f 0 .rows ≡ 1)
+  -- where nothing is refused, the sheet maker puts the sheet of the asked values at the buffer's start
   pub written : (f : List ℕ) (number m ℓ K : ℕ) (values z buffer : List ℕ)
       → makeFrom f number m ℓ K values z buffer .answer .refusal ≡ 0
       → Puts (sheetOf (asked f number m ℓ K values z)) buffer (makeFrom f number m ℓ K values z buffer)
@@ -94,16 +108,19 @@ pub record PatternCalls : Type 0 where
   -- and the image of x under the root is its e-th power
   pub root-means : (f : List ℕ) (m e K : ℕ) (values z x : List ℕ)
       → rowImage (tableOf (asked f 0 m e K values z)) x 0 ≡ getD x 0 0 ^ e % m
-  -- the call that writes the shipped file: 34 bytes, and 22 for a shorter buffer, which it keeps
-  pub shipping : (buffer : List ℕ)
-      → Refuses (22 ∷ []) (shippedConditions buffer) (writeShipped buffer .answer .refusal) (Keeps buffer (writeShipped buffer))
-  pub ships : (buffer : List ℕ) → writeShipped buffer .answer .refusal ≡ 0
-      → Puts
-      (0x50 ∷ 0x41 ∷ 0x54 ∷ 0 ∷ 1 ∷ 5 ∷ 1 ∷ 1 ∷ 1 ∷ 1 ∷ 1 ∷ 2 ∷ 2 ∷ 1 ∷ 2 ∷ 2 ∷ 1 ∷ 2 ∷ 1 ∷ 2 ∷ 2 ∷ 1 ∷ 2 ∷ 1 ∷ 2 ∷
-      2 ∷ 3 ∷ 3 ∷ 1 ∷ 2 ∷ 0 ∷ 3 ∷ 0 ∷ 2 ∷ []) buffer (writeShipped buffer)
-  -- with the shipped file the numbers 1 to 5 give what 01's sheet maker gave for them, and 0 what it gave for 6, in every answer,
-  -- refusal and byte of the buffer
+  -- the shipped file has these 34 bytes
+  pub bytes : shipped
+      ≡ 0x50 ∷ 0x41 ∷ 0x54 ∷ 0 ∷ 1 ∷ 5 ∷ 1 ∷ 1 ∷ 1 ∷ 1 ∷ 1 ∷ 2 ∷ 2 ∷ 1 ∷ 2 ∷ 2 ∷ 1 ∷ 2 ∷ 1 ∷ 2 ∷ 2 ∷ 1 ∷ 2 ∷ 1 ∷ 2 ∷
+      2 ∷ 3 ∷ 3 ∷ 1 ∷ 2 ∷ 0 ∷ 3 ∷ 0 ∷ 2 ∷ []
+  -- and its call puts them at the buffer's start
+  pub ships : (buffer : List ℕ) → writeShipped buffer .answer .refusal ≡ 0 → Puts shipped buffer (writeShipped buffer)
+  -- with it the numbers 1 to 5 give what 01's sheet maker gave for them, and 0 what it gave for 6, in every answer, refusal and
+  -- byte of the buffer
   pub same : (number m ℓ K : ℕ) (values z buffer : List ℕ) → 1 ≤ number → number ≤ 5
       → makeFrom shipped number m ℓ K values z buffer ≡ fromPattern number m ℓ K values z buffer
   pub same-root : (m e K : ℕ) (values z buffer : List ℕ)
       → makeFrom shipped 0 m e K values z buffer ≡ fromPattern 6 m e K values z buffer
+  -- the sheets are 01's value by value too, so that 01's meanings of its patterns are said of them
+  pub same-values : (number m ℓ K : ℕ) (values z : List ℕ) → 1 ≤ number → number ≤ 5
+      → asked shipped number m ℓ K values z ≡ made number m ℓ K values z
+  pub same-root-values : (m e K : ℕ) (values z : List ℕ) → asked shipped 0 m e K values z ≡ made 6 m e K values z

@@ -35,6 +35,16 @@ Misnamed p =
 abbrev pub Refusal24 : List ℕ → Type 0
 Refusal24 f = (k : ℕ) × (k < patternCount f) × Misnamed (patternAt f k)
 
+-- the values and the buffer, of the sheet that is made of a pattern
+abbrev pub madeConditions : List ℕ → Instance → List ℕ → List Condition
+madeConditions values inst buffer =
+    (5 if Refusal5 (inst .header)) ∷
+    (6 if Refusal6 (inst .header)) ∷
+    (8 if Refusal8 (inst .header)) ∷
+    (10 if SomeNonElement (inst .header) (length values) values) ∷
+    (11 if Refusal11 inst) ∷
+    (22 if (length buffer < sheetLength (inst .header))) ∷ []
+
 -- the sheet maker; 1 is for a number above the file's count or a wrong count of public or statement values
 abbrev pub makeConditions : List ℕ → ℕ → List ℕ → List ℕ → Instance → List ℕ → List Condition
 makeConditions f number values statement inst buffer =
@@ -42,13 +52,7 @@ makeConditions f number values statement inst buffer =
     (24 if Refusal24 f) ∷
     (1 if
     ((patternCount f < number) ⊎ (length values ≢ askedPattern f number .values) ⊎
-    (length statement ≢ askedPattern f number .rows))) ∷
-    (5 if Refusal5 (inst .header)) ∷
-    (6 if Refusal6 (inst .header)) ∷
-    (8 if Refusal8 (inst .header)) ∷
-    (10 if SomeNonElement (inst .header) (length values) values) ∷
-    (11 if Refusal11 inst) ∷
-    (22 if (length buffer < sheetLength (inst .header))) ∷ []
+    (length statement ≢ askedPattern f number .rows))) ∷ madeConditions values inst buffer
 
 -- the call that writes the shipped file, of 34 bytes
 abbrev pub shippedConditions : List ℕ → List Condition
