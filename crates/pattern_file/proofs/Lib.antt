@@ -3,3 +3,4 @@ pub mod Search
 pub mod Walk
 pub mod FileTest
 pub mod Naming
+pub mod Shipping

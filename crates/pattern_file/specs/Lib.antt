@@ -1,3 +1,4 @@
--- Definitions of the tests of a pattern file.
+-- Definitions of the tests of a pattern file, and of the shipped one.
 pub mod Walk
 pub mod Naming
+pub mod Stored
