@@ -3,4 +3,3 @@ pub mod Search
 pub mod Walk
 pub mod FileTest
 pub mod Naming
-pub mod Shipping

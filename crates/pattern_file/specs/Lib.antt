@@ -1,4 +1,3 @@
--- Definitions of the tests of a pattern file, and of the shipped one.
+-- Definitions of the tests of a pattern file.
 pub mod Walk
 pub mod Naming
-pub mod Stored

@@ -1,14 +1,14 @@
-// Pattern files (02, card 2): testing one (refusals 23 and 24), where its patterns stand, and the one that is shipped.
+// Testing a pattern file (02, card 2; refusals 23 and 24), and where its patterns stand.
 mod digits; // digits.rt: what a pattern's digits name
 mod layout; // layout.rt: the places of the fields, and the walk over the patterns
-mod shipped; // shipped.rt: the constant table of the shipped patterns, and its file
 
 use crate::digits::bad_digits;
 use crate::layout::bad_file;
+pub use layout::MARK;
+pub use layout::START;
 pub use layout::Sizes;
 pub use layout::sizes_at;
 pub use layout::start_of;
-pub use shipped::write_shipped;
 ghost use mathlib.Core.List.{[], _∷_};
 ghost use mathlib.Core.Path.{_≡_};
 ghost use Rattle.rules.specs.Rule.{_when_, lowest};

@@ -1,17 +1,17 @@
-// 01's patterns 1 to 5 as a constant table, and the pattern file of them that is shipped.
-use crate::layout::MARK;
-use crate::layout::START;
+// The pattern file that is shipped (02, card 2), written from 01's patterns 1 to 5 as a constant table.
 use fields::write_mark;
 use fields::write_u8;
 use fields::write_u16;
+use pattern_file::MARK;
+use pattern_file::START;
 use text::write_word;
 use types::Written;
-ghost use Prim.Native.Nat.{_+_, _*_, _≤_};
+ghost use Prim.Native.Nat.{_+_, _*_, _≤_, _<_};
 ghost use mathlib.Core.Path.{_≡_};
 ghost use lib.ListN.{length};
 ghost use Rattle.encoding.specs.Placed.{Placed};
 ghost use Rattle.patterns.specs.Table.{writeShipped};
-ghost use Rattle.pattern_file.specs.Stored.{storedPattern};
+ghost use Rattle.pattern_writer.specs.Stored.{storedPattern, tableAt};
 
 // A row of the table: rows, columns, how many public values, and the digits, row by row.
 pub struct Pattern {
@@ -58,6 +58,14 @@ const PATTERNS: [Pattern; 5] = [
 // How many bytes the shipped file has.
 const LENGTH: usize = 34;
 
+// The pattern at a place of the table, the first being place 0.
+fn pattern_at(k: usize) -> Pattern
+    requires { ⌜ k < 5 ⌝ }
+    ensures { λ r. ⌜ r ≡ tableAt k ⌝ }
+{
+    PATTERNS[k]
+}
+
 // Stores the bytes of a pattern of the table from index at on, changes no other byte and answers the index behind them.
 fn write_pattern(buffer: &mut [u8], at: usize, p: Pattern) -> usize
     requires held { ⌜ p .rows * p .columns ≤ length (p .digits) ⌝ }
@@ -88,7 +96,7 @@ pub fn write_shipped(buffer: &mut [u8]) -> Written
     write_u8(buffer, 5, 5);
     let mut at: usize = START;
     for k in 0..5 {
-        at = write_pattern(buffer, at, PATTERNS[k]);
+        at = write_pattern(buffer, at, pattern_at(k));
     }
     Written {
         length: at,

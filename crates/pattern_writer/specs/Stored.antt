@@ -4,7 +4,7 @@ use Prim.Native.Nat.{ℕ, _*_}
 use mathlib.Core.List.{List, [], _∷_, flatten}
 use lib.ListN.{getD, take}
 use Rattle.lists.specs.Places.{tabulate}
-use Rattle.pattern_file.specs.declared.shipped.Pattern.{Pattern}
+use Rattle.pattern_writer.specs.declared.Pattern.{Pattern}
 
 -- the bytes of a pattern of the table: rows, columns, number of public values, and rows × columns digits
 unfoldable pub storedPattern : Pattern → List ℕ

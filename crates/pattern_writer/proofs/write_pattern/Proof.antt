@@ -1,11 +1,11 @@
--- `pattern_file::shipped::write_pattern` meets its contract: the sizes and the digits are placed one behind the other.
+-- `pattern_writer::write_pattern` meets its contract: the sizes and the digits are placed one behind the other.
 -- Assumes nothing.
 use native.Mathlib.Omega.{arith}
 use borrow.Author.Needs.{needs}
 use mathlib.Core.Path.{refl}
-use Rattle.pattern_file.proofs.Shipping.{pattern-placed}
-use Rattle.pattern_file.proofs.shipped.write_pattern.Statement.{statement}
-use Rattle.pattern_file.proofs.shipped.write_pattern.Tie as tie
+use Rattle.pattern_writer.proofs.Shipping.{pattern-placed}
+use Rattle.pattern_writer.proofs.write_pattern.Statement.{statement}
+use Rattle.pattern_writer.proofs.write_pattern.Tie as tie
 
 cast-count : tie.Need-cast-count
 cast-count c = omega arith

@@ -19,8 +19,8 @@ use Rattle.formats.proofs.Writing.{Leaves}
 use Rattle.patterns.specs.PatternFile.{patternBytes, patternFile, patternMark}
 use Rattle.patterns.specs.Table.{patterns, shipped, writeShipped}
 use Rattle.patterns.proofs.Shipped.{length-shipped}
-use Rattle.pattern_file.specs.declared.shipped.Pattern.{Pattern}
-use Rattle.pattern_file.specs.Stored.{storedPattern, storedPatterns, table, tableAt}
+use Rattle.pattern_writer.specs.declared.Pattern.{Pattern}
+use Rattle.pattern_writer.specs.Stored.{storedPattern, storedPatterns, table, tableAt}
 
 -- the sizes and the digits of a pattern, one behind the other, are the pattern
 pub pattern-placed : {l m n : List ℕ} {at i j : ℕ} (p : Pattern) (count : ℕ) → count ≡ p .rows * p .columns
@@ -43,11 +43,11 @@ by-place P a b c d e (suc (suc (suc (suc zero)))) h = e
 by-place P a b c d e (suc (suc (suc (suc (suc k))))) h = absurd (omega arith)
 
 -- a pattern of the table holds its digits, and ends within 34 bytes
-pub table-room : (k : ℕ) → k < 5
+at-place : (k : ℕ) → k < 5
     → (tableAt k .rows * tableAt k .columns ≤ length (tableAt k .digits))
     × (6 + length (storedPatterns k) + 3 + tableAt k .rows * tableAt k .columns ≤ 34)
 unfolding storedPatterns storedPattern table tableAt itemsAt tabulate flatten
-table-room =
+at-place =
     by-place _ (omega arith, omega arith) (omega arith, omega arith) (omega arith, omega arith) (omega arith, omega arith)
     (omega arith, omega arith)
 
@@ -56,15 +56,24 @@ patterns-next : (k : ℕ) → k < 5 → storedPatterns k ++ storedPattern (table
 unfolding storedPatterns storedPattern table tableAt itemsAt tabulate flatten
 patterns-next = by-place _ refl refl refl refl refl
 
+module _ {p : Pattern} (k : ℕ) (inside : k < 5) (found : p ≡ tableAt k) where
+  -- a pattern that was found in the table holds its digits
+  pub found-digits : p .rows * p .columns ≤ length (p .digits)
+  found-digits = rw found (at-place k inside .0)
+
+  -- behind those before it, it ends within 34 bytes
+  pub found-room : {l m : List ℕ} {at : ℕ} → Placed l 6 (storedPatterns k) m at → at + 3 + p .rows * p .columns ≤ 34
+  found-room placed = rw found (omega (arith, at-place k inside .1, placed .behind))
+
+  -- stored there, it is one more
+  pub found-placed : {l m n : List ℕ} {at next : ℕ} → Placed l 6 (storedPatterns k) m at → Placed m at (storedPattern p) n next
+      → Placed l 6 (storedPatterns (k + 1)) n next
+  found-placed before stored = rw (← patterns-next k inside, ← found) (placed-behind before stored)
+
 -- none is stored before the first
 pub none-placed : {l : List ℕ} → Placed l 6 (storedPatterns 0) l 6
 unfolding storedPatterns tabulate itemsAt flatten
 none-placed = record { stored = refl; behind = refl }
-
--- one more, behind those before it
-pub next-placed : {l m n : List ℕ} {at next : ℕ} (k : ℕ) → k < 5 → Placed l 6 (storedPatterns k) m at
-    → Placed m at (storedPattern (tableAt k)) n next → Placed l 6 (storedPatterns (k + 1)) n next
-next-placed k inside before stored = rw (← patterns-next k inside) (placed-behind before stored)
 
 -- ---- the file
 
