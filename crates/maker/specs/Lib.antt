@@ -1,0 +1,3 @@
+-- Definitions of the sheet maker's inner functions.
+pub mod Passes
+pub mod Rows
