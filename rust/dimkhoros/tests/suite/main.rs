@@ -7,6 +7,7 @@ mod cc;
 mod examples;
 mod marks;
 mod pages;
+mod patterns;
 mod readme;
 mod reasons;
 mod refusals;
