@@ -6,6 +6,7 @@ pub enum Call {
     Load,
     Entries,
     Encode,
+    Patterns,
     FromPattern,
     Count,
     Check,
@@ -29,7 +30,7 @@ pub enum Call {
 }
 
 /// A call's name in the interface, without the library's own name, whether it
-/// loads a sheet, and the other numbers that it can give.
+/// loads a sheet, and the other numbers that it can give, in their order.
 struct Entry {
     call: Call,
     name: &'static str,
@@ -53,7 +54,8 @@ const CALLS: &[Entry] = &[
     entry(Call::Load, "load", true, &[]),
     entry(Call::Entries, "entries", true, &[]),
     entry(Call::Encode, "encode", false, &[4, 5, 6, 7, 8, 10, 11, 22]),
-    entry(Call::FromPattern, "from_pattern", false, &[1, 5, 6, 8, 10, 11, 22]),
+    entry(Call::Patterns, "patterns", false, &[22]),
+    entry(Call::FromPattern, "from_pattern", false, &[23, 24, 1, 5, 6, 8, 10, 11, 22]),
     entry(Call::Count, "count", true, &[12]),
     entry(Call::Check, "check", true, &[12, 13]),
     entry(Call::Part, "part", true, &[12, 13]),
@@ -77,6 +79,12 @@ const CALLS: &[Entry] = &[
 
 /// How many calls there are.
 pub const CALL_COUNT: usize = CALLS.len();
+
+/// All numbers in the order in which they are tested, the cards' numbers where
+/// 02 puts them. Of several that apply the first here is given.
+pub const ORDER: [u32; LAST as usize] = [
+    23, 24, 1, 2, 3, 4, 5, 6, 7, 8, 9, 10, 11, 12, 13, 14, 15, 16, 17, 18, 19, 20, 21, 22,
+];
 
 /// The numbers that the loading of a sheet can give.
 pub const SHEET_NUMBERS: [u32; 10] = [2, 3, 4, 5, 6, 7, 8, 9, 10, 11];
@@ -145,5 +153,20 @@ mod tests {
         for (place, call) in Call::all().enumerate() {
             assert_eq!(call as usize, place);
         }
+    }
+
+    #[test]
+    fn numbers_stand_in_their_order() {
+        let mut all = ORDER;
+        all.sort();
+        assert!(all.into_iter().eq(1..=LAST));
+        let ordered = |numbers: &[u32]| {
+            let places = numbers
+                .iter()
+                .map(|number| ORDER.iter().position(|n| n == number));
+            places.is_sorted()
+        };
+        assert!(ordered(&SHEET_NUMBERS));
+        assert!(Call::all().all(|call| ordered(call.others())));
     }
 }

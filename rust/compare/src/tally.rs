@@ -3,7 +3,7 @@
 
 use std::fmt;
 
-use crate::calls::{Call, CALL_COUNT, LAST};
+use crate::calls::{Call, CALL_COUNT, LAST, ORDER};
 use crate::cases::Case;
 use crate::library::Judgement;
 use crate::outcome::Outcome;
@@ -21,6 +21,13 @@ pub struct Tally {
     numbers: [[u64; LAST as usize + 1]; CALL_COUNT],
     verdicts: [[u64; VERDICTS.len()]; CALL_COUNT],
     shapes: Shapes,
+}
+
+/// Whether a sheet is refused with this number, or is not made: it is tested
+/// before a round file's.
+fn is_of_sheet(number: u32) -> bool {
+    let mut earlier = ORDER.iter().take_while(|other| **other != 12);
+    earlier.any(|other| *other == number)
 }
 
 /// The place of a verdict among all.
@@ -41,7 +48,7 @@ impl Tally {
         }
         if let Some(header) = case.header() {
             let mut numbers = numbers.iter().map(|(_, number)| *number);
-            let of_sheet = numbers.find(|number| (1..=11).contains(number));
+            let of_sheet = numbers.find(|number| is_of_sheet(*number));
             self.shapes.add(&Seen {
                 header,
                 refusal: of_sheet.unwrap_or(0),

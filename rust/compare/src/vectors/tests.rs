@@ -1,7 +1,7 @@
 use std::collections::BTreeSet;
 
 use super::*;
-use crate::calls::{LAST, SHEET_NUMBERS};
+use crate::calls::{LAST, ORDER, SHEET_NUMBERS};
 use crate::faults::FAULTS;
 use crate::library::Library::{Faulty, Judge, Proved};
 
@@ -174,14 +174,14 @@ fn each_call_gives_its_numbers_and_no_others() {
     }
 }
 
-/// The bytes that stand in the vectors: sheets, files, and buffers that calls
-/// were lent or wrote to.
+/// The bytes that stand in the vectors: sheets, round files, pattern files, and
+/// buffers that calls were lent or wrote to.
 fn stored_bytes() -> Vec<Vec<u8>> {
     let words = STORED
         .lines()
         .filter(|line| !line.starts_with('#'))
         .flat_map(|line| {
-            let given = ["sheet ", "file "]
+            let given = ["sheet ", "file ", "pattern_file "]
                 .iter()
                 .find_map(|word| line.strip_prefix(word));
             let written = line
@@ -223,6 +223,8 @@ fn the_page_has_a_row_for_each_refusal_and_each_call() {
             .map(|number| number.to_string())
             .collect::<Vec<_>>()
     );
+    let order = ORDER.map(|number| number.to_string()).join(", ");
+    assert!(FORMATS.contains(&format!(" in this order is given: {order}. ")));
     let sheet = SHEET_NUMBERS.map(|number| number.to_string()).join(" ");
     let rows = rows(FORMATS, "### Which call gives which number\n");
     assert_eq!(rows.len(), Call::all().count());
@@ -236,8 +238,8 @@ fn the_page_has_a_row_for_each_refusal_and_each_call() {
             .split_whitespace()
             .map(|word| word.parse().unwrap())
             .collect();
-        let given: Vec<u32> = (1..=LAST).filter(|number| call.can_give(*number)).collect();
-        assert_eq!(numbers, given, "{}", call.name());
+        let given = ORDER.into_iter().filter(|number| call.can_give(*number));
+        assert_eq!(numbers, given.collect::<Vec<_>>(), "{}", call.name());
     }
 }
 
