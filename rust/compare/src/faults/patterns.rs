@@ -96,7 +96,7 @@ fn of_shape(fault: Fault, mut asked: Asked) -> Result<Asked, u32> {
         Fault::PatternFileVersion => asked.patterns[3] = 0,
         Fault::PatternFileNone if count == 0 && rest.is_empty() => {
             asked.patterns = SHIPPED.to_vec();
-            asked.number += if asked.number == 0 { 0 } else { 5 };
+            asked.number = if asked.number == 0 { 0 } else { 6 };
         }
         Fault::PatternFileMany if whole && count == 33 => {
             asked.patterns = file(&patterns[..32]);
