@@ -41,8 +41,8 @@ impl Patterns {
     /// assert_eq!(Patterns::load(b"PAT\x00\x01\x01\x01\x02\x01\x01\x02"), Err(Refusal::PatternDigits));
     /// ```
     pub fn load(bytes: &[u8]) -> Result<Patterns, Refusal> {
-        // The library tests a pattern file where it makes a sheet. A root sheet without a statement value, which is asked for
-        // here, is refused with 1, but with 23 or 24 first where the file is refused. So 1 says that the file is none of these.
+        // No call of the library only tests a pattern file: the sheet maker does so first, whatever it is asked for. A root
+        // sheet takes a statement value, so one without is refused with 1 where the file is right, and else with 23 or 24.
         let made = sys::from_pattern(bytes, Pattern::Root.number(), 0, 0, 0, &[], &[], &mut []);
         match Refusal::of_answer(made.refusal) {
             Some(Refusal::Pattern) | None => {}
