@@ -5,7 +5,8 @@ use types::Written;
 ghost use mathlib.Core.Path.{_≡_};
 ghost use Rattle.formats.specs.Encode.{encode};
 ghost use Rattle.formats.specs.Load.{load, loadRefusal};
-ghost use Rattle.formats.specs.Pattern.{fromPattern};
+ghost use Rattle.patterns.specs.Maker.{makeFrom};
+ghost use Rattle.patterns.specs.Table.{writeShipped};
 ghost use Rattle.tables.specs.Flat.{flatInstance, flatUnlessRefused};
 
 // Loads a sheet: its fixed fields and its statement, and zeros beside the number of one that is refused.
@@ -44,11 +45,13 @@ pub extern "C" fn dimkhoros_encode(
     writer::encode(header, tables::square(entries), *statement, buffer)
 }
 
-// The sheet maker: puts the sheet of the pattern of this number, over the public values and the statement, at the start of
-// buffer and answers its length, or the number that it is refused with, 1, 5, 6, 8, 10, 11 or 22. No byte after the sheet is
-// changed, and a refused call changes none.
+// The sheet maker: puts the sheet of the pattern of this number in a pattern file, or of the root for 0, over the public values
+// and the statement, at the start of buffer and answers its length, or the number that it is refused with, 23, 24, 1, 5, 6, 8, 10,
+// 11 or 22. The whole file is tested, whichever pattern is asked for. No byte after the sheet is changed, and a refused call
+// changes none.
 #[no_mangle]
 pub extern "C" fn dimkhoros_from_pattern(
+    patterns: &[u8],
     number: u32,
     modulus: u32,
     order: u32,
@@ -58,11 +61,14 @@ pub extern "C" fn dimkhoros_from_pattern(
     buffer: &mut [u8],
 ) -> Written
     ensures answer { λ r. ⌜ r ≡
-        fromPattern number modulus order challenges (now (values .entry)) (now (statement .entry)) (now (buffer .entry)) .answer ⌝ }
+        makeFrom (now (patterns .entry)) number modulus order challenges (now (values .entry)) (now (statement .entry))
+        (now (buffer .entry)) .answer ⌝ }
     ensures bytes { λ _. ⌜ now (buffer .exit) ≡
-        fromPattern number modulus order challenges (now (values .entry)) (now (statement .entry)) (now (buffer .entry)) .buffer ⌝ }
+        makeFrom (now (patterns .entry)) number modulus order challenges (now (values .entry)) (now (statement .entry))
+        (now (buffer .entry)) .buffer ⌝ }
 {
-    writer::from_pattern(
+    maker::make(
+        patterns,
         number,
         modulus,
         order,
@@ -71,4 +77,14 @@ pub extern "C" fn dimkhoros_from_pattern(
         statement,
         buffer,
     )
+}
+
+// Puts the pattern file of 01's first five patterns at the start of buffer and answers its length, 34, or 22 for a shorter buffer.
+// No byte after the file is changed, and a refused call changes none.
+#[no_mangle]
+pub extern "C" fn dimkhoros_patterns(buffer: &mut [u8]) -> Written
+    ensures answer { λ r. ⌜ r ≡ writeShipped (now (buffer .entry)) .answer ⌝ }
+    ensures bytes { λ _. ⌜ now (buffer .exit) ≡ writeShipped (now (buffer .entry)) .buffer ⌝ }
+{
+    maker::write_shipped(buffer)
 }

@@ -1,11 +1,26 @@
--- Members of lists that are joined or mapped, and when such lists are without repetition.
+-- Members of lists by their places, members of lists that are joined or mapped, and when such lists are without repetition.
 -- Assumes nothing.
+use Prim.Native.Nat.{ℕ, zero, suc, _<_}
 use mathlib.Core.Path.{_≡_, refl, sym, ap, subst}
 use mathlib.Core.Logic.{_⊎_, inl, inr, ⊎-elim}
 use mathlib.Core.List.{List, [], _∷_, _++_, map, flatMap}
+use native.Mathlib.Omega.{arith}
+use lib.ListN.{length, getD}
 use Rattle.lists.specs.Member.{Member, EachOnce}
 
 module _ {A : Type 0} where
+  -- what stands at a place of a list is a member of it
+  pub member-at : (d : A) (xs : List A) (j : ℕ) → j < length xs → Member (getD xs j d) xs
+  member-at d [] j h = absurd (omega arith)
+  member-at d (x ∷ xs) zero h = inl refl
+  member-at d (x ∷ xs) (suc j) h = inr (member-at d xs j (omega arith))
+
+  -- a member of a list stands at a place of it
+  pub member-place : (d x : A) (xs : List A) → Member x xs → (j : ℕ) × (j < length xs) × (x ≡ getD xs j d)
+  member-place d x [] m = absurd m
+  member-place d x (y ∷ xs) (inl p) = (0, omega arith, p)
+  member-place d x (y ∷ xs) (inr m) = let (j, h, e) = member-place d x xs m in (suc j, omega arith, e)
+
   -- a member of the first list is a member of the joined list
   pub member-left : (x : A) (xs ys : List A) → Member x xs → Member x (xs ++ ys)
   member-left x [] ys m = absurd m

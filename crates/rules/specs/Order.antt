@@ -1,14 +1,14 @@
--- The order of 01's numbers: "lowest" is the earliest there, and each call's rules are a sublist.
+-- The order of the numbers, 01's and the cards' (02): "lowest" is the earliest there, and each call's rules are a sublist.
 -- Assumes nothing.
 use mathlib.Core.Bool.{Bool, true, false, cond}
 use mathlib.Core.List.{List, [], _∷_}
 use Prim.Native.Nat.{ℕ, suc}
 use lib.Dec.{eqb}
 
--- 01's numbers in their order ("Turned back"): the earliest that applies is given
+-- the numbers in their order (01, "Turned back"; 02's cards put theirs in): the earliest that applies is given
 unfoldable pub refusalOrder : List ℕ
 refusalOrder =
-    1 ∷ 2 ∷ 3 ∷ 4 ∷ 5 ∷ 6 ∷ 7 ∷ 8 ∷ 9 ∷ 10 ∷ 11 ∷ 12 ∷ 13 ∷ 14 ∷ 15 ∷ 16 ∷ 17 ∷ 18 ∷ 19 ∷ 20 ∷ 21 ∷ 22 ∷ []
+    23 ∷ 24 ∷ 1 ∷ 2 ∷ 3 ∷ 4 ∷ 5 ∷ 6 ∷ 7 ∷ 8 ∷ 9 ∷ 10 ∷ 11 ∷ 12 ∷ 13 ∷ 14 ∷ 15 ∷ 16 ∷ 17 ∷ 18 ∷ 19 ∷ 20 ∷ 21 ∷ 22 ∷ []
 
 -- the numbers of a sheet that does not load, 2 to 11
 unfoldable pub sheetNumbers : List ℕ
@@ -25,6 +25,6 @@ unfoldable pub positionIn : List ℕ → ℕ → ℕ
 positionIn [] n = 0
 positionIn (m ∷ ms) n = cond (eqb n m) 0 (suc (positionIn ms n))
 
--- the place of a number in 01's order
+-- the place of a number in the order
 unfoldable pub position : ℕ → ℕ
 position n = positionIn refusalOrder n

@@ -19,7 +19,7 @@ conditionNumbers ((n if holds) ∷ conditions) = n ∷ conditionNumbers conditio
 pub record Refuses (numbers : List ℕ) (conditions : List Condition) (n : ℕ) (Left : Type 0) : Type 0 where
   -- the conditions' numbers are exactly these
   pub numbered : conditionNumbers conditions ≡ numbers
-  -- they are some of 01's numbers, in 01's order, so that the first is the lowest
+  -- they are some of the order's numbers, in its order, so that the first is the lowest
   pub ordered : isSublist numbers refusalOrder ≡ true
   -- n is 0 or one of them
   pub among : (n ≡ 0) ⊎ Member n numbers

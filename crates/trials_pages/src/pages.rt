@@ -1,5 +1,5 @@
-// Pages A to J of 01, each but I on the sheet that the sheet maker makes for it. The printed values are those of the table in
-// crates/examples/specs/Pages.antt.
+// Pages A to J of 01, each but I on the sheet that the sheet maker makes for it with the shipped pattern file. The printed values
+// are those of the table in crates/examples/specs/Pages.antt.
 use extractor::extract;
 use instance::load;
 use lines::answer;
@@ -9,11 +9,11 @@ use lines::loading;
 use lines::one;
 use lines::three;
 use lines::verdict;
+use maker::make;
 use protocol::judge;
 use protocol::simulate;
 use types::Round;
 use types::Verifier;
-use writer::from_pattern;
 
 // Vic's session once he has taken a commitment and a challenge.
 fn asked(sheet: &[u8], commitment: [u32; 8], challenge: u32) -> Verifier {
@@ -72,7 +72,8 @@ fn schnorr(sheet: &[u8]) {
 // A run on the sheet of a pattern with m 23, q 11 and K 11.
 fn pattern_run(
     label: &[u8],
-    pattern: u32,
+    patterns: &[u8],
+    number: u32,
     values: &[u32],
     statement: &[u32],
     witness: [u32; 8],
@@ -80,14 +81,15 @@ fn pattern_run(
     c: u32,
 ) {
     let mut buffer = [0u8; 64];
-    let made = from_pattern(pattern, 23, 11, 11, values, statement, &mut buffer);
+    let made = make(patterns, number, 23, 11, 11, values, statement, &mut buffer);
     run(label, front(&buffer, made.length), witness, nonce, c);
 }
 
 // Page D: two witnesses whose rounds are the same.
-fn okamoto() {
+fn okamoto(patterns: &[u8]) {
     pattern_run(
         b"D, witness 1 2: t",
+        patterns,
         2,
         &[2u32, 3],
         &[18u32],
@@ -97,6 +99,7 @@ fn okamoto() {
     );
     pattern_run(
         b"D, witness 6 0: t",
+        patterns,
         2,
         &[2u32, 3],
         &[18u32],
@@ -107,10 +110,20 @@ fn okamoto() {
 }
 
 // Pages E and F: two rows, and an image as the commitment to a nonce, which is the witness here.
-fn two_rows() {
-    pattern_run(b"E: t", 4, &[2u32, 16], &[13u32, 18], one(7), one(5), 3);
+fn two_rows(patterns: &[u8]) {
+    pattern_run(
+        b"E: t",
+        patterns,
+        4,
+        &[2u32, 16],
+        &[13u32, 18],
+        one(7),
+        one(5),
+        3,
+    );
     pattern_run(
         b"F: t",
+        patterns,
         5,
         &[2u32, 3, 3],
         &[12u32, 9],
@@ -121,10 +134,10 @@ fn two_rows() {
 }
 
 // Pages G and H: two runs in kind 2, and extracting from their rounds either way round.
-fn root() {
+fn root(patterns: &[u8]) {
     let none = [0u32; 8];
     let mut buffer = [0u8; 64];
-    let made = from_pattern(6, 35, 5, 5, &none[0..0], &[32u32], &mut buffer);
+    let made = make(patterns, 0, 35, 5, 5, &none[0..0], &[32u32], &mut buffer);
     let sheet = front(&buffer, made.length);
     run_one(b"G, c 1: t", sheet, 2, 3, 1);
     run_one(b"G, c 3: t", sheet, 2, 3, 3);
@@ -187,12 +200,12 @@ fn tested_values(sheet: &[u8]) {
     verdict(b"J, response 11: ", judge(sheet, round_of(9, 0, 11)));
 }
 
-// Pages A to J; the sheet is page A's.
-pub fn all(sheet: &[u8]) {
+// Pages A to J, with a file of 01's patterns; the sheet is page A's.
+pub fn all(patterns: &[u8], sheet: &[u8]) {
     schnorr(sheet);
-    okamoto();
-    two_rows();
-    root();
+    okamoto(patterns);
+    two_rows(patterns);
+    root(patterns);
     challenge_counts();
     tested_values(sheet);
 }

@@ -1,18 +1,13 @@
--- What the writers answer and leave in the buffer, return by return.
+-- What a writer of sheets answers and leaves in the buffer, return by return.
 -- Assumes nothing.
 use Prim.Native.Nat.{ℕ, _≤_, _<_}
 use mathlib.Core.Path.{_≡_, refl, sym, ap, _∙_}
-use mathlib.Core.Logic.{_⊎_, _≢_}
-use mathlib.Core.Bool.{cond}
 use mathlib.Core.List.{List, [], _∷_, _++_, append-assoc}
 use native.Mathlib.Omega.{arith}
-use lib.Dec.{eqb}
 use lib.ListN.{length}
 use lib.Seq.{sets}
 use borrow.Author.Tests.{lt-ltb}
-use Rattle.types.specs.declared.Pattern.{Pattern}
 use Rattle.types.specs.declared.Written.{Written}
-use Rattle.lists.specs.Places.{pad8}
 use Rattle.rules.specs.Answer.{unlessRefused}
 use Rattle.rules.specs.Rule.{Rule, _when_, lowest}
 use Rattle.rules.proofs.Lowest.{lowest-clear, lowest-earlier, lowest-later-zero, stop}
@@ -21,12 +16,8 @@ use Rattle.sigma.specs.Instance.{Instance, instanceWith}
 use Rattle.sigma.proofs.Answer.{unlessRefused-positive}
 use Rattle.sigma.proofs.Positive.{element-positive, header-positive}
 use Rattle.formats.specs.Encode.{encode, encodeRules, sheetOf}
-use Rattle.formats.specs.Pattern.{fromPattern, made, madeHeader, makeRules, patternEntries, patternOf}
-use Rattle.formats.specs.Sheet.{sheetLength, zeros64}
+use Rattle.formats.specs.Sheet.{sheetLength}
 use Rattle.formats.specs.Write.{short, written, writtenAtStart}
-use Rattle.formats.proofs.Maker.{maker-encodes}
-use Rattle.formats.proofs.Making.{pattern-passes}
-use Rattle.formats.proofs.Tests.{says-badPattern}
 use Rattle.formats.proofs.Writing.{Leaves, length-sheetOf, short-passes}
 
 -- the answer of a refused call: the number, and length 0
@@ -34,7 +25,7 @@ abbrev pub refusedWith : ℕ → Written
 refusedWith number = record { refusal = number; length = 0 }
 
 -- a call with a refusal's number answers it and keeps the buffer
-start-refused : (n m : ℕ) (bytes buffer : List ℕ) {answer : Written} → answer ≡ refusedWith n → n ≡ m → 0 < n
+pub start-refused : (n m : ℕ) (bytes buffer : List ℕ) {answer : Written} → answer ≡ refusedWith n → n ≡ m → 0 < n
     → Leaves answer buffer (writtenAtStart m bytes buffer)
 unfolding writtenAtStart written
 start-refused n m bytes buffer answered e some =
@@ -42,7 +33,8 @@ start-refused n m bytes buffer answered e some =
     (refl, refl)
 
 -- a call that is not refused answers the length of its bytes and stores them at the buffer's start
-start-stored : (m : ℕ) (bytes buffer : List ℕ) {used : ℕ} {after : List ℕ} → m ≡ 0 → used ≡ length bytes → after ≡ sets buffer 0 bytes
+pub start-stored : (m : ℕ) (bytes buffer : List ℕ) {used : ℕ} {after : List ℕ} → m ≡ 0 → used ≡ length bytes
+    → after ≡ sets buffer 0 bytes
     → Leaves (record { refusal = 0; length = used }) after (writtenAtStart m bytes buffer)
 unfolding writtenAtStart written unlessRefused
 start-stored m bytes buffer e size stored = rw (e, size, stored) (refl, refl)
@@ -99,33 +91,3 @@ module _ (i : Instance) (buffer : List ℕ) where
           let clear = short-passes buffer (sheetLength (i .header)) .1 (omega arith) in
           let number = behind-elements ∙ lowest-clear room (clear, tt) in
           start-stored _ (sheetOf i) buffer number (size ∙ sym (length-sheetOf i)) stored
-
--- ---- the sheet maker
-
-module _ (number modulus order challenges : ℕ) (values statement buffer : List ℕ) {answer : Written} where
-  -- the number or a count is wrong
-  pub maker-refused : answer ≡ refusedWith 1
-      → (number < 1) ⊎ (6 < number) ⊎ (length values ≢ patternOf number .values) ⊎ (length statement ≢ patternOf number .rows)
-      → Leaves answer buffer (fromPattern number modulus order challenges values statement buffer)
-  unfolding fromPattern makeRules
-  maker-refused answered bad =
-      let first = stop 1 _ (says-badPattern number values statement .complete bad) in
-      start-refused 1 _ (sheetOf (made number modulus order challenges values statement)) buffer answered (sym first) (omega arith)
-
-  -- they are right, and what is behind them is the second writer's
-  pub maker-written : {kind : ℕ} {p : Pattern} {entries : List (List ℕ)} {eight after : List ℕ}
-      → 1 ≤ number → number ≤ 6 → p ≡ patternOf number → length values ≡ p .values → length statement ≡ p .rows
-      → kind ≡ cond (eqb number 6) 2 1 → entries ≡ cond (eqb number 6) zeros64 (patternEntries p values) → eight ≡ pad8 0 statement
-      → Leaves answer after (encode (instanceWith (record {
-        kind = kind;
-        modulus = modulus;
-        order = order;
-        challenges = challenges;
-        rows = p .rows;
-        columns = p .columns;
-      }) entries eight) buffer)
-      → Leaves answer after (fromPattern number modulus order challenges values statement buffer)
-  unfolding made madeHeader
-  maker-written low high pattern counted rowed kinded entered padded leaves =
-      let fits = pattern-passes number values statement .1 (low, high, rw pattern at counted, rw pattern at rowed) in
-      rw (maker-encodes number modulus order challenges values statement fits buffer) (rw (kinded, entered, padded, pattern) at leaves)

@@ -1,4 +1,3 @@
--- Laws of the two sheet writers.
+-- Laws of the sheet writer.
 pub mod Parts
-pub mod Table
 pub mod Answers

@@ -1,4 +1,2 @@
--- Definitions of the two sheet writers' inner functions.
+-- Definitions of the sheet writer's inner functions.
 pub mod Parts
-pub mod Place
-pub mod Rows

@@ -1,0 +1,4 @@
+-- Definitions of the sheet maker's inner functions.
+pub mod Passes
+pub mod Rows
+pub mod Stored

@@ -1,0 +1,3 @@
+-- Definitions of the tests of a pattern file.
+pub mod Walk
+pub mod Naming

@@ -1,0 +1,159 @@
+-- The shipped file: its bytes, and that with it the sheet maker is 01's.
+-- Assumes nothing.
+use Prim.Native.Nat.{ℕ, _<_, _≤_}
+use mathlib.Core.Path.{_≡_, refl, sym, ap, ap₂, _∙_}
+use mathlib.Core.Bool.{Bool, false, cond}
+use mathlib.Core.List.{List, [], _∷_, flatten}
+use native.Mathlib.Omega.{arith}
+use lib.Dec.{eqb}
+use lib.ListN.{length}
+use borrow.Author.Tests.{ne-eqb}
+use Rattle.encoding.specs.Bytes.{bytesOf, numberAt}
+use Rattle.encoding.specs.Text.{ascii}
+use Rattle.lists.specs.Places.{itemsAt, tabulate}
+use Rattle.numbers.specs.Search.{any, find}
+use Rattle.rules.specs.Condition.{Tests}
+use Rattle.rules.specs.Rule.{_when_, lowest}
+use Rattle.rules.proofs.Lowest.{clear-lowest, pass}
+use Rattle.sigma.specs.Comparison.{differ, firstDifference}
+use Rattle.sigma.specs.Instance.{Instance}
+use Rattle.formats.specs.Encode.{sheetOf}
+use Rattle.formats.specs.Outcome.{Keeps, Puts}
+use Rattle.formats.specs.Write.{Writing, short, written, writtenAtStart}
+use Rattle.formats.proofs.Tests.{says-short}
+use Rattle.formats.proofs.Writing.{short-passes, start-written, written-refusal, written-refused}
+use Rattle.patterns.specs.Maker.{asked, askedKind, askedPattern, badAsked, madeRules, makeFrom, makeRules}
+use Rattle.patterns.specs.Pattern.{Pattern, madeFor, root}
+use Rattle.patterns.specs.PatternFile.{
+  badDigits,
+  badPatternFile,
+  badSizes,
+  misnamed,
+  patternAt,
+  patternBytes,
+  patternCount,
+  patternEnd,
+  patternFile,
+  patternFrom,
+  patternMark,
+  patternStart,
+  patternVersion,
+}
+use Rattle.patterns.specs.Refusals.{shippedConditions}
+use Rattle.patterns.specs.Table.{badPattern, fromPattern, kindOf, made, patternOf, patterns, shipped, writeShipped}
+use Rattle.patterns.proofs.Meaning.{by-number}
+
+-- ---- its bytes
+
+-- the 34 bytes of the old five
+pub shipped-bytes : shipped
+    ≡ 0x50 ∷ 0x41 ∷ 0x54 ∷ 0 ∷ 1 ∷ 5 ∷ 1 ∷ 1 ∷ 1 ∷ 1 ∷ 1 ∷ 2 ∷ 2 ∷ 1 ∷ 2 ∷ 2 ∷ 1 ∷ 2 ∷ 1 ∷ 2 ∷ 2 ∷ 1 ∷ 2 ∷ 1 ∷ 2 ∷
+    2 ∷ 3 ∷ 3 ∷ 1 ∷ 2 ∷ 0 ∷ 3 ∷ 0 ∷ 2 ∷ []
+unfolding shipped patternFile patternBytes patternMark ascii bytesOf patterns flatten
+shipped-bytes = refl
+
+-- there are 34
+pub length-shipped : length shipped ≡ 34
+length-shipped = ap length shipped-bytes
+
+module _ (buffer : List ℕ) where
+  -- the call's rule tests its condition
+  pub shipped-tests : Tests ((22 when short buffer (length shipped)) ∷ []) (shippedConditions buffer)
+  shipped-tests = rw length-shipped (refl, says-short buffer 34, tt)
+
+  -- a refused call keeps the buffer
+  pub shipped-refused : 0 < writeShipped buffer .answer .refusal → Keeps buffer (writeShipped buffer)
+  unfolding writeShipped writtenAtStart written
+  shipped-refused some = written-refused _ _ _ _ some
+
+  -- else the file stands at the start of the buffer
+  pub shipped-puts : writeShipped buffer .answer .refusal ≡ 0 → Puts shipped buffer (writeShipped buffer)
+  unfolding writeShipped writtenAtStart
+  shipped-puts e =
+      let rules = (22 when short buffer (length shipped)) ∷ [] in
+      let none = sym (written-refusal _ _ _ buffer) ∙ e in
+      let (fits, rest) = clear-lowest rules tt none in
+      start-written _ shipped buffer none (short-passes buffer (length shipped) .0 fits)
+
+-- ---- its sheets
+
+-- neither 23 nor 24 applies to it
+shipped-passes : (badPatternFile shipped ≡ false) × (badDigits shipped ≡ false)
+unfolding badPatternFile badDigits badSizes misnamed patternAt patternCount patternEnd patternFrom patternMark patternStart
+    patternVersion differ firstDifference any find numberAt ascii tabulate itemsAt
+shipped-passes = (ap badPatternFile shipped-bytes, ap badDigits shipped-bytes)
+
+-- the number asks the shipped file for what 01 has under the old one, with the same counts of values
+pub record Asks (number old : ℕ) : Type 0 where
+  pub kind : askedKind number ≡ kindOf old
+  pub pattern : askedPattern shipped number ≡ patternOf old
+  pub counts : (values statement : List ℕ) → badAsked shipped number values statement ≡ badPattern old values statement
+
+-- 0 asks for 01's 6, and 1 to 5 for 01's
+asks-old : (old : ℕ) → 1 ≤ old → old ≤ 6 → Asks (cond (eqb old 6) 0 old) old
+unfolding askedKind kindOf askedPattern patternOf patterns root badAsked badPattern patternAt patternCount patternEnd patternFrom
+    patternStart numberAt tabulate itemsAt
+asks-old =
+    by-number (λ n. Asks (cond (eqb n 6) 0 n) n)
+    (record {
+      kind = refl;
+      pattern = ap (λ (f : List ℕ). askedPattern f 1) shipped-bytes;
+      counts = λ values statement. ap (λ (f : List ℕ). badAsked f 1 values statement) shipped-bytes;
+    })
+    (record {
+      kind = refl;
+      pattern = ap (λ (f : List ℕ). askedPattern f 2) shipped-bytes;
+      counts = λ values statement. ap (λ (f : List ℕ). badAsked f 2 values statement) shipped-bytes;
+    })
+    (record {
+      kind = refl;
+      pattern = ap (λ (f : List ℕ). askedPattern f 3) shipped-bytes;
+      counts = λ values statement. ap (λ (f : List ℕ). badAsked f 3 values statement) shipped-bytes;
+    })
+    (record {
+      kind = refl;
+      pattern = ap (λ (f : List ℕ). askedPattern f 4) shipped-bytes;
+      counts = λ values statement. ap (λ (f : List ℕ). badAsked f 4 values statement) shipped-bytes;
+    })
+    (record {
+      kind = refl;
+      pattern = ap (λ (f : List ℕ). askedPattern f 5) shipped-bytes;
+      counts = λ values statement. ap (λ (f : List ℕ). badAsked f 5 values statement) shipped-bytes;
+    })
+    (record {
+      kind = refl;
+      pattern = ap (λ (f : List ℕ). askedPattern f 0) shipped-bytes;
+      counts = λ values statement. ap (λ (f : List ℕ). badAsked f 0 values statement) shipped-bytes;
+    })
+
+module _ {number old : ℕ} (asks : Asks number old) (m ℓ K : ℕ) (values z : List ℕ) where
+  -- the sheet that is asked for is 01's, value by value
+  pub old-values : asked shipped number m ℓ K values z ≡ made old m ℓ K values z
+  unfolding asked made
+  old-values = ap₂ (λ (kind : ℕ) (p : Pattern). madeFor kind p m ℓ K values z) (asks .kind) (asks .pattern)
+
+  -- and the maker gives what 01's gave
+  pub old-sheet : (buffer : List ℕ) → makeFrom shipped number m ℓ K values z buffer ≡ fromPattern old m ℓ K values z buffer
+  unfolding makeFrom fromPattern makeRules
+  old-sheet buffer =
+      let number-same =
+      pass 23 _ (shipped-passes .0) ∙ pass 24 _ (shipped-passes .1)
+      ∙ ap₂ (λ (b : Bool) (i : Instance). lowest ((1 when b) ∷ madeRules values i buffer)) (asks .counts values z) old-values in
+      ap₂ (λ (n : ℕ) (i : Instance). writtenAtStart n (sheetOf i) buffer) number-same old-values
+
+-- 1 to 5 are asked for as such
+asks-same : (number : ℕ) → 1 ≤ number → number ≤ 5 → Asks number number
+asks-same number low high =
+    rw (ne-eqb number 6 (λ (e : number ≡ 6). omega arith)) at (asks-old number low (omega arith))
+
+pub same : (number m ℓ K : ℕ) (values z buffer : List ℕ) → 1 ≤ number → number ≤ 5
+    → makeFrom shipped number m ℓ K values z buffer ≡ fromPattern number m ℓ K values z buffer
+same number m ℓ K values z buffer low high = old-sheet (asks-same number low high) m ℓ K values z buffer
+
+pub same-values : (number m ℓ K : ℕ) (values z : List ℕ) → 1 ≤ number → number ≤ 5
+    → asked shipped number m ℓ K values z ≡ made number m ℓ K values z
+same-values number m ℓ K values z low high = old-values (asks-same number low high) m ℓ K values z
+
+-- and the root as 0
+pub asks-root : Asks 0 6
+asks-root = asks-old 6 (omega arith) (omega arith)
