@@ -39,9 +39,9 @@
  * eight. The places behind these values are not read where a call takes them, and are 0 where a call answers them. A
  * session keeps what it holds in all eight, and the commitment that Peggy's holds is tested in all eight (by 21).
  *
- * Refusals. A call answers a number, or a struct with a field `refusal`: 0, or the number of what was refused, the lowest
- * where several apply. A refused call changes no session, array or buffer, and has 0 in every other field of its answer.
- * Compilers warn of a call whose answer is thrown away.
+ * Refusals. A call answers a number, or a struct with a field `refusal`: 0, or the number of what was refused. Where several
+ * apply it is the earliest in the order 23, 24, 1 to 12, 25, 13 to 22. A refused call changes no session, array or buffer,
+ * and has 0 in every other field of its answer. Compilers warn of a call whose answer is thrown away.
  *
  * Random numbers are the caller's: nonces, challenges and simulated responses are handed in. A nonce has to be drawn at
  * random from all coordinates for each session, or the responses give the witness away.
@@ -72,28 +72,33 @@ extern "C" {
 #endif
 
 /* Sizes. */
-#define DIMKHOROS_PLACES 8           /* numbers in a commitment, statement, witness, nonce or response */
-#define DIMKHOROS_ENTRIES 64         /* numbers in a table: row i, column j, both from 0, stands at 8 * i + j */
-#define DIMKHOROS_LONGEST_SHEET 308  /* bytes of the longest sheet */
-#define DIMKHOROS_EMPTY_FILE 7       /* bytes of a round file without rounds */
-#define DIMKHOROS_MOST_ROUNDS 512    /* rounds in the fullest round file */
-#define DIMKHOROS_LONGEST_FILE 34823 /* bytes of the longest round file */
-#define DIMKHOROS_LONGEST_TEXT 7696  /* bytes that hold every text of the marker */
-#define DIMKHOROS_LONGEST_REASON 48  /* bytes that hold every line of the reason */
-#define DIMKHOROS_STORED_PROVER 79   /* bytes of a stored session of Peggy's */
-#define DIMKHOROS_STORED_VERIFIER 51 /* bytes of a stored session of Vic's */
+#define DIMKHOROS_PLACES 8              /* numbers in a commitment, statement, witness, nonce or response */
+#define DIMKHOROS_ENTRIES 64            /* numbers in a table: row i, column j, both from 0, stands at 8 * i + j */
+#define DIMKHOROS_LONGEST_SHEET 308     /* bytes of the longest sheet */
+#define DIMKHOROS_SHIPPED_PATTERNS 34   /* bytes of the pattern file that dimkhoros_patterns writes */
+#define DIMKHOROS_MOST_PATTERNS 32      /* patterns in the fullest pattern file */
+#define DIMKHOROS_LONGEST_PATTERNS 2150 /* bytes of the longest pattern file */
+#define DIMKHOROS_EMPTY_FILE 7          /* bytes of a round file without rounds */
+#define DIMKHOROS_MOST_ROUNDS 512       /* rounds in the fullest round file */
+#define DIMKHOROS_LONGEST_FILE 34823    /* bytes of the longest round file */
+#define DIMKHOROS_LONGEST_TEXT 7696     /* bytes that hold every text of the marker */
+#define DIMKHOROS_LONGEST_REASON 48     /* bytes that hold every line of the reason */
+#define DIMKHOROS_STORED_PROVER 79      /* bytes of a stored session of Peggy's */
+#define DIMKHOROS_STORED_VERIFIER 51    /* bytes of a stored session of Vic's */
 
 /* Kinds of sheets. */
 #define DIMKHOROS_EXPONENT 1 /* the image multiplies powers of the table's entries; the witness is in the exponents */
 #define DIMKHOROS_ROOT 2     /* the image is the e-th power of each value; the witness is a list of e-th roots */
 
-/* Patterns of sheets, with their public values and the entries made of them. */
+/* The pattern number that asks for a root sheet, whatever the pattern file. */
+#define DIMKHOROS_PATTERN_ROOT 0 /* no values; a root sheet of one row */
+
+/* The patterns of the file that dimkhoros_patterns writes, with their public values and the entries made of them. */
 #define DIMKHOROS_PATTERN_SCHNORR 1        /* value h; row h */
 #define DIMKHOROS_PATTERN_OKAMOTO 2        /* values h1 h2; row h1 h2 */
 #define DIMKHOROS_PATTERN_EQUALITY 3       /* values h1 h2; rows h1 and h2 */
 #define DIMKHOROS_PATTERN_DIFFIE_HELLMAN 4 /* values h B; rows h and B */
 #define DIMKHOROS_PATTERN_PRODUCT 5        /* values g h B; rows g h 1 and B 1 h */
-#define DIMKHOROS_PATTERN_ROOT 6           /* no values; a root sheet of one row */
 
 /* States of Peggy's session. */
 #define DIMKHOROS_PROVER_NEW 0       /* nothing has happened */
@@ -107,9 +112,9 @@ extern "C" {
 #define DIMKHOROS_VERIFIER_ASKED 2   /* a commitment and the challenge given on it are held */
 #define DIMKHOROS_VERIFIER_JUDGED 3  /* a response was judged */
 
-/* Every refusal: its number, its name and what it says. */
+/* Every refusal by its number, with its name and what it says. 23 and 24 are tested before 1. */
 #define DIMKHOROS_REFUSALS(REFUSAL)                                                                               \
-    REFUSAL(1, PATTERN, "there is no pattern of this number, or it takes another count of values")                \
+    REFUSAL(1, PATTERN, "the pattern file has no pattern of this number, or it takes another count of values")    \
     REFUSAL(2, SHEET_MARK, "the sheet is shorter than a header or does not begin with HOM")                       \
     REFUSAL(3, SHEET_VERSION, "the sheet's version is another than 1")                                            \
     REFUSAL(4, KIND, "the kind has to be 1, exponent, or 2, root")                                                \
@@ -132,6 +137,9 @@ extern "C" {
     REFUSAL(20, ROUND_REJECTED, "one of the two rounds, or both, would be rejected")                              \
     REFUSAL(21, SESSION, "the session's state does not allow the call, or what it holds does not fit this sheet") \
     REFUSAL(22, BUFFER, "the buffer is too short for the result")                                                 \
+    REFUSAL(23, PATTERN_FILE, "the bytes are no pattern file: the mark, version, count, rows, columns, number of" \
+                              " values or length is wrong")                                                       \
+    REFUSAL(24, PATTERN_DIGITS, "a pattern has a digit above its number of values, or a value that no digit names") \
     REFUSAL(25, LEVEL, "the level has to be one byte from 1 to 64")
 
 /* The refusals by name: DIMKHOROS_REFUSED_PATTERN is 1, and so on through the list. */
@@ -259,15 +267,40 @@ DIMKHOROS_CHECKED
 DimkhorosWritten dimkhoros_encode(DimkhorosHeader header, const uint32_t entries[DIMKHOROS_ENTRIES],
                                   const uint32_t statement[DIMKHOROS_PLACES], uint8_t *buffer, size_t buffer_length);
 
+/* --- Patterns of sheets --- */
+
 /*
- * Writes the sheet of a pattern, DIMKHOROS_PATTERN_SCHNORR to DIMKHOROS_PATTERN_ROOT, to the start of `buffer`, and answers
- * its length. `order` is q, or e in pattern 6; `values` are the public values, `value_count` of them, and `statement` has
- * a value for each row. No byte behind the sheet is changed. Refuses 1, 5, 6, 8, 10, 11 and 22.
+ * A pattern file has 1 to 32 patterns, each a table of digits:
+ *
+ *     0 to 2   PAT
+ *     3, 4     the version, 1, with the high byte first
+ *     5        how many patterns there are, 1 to 32
+ *     6 on     the patterns, one straight behind the other: rows, columns and number of public values, a byte each, 1 to 8,
+ *              and rows times columns digits of a byte each, row by row
+ *
+ * Digit i stands for the i-th public value, 0 for the entry 1. Nothing stands behind the last pattern, no digit is above the
+ * number of values, and each value is named by a digit. share/patterns.bin of the repository is the file that
+ * dimkhoros_patterns writes; docs/FORMATS.md has another as an example.
+ */
+
+/*
+ * Writes the shipped pattern file, with the five patterns DIMKHOROS_PATTERN_SCHNORR to DIMKHOROS_PATTERN_PRODUCT under their
+ * numbers, to the start of `buffer`, and answers its length, 34. No byte behind it is changed. Refuses 22.
  */
 DIMKHOROS_CHECKED
-DimkhorosWritten dimkhoros_from_pattern(uint32_t pattern, uint32_t modulus, uint32_t order, uint32_t challenges,
-                                        const uint32_t *values, size_t value_count, const uint32_t *statement,
-                                        size_t statement_count, uint8_t *buffer, size_t buffer_length);
+DimkhorosWritten dimkhoros_patterns(uint8_t *buffer, size_t buffer_length);
+
+/*
+ * Writes the sheet of the pattern of this number, from 1, in a pattern file to the start of `buffer`, and answers its length;
+ * number 0, DIMKHOROS_PATTERN_ROOT, asks for a root sheet of one row. `order` is q, or e for a root sheet; `values` are the
+ * public values, `value_count` of them, and `statement` has a value for each row. No byte behind the sheet is changed.
+ * Refuses 23, 24, 1, 5, 6, 8, 10, 11 and 22. The whole file is tested by 23 and then by 24, whichever number is asked for.
+ */
+DIMKHOROS_CHECKED
+DimkhorosWritten dimkhoros_from_pattern(const uint8_t *patterns, size_t patterns_length, uint32_t number,
+                                        uint32_t modulus, uint32_t order, uint32_t challenges, const uint32_t *values,
+                                        size_t value_count, const uint32_t *statement, size_t statement_count,
+                                        uint8_t *buffer, size_t buffer_length);
 
 /* --- Peggy's session --- */
 

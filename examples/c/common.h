@@ -21,8 +21,11 @@ static inline void expect(uint32_t refusal) {
 static inline size_t page_a(uint8_t sheet[DIMKHOROS_LONGEST_SHEET]) {
     const uint32_t h = 2;
     const uint32_t z = 13;
-    DimkhorosWritten made = dimkhoros_from_pattern(DIMKHOROS_PATTERN_SCHNORR, 23, 11, 11, &h, 1, &z, 1, sheet,
-                                                   DIMKHOROS_LONGEST_SHEET);
+    uint8_t patterns[DIMKHOROS_SHIPPED_PATTERNS];
+    DimkhorosWritten shipped = dimkhoros_patterns(patterns, sizeof patterns);
+    expect(shipped.refusal);
+    DimkhorosWritten made = dimkhoros_from_pattern(patterns, shipped.length, DIMKHOROS_PATTERN_SCHNORR, 23, 11, 11, &h, 1,
+                                                   &z, 1, sheet, DIMKHOROS_LONGEST_SHEET);
     expect(made.refusal);
     printf("The sheet: 2^x = 13 modulo 23, order 11, challenges 0 to 10.\n");
     return made.length;

@@ -1,5 +1,12 @@
-/* A course author makes a sheet of each pattern, and bad ones are refused by number. */
+/* A course author makes a sheet of each shipped pattern and one of a pattern of her own, and bad ones are refused by number. */
 #include "common.h"
+
+/* A pattern file. */
+typedef struct {
+    const char *name;
+    const uint8_t *bytes;
+    size_t length;
+} File;
 
 /* What a sheet is made of. */
 typedef struct {
@@ -21,31 +28,63 @@ static const Plan good[] = {
 };
 
 static const Plan bad[] = {
-    {"pattern 7", 7, 23, 11, 11, {2}, 1, {13}, 1},
+    {"pattern 6", 6, 23, 11, 11, {2}, 1, {13}, 1},
     {"Okamoto with one value", DIMKHOROS_PATTERN_OKAMOTO, 23, 11, 11, {2}, 1, {18}, 1},
     {"12 challenges for order 11", DIMKHOROS_PATTERN_SCHNORR, 23, 11, 12, {2}, 1, {13}, 1},
     {"4 challenges for order 15", DIMKHOROS_PATTERN_SCHNORR, 31, 15, 4, {1}, 1, {1}, 1},
     {"statement 5", DIMKHOROS_PATTERN_SCHNORR, 23, 11, 11, {2}, 1, {5}, 1},
 };
 
-static DimkhorosWritten make(const Plan *plan, uint8_t sheet[DIMKHOROS_LONGEST_SHEET]) {
-    return dimkhoros_from_pattern(plan->pattern, plan->modulus, plan->order, plan->challenges, plan->values,
-                                  plan->value_count, plan->statement, plan->statement_count, sheet,
+/* A file with one pattern, ElGamal's commitments: rows (1 g) and (g h) over the public values g and h. */
+static const uint8_t elgamal[] = {'P', 'A', 'T', 0, 1, 1, 2, 2, 2, 0, 1, 1, 2};
+
+static const Plan commitment = {"ElGamal", 1, 23, 11, 11, {2, 3}, 2, {9, 8}, 2};
+
+/* The same with the digit 3, for which there is no value, and with a byte behind it. */
+static const uint8_t digit_3[] = {'P', 'A', 'T', 0, 1, 1, 2, 2, 2, 0, 1, 1, 3};
+static const uint8_t byte_behind[] = {'P', 'A', 'T', 0, 1, 1, 2, 2, 2, 0, 1, 1, 2, 0};
+
+static const File bad_files[] = {
+    {"digit 3 of two values", digit_3, sizeof digit_3},
+    {"a byte behind", byte_behind, sizeof byte_behind},
+};
+
+static DimkhorosWritten make(const File *file, const Plan *plan, uint8_t sheet[DIMKHOROS_LONGEST_SHEET]) {
+    return dimkhoros_from_pattern(file->bytes, file->length, plan->pattern, plan->modulus, plan->order, plan->challenges,
+                                  plan->values, plan->value_count, plan->statement, plan->statement_count, sheet,
                                   DIMKHOROS_LONGEST_SHEET);
 }
 
-int main(void) {
+/* Makes the sheet of a plan and says what it has. */
+static void show(const File *file, const Plan *plan) {
     uint8_t sheet[DIMKHOROS_LONGEST_SHEET];
+    DimkhorosWritten made = make(file, plan, sheet);
+    expect(made.refusal);
+    DimkhorosLoaded loaded = dimkhoros_load(sheet, made.length);
+    expect(loaded.refusal);
+    printf("%s: rows %u, columns %u, %zu bytes\n", plan->name, loaded.header.rows, loaded.header.columns, made.length);
+}
+
+int main(void) {
+    uint8_t patterns[DIMKHOROS_SHIPPED_PATTERNS];
+    uint8_t sheet[DIMKHOROS_LONGEST_SHEET];
+    DimkhorosWritten written = dimkhoros_patterns(patterns, sizeof patterns);
+    expect(written.refusal);
+    File shipped = {"shipped", patterns, written.length};
+    printf("The shipped file: %zu bytes.\n", shipped.length);
     for (size_t i = 0; i < sizeof good / sizeof good[0]; i++) {
-        DimkhorosWritten made = make(&good[i], sheet);
-        expect(made.refusal);
-        DimkhorosLoaded loaded = dimkhoros_load(sheet, made.length);
-        expect(loaded.refusal);
-        printf("%s: rows %u, columns %u, %zu bytes\n", good[i].name, loaded.header.rows, loaded.header.columns, made.length);
+        show(&shipped, &good[i]);
     }
     for (size_t i = 0; i < sizeof bad / sizeof bad[0]; i++) {
         printf("%s: ", bad[i].name);
-        show_refusal(make(&bad[i], sheet).refusal);
+        show_refusal(make(&shipped, &bad[i], sheet).refusal);
+    }
+    File own = {"own", elgamal, sizeof elgamal};
+    printf("A file of her own: %zu bytes.\n", own.length);
+    show(&own, &commitment);
+    for (size_t i = 0; i < sizeof bad_files / sizeof bad_files[0]; i++) {
+        printf("%s: ", bad_files[i].name);
+        show_refusal(make(&bad_files[i], &commitment, sheet).refusal);
     }
     return 0;
 }

@@ -6,6 +6,7 @@ pub enum Call {
     Load,
     Entries,
     Encode,
+    Patterns,
     FromPattern,
     Count,
     Check,
@@ -53,7 +54,8 @@ const CALLS: &[Entry] = &[
     entry(Call::Load, "load", true, &[]),
     entry(Call::Entries, "entries", true, &[]),
     entry(Call::Encode, "encode", false, &[4, 5, 6, 7, 8, 10, 11, 22]),
-    entry(Call::FromPattern, "from_pattern", false, &[1, 5, 6, 8, 10, 11, 22]),
+    entry(Call::Patterns, "patterns", false, &[22]),
+    entry(Call::FromPattern, "from_pattern", false, &[23, 24, 1, 5, 6, 8, 10, 11, 22]),
     entry(Call::Count, "count", true, &[12]),
     entry(Call::Check, "check", true, &[12, 13]),
     entry(Call::Part, "part", true, &[12, 13]),
@@ -80,8 +82,8 @@ pub const CALL_COUNT: usize = CALLS.len();
 
 /// All numbers in the order in which they are tested, the cards' numbers where
 /// 02 puts them. Of several that apply the first here is given.
-pub const ORDER: [u32; 23] = [
-    1, 2, 3, 4, 5, 6, 7, 8, 9, 10, 11, 12, 25, 13, 14, 15, 16, 17, 18, 19, 20, 21, 22,
+pub const ORDER: [u32; LAST as usize] = [
+    23, 24, 1, 2, 3, 4, 5, 6, 7, 8, 9, 10, 11, 12, 25, 13, 14, 15, 16, 17, 18, 19, 20, 21, 22,
 ];
 
 /// The numbers that the loading of a sheet can give.

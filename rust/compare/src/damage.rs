@@ -7,15 +7,15 @@ use crate::random::Random;
 use crate::sheets::Sheet;
 
 /// A fault with this number and, in half of the cases, some of the numbers
-/// behind it in the list. The one with the lowest number comes last.
-pub fn faults(random: &mut Random, numbers: &[u32], lowest: u32) -> Vec<u32> {
+/// behind it in the list. The one that is tested first comes last.
+pub fn faults(random: &mut Random, numbers: &[u32], first: u32) -> Vec<u32> {
     let several = random.once_in(2);
-    let higher = numbers.iter().rev().filter(|number| **number > lowest);
-    let mut faults: Vec<u32> = higher
+    let later = numbers.iter().rev().take_while(|number| **number != first);
+    let mut faults: Vec<u32> = later
         .filter(|_| several && random.once_in(2))
         .copied()
         .collect();
-    faults.push(lowest);
+    faults.push(first);
     faults
 }
 

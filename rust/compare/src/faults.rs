@@ -4,6 +4,7 @@ mod extracting;
 mod files;
 mod list;
 mod marking;
+mod patterns;
 mod prover;
 mod reasons;
 mod rounds;
@@ -15,12 +16,13 @@ pub use extracting::extract;
 pub use files::{check, count, part, read};
 pub use list::{Fault, FAULTS};
 pub use marking::mark;
+pub use patterns::{from_pattern, patterns};
 pub use prover::{prover_commit, prover_drop, prover_new, prover_respond};
 pub use reasons::reason;
 pub use rounds::{judge, simulate};
 pub use sheets::{entries, load};
 pub use verifier::{verifier_challenge, verifier_commitment, verifier_new, verifier_response};
-pub use writers::{append, empty, encode, from_pattern};
+pub use writers::{append, empty, encode};
 
 #[cfg(test)]
 mod tests {

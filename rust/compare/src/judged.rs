@@ -3,6 +3,8 @@
 mod sessions;
 mod values;
 
+use judge::pattern_file;
+
 use crate::library::{
     Computed, Counted, Fetched, Header, Judgement, Loaded, Part, Places, Plan, ProverAnswer,
     ProverSession, Round, VerifierAnswer, VerifierJudgement, VerifierSession, Written,
@@ -37,10 +39,20 @@ pub fn encode(
     written(judge::encode(&sheet, buffer))
 }
 
-pub fn from_pattern(plan: Plan, values: &[u32], statement: &[u32], buffer: &mut [u8]) -> Written {
-    let (m, q, k) = (plan.modulus, plan.order, plan.challenges);
-    let number = u64::from(plan.number);
-    written(judge::make(number, m, q, k, values, statement, buffer))
+pub fn patterns(buffer: &mut [u8]) -> Written {
+    written(pattern_file::shipped(buffer))
+}
+
+pub fn from_pattern(
+    patterns: &[u8],
+    plan: Plan,
+    values: &[u32],
+    statement: &[u32],
+    buffer: &mut [u8],
+) -> Written {
+    let (number, m, q, k) = (plan.number, plan.modulus, plan.order, plan.challenges);
+    let made = pattern_file::make(patterns, number, m, q, k, values, statement, buffer);
+    written(made)
 }
 
 pub fn count(sheet: &[u8], file: &[u8]) -> Counted {

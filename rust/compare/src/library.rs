@@ -6,10 +6,11 @@ use crate::{judged, proved};
 pub use dimkhoros_sys::{
     phases, Computed, Counted, Fetched, Header, Judgement, Loaded, Part, Places, ProverAnswer,
     ProverSession, Round, VerifierAnswer, VerifierJudgement, VerifierSession, Written,
-    LONGEST_FILE, LONGEST_REASON, LONGEST_SHEET, LONGEST_TEXT, MOST_ROUNDS,
+    LONGEST_FILE, LONGEST_REASON, LONGEST_SHEET, LONGEST_TEXT, MOST_ROUNDS, SHIPPED_PATTERNS,
 };
 
-/// The numbers that the sheet maker takes.
+/// The numbers that the sheet maker takes. The pattern number 0 is that of root
+/// sheets.
 #[derive(Clone, Copy, Debug, Default, PartialEq, Eq)]
 pub struct Plan {
     pub number: u32,
@@ -22,7 +23,7 @@ impl Plan {
     /// The fixed fields, with one row and one column.
     pub fn header(&self) -> Header {
         Header {
-            kind: if self.number == 6 { 2 } else { 1 },
+            kind: if self.number == 0 { 2 } else { 1 },
             modulus: self.modulus,
             order: self.order,
             challenges: self.challenges,
@@ -65,7 +66,10 @@ calls! {
     load(sheet: &[u8]) -> Loaded;
     entries(sheet: &[u8], entries: &mut [u32; 64]) -> u32;
     encode(header: Header, entries: &[u32; 64], statement: &Places, buffer: &mut [u8]) -> Written;
-    from_pattern(plan: Plan, values: &[u32], statement: &[u32], buffer: &mut [u8]) -> Written;
+    patterns(buffer: &mut [u8]) -> Written;
+    from_pattern(
+        patterns: &[u8], plan: Plan, values: &[u32], statement: &[u32], buffer: &mut [u8]
+    ) -> Written;
 
     count(sheet: &[u8], file: &[u8]) -> Counted;
     check(sheet: &[u8], file: &[u8], number: usize) -> u32;

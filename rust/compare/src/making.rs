@@ -28,10 +28,11 @@ pub use reasons::reason_case;
 type Maker = fn(&mut Random) -> Box<dyn Case>;
 
 /// How often each maker is asked, among the sum of these.
-const SHARES: [(Maker, usize); 22] = [
+const SHARES: [(Maker, usize); 23] = [
     (sheets::load, 3),
     (sheets::entries, 2),
     (sheets::encode, 4),
+    (patterns::patterns, 1),
     (patterns::from_pattern, 3),
     (files::count, 2),
     (files::check, 2),

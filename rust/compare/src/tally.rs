@@ -28,6 +28,13 @@ fn columns() -> impl Iterator<Item = u32> {
     [0].into_iter().chain(ORDER)
 }
 
+/// Whether a sheet is refused with this number, or is not made: it is tested
+/// before a round file's.
+fn is_of_sheet(number: u32) -> bool {
+    let mut earlier = ORDER.iter().take_while(|other| **other != 12);
+    earlier.any(|other| *other == number)
+}
+
 /// The place of a verdict among all.
 fn place(verdict: Judgement) -> usize {
     if verdict.accepted == 1 {
@@ -46,7 +53,7 @@ impl Tally {
         }
         if let Some(header) = case.header() {
             let mut numbers = numbers.iter().map(|(_, number)| *number);
-            let of_sheet = numbers.find(|number| (1..=11).contains(number));
+            let of_sheet = numbers.find(|number| is_of_sheet(*number));
             self.shapes.add(&Seen {
                 header,
                 refusal: of_sheet.unwrap_or(0),

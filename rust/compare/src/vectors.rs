@@ -23,6 +23,7 @@ pub enum Line<'a> {
     Comment,
     Sheet(Vec<u8>),
     File(Vec<u8>),
+    PatternFile(Vec<u8>),
     /// A call, the text up to its arrow, and its inputs.
     Call(Call, &'a str, Inputs<'a>),
 }
@@ -37,6 +38,7 @@ impl<'a> Line<'a> {
             return match line.split_once(' ') {
                 Some(("sheet", text)) => Ok(Line::Sheet(bytes::read(text)?)),
                 Some(("file", text)) => Ok(Line::File(bytes::read(text)?)),
+                Some(("pattern_file", text)) => Ok(Line::PatternFile(bytes::read(text)?)),
                 _ => Err("there is no arrow".to_string()),
             };
         };
@@ -47,11 +49,12 @@ impl<'a> Line<'a> {
     }
 }
 
-/// The sheet and the round file that calls are given.
+/// The sheet, the round file and the pattern file that calls are given.
 #[derive(Default)]
 pub struct Given {
     sheet: Vec<u8>,
     file: Vec<u8>,
+    patterns: Vec<u8>,
 }
 
 impl Given {
@@ -61,6 +64,7 @@ impl Given {
             Line::Comment => {}
             Line::Sheet(sheet) => self.sheet = sheet,
             Line::File(file) => self.file = file,
+            Line::PatternFile(patterns) => self.patterns = patterns,
             Line::Call(call, words, mut inputs) => {
                 let answer = self.answer(library, call, &mut inputs)?;
                 inputs.end()?;

@@ -1,6 +1,6 @@
 //! Sheets: loading and making them.
 
-use crate::{Header, LONGEST_SHEET, PLACES, Places, Plan, Refusal};
+use crate::{Header, LONGEST_SHEET, PLACES, Patterns, Places, Plan, Refusal};
 use core::fmt;
 use dimkhoros_sys::{self as sys, ENTRIES};
 
@@ -61,24 +61,33 @@ impl Instance {
         Ok(Instance { sheet, length: bytes.len(), values })
     }
 
-    /// Makes a sheet by a pattern, or refuses the plan with 1, 5, 6, 8, 10 or 11.
+    /// Makes a sheet by a pattern of a file, or refuses the plan with 1, 5, 6, 8, 10 or 11.
     ///
     /// ```
-    /// use dimkhoros::{Instance, Plan, Refusal};
+    /// use dimkhoros::{Instance, Patterns, Plan, Refusal};
     ///
+    /// let shipped = Patterns::shipped();
     /// let plan = Plan { pattern: 1, modulus: 23, order: 11, challenges: 11, values: &[2], statement: &[13] };
-    /// let instance = Instance::from_pattern(&plan)?;
+    /// let instance = Instance::from_pattern(&shipped, &plan)?;
     /// assert_eq!(instance.bytes().len(), 28);
     ///
     /// let wrong = Plan { challenges: 12, ..plan };
-    /// assert_eq!(Instance::from_pattern(&wrong), Err(Refusal::Challenges));
+    /// assert_eq!(Instance::from_pattern(&shipped, &wrong), Err(Refusal::Challenges));
     /// # Ok::<(), Refusal>(())
     /// ```
-    pub fn from_pattern(plan: &Plan<'_>) -> Result<Instance, Refusal> {
+    pub fn from_pattern(patterns: &Patterns, plan: &Plan<'_>) -> Result<Instance, Refusal> {
         let mut sheet = [0; LONGEST_SHEET];
         let Plan { pattern, modulus, order, challenges, values, statement } = *plan;
-        let written =
-            sys::from_pattern(pattern, modulus, order, challenges, values, statement, &mut sheet);
+        let written = sys::from_pattern(
+            patterns.bytes(),
+            pattern,
+            modulus,
+            order,
+            challenges,
+            values,
+            statement,
+            &mut sheet,
+        );
         Refusal::check(written.refusal)?;
         Instance::load(&sheet[..written.length])
     }
@@ -106,9 +115,9 @@ impl Instance {
     /// The sheet's bytes.
     ///
     /// ```
-    /// # use dimkhoros::{Instance, Plan};
-    /// # let plan = Plan { pattern: 6, modulus: 35, order: 5, challenges: 5, values: &[], statement: &[32] };
-    /// let instance = Instance::from_pattern(&plan)?;
+    /// # use dimkhoros::{Instance, Patterns, Plan};
+    /// # let plan = Plan { pattern: 0, modulus: 35, order: 5, challenges: 5, values: &[], statement: &[32] };
+    /// let instance = Instance::from_pattern(&Patterns::shipped(), &plan)?;
     /// assert_eq!(Instance::load(instance.bytes()), Ok(instance));
     /// # Ok::<(), dimkhoros::Refusal>(())
     /// ```
@@ -119,9 +128,9 @@ impl Instance {
     /// The sheet's values.
     ///
     /// ```
-    /// # use dimkhoros::{Instance, Plan};
+    /// # use dimkhoros::{Instance, Patterns, Plan};
     /// # let plan = Plan { pattern: 3, modulus: 23, order: 11, challenges: 11, values: &[2, 3], statement: &[13, 2] };
-    /// let instance = Instance::from_pattern(&plan)?;
+    /// let instance = Instance::from_pattern(&Patterns::shipped(), &plan)?;
     /// assert_eq!(instance.values().entries[1][0], 3);
     /// # Ok::<(), dimkhoros::Refusal>(())
     /// ```

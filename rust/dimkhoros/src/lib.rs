@@ -7,6 +7,7 @@ mod instance;
 mod marker;
 mod no_response;
 mod pattern;
+mod patterns;
 mod places;
 mod protocol;
 mod prover;
@@ -24,13 +25,15 @@ mod verifier;
 mod authors {}
 
 pub use dimkhoros_sys::{
-    EMPTY_FILE, EXPONENT, Header, LONGEST_FILE, LONGEST_REASON, LONGEST_SHEET, LONGEST_TEXT,
-    MOST_ROUNDS, PLACES, Places, ROOT, Round, version,
+    EMPTY_FILE, EXPONENT, Header, LONGEST_FILE, LONGEST_PATTERNS, LONGEST_REASON, LONGEST_SHEET,
+    LONGEST_TEXT, MOST_PATTERNS, MOST_ROUNDS, PLACES, Places, ROOT, Round, SHIPPED_PATTERNS,
+    version,
 };
 pub use instance::{Instance, Values};
 pub use marker::mark;
 pub use no_response::NoResponse;
 pub use pattern::{Pattern, Plan};
+pub use patterns::{Layout, Patterns};
 pub use places::places;
 pub use prover::{Prover, ProverParts, ProverPhase};
 pub use reason::reason;

@@ -8,9 +8,9 @@ use core::fmt;
 ///
 /// ```
 /// use dimkhoros::{NoResponse, Prover, ProverPhase, Refusal, places};
-/// # use dimkhoros::{Instance, Plan};
+/// # use dimkhoros::{Instance, Patterns, Plan};
 /// # let plan = Plan { pattern: 1, modulus: 23, order: 11, challenges: 11, values: &[2], statement: &[13] };
-/// # let instance = Instance::from_pattern(&plan)?;
+/// # let instance = Instance::from_pattern(&Patterns::shipped(), &plan)?;
 ///
 /// let (peggy, _) = Prover::new().commit(&instance, &places([5]))?;
 /// let full = peggy.respond_after(&instance, 3, &places([7]), |_| Err("the disk is full")).unwrap_err();

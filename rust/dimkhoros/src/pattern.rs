@@ -1,15 +1,19 @@
-//! The patterns of sheets.
+//! The numbers of patterns, and plans for sheets.
 
-/// The patterns that sheets are made by.
+/// The numbers of the patterns of the shipped file, [`Patterns::shipped`], and 0, which asks for a root sheet of any file.
 ///
 /// ```
 /// use dimkhoros::Pattern;
 ///
 /// assert_eq!(Pattern::DiffieHellman.number(), 4);
 /// ```
+///
+/// [`Patterns::shipped`]: crate::Patterns::shipped
 #[derive(Clone, Copy, Debug, PartialEq, Eq, Hash)]
 #[repr(u32)]
 pub enum Pattern {
+    /// 0: z = x^e. No values.
+    Root = 0,
     /// 1: z = h^x. One value, h.
     Schnorr = 1,
     /// 2: z = h1^x1 · h2^x2. Two values, h1 and h2.
@@ -20,22 +24,20 @@ pub enum Pattern {
     DiffieHellman = 4,
     /// 5: A = g^x1 · h^x2 and E = B^x1 · h^x3, a product of committed values. Three values, g, h and B.
     Product = 5,
-    /// 6: z = x^e. No values.
-    Root = 6,
 }
 
 impl Pattern {
-    /// The pattern's number, 1 to 6.
+    /// The pattern's number, 0 to 5.
     ///
     /// ```
-    /// assert_eq!(dimkhoros::Pattern::Root.number(), 6);
+    /// assert_eq!(dimkhoros::Pattern::Root.number(), 0);
     /// ```
     pub const fn number(self) -> u32 {
         self as u32
     }
 }
 
-/// What a sheet is made of by a pattern. Any numbers can stand here; [`Instance::from_pattern`] tests them.
+/// What a sheet is made of by a pattern of a file. Any numbers can stand here; [`Instance::from_pattern`] tests them.
 ///
 /// ```
 /// use dimkhoros::{Pattern, Plan};
@@ -54,7 +56,7 @@ impl Pattern {
 /// [`Instance::from_pattern`]: crate::Instance::from_pattern
 #[derive(Clone, Copy, Debug, PartialEq, Eq, Hash)]
 pub struct Plan<'a> {
-    /// The pattern's number.
+    /// The pattern's number in its file, from 1, or 0 for a root sheet.
     pub pattern: u32,
     /// The modulus m.
     pub modulus: u32,

@@ -8,9 +8,9 @@ impl Instance {
     ///
     /// ```
     /// use dimkhoros::{places, Refusal, Round, Verdict};
-    /// # use dimkhoros::{Instance, Plan};
+    /// # use dimkhoros::{Instance, Patterns, Plan};
     /// # let plan = Plan { pattern: 1, modulus: 23, order: 11, challenges: 11, values: &[2], statement: &[13] };
-    /// # let instance = Instance::from_pattern(&plan)?;
+    /// # let instance = Instance::from_pattern(&Patterns::shipped(), &plan)?;
     ///
     /// let round = Round { commitment: places([9]), challenge: 3, response: places([4]) };
     /// assert_eq!(instance.judge(&round), Ok(Verdict::Accepted));
@@ -29,9 +29,9 @@ impl Instance {
     ///
     /// ```
     /// use dimkhoros::{places, Round};
-    /// # use dimkhoros::{Instance, Plan};
+    /// # use dimkhoros::{Instance, Patterns, Plan};
     /// # let plan = Plan { pattern: 1, modulus: 23, order: 11, challenges: 11, values: &[2], statement: &[13] };
-    /// # let instance = Instance::from_pattern(&plan)?;
+    /// # let instance = Instance::from_pattern(&Patterns::shipped(), &plan)?;
     ///
     /// let response = places([0]);
     /// let commitment = instance.simulate(3, &response)?;
@@ -52,9 +52,9 @@ impl Instance {
     ///
     /// ```
     /// use dimkhoros::{places, Refusal, Round};
-    /// # use dimkhoros::{Instance, Plan};
+    /// # use dimkhoros::{Instance, Patterns, Plan};
     /// # let plan = Plan { pattern: 1, modulus: 23, order: 11, challenges: 11, values: &[2], statement: &[13] };
-    /// # let instance = Instance::from_pattern(&plan)?;
+    /// # let instance = Instance::from_pattern(&Patterns::shipped(), &plan)?;
     ///
     /// let first = Round { commitment: places([9]), challenge: 3, response: places([4]) };
     /// let second = Round { commitment: places([9]), challenge: 1, response: places([1]) };

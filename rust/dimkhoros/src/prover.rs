@@ -67,9 +67,9 @@ impl ProverPhase {
 ///
 /// ```
 /// use dimkhoros::{places, Prover, ProverPhase, Refusal};
-/// # use dimkhoros::{Instance, Plan};
+/// # use dimkhoros::{Instance, Patterns, Plan};
 /// # let plan = Plan { pattern: 1, modulus: 23, order: 11, challenges: 11, values: &[2], statement: &[13] };
-/// # let instance = Instance::from_pattern(&plan)?;
+/// # let instance = Instance::from_pattern(&Patterns::shipped(), &plan)?;
 ///
 /// let (peggy, commitment) = Prover::new().commit(&instance, &places([5]))?;
 /// assert_eq!(commitment, places([9]));
@@ -85,9 +85,9 @@ impl ProverPhase {
 /// A session that was used cannot be used again.
 ///
 /// ```compile_fail,E0382
-/// # use dimkhoros::{places, Instance, Plan, Prover};
+/// # use dimkhoros::{places, Instance, Patterns, Plan, Prover};
 /// # let plan = Plan { pattern: 1, modulus: 23, order: 11, challenges: 11, values: &[2], statement: &[13] };
-/// # let instance = Instance::from_pattern(&plan).unwrap();
+/// # let instance = Instance::from_pattern(&Patterns::shipped(), &plan).unwrap();
 /// let (peggy, _) = Prover::new().commit(&instance, &places([5])).unwrap();
 /// let first = peggy.respond(&instance, 3, &places([7]));
 /// let second = peggy.respond(&instance, 1, &places([7]));
@@ -121,9 +121,9 @@ impl Prover {
     ///
     /// ```
     /// use dimkhoros::{places, Prover, ProverPhase};
-    /// # use dimkhoros::{Instance, Plan};
+    /// # use dimkhoros::{Instance, Patterns, Plan};
     /// # let plan = Plan { pattern: 1, modulus: 23, order: 11, challenges: 11, values: &[2], statement: &[13] };
-    /// # let instance = Instance::from_pattern(&plan)?;
+    /// # let instance = Instance::from_pattern(&Patterns::shipped(), &plan)?;
     ///
     /// let (peggy, commitment) = Prover::new().commit(&instance, &places([5]))?;
     /// assert_eq!(commitment, places([9]));
@@ -143,9 +143,9 @@ impl Prover {
     ///
     /// ```
     /// use dimkhoros::{places, Prover, Refusal};
-    /// # use dimkhoros::{Instance, Plan};
+    /// # use dimkhoros::{Instance, Patterns, Plan};
     /// # let plan = Plan { pattern: 1, modulus: 23, order: 11, challenges: 11, values: &[2], statement: &[13] };
-    /// # let instance = Instance::from_pattern(&plan)?;
+    /// # let instance = Instance::from_pattern(&Patterns::shipped(), &plan)?;
     ///
     /// let (peggy, _) = Prover::new().commit(&instance, &places([5]))?;
     /// let refused = peggy.respond(&instance, 3, &places([8])).unwrap_err();
@@ -173,9 +173,9 @@ impl Prover {
     ///
     /// ```
     /// use dimkhoros::{Prover, Refusal, places};
-    /// # use dimkhoros::{Instance, Plan};
+    /// # use dimkhoros::{Instance, Patterns, Plan};
     /// # let plan = Plan { pattern: 1, modulus: 23, order: 11, challenges: 11, values: &[2], statement: &[13] };
-    /// # let instance = Instance::from_pattern(&plan)?;
+    /// # let instance = Instance::from_pattern(&Patterns::shipped(), &plan)?;
     ///
     /// let (peggy, _) = Prover::new().commit(&instance, &places([5]))?;
     /// let mut disk = peggy.to_stored();
@@ -232,9 +232,9 @@ impl Prover {
     ///
     /// ```
     /// use dimkhoros::{places, Prover};
-    /// # use dimkhoros::{Instance, Plan};
+    /// # use dimkhoros::{Instance, Patterns, Plan};
     /// # let plan = Plan { pattern: 1, modulus: 23, order: 11, challenges: 11, values: &[2], statement: &[13] };
-    /// # let instance = Instance::from_pattern(&plan)?;
+    /// # let instance = Instance::from_pattern(&Patterns::shipped(), &plan)?;
     ///
     /// let (peggy, _) = Prover::new().commit(&instance, &places([5]))?;
     /// assert_eq!(peggy.commitment(), &places([9]));
@@ -286,9 +286,9 @@ impl Prover {
     ///
     /// ```
     /// use dimkhoros::{places, Prover};
-    /// # use dimkhoros::{Instance, Plan};
+    /// # use dimkhoros::{Instance, Patterns, Plan};
     /// # let plan = Plan { pattern: 1, modulus: 23, order: 11, challenges: 11, values: &[2], statement: &[13] };
-    /// # let instance = Instance::from_pattern(&plan)?;
+    /// # let instance = Instance::from_pattern(&Patterns::shipped(), &plan)?;
     ///
     /// let (peggy, _) = Prover::new().commit(&instance, &places([5]))?;
     /// assert_eq!(peggy.into_parts().nonce, places([5]));

@@ -6,7 +6,8 @@ use core::fmt;
 /// Makes the enum, with its sentences as the documentation, and the list of all out of one table.
 macro_rules! refusals {
     ($($number:literal, $name:ident, $sentence:literal;)*) => {
-        /// Why a call was refused. Where several refusals apply, the one with the lowest number is given.
+        /// Why a call was refused. Where several refusals apply, the earliest in the order 23, 24, 1 to 12, 25, 13 to 22 is
+        /// given.
         ///
         /// ```
         /// use dimkhoros::{Instance, Refusal};
@@ -39,7 +40,7 @@ macro_rules! refusals {
 }
 
 refusals! {
-    1, Pattern, "there is no pattern of this number, or it takes another count of values";
+    1, Pattern, "the pattern file has no pattern of this number, or it takes another count of values";
     2, SheetMark, "the sheet is shorter than a header or does not begin with HOM";
     3, SheetVersion, "the sheet's version is another than 1";
     4, Kind, "the kind has to be 1, exponent, or 2, root";
@@ -61,6 +62,8 @@ refusals! {
     20, RoundRejected, "one of the two rounds, or both, would be rejected";
     21, Session, "the session's state does not allow the call, or what it holds does not fit this sheet";
     22, Buffer, "the buffer is too short for the result";
+    23, PatternFile, "the bytes are no pattern file: the mark, version, count, rows, columns, number of values or length is wrong";
+    24, PatternDigits, "a pattern has a digit above its number of values, or a value that no digit names";
     25, Level, "the level has to be one byte from 1 to 64";
 }
 

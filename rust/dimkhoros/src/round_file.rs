@@ -7,9 +7,9 @@ use dimkhoros_sys as sys;
 ///
 /// ```
 /// use dimkhoros::{places, RoundFile};
-/// # use dimkhoros::{Instance, Plan};
+/// # use dimkhoros::{Instance, Patterns, Plan};
 /// # let plan = Plan { pattern: 1, modulus: 23, order: 11, challenges: 11, values: &[2], statement: &[13] };
-/// # let instance = Instance::from_pattern(&plan)?;
+/// # let instance = Instance::from_pattern(&Patterns::shipped(), &plan)?;
 ///
 /// let bytes = b"RND\x00\x01\x00\x01\x00\x00\x00\x09\x00\x00\x00\x03\x00\x00\x00\x04";
 /// let file = RoundFile::open(&instance, bytes)?;
@@ -30,9 +30,9 @@ impl<'a> RoundFile<'a> {
     ///
     /// ```
     /// use dimkhoros::{Refusal, RoundFile};
-    /// # use dimkhoros::{Instance, Plan};
+    /// # use dimkhoros::{Instance, Patterns, Plan};
     /// # let plan = Plan { pattern: 1, modulus: 23, order: 11, challenges: 11, values: &[2], statement: &[13] };
-    /// # let instance = Instance::from_pattern(&plan)?;
+    /// # let instance = Instance::from_pattern(&Patterns::shipped(), &plan)?;
     ///
     /// assert_eq!(RoundFile::open(&instance, b"RND\x00\x01\x00\x00")?.count(), 0);
     /// assert_eq!(RoundFile::open(&instance, b"RND\x00\x01\x00\x01").unwrap_err(), Refusal::File);
@@ -47,9 +47,9 @@ impl<'a> RoundFile<'a> {
     /// How many rounds the file has.
     ///
     /// ```
-    /// # use dimkhoros::{Instance, Plan, RoundFile};
+    /// # use dimkhoros::{Instance, Patterns, Plan, RoundFile};
     /// # let plan = Plan { pattern: 1, modulus: 23, order: 11, challenges: 11, values: &[2], statement: &[13] };
-    /// # let instance = Instance::from_pattern(&plan)?;
+    /// # let instance = Instance::from_pattern(&Patterns::shipped(), &plan)?;
     /// # let bytes = b"RND\x00\x01\x00\x01\x00\x00\x00\x09\x00\x00\x00\x03\x00\x00\x00\x04";
     /// assert_eq!(RoundFile::open(&instance, bytes)?.count(), 1);
     /// # Ok::<(), dimkhoros::Refusal>(())
@@ -61,9 +61,9 @@ impl<'a> RoundFile<'a> {
     /// The file's bytes.
     ///
     /// ```
-    /// # use dimkhoros::{Instance, Plan, RoundFile};
+    /// # use dimkhoros::{Instance, Patterns, Plan, RoundFile};
     /// # let plan = Plan { pattern: 1, modulus: 23, order: 11, challenges: 11, values: &[2], statement: &[13] };
-    /// # let instance = Instance::from_pattern(&plan)?;
+    /// # let instance = Instance::from_pattern(&Patterns::shipped(), &plan)?;
     /// assert_eq!(RoundFile::open(&instance, b"RND\x00\x01\x00\x00")?.bytes(), b"RND\x00\x01\x00\x00");
     /// # Ok::<(), dimkhoros::Refusal>(())
     /// ```
@@ -74,9 +74,9 @@ impl<'a> RoundFile<'a> {
     /// The bytes of the round of this number, from 0, as that part of the caller's own file, or refusal 13.
     ///
     /// ```
-    /// # use dimkhoros::{Instance, Plan, Refusal, RoundFile};
+    /// # use dimkhoros::{Instance, Patterns, Plan, Refusal, RoundFile};
     /// # let plan = Plan { pattern: 1, modulus: 23, order: 11, challenges: 11, values: &[2], statement: &[13] };
-    /// # let instance = Instance::from_pattern(&plan)?;
+    /// # let instance = Instance::from_pattern(&Patterns::shipped(), &plan)?;
     /// # let bytes = b"RND\x00\x01\x00\x01\x00\x00\x00\x09\x00\x00\x00\x03\x00\x00\x00\x04";
     /// let file = RoundFile::open(&instance, bytes)?;
     /// assert_eq!(file.part(0), Ok(&bytes[7..19]));
@@ -94,9 +94,9 @@ impl<'a> RoundFile<'a> {
     /// [`Instance::judge`] tests them.
     ///
     /// ```
-    /// # use dimkhoros::{places, Instance, Plan, Refusal, RoundFile};
+    /// # use dimkhoros::{places, Instance, Patterns, Plan, Refusal, RoundFile};
     /// # let plan = Plan { pattern: 1, modulus: 23, order: 11, challenges: 11, values: &[2], statement: &[13] };
-    /// # let instance = Instance::from_pattern(&plan)?;
+    /// # let instance = Instance::from_pattern(&Patterns::shipped(), &plan)?;
     /// # let bytes = b"RND\x00\x01\x00\x01\x00\x00\x00\x09\x00\x00\x00\x03\x00\x00\x00\x04";
     /// let file = RoundFile::open(&instance, bytes)?;
     /// assert_eq!(file.read(0)?.response, places([4]));
@@ -112,9 +112,9 @@ impl<'a> RoundFile<'a> {
     /// All rounds of the file, in order.
     ///
     /// ```
-    /// # use dimkhoros::{Instance, Plan, RoundFile};
+    /// # use dimkhoros::{Instance, Patterns, Plan, RoundFile};
     /// # let plan = Plan { pattern: 1, modulus: 23, order: 11, challenges: 11, values: &[2], statement: &[13] };
-    /// # let instance = Instance::from_pattern(&plan)?;
+    /// # let instance = Instance::from_pattern(&Patterns::shipped(), &plan)?;
     /// # let bytes = b"RND\x00\x01\x00\x01\x00\x00\x00\x09\x00\x00\x00\x03\x00\x00\x00\x04";
     /// let file = RoundFile::open(&instance, bytes)?;
     /// assert_eq!(file.rounds().map(|round| round.challenge).collect::<Vec<_>>(), [3]);
@@ -130,9 +130,9 @@ impl<'a> RoundFile<'a> {
 ///
 /// ```
 /// use dimkhoros::{places, Round, RoundWriter, LONGEST_FILE};
-/// # use dimkhoros::{Instance, Plan};
+/// # use dimkhoros::{Instance, Patterns, Plan};
 /// # let plan = Plan { pattern: 1, modulus: 23, order: 11, challenges: 11, values: &[2], statement: &[13] };
-/// # let instance = Instance::from_pattern(&plan)?;
+/// # let instance = Instance::from_pattern(&Patterns::shipped(), &plan)?;
 ///
 /// let mut buffer = [0; LONGEST_FILE];
 /// let mut writer = RoundWriter::start(&instance, &mut buffer)?;
@@ -152,9 +152,9 @@ impl<'a> RoundWriter<'a> {
     /// Writes a file without rounds to the start of a buffer, or refuses the buffer with 22 and changes nothing.
     ///
     /// ```
-    /// # use dimkhoros::{Instance, Plan, Refusal, RoundWriter};
+    /// # use dimkhoros::{Instance, Patterns, Plan, Refusal, RoundWriter};
     /// # let plan = Plan { pattern: 1, modulus: 23, order: 11, challenges: 11, values: &[2], statement: &[13] };
-    /// # let instance = Instance::from_pattern(&plan)?;
+    /// # let instance = Instance::from_pattern(&Patterns::shipped(), &plan)?;
     /// assert_eq!(RoundWriter::start(&instance, &mut [0; 7])?.file().count(), 0);
     /// assert_eq!(RoundWriter::start(&instance, &mut [0; 6]).unwrap_err(), Refusal::Buffer);
     /// # Ok::<(), Refusal>(())
@@ -168,9 +168,9 @@ impl<'a> RoundWriter<'a> {
     /// Goes on with the file in the first `used` bytes of a buffer, or refuses it with 12.
     ///
     /// ```
-    /// # use dimkhoros::{Instance, Plan, Refusal, RoundWriter};
+    /// # use dimkhoros::{Instance, Patterns, Plan, Refusal, RoundWriter};
     /// # let plan = Plan { pattern: 1, modulus: 23, order: 11, challenges: 11, values: &[2], statement: &[13] };
-    /// # let instance = Instance::from_pattern(&plan)?;
+    /// # let instance = Instance::from_pattern(&Patterns::shipped(), &plan)?;
     /// let mut buffer = *b"RND\x00\x01\x00\x00 and room for more";
     /// assert_eq!(RoundWriter::resume(&instance, &mut buffer, 7)?.file().count(), 0);
     /// assert_eq!(RoundWriter::resume(&instance, &mut buffer, 8).unwrap_err(), Refusal::File);
@@ -190,9 +190,9 @@ impl<'a> RoundWriter<'a> {
     /// round with 22, and neither is changed.
     ///
     /// ```
-    /// # use dimkhoros::{Instance, Plan, Refusal, Round, RoundWriter};
+    /// # use dimkhoros::{Instance, Patterns, Plan, Refusal, Round, RoundWriter};
     /// # let plan = Plan { pattern: 1, modulus: 23, order: 11, challenges: 11, values: &[2], statement: &[13] };
-    /// # let instance = Instance::from_pattern(&plan)?;
+    /// # let instance = Instance::from_pattern(&Patterns::shipped(), &plan)?;
     /// let mut buffer = [0; 20];
     /// let mut writer = RoundWriter::start(&instance, &mut buffer)?;
     /// assert_eq!(writer.append(&Round::default()), Ok(()));
@@ -211,9 +211,9 @@ impl<'a> RoundWriter<'a> {
     /// The file as far as it is written.
     ///
     /// ```
-    /// # use dimkhoros::{Instance, Plan, RoundWriter};
+    /// # use dimkhoros::{Instance, Patterns, Plan, RoundWriter};
     /// # let plan = Plan { pattern: 1, modulus: 23, order: 11, challenges: 11, values: &[2], statement: &[13] };
-    /// # let instance = Instance::from_pattern(&plan)?;
+    /// # let instance = Instance::from_pattern(&Patterns::shipped(), &plan)?;
     /// let mut buffer = [0; 100];
     /// let writer = RoundWriter::start(&instance, &mut buffer)?;
     /// assert_eq!(writer.file().bytes(), b"RND\x00\x01\x00\x00");

@@ -64,9 +64,9 @@ impl VerifierPhase {
 ///
 /// ```
 /// use dimkhoros::{places, Refusal, Verdict, Verifier};
-/// # use dimkhoros::{Instance, Plan};
+/// # use dimkhoros::{Instance, Patterns, Plan};
 /// # let plan = Plan { pattern: 1, modulus: 23, order: 11, challenges: 11, values: &[2], statement: &[13] };
-/// # let instance = Instance::from_pattern(&plan)?;
+/// # let instance = Instance::from_pattern(&Patterns::shipped(), &plan)?;
 ///
 /// let early = Verifier::new().take_challenge(&instance, 3).unwrap_err();
 /// assert_eq!(early.refusal, Refusal::Session);
@@ -99,9 +99,9 @@ impl Verifier {
     ///
     /// ```
     /// use dimkhoros::{places, Refusal, Verifier, VerifierPhase};
-    /// # use dimkhoros::{Instance, Plan};
+    /// # use dimkhoros::{Instance, Patterns, Plan};
     /// # let plan = Plan { pattern: 1, modulus: 23, order: 11, challenges: 11, values: &[2], statement: &[13] };
-    /// # let instance = Instance::from_pattern(&plan)?;
+    /// # let instance = Instance::from_pattern(&Patterns::shipped(), &plan)?;
     ///
     /// let refused = Verifier::new().take_commitment(&instance, &places([5])).unwrap_err();
     /// assert_eq!(refused.refusal, Refusal::Commitment);
@@ -122,9 +122,9 @@ impl Verifier {
     ///
     /// ```
     /// use dimkhoros::{places, Verifier, VerifierPhase};
-    /// # use dimkhoros::{Instance, Plan};
+    /// # use dimkhoros::{Instance, Patterns, Plan};
     /// # let plan = Plan { pattern: 1, modulus: 23, order: 11, challenges: 11, values: &[2], statement: &[13] };
-    /// # let instance = Instance::from_pattern(&plan)?;
+    /// # let instance = Instance::from_pattern(&Patterns::shipped(), &plan)?;
     ///
     /// let vic = Verifier::new().take_commitment(&instance, &places([9]))?;
     /// let vic = vic.take_challenge(&instance, 3)?;
@@ -143,9 +143,9 @@ impl Verifier {
     ///
     /// ```
     /// use dimkhoros::{places, Verdict, Verifier, VerifierPhase};
-    /// # use dimkhoros::{Instance, Plan};
+    /// # use dimkhoros::{Instance, Patterns, Plan};
     /// # let plan = Plan { pattern: 1, modulus: 23, order: 11, challenges: 11, values: &[2], statement: &[13] };
-    /// # let instance = Instance::from_pattern(&plan)?;
+    /// # let instance = Instance::from_pattern(&Patterns::shipped(), &plan)?;
     ///
     /// let vic = Verifier::new().take_commitment(&instance, &places([9]))?;
     /// let vic = vic.take_challenge(&instance, 3)?;
@@ -182,9 +182,9 @@ impl Verifier {
     ///
     /// ```
     /// use dimkhoros::{places, Verifier};
-    /// # use dimkhoros::{Instance, Plan};
+    /// # use dimkhoros::{Instance, Patterns, Plan};
     /// # let plan = Plan { pattern: 1, modulus: 23, order: 11, challenges: 11, values: &[2], statement: &[13] };
-    /// # let instance = Instance::from_pattern(&plan)?;
+    /// # let instance = Instance::from_pattern(&Patterns::shipped(), &plan)?;
     ///
     /// let vic = Verifier::new().take_commitment(&instance, &places([9]))?;
     /// assert_eq!(vic.commitment(), &places([9]));
@@ -198,9 +198,9 @@ impl Verifier {
     ///
     /// ```
     /// use dimkhoros::{places, Verifier};
-    /// # use dimkhoros::{Instance, Plan};
+    /// # use dimkhoros::{Instance, Patterns, Plan};
     /// # let plan = Plan { pattern: 1, modulus: 23, order: 11, challenges: 11, values: &[2], statement: &[13] };
-    /// # let instance = Instance::from_pattern(&plan)?;
+    /// # let instance = Instance::from_pattern(&Patterns::shipped(), &plan)?;
     ///
     /// let vic = Verifier::new().take_commitment(&instance, &places([9]))?;
     /// assert_eq!(vic.take_challenge(&instance, 3)?.challenge(), 3);
@@ -251,9 +251,9 @@ impl Verifier {
     ///
     /// ```
     /// use dimkhoros::{places, Verifier};
-    /// # use dimkhoros::{Instance, Plan};
+    /// # use dimkhoros::{Instance, Patterns, Plan};
     /// # let plan = Plan { pattern: 1, modulus: 23, order: 11, challenges: 11, values: &[2], statement: &[13] };
-    /// # let instance = Instance::from_pattern(&plan)?;
+    /// # let instance = Instance::from_pattern(&Patterns::shipped(), &plan)?;
     ///
     /// let vic = Verifier::new().take_commitment(&instance, &places([9]))?;
     /// assert_eq!(vic.into_parts().commitment, places([9]));

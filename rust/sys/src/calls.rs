@@ -54,10 +54,19 @@ pub fn encode(
     unsafe { dimkhoros_encode(header, entries.as_ptr(), statement.as_ptr(), pointer, length) }
 }
 
-/// Writes the sheet of a pattern to the start of a buffer.
+/// Writes the shipped pattern file to the start of a buffer.
 #[inline]
+pub fn patterns(buffer: &mut [u8]) -> Written {
+    // SAFETY: the slice is given by its pointer and length.
+    unsafe { dimkhoros_patterns(buffer.as_mut_ptr(), buffer.len()) }
+}
+
+/// Writes the sheet of a pattern of a pattern file to the start of a buffer. Number 0 asks for a root sheet.
+#[inline]
+#[allow(clippy::too_many_arguments, reason = "the export takes these")]
 pub fn from_pattern(
-    pattern: u32,
+    patterns: &[u8],
+    number: u32,
     modulus: u32,
     order: u32,
     challenges: u32,
@@ -68,7 +77,9 @@ pub fn from_pattern(
     // SAFETY: the slices are given by their pointers and lengths.
     unsafe {
         dimkhoros_from_pattern(
-            pattern,
+            patterns.as_ptr(),
+            patterns.len(),
+            number,
             modulus,
             order,
             challenges,

@@ -20,8 +20,12 @@ unsafe extern "C" {
         buffer_length: usize,
     ) -> Written;
 
+    pub fn dimkhoros_patterns(buffer: *mut u8, buffer_length: usize) -> Written;
+
     pub fn dimkhoros_from_pattern(
-        pattern: u32,
+        patterns: *const u8,
+        patterns_length: usize,
+        number: u32,
         modulus: u32,
         order: u32,
         challenges: u32,

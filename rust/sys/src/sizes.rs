@@ -37,6 +37,31 @@ pub const ENTRIES: usize = 64;
 /// ```
 pub const LONGEST_SHEET: usize = 308;
 
+/// How many bytes the shipped pattern file has.
+///
+/// ```
+/// # use dimkhoros_sys::SHIPPED_PATTERNS;
+/// let patterns = [3 + 1, 3 + 2, 3 + 2, 3 + 2, 3 + 2 * 3];
+/// assert_eq!(SHIPPED_PATTERNS, 6 + patterns.iter().sum::<usize>());
+/// ```
+pub const SHIPPED_PATTERNS: usize = 34;
+
+/// How many patterns the fullest pattern file has.
+///
+/// ```
+/// # use dimkhoros_sys::MOST_PATTERNS;
+/// assert_eq!(MOST_PATTERNS, 32);
+/// ```
+pub const MOST_PATTERNS: usize = 32;
+
+/// How many bytes the longest pattern file has.
+///
+/// ```
+/// # use dimkhoros_sys::{LONGEST_PATTERNS, MOST_PATTERNS, PLACES};
+/// assert_eq!(LONGEST_PATTERNS, 6 + MOST_PATTERNS * (3 + PLACES * PLACES));
+/// ```
+pub const LONGEST_PATTERNS: usize = 2150;
+
 /// How many bytes a round file without rounds has.
 ///
 /// ```

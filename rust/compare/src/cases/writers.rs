@@ -16,7 +16,9 @@ pub enum Writing {
     Encode {
         sheet: Box<Sheet>,
     },
+    Patterns,
     FromPattern {
+        patterns: Vec<u8>,
         plan: Plan,
         values: Vec<u32>,
         statement: Vec<u32>,
@@ -40,6 +42,7 @@ impl Writing {
     fn call(&self) -> Call {
         match self {
             Writing::Encode { .. } => Call::Encode,
+            Writing::Patterns => Call::Patterns,
             Writing::FromPattern { .. } => Call::FromPattern,
             Writing::Empty => Call::Empty,
             Writing::Append { .. } => Call::Append,
@@ -51,11 +54,13 @@ impl Writing {
             Writing::Encode { sheet } => {
                 library.encode(sheet.header, &sheet.entries, &sheet.statement, buffer)
             }
+            Writing::Patterns => library.patterns(buffer),
             Writing::FromPattern {
+                patterns,
                 plan,
                 values,
                 statement,
-            } => library.from_pattern(*plan, values, statement, buffer),
+            } => library.from_pattern(patterns, *plan, values, statement, buffer),
             Writing::Empty => library.empty(buffer),
             Writing::Append { sheet, used, round } => library.append(sheet, buffer, *used, round),
         }
@@ -73,7 +78,7 @@ impl Case for WriterCase {
         match &self.writing {
             Writing::Encode { sheet } => Some(sheet.header),
             Writing::FromPattern { plan, .. } => Some(plan.header()),
-            Writing::Empty => None,
+            Writing::Patterns | Writing::Empty => None,
             Writing::Append { sheet, .. } => sheets::header(sheet),
         }
     }
@@ -89,15 +94,17 @@ impl fmt::Display for WriterCase {
                 writeln!(out, "    statement {}", numbers(&sheet.statement))?;
             }
             Writing::FromPattern {
+                patterns,
                 plan,
                 values,
                 statement,
             } => {
+                writeln!(out, "    patterns {}", hex(patterns))?;
                 writeln!(out, "    {plan:x?}")?;
                 writeln!(out, "    values {}", numbers(values))?;
                 writeln!(out, "    statement {}", numbers(statement))?;
             }
-            Writing::Empty => {}
+            Writing::Patterns | Writing::Empty => {}
             Writing::Append { sheet, used, round } => {
                 writeln!(out, "    sheet {}", hex(sheet))?;
                 writeln!(out, "    used {used:#x}")?;

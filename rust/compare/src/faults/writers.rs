@@ -2,11 +2,11 @@
 
 use crate::faults::Fault;
 use crate::library::Library::Judge;
-use crate::library::{Header, Plan, Round, Written};
+use crate::library::{Header, Round, Written};
 use crate::sheets::record_length;
 
 /// A refusal with this number.
-fn refused(refusal: u32) -> Written {
+pub fn refused(refusal: u32) -> Written {
     Written { refusal, length: 0 }
 }
 
@@ -80,27 +80,6 @@ pub fn encode(
         }
         _ => right,
     }
-}
-
-pub fn from_pattern(
-    fault: Fault,
-    mut plan: Plan,
-    mut values: &[u32],
-    statement: &[u32],
-    buffer: &mut [u8],
-) -> Written {
-    if fault == Fault::PatternCut {
-        plan.number &= 0xff;
-    }
-    if fault == Fault::ExtraValue && (1..=5).contains(&plan.number) {
-        let count = [1, 2, 2, 2, 3][plan.number as usize - 1];
-        values = &values[..values.len().min(count)];
-    }
-    let right = Judge.from_pattern(plan, values, statement, buffer);
-    if fault == Fault::ProductDigits && plan.number == 5 && right.refusal == 0 {
-        buffer[36..44].rotate_left(4);
-    }
-    right
 }
 
 pub fn empty(fault: Fault, buffer: &mut [u8]) -> Written {

@@ -6,7 +6,8 @@ use crate::groups::Group;
 use crate::instance::Instance;
 use crate::random::Random;
 
-/// A sheet that loads, and the numbers of the faults to put in, the lowest last.
+/// A sheet that loads, and the numbers of the faults to put in, the first to be
+/// tested last.
 pub struct Inputs {
     pub instance: Instance,
     pub faults: Vec<u32>,
@@ -28,18 +29,18 @@ impl Inputs {
         call: Call,
         instance: fn(&mut Random, Group) -> Instance,
     ) -> Inputs {
-        let lowest = match random.below(6) {
+        let first = match random.below(6) {
             0 => random.pick(&SHEET_NUMBERS),
             1 | 2 => random.pick(call.others()),
             _ => 0,
         };
-        let group = damage::group_for(random, lowest);
+        let group = damage::group_for(random, first);
         let instance = instance(random, group);
         let numbers = [&SHEET_NUMBERS, call.others()].concat();
-        let faults = if lowest == 0 {
+        let faults = if first == 0 {
             Vec::new()
         } else {
-            faults(random, &numbers, lowest)
+            faults(random, &numbers, first)
         };
         Inputs { instance, faults }
     }

@@ -43,8 +43,8 @@ pub fn encode(random: &mut Random) -> Box<dyn Case> {
     let mut sheet = Sheet::of_group(random, &group);
     sheet.fill_unread(random);
     let needed = sheet.bytes().len();
-    if let Some(lowest) = wrong {
-        for fault in faults(random, &numbers, lowest) {
+    if let Some(first) = wrong {
+        for fault in faults(random, &numbers, first) {
             spoil(random, &group, &mut sheet, fault, u32::MAX);
         }
     }

@@ -87,11 +87,11 @@ impl Given {
         match call {
             Call::Load => Ok(self.load(library)),
             Call::Entries => Ok(self.entries(library)),
-            Call::Encode | Call::FromPattern => sheet_writer(library, call, inputs),
+            Call::Encode | Call::FromPattern => self.sheet_writer(library, call, inputs),
             Call::Count | Call::Check | Call::Part | Call::Read => {
                 self.reader(library, call, inputs)
             }
-            Call::Empty | Call::Append => self.file_writer(library, call, inputs),
+            Call::Patterns | Call::Empty | Call::Append => self.file_writer(library, call, inputs),
             Call::Judge | Call::Simulate | Call::Extract => self.round(library, call, inputs),
             Call::ProverNew => Ok(prover(&library.prover_new())),
             Call::ProverCommit | Call::ProverRespond | Call::ProverDrop => {
@@ -171,6 +171,31 @@ impl Given {
         }))
     }
 
+    /// Both writers of sheets.
+    fn sheet_writer(
+        &self,
+        library: Library,
+        call: Call,
+        inputs: &mut Inputs,
+    ) -> Result<String, String> {
+        let before = inputs.bytes("buffer")?;
+        let mut after = before.clone();
+        let answer = if call == Call::Encode {
+            let (header, entries) = (inputs.header()?, inputs.entries()?);
+            library.encode(header, &entries, &inputs.brought("z")?, &mut after)
+        } else {
+            let plan = Plan {
+                number: inputs.number("pattern")?,
+                modulus: inputs.number("m")?,
+                order: inputs.number("l")?,
+                challenges: inputs.number("K")?,
+            };
+            let (values, statement) = (inputs.list("values")?, inputs.list("z")?);
+            library.from_pattern(&self.patterns, plan, &values, &statement, &mut after)
+        };
+        Ok(written(answer, &before, &after))
+    }
+
     fn file_writer(
         &self,
         library: Library,
@@ -180,6 +205,7 @@ impl Given {
         let before = inputs.bytes("buffer")?;
         let mut after = before.clone();
         let answer = match call {
+            Call::Patterns => library.patterns(&mut after),
             Call::Empty => library.empty(&mut after),
             _ => {
                 let (used, round) = (inputs.number("used")?, inputs.round("")?);
@@ -290,24 +316,4 @@ fn written_text(buffer: &[u8], length: usize) -> String {
         true => shown,
         false => format!("{shown} and changed"),
     }
-}
-
-/// Both writers of sheets.
-fn sheet_writer(library: Library, call: Call, inputs: &mut Inputs) -> Result<String, String> {
-    let before = inputs.bytes("buffer")?;
-    let mut after = before.clone();
-    let answer = if call == Call::Encode {
-        let (header, entries) = (inputs.header()?, inputs.entries()?);
-        library.encode(header, &entries, &inputs.brought("z")?, &mut after)
-    } else {
-        let plan = Plan {
-            number: inputs.number("pattern")?,
-            modulus: inputs.number("m")?,
-            order: inputs.number("l")?,
-            challenges: inputs.number("K")?,
-        };
-        let (values, statement) = (inputs.list("values")?, inputs.list("z")?);
-        library.from_pattern(plan, &values, &statement, &mut after)
-    };
-    Ok(written(answer, &before, &after))
 }

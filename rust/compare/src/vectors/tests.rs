@@ -174,14 +174,14 @@ fn each_call_gives_its_numbers_and_no_others() {
     }
 }
 
-/// The bytes that stand in the vectors: sheets, files, levels, and buffers that
-/// calls were lent or wrote to.
+/// The bytes that stand in the vectors: sheets, round files, pattern files, levels,
+/// and buffers that calls were lent or wrote to.
 fn stored_bytes() -> Vec<Vec<u8>> {
     let words = STORED
         .lines()
         .filter(|line| !line.starts_with('#'))
         .flat_map(|line| {
-            let given = ["sheet ", "file "]
+            let given = ["sheet ", "file ", "pattern_file "]
                 .iter()
                 .find_map(|word| line.strip_prefix(word));
             let written = line

@@ -14,11 +14,11 @@ static void print_refusals(void) {
 int main(void) {
     printf("%s\n", DIMKHOROS_VERSION_TEXT);
     print_refusals();
+    PRINT(PATTERN_ROOT);
     PRINT(PATTERN_SCHNORR);
     PRINT(PATTERN_OKAMOTO);
     PRINT(PATTERN_EQUALITY);
     PRINT(PATTERN_DIFFIE_HELLMAN);
     PRINT(PATTERN_PRODUCT);
-    PRINT(PATTERN_ROOT);
     return 0;
 }

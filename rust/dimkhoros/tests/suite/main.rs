@@ -8,6 +8,7 @@ mod examples;
 mod levels;
 mod marks;
 mod pages;
+mod patterns;
 mod readme;
 mod reasons;
 mod refusals;

@@ -1,24 +1,29 @@
 //! Sheets and rounds of the calculator pages.
 
-use dimkhoros::{Instance, Plan, Round, places};
+use dimkhoros::{Instance, Patterns, Plan, Refusal, Round, places};
 
 /// Page A: 2^x = 13 modulo 23, with the witness 7.
 pub const SCHNORR: Plan<'static> =
     Plan { pattern: 1, modulus: 23, order: 11, challenges: 11, values: &[2], statement: &[13] };
 
-/// A plan of each pattern, in order.
+/// A plan of each pattern of the shipped file, in order, and one of a root sheet.
 pub const PLANS: [Plan<'static>; 6] = [
     SCHNORR,
     Plan { pattern: 2, values: &[2, 3], statement: &[18], ..SCHNORR },
     Plan { pattern: 3, values: &[2, 3], statement: &[13, 2], ..SCHNORR },
     Plan { pattern: 4, values: &[2, 16], statement: &[13, 18], ..SCHNORR },
     Plan { pattern: 5, values: &[2, 3, 3], statement: &[12, 9], ..SCHNORR },
-    Plan { pattern: 6, modulus: 35, order: 5, challenges: 5, values: &[], statement: &[32] },
+    Plan { pattern: 0, modulus: 35, order: 5, challenges: 5, values: &[], statement: &[32] },
 ];
+
+/// The sheet of a plan by the shipped file.
+pub fn made(plan: &Plan<'_>) -> Result<Instance, Refusal> {
+    Instance::from_pattern(&Patterns::shipped(), plan)
+}
 
 /// The instance of page A.
 pub fn page_a() -> Instance {
-    Instance::from_pattern(&SCHNORR).unwrap()
+    made(&SCHNORR).unwrap()
 }
 
 /// A round of a sheet with one row and one column.

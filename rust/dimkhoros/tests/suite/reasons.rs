@@ -1,6 +1,6 @@
 //! The reason's line.
 
-use crate::pages::{PLANS, page_a, round};
+use crate::pages::{PLANS, made, page_a, round};
 use dimkhoros::{
     Instance, LONGEST_FILE, LONGEST_REASON, LONGEST_TEXT, Refusal, Round, RoundWriter, mark, reason,
 };
@@ -48,7 +48,7 @@ fn lengths_are_those_of_the_whole_files() {
 #[test]
 fn the_number_is_the_markers() {
     for plan in &PLANS {
-        let instance = Instance::from_pattern(plan).unwrap();
+        let instance = made(plan).unwrap();
         for place in 0..instance.bytes().len() {
             let mut sheet = instance.bytes().to_vec();
             sheet[place] ^= 0x80;

@@ -1,7 +1,7 @@
 //! Each refusal is given under its number.
 
-use crate::pages::{SCHNORR, page_a, round};
-use dimkhoros::{Instance, Plan, Prover, Refusal, RoundFile, RoundWriter, places};
+use crate::pages::{SCHNORR, made, page_a, round};
+use dimkhoros::{Instance, Patterns, Plan, Prover, Refusal, RoundFile, RoundWriter, places};
 
 /// What page A's sheet is refused with once a byte of it is changed.
 fn changed(place: usize, byte: u8) -> Refusal {
@@ -28,7 +28,7 @@ fn every_number_is_given() {
     let first = round(9, 3, 4);
     let file = b"RND\x00\x01\x00\x00";
     let given = [
-        Instance::from_pattern(&Plan { pattern: 257, ..SCHNORR }).unwrap_err(),
+        made(&Plan { pattern: 257, ..SCHNORR }).unwrap_err(),
         changed(0, b'h'),
         changed(4, 2),
         changed(5, 3),
@@ -50,7 +50,10 @@ fn every_number_is_given() {
         a.extract(&first, &round(9, 1, 2)).unwrap_err(),
         Prover::new().respond(&a, 3, &places([7])).unwrap_err().refusal,
         RoundWriter::start(&a, &mut [0; 6]).unwrap_err(),
+        Patterns::load(b"PAT\x00\x01\x00").unwrap_err(),
+        Patterns::load(b"PAT\x00\x01\x01\x01\x01\x01\x00").unwrap_err(),
     ];
+    assert_eq!(Refusal::from_number(given.len() as u32 + 1), None);
     for (number, refusal) in (1..).zip(given) {
         assert_eq!(refusal.number(), number, "{refusal}");
         assert_eq!(Refusal::from_number(number), Some(refusal));
@@ -59,8 +62,8 @@ fn every_number_is_given() {
 }
 
 #[test]
-fn the_lowest_number_is_given() {
+fn the_number_that_stands_first_is_given() {
     let plan = Plan { modulus: 2, order: 1, challenges: 1, ..SCHNORR };
-    assert_eq!(Instance::from_pattern(&plan), Err(Refusal::Modulus));
+    assert_eq!(made(&plan), Err(Refusal::Modulus));
     assert_eq!(page_a().judge(&round(5, 11, 11)), Err(Refusal::Commitment));
 }

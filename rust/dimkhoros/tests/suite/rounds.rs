@@ -1,6 +1,6 @@
 //! Rounds are judged, simulated and extracted from, and round files read and written.
 
-use crate::pages::{page_a, round};
+use crate::pages::{PLANS, made, page_a, round};
 use dimkhoros::{
     EMPTY_FILE, Instance, LONGEST_FILE, MOST_ROUNDS, Refusal, Round, RoundFile, RoundWriter,
     Values, Verdict, places,
@@ -8,7 +8,7 @@ use dimkhoros::{
 
 #[test]
 fn a_verdict_names_the_first_row_that_differs() {
-    let instance = Instance::from_pattern(&crate::pages::PLANS[3]).unwrap();
+    let instance = made(&PLANS[3]).unwrap();
     let right = Round { commitment: places([9, 6]), challenge: 3, response: places([4]) };
     assert_eq!(instance.judge(&right), Ok(Verdict::Accepted));
     let second = Round { commitment: places([9, 9]), ..right };
@@ -22,7 +22,7 @@ fn the_witness_is_the_same_either_way_round() {
     let a = page_a();
     assert_eq!(a.extract(&round(9, 3, 4), &round(9, 1, 1)), Ok(places([7])));
     assert_eq!(a.extract(&round(9, 1, 1), &round(9, 3, 4)), Ok(places([7])));
-    let root = Instance::from_pattern(&crate::pages::PLANS[5]).unwrap();
+    let root = made(&PLANS[5]).unwrap();
     assert_eq!(root.extract(&round(33, 1, 6), &round(33, 3, 24)), Ok(places([2])));
 }
 

@@ -1,13 +1,13 @@
 //! Sheets are loaded and made.
 
-use crate::pages::{PLANS, SCHNORR, page_a};
+use crate::pages::{PLANS, SCHNORR, made, page_a};
 use dimkhoros::{Instance, LONGEST_SHEET, Plan, Refusal, Values, places};
 
 #[test]
 fn every_pattern_reads_back() {
     let shapes = [(1, 1, 28), (1, 2, 32), (2, 1, 36), (2, 1, 36), (2, 3, 52), (1, 1, 24)];
     for (plan, (rows, columns, length)) in PLANS.iter().zip(shapes) {
-        let instance = Instance::from_pattern(plan).unwrap();
+        let instance = made(plan).unwrap();
         let header = instance.values().header;
         assert_eq!((header.rows, header.columns, instance.bytes().len()), (rows, columns, length));
         assert_eq!((header.modulus, header.order), (plan.modulus, plan.order));
@@ -18,7 +18,7 @@ fn every_pattern_reads_back() {
 
 #[test]
 fn entries_stand_by_row_and_column() {
-    let product = Instance::from_pattern(&PLANS[4]).unwrap();
+    let product = made(&PLANS[4]).unwrap();
     let entries = &product.values().entries;
     assert_eq!(entries[0], places([2, 3, 1]));
     assert_eq!(entries[1], places([3, 1, 3]));
@@ -46,5 +46,5 @@ fn slices_of_any_length_are_taken() {
     assert_eq!(Instance::load(&long), Err(Refusal::SheetLength));
     let values = vec![2; 1000];
     let plan = Plan { values: &values, ..SCHNORR };
-    assert_eq!(Instance::from_pattern(&plan), Err(Refusal::Pattern));
+    assert_eq!(made(&plan), Err(Refusal::Pattern));
 }

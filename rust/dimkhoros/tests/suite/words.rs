@@ -27,7 +27,7 @@ fn version_refusals_and_patterns_are_the_same_in_c() {
     }
     text += "nothing is refused\nno refusal has this number\n";
     use Pattern::*;
-    for pattern in [Schnorr, Okamoto, Equality, DiffieHellman, Product, Root] {
+    for pattern in [Root, Schnorr, Okamoto, Equality, DiffieHellman, Product] {
         writeln!(text, "PATTERN_{} {}", c_name(pattern), pattern.number()).unwrap();
     }
     assert_eq!(text, cc::run("words.c"));

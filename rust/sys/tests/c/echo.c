@@ -36,6 +36,14 @@ static void print_entries(const uint8_t *sheet, size_t length) {
     printf("])\n");
 }
 
+static void print_bytes(const uint8_t *bytes, size_t length) {
+    printf("[");
+    for (size_t i = 0; i < length; i++) {
+        printf("%s%u", i ? ", " : "", bytes[i]);
+    }
+    printf("]\n");
+}
+
 static void print_written(DimkhorosWritten a) {
     printf("Written { length: %zu, refusal: %u }\n", a.length, a.refusal);
 }
@@ -112,6 +120,9 @@ static void print_verifier_judgement(DimkhorosVerifierJudgement a) {
 /* A sheet of 8 rows and 8 columns with 2 on the diagonal and 1 elsewhere: row i's image is 2 to the i-th coordinate. */
 static uint8_t wide[DIMKHOROS_LONGEST_SHEET];
 
+/* The shipped pattern file. */
+static uint8_t shipped[DIMKHOROS_SHIPPED_PATTERNS];
+
 static const uint32_t witness[8] = {1, 2, 3, 4, 5, 6, 7, 8};
 static const uint32_t statement[8] = {2, 4, 8, 16, 9, 18, 13, 3};
 static const uint32_t nonce[8] = {0, 3, 6, 9, 1, 4, 7, 10};
@@ -142,10 +153,17 @@ static DimkhorosRound honest_round(uint32_t challenge, const uint32_t r[8]) {
 }
 
 static void sheets(void) {
+    uint8_t file[DIMKHOROS_SHIPPED_PATTERNS + 2];
+    memset(file, 238, sizeof file);
+    print_written(dimkhoros_patterns(file, sizeof file));
+    print_bytes(file, sizeof file);
+    memcpy(shipped, file, sizeof shipped);
+
     uint8_t product[DIMKHOROS_LONGEST_SHEET];
     const uint32_t values[3] = {2, 3, 3};
     const uint32_t z[2] = {12, 9};
-    DimkhorosWritten made = dimkhoros_from_pattern(5, 23, 11, 5, values, 3, z, 2, product, sizeof product);
+    DimkhorosWritten made =
+        dimkhoros_from_pattern(shipped, sizeof shipped, 5, 23, 11, 5, values, 3, z, 2, product, sizeof product);
     print_written(made);
     print_loaded(dimkhoros_load(product, made.length));
     print_entries(product, made.length);
@@ -160,7 +178,9 @@ static void sheets(void) {
     print_entries(wide, sizeof wide);
     header.rows = 9;
     print_written(dimkhoros_encode(header, entries, statement, product, sizeof product));
-    print_written(dimkhoros_from_pattern(6, 35, 5, 5, NULL, 0, z, 1, product, sizeof product));
+    print_written(
+        dimkhoros_from_pattern(shipped, sizeof shipped, 0, 35, 5, 5, NULL, 0, z, 1, product, sizeof product));
+    print_written(dimkhoros_from_pattern(file, sizeof file, 0, 35, 5, 5, NULL, 0, z, 1, product, sizeof product));
 }
 
 static void files(void) {
@@ -289,8 +309,10 @@ static void empty_slices(void) {
         return;
     }
     print_written(dimkhoros_encode(dimkhoros_load(wide, sizeof wide).header, entries, statement, NULL, 0));
-    print_written(dimkhoros_from_pattern(6, 35, 5, 5, NULL, 0, NULL, 0, NULL, 0));
-    print_written(dimkhoros_from_pattern(6, 35, 5, 5, NULL, 0, statement, 1, NULL, 0));
+    print_written(dimkhoros_patterns(NULL, 0));
+    print_written(dimkhoros_from_pattern(NULL, 0, 0, 35, 5, 5, NULL, 0, NULL, 0, NULL, 0));
+    print_written(dimkhoros_from_pattern(shipped, sizeof shipped, 0, 35, 5, 5, NULL, 0, NULL, 0, NULL, 0));
+    print_written(dimkhoros_from_pattern(shipped, sizeof shipped, 0, 35, 5, 5, NULL, 0, statement, 1, NULL, 0));
     print_counted(dimkhoros_count(NULL, 0, NULL, 0));
     print_counted(dimkhoros_count(wide, sizeof wide, NULL, 0));
     printf("%u\n", dimkhoros_check(wide, sizeof wide, NULL, 0, 0));

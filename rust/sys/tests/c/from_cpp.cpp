@@ -5,9 +5,11 @@
 int main() {
     const uint32_t h = 2;
     const uint32_t z = 13;
+    uint8_t patterns[DIMKHOROS_SHIPPED_PATTERNS];
+    DimkhorosWritten file = dimkhoros_patterns(patterns, sizeof patterns);
     uint8_t sheet[DIMKHOROS_LONGEST_SHEET];
-    DimkhorosWritten made =
-        dimkhoros_from_pattern(DIMKHOROS_PATTERN_SCHNORR, 23, 11, 11, &h, 1, &z, 1, sheet, sizeof sheet);
+    DimkhorosWritten made = dimkhoros_from_pattern(patterns, file.length, DIMKHOROS_PATTERN_SCHNORR, 23, 11, 11, &h, 1,
+                                                   &z, 1, sheet, sizeof sheet);
     const uint32_t nonce[8] = {5};
     const uint32_t witness[8] = {7};
     DimkhorosProverSession peggy = dimkhoros_prover_new();

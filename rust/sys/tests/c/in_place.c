@@ -31,9 +31,11 @@ static const uint32_t phases[] = {0, 1, 2, 3, 4, UINT32_MAX};
 
 static void make(Sheet *sheet, uint32_t pattern, uint32_t m, uint32_t l, const uint32_t *values, size_t count,
                  const uint32_t *z, size_t rows) {
-    DimkhorosWritten made =
-        dimkhoros_from_pattern(pattern, m, l, 5, values, count, z, rows, sheet->bytes, sizeof sheet->bytes);
-    if (made.refusal != 0) {
+    uint8_t patterns[DIMKHOROS_SHIPPED_PATTERNS];
+    DimkhorosWritten file = dimkhoros_patterns(patterns, sizeof patterns);
+    DimkhorosWritten made = dimkhoros_from_pattern(patterns, file.length, pattern, m, l, 5, values, count, z, rows,
+                                                   sheet->bytes, sizeof sheet->bytes);
+    if (file.refusal != 0 || made.refusal != 0) {
         exit(1);
     }
     sheet->length = made.length;

@@ -54,9 +54,19 @@ fn entries_over(sheet: &[u8]) -> (u32, Vec<Vec<u32>>) {
     (refusal, table.chunks(PLACES).map(<[u32]>::to_vec).collect())
 }
 
+/// The shipped pattern file.
+fn shipped() -> [u8; SHIPPED_PATTERNS] {
+    let mut file = [0; SHIPPED_PATTERNS];
+    assert_eq!(patterns(&mut file).length, SHIPPED_PATTERNS);
+    file
+}
+
 fn sheets(text: &mut String) {
+    let mut file = [238; SHIPPED_PATTERNS + 2];
+    print!(text: patterns(&mut file), file);
+
     let mut buffer = [0; LONGEST_SHEET];
-    let made = from_pattern(5, 23, 11, 5, &[2, 3, 3], &[12, 9], &mut buffer);
+    let made = from_pattern(&shipped(), 5, 23, 11, 5, &[2, 3, 3], &[12, 9], &mut buffer);
     let product = &buffer[..made.length];
     print!(text: made, load(product), entries_over(product));
 
@@ -66,7 +76,8 @@ fn sheets(text: &mut String) {
     assert_eq!(buffer, wide);
     print!(text:
         encode(Header { rows: 9, ..WIDE }, &diagonal, &STATEMENT, &mut buffer),
-        from_pattern(6, 35, 5, 5, &[], &[12], &mut buffer),
+        from_pattern(&shipped(), 0, 35, 5, 5, &[], &[12], &mut buffer),
+        from_pattern(&file, 0, 35, 5, 5, &[], &[12], &mut buffer),
     );
 }
 
@@ -194,8 +205,10 @@ fn empty_slices(text: &mut String) {
         entries_over(&[]),
         load(&[]),
         encode(WIDE, &diagonal(), &STATEMENT, &mut []),
-        from_pattern(6, 35, 5, 5, &[], &[], &mut []),
-        from_pattern(6, 35, 5, 5, &[], &[2], &mut []),
+        patterns(&mut []),
+        from_pattern(&[], 0, 35, 5, 5, &[], &[], &mut []),
+        from_pattern(&shipped(), 0, 35, 5, 5, &[], &[], &mut []),
+        from_pattern(&shipped(), 0, 35, 5, 5, &[], &[2], &mut []),
         count(&[], &[]),
         count(&wide, &[]),
         check(&wide, &[], 0),

@@ -9,10 +9,13 @@ use std::fmt::Write;
 use std::fs;
 
 /// The constants of this crate, under their names in C and in the order of the C program.
-const CONSTANTS: [(&str, usize); 18] = [
+const CONSTANTS: [(&str, usize); 21] = [
     ("PLACES", PLACES),
     ("ENTRIES", ENTRIES),
     ("LONGEST_SHEET", LONGEST_SHEET),
+    ("SHIPPED_PATTERNS", SHIPPED_PATTERNS),
+    ("MOST_PATTERNS", MOST_PATTERNS),
+    ("LONGEST_PATTERNS", LONGEST_PATTERNS),
     ("EMPTY_FILE", EMPTY_FILE),
     ("MOST_ROUNDS", MOST_ROUNDS),
     ("LONGEST_FILE", LONGEST_FILE),
