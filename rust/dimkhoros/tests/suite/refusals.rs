@@ -53,7 +53,7 @@ fn every_number_is_given() {
         Patterns::load(b"PAT\x00\x01\x00").unwrap_err(),
         Patterns::load(b"PAT\x00\x01\x01\x01\x01\x01\x00").unwrap_err(),
     ];
-    assert_eq!(Refusal::from_number(given.len() as u32 + 1), None);
+    assert_eq!(Refusal::from_number(given.len() as u32 + 2), None);
     for (number, refusal) in (1..).zip(given) {
         assert_eq!(refusal.number(), number, "{refusal}");
         assert_eq!(Refusal::from_number(number), Some(refusal));
