@@ -28,9 +28,9 @@ ghost use Rattle.sigma.specs.Round.{responseCoordinate, response, expectedImage
 ghost use Rattle.sigma.specs.Valid.{Valid};
 ghost use Rattle.sigma.specs.Instance.{tableWith, instanceWith};
 
-// Row i of the image of x, of a table that has the entries row there: in kind 1 the product over the columns of the entry by
-// x's slot, in kind 2 slot i by the exponent.
-pub fn row_image(h: Header, row: [u32; 8], x: [u32; 8], i: usize) -> u32
+// Row i of the image of x, of a table that has the entries row there. It takes the row alone, since all entries handed on by
+// value are copied.
+fn row_product(h: Header, row: [u32; 8], x: [u32; 8], i: usize) -> u32
     requires { ⌜ (0 < h .modulus) × (h .columns ≤ 8) × (i < 8) ⌝ }
     ensures { λ r. ⌜ ((entries : List (List ℕ)) → row ≡ getD entries i [] → r ≡ rowImage (tableWith h entries) x i) ⌝ }
 {
@@ -43,6 +43,15 @@ pub fn row_image(h: Header, row: [u32; 8], x: [u32; 8], i: usize) -> u32
         value = mul_mod(value, pow_mod(row[j], x[j], h.modulus), h.modulus);
     }
     value
+}
+
+// Row i of the image of x: in kind 1 the product over the columns of the entry by x's slot, in kind 2 slot i by the exponent.
+pub fn row_image(h: Header, entries: [[u32; 8]; 8], x: [u32; 8], i: usize) -> u32
+    requires { ⌜ (0 < h .modulus) × (h .columns ≤ 8) × (i < 8) ⌝ }
+    ensures { λ r. ⌜ r ≡ rowImage (tableWith h entries) x i ⌝ }
+{
+    let row = entries[i];
+    row_product(h, row, x, i)
 }
 
 // The image of x, with the rows side by side.
@@ -70,7 +79,7 @@ pub fn image(h: Header, entries: [[u32; 8]; 8], x: [u32; 8]) -> [u32; 8]
     let mut values = [0u32; 8];
     for i in 0..rows {
         let row = entries[i];
-        values[i] = row_image(h, row, x, i);
+        values[i] = row_product(h, row, x, i);
     }
     values
 }
@@ -162,7 +171,7 @@ pub fn verdict(
         );
     }
     let row = entries[0];
-    let left = row_image(h, row, r, 0);
+    let left = row_product(h, row, r, 0);
     let right = mul_mod(t[0], pow_mod(statement[0], c, h.modulus), h.modulus);
     if left != right {
         return Verdict::Rejected(0);

@@ -59,9 +59,8 @@ fn simulated(
     }
     let mut values = [0u32; 8];
     for i in 0..rows {
-        let row = entries[i];
         values[i] = mul_mod(
-            row_image(h, row, r, i),
+            row_image(h, entries, r, i),
             negative_power(h, statement[i], c),
             h.modulus,
         );

@@ -34,8 +34,8 @@ mul-row c = omega arith
 array-copy-out-row : tie.Need-array-copy-out-row Inv-loop μ-loop
 array-copy-out-row c = omega arith
 
-row-image-requires : tie.Need-row-image-requires Inv-loop μ-loop
-row-image-requires c κs = omega arith
+row-product-requires : tie.Need-row-product-requires Inv-loop μ-loop
+row-product-requires c κs = omega arith
 
 mul-values : tie.Need-mul-values Inv-loop μ-loop
 mul-values c = omega arith
@@ -52,7 +52,7 @@ loop-less c = omega arith
 loop-again : tie.Need-loop-again Inv-loop μ-loop
 loop-again c =
     let at-loop = c .before .before .before in
-    filled-turn (at-loop .loop .inv) (omega arith) (c .row-image .ensures _ refl)
+    filled-turn (at-loop .loop .inv) (omega arith) (c .row-product .ensures _ refl)
 
 returns-2 : tie.Need-returns-2 Inv-loop μ-loop
 unfolding image
@@ -70,7 +70,7 @@ image-spec =
     loop-holds
     mul-row
     array-copy-out-row
-    row-image-requires
+    row-product-requires
     mul-values
     array-write-values
     add-i

@@ -33,8 +33,8 @@ returns c =
 array-copy-out-row : tie.Need-array-copy-out-row
 array-copy-out-row c = search needs
 
-row-image-requires : tie.Need-row-image-requires
-row-image-requires c κs = search needs
+row-product-requires : tie.Need-row-product-requires
+row-product-requires c κs = search needs
 
 array-read-mul-mod : tie.Need-array-read-mul-mod
 array-read-mul-mod c = search needs
@@ -57,7 +57,7 @@ returns-2 c =
     let start = small .before .before in
     let args = start .args in
     verdict-differs (instanceWith (args .h) (args .t2) (args .t3)) (start .pre) (omega (arith, small .if1 .left, start .pre .table .some-row))
-    _ _ _ (left .row-image .ensures _ refl) (product-reduced _ _ _ (right .before .pow-mod .ensures .0) (right .mul-mod .ensures .0))
+    _ _ _ (left .row-product .ensures _ refl) (product-reduced _ _ _ (right .before .pow-mod .ensures .0) (right .mul-mod .ensures .0))
     (c .if2 .taken)
 
 returns-3 : tie.Need-returns-3
@@ -69,7 +69,7 @@ returns-3 c =
     let start = small .before .before in
     let args = start .args in
     verdict-agrees (instanceWith (args .h) (args .t2) (args .t3)) (start .pre) (omega (arith, small .if1 .left, start .pre .table .some-row))
-    _ _ _ (left .row-image .ensures _ refl) (product-reduced _ _ _ (right .before .pow-mod .ensures .0) (right .mul-mod .ensures .0))
+    _ _ _ (left .row-product .ensures _ refl) (product-reduced _ _ _ (right .before .pow-mod .ensures .0) (right .mul-mod .ensures .0))
     (c .if2 .left)
 
 pub verdict-spec : {M : Type 1} → statement M
@@ -82,7 +82,7 @@ verdict-spec =
     compare-requires
     returns
     array-copy-out-row
-    row-image-requires
+    row-product-requires
     array-read-mul-mod
     array-read-pow-mod
     pow-mod-requires
