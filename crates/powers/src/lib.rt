@@ -10,3 +10,4 @@ pub use arrays::products;
 pub use barrett::reciprocal;
 pub use four::Four;
 pub use four::mul_four;
+pub use four::side_by_side;

@@ -19,13 +19,16 @@ abbrev μ-loop : tie.MeasureT-loop
 cast-rows : tie.Need-cast-rows Inv-loop μ-loop
 cast-rows c = omega arith
 
+side-by-side-requires : tie.Need-side-by-side-requires Inv-loop μ-loop
+side-by-side-requires c κs = omega arith
+
 image-requires : tie.Need-image-requires Inv-loop μ-loop
 image-requires c κs = omega arith
 
 mul-negative-powers-requires : tie.Need-mul-negative-powers-requires Inv-loop μ-loop
 unfolding statementAt
 mul-negative-powers-requires c κs =
-    let (valid, below) = c .before .before .before .pre in (
+    let (valid, below) = c .before .before .before .before .pre in (
       valid-modulus (valid .table),
       valid-order (valid .table),
       omega (arith, valid-challenge (valid .table) _ below),
@@ -36,7 +39,7 @@ mul-negative-powers-requires c κs =
 returns : tie.Need-returns Inv-loop μ-loop
 returns c =
     let images = c .before in
-    simulated-images _ (images .before .before .before .pre .0) _ _ (images .image .ensures) (c .mul-negative-powers .ensures)
+    simulated-images _ (images .before .before .before .before .pre .0) _ _ (images .image .ensures) (c .mul-negative-powers .ensures)
 
 loop-holds : tie.Need-loop-holds Inv-loop μ-loop
 loop-holds c = filled-start (omega arith)
@@ -53,7 +56,7 @@ array-read-negative-power c = omega arith
 negative-power-requires : tie.Need-negative-power-requires Inv-loop μ-loop
 unfolding statementAt
 negative-power-requires c κs =
-    let (valid, below) = c .before .before .before .before .before .pre in
+    let (valid, below) = c .before .before .before .before .before .before .pre in
     let inside = c .before .loop-test .taken in
     (valid-modulus (valid .table), valid-order (valid .table), omega (arith, valid-challenge (valid .table) _ below), valid .statement _ inside)
 
@@ -81,7 +84,7 @@ loop-again c =
 returns-2 : tie.Need-returns-2 Inv-loop μ-loop
 returns-2 c =
     let at-loop = c .before in
-    rw (simulated-rows _ (at-loop .before .before .before .pre .0) _ _) (filled-eight (at-loop .loop .inv) (omega arith))
+    rw (simulated-rows _ (at-loop .before .before .before .before .pre .0) _ _) (filled-eight (at-loop .loop .inv) (omega arith))
 
 pub simulated-spec : {M : Type 1} → statement M
 simulated-spec =
@@ -90,6 +93,7 @@ simulated-spec =
     Inv-loop
     μ-loop
     cast-rows
+    side-by-side-requires
     image-requires
     mul-negative-powers-requires
     returns
