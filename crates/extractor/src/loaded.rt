@@ -13,6 +13,7 @@ use modular::some_non_element;
 use modular::sub_mod;
 use powers::powers;
 use powers::products;
+use powers::side_by_side;
 use types::Computed;
 use types::Header;
 use types::Round;
@@ -108,7 +109,7 @@ fn witness(h: Header, statement: [u32; 8], delta: u32, r: [u32; 8], s: [u32; 8])
     let a = (delta as u64 * b as u64 / h.order as u64) as u32;
     let columns = h.columns as usize;
     if h.kind != 1 {
-        if columns > 1 {
+        if side_by_side(columns, h.modulus) {
             return root_slots(h, statement, a, b, r, s);
         }
     }

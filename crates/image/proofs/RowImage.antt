@@ -1,12 +1,13 @@
--- A row of the image: in kind 1 a product that grows by a factor a turn, in kind 2 one power.
+-- A row of the image: in kind 1 a product that grows by a factor a turn, in kind 2 one power; and a row that is alone.
 -- Assumes nothing.
 use mathlib.Core.Path.{_≡_, sym, ap}
 use mathlib.Core.Logic.{_≢_}
-use mathlib.Core.List.{List, []}
+use mathlib.Core.List.{List, [], _∷_}
 use Prim.Native.Nat.{ℕ, _+_, _*_, _%_, _^_}
 use native.Mathlib.Numerals.{add-one}
 use lib.ListN.{getD}
 use Rattle.types.specs.declared.Header.{Header}
+use Rattle.lists.specs.Places.{itemsAt, tabulate, pad8}
 use Rattle.numbers.specs.Product.{product}
 use Rattle.numbers.proofs.Congruence.{mod-mul-both}
 use Rattle.numbers.proofs.Product.{product-zero, product-suc}
@@ -42,3 +43,9 @@ module _ (h : Header) (row : List ℕ) (x : List ℕ) where
 pub row-root : (h : Header) (x : List ℕ) (i : ℕ) → h .kind ≢ 1 → (entries : List (List ℕ))
     → getD x i 0 ^ h .order % h .modulus ≡ rowImage (tableWith h entries) x i
 row-root h x i kind entries = sym (rowImage-root (tableWith h entries) kind x i)
+
+-- one value in its place, and zeros beyond it
+pub one-place : (n : ℕ) (f : ℕ → ℕ) {value : ℕ} → n ≡ 1 → value ≡ f 0
+    → value ∷ 0 ∷ 0 ∷ 0 ∷ 0 ∷ 0 ∷ 0 ∷ 0 ∷ [] ≡ pad8 0 (tabulate n f)
+unfolding tabulate itemsAt pad8
+one-place n f one is-value = rw (one, is-value)

@@ -4,7 +4,7 @@
 use mathlib.Core.Path.{_≡_, sym, ap, ap₂, _∙_}
 use mathlib.Core.Logic.{_≢_}
 use mathlib.Core.List.{List}
-use Prim.Native.Nat.{ℕ, _*_, _%_, _^_}
+use Prim.Native.Nat.{ℕ, _+_, _*_, _%_, _^_, _≤_, _<_}
 use native.Mathlib.Omega.{arith}
 use lib.ListN.{getD}
 use Rattle.types.specs.declared.Header.{Header}
@@ -19,7 +19,7 @@ use Rattle.sigma.specs.Instance.{Instance, Table, tableOf, statementAt}
 use Rattle.sigma.specs.Round.{responseCoordinate, response, expectedImage, verdict}
 use Rattle.sigma.specs.Valid.{Valid, ValidTable}
 use Rattle.sigma.proofs.Unread.{rowImage-agree}
-use Rattle.image.proofs.TwoSides.{compare-one-row, compare-one-none}
+use Rattle.image.proofs.TwoSides.{Agreed, agreed-on, differ-here, differ-none, compare-row, compare-none}
 
 -- zeros behind two lists do not change where they first differ
 difference-pad8 : (n : ℕ) (xs ys : List ℕ) → firstDifference n (pad8 0 xs) (pad8 0 ys) ≡ firstDifference n xs ys
@@ -62,30 +62,42 @@ module _ (inst : Instance) where
   verdict-compared v t c r is-left is-right is-answer =
       rw (is-answer, is-left, is-right, image-places (tableOf inst) (v .table) r, expected-places t c) (compare-pad8 (inst .header .rows) _ _)
 
-  -- of one row the first side is a number
-  left-number : Valid inst → (r : List ℕ) → getD (image (tableOf inst) r) 0 0 ≡ rowImage (tableOf inst) r 0
+  -- row i of the first side
+  left-row : (r : List ℕ) (i : ℕ) → i < inst .header .rows → getD (image (tableOf inst) r) i 0 ≡ rowImage (tableOf inst) r i
   unfolding image
-  left-number v r = getD-tabulate (inst .header .rows) (rowImage (tableOf inst) r) 0 0 (v .table .some-row)
+  left-row r i inside = getD-tabulate (inst .header .rows) (rowImage (tableOf inst) r) i 0 inside
 
-  -- and the second
-  right-number : Valid inst → (t : List ℕ) (c : ℕ)
-      → getD (expectedImage inst t c) 0 0 ≡ getD t 0 0 * statementAt inst 0 ^ c % inst .header .modulus
+  -- and of the second
+  right-row : (t : List ℕ) (c i : ℕ) → i < inst .header .rows
+      → getD (expectedImage inst t c) i 0 ≡ getD t i 0 * statementAt inst i ^ c % inst .header .modulus
   unfolding expectedImage
-  right-number v t c = getD-tabulate (inst .header .rows) _ 0 0 (v .table .some-row)
+  right-row t c i inside = getD-tabulate (inst .header .rows) _ i 0 inside
 
-  module _ (v : Valid inst) (one : inst .header .rows ≡ 1) (t : List ℕ) (c : ℕ) (r : List ℕ) {left right : ℕ}
-      (is-left : left ≡ rowImage (tableOf inst) r 0)
-      (is-right : right ≡ getD t 0 0 * statementAt inst 0 ^ c % inst .header .modulus) where
-    -- one row whose two numbers differ is rejected
-    pub verdict-differs : left ≢ right → Rejected 0 ≡ verdict inst (places (inst .header .rows) t) c (places (inst .header .columns) r)
-    unfolding verdict
-    verdict-differs other =
-        rw (image-places (tableOf inst) (v .table) r, expected-places t c)
-        (compare-one-row _ one _ _ (λ same. other (is-left ∙ sym (left-number v r) ∙ same ∙ right-number v t c ∙ sym is-right)))
+  module _ (t : List ℕ) (c : ℕ) (r : List ℕ) where
+    -- the comparison of the two sides that has come to row i
+    abbrev pub RowsAgree : ℕ → Type 0
+    RowsAgree i = Agreed (inst .header .rows) (image (tableOf inst) r) (expectedImage inst t c) i
 
-    -- and one whose two numbers agree is accepted
-    pub verdict-agrees : left ≡ right → Accepted ≡ verdict inst (places (inst .header .rows) t) c (places (inst .header .columns) r)
+    module _ (i : ℕ) {left right : ℕ} (inside : i < inst .header .rows) (is-left : left ≡ rowImage (tableOf inst) r i)
+        (is-right : right ≡ getD t i 0 * statementAt inst i ^ c % inst .header .modulus) where
+      -- a row whose two numbers agree leaves the comparison to the next one
+      pub rows-on : left ≡ right → RowsAgree i → RowsAgree (i + 1)
+      rows-on same =
+          agreed-on _ _ _ i inside (left-row r i inside ∙ sym is-left ∙ same ∙ is-right ∙ sym (right-row t c i inside))
+
+      -- a row whose two numbers differ is rejected
+      pub verdict-differs : Valid inst → left ≢ right → RowsAgree i
+          → Rejected i ≡ verdict inst (places (inst .header .rows) t) c (places (inst .header .columns) r)
+      unfolding verdict
+      verdict-differs v other agreed =
+          rw (image-places (tableOf inst) (v .table) r, expected-places t c)
+          (compare-row _ _ _ (differ-here _ _ _ i inside
+          (λ same. other (is-left ∙ sym (left-row r i inside) ∙ same ∙ right-row t c i inside ∙ sym is-right)) agreed) inside)
+
+    -- where no row is left the round is accepted
+    pub verdict-agrees : (i : ℕ) → inst .header .rows ≤ i → Valid inst → RowsAgree i
+        → Accepted ≡ verdict inst (places (inst .header .rows) t) c (places (inst .header .columns) r)
     unfolding verdict
-    verdict-agrees same =
+    verdict-agrees i past v agreed =
         rw (image-places (tableOf inst) (v .table) r, expected-places t c)
-        (compare-one-none _ one _ _ (left-number v r ∙ sym is-left ∙ same ∙ is-right ∙ sym (right-number v t c)))
+        (compare-none _ _ _ (differ-none _ _ _ i past agreed) past)

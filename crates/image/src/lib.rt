@@ -11,6 +11,7 @@ pub use negative::inverses;
 pub use negative::mul_negative_powers;
 use powers::mul_powers;
 use powers::powers;
+use powers::side_by_side;
 use straus::multi_powers;
 use types::Header;
 use types::Verdict;
@@ -28,9 +29,9 @@ ghost use Rattle.sigma.specs.Round.{responseCoordinate, response, expectedImage
 ghost use Rattle.sigma.specs.Valid.{Valid};
 ghost use Rattle.sigma.specs.Instance.{tableWith, instanceWith};
 
-// Row i of the image of x, of a table that has the entries row there: in kind 1 the product over the columns of the entry by
-// x's slot, in kind 2 slot i by the exponent.
-pub fn row_image(h: Header, row: [u32; 8], x: [u32; 8], i: usize) -> u32
+// Row i of the image of x, of a table that has the entries row there. It takes the row alone, since all entries handed on by
+// value are copied.
+fn row_product(h: Header, row: [u32; 8], x: [u32; 8], i: usize) -> u32
     requires { ⌜ (0 < h .modulus) × (h .columns ≤ 8) × (i < 8) ⌝ }
     ensures { λ r. ⌜ ((entries : List (List ℕ)) → row ≡ getD entries i [] → r ≡ rowImage (tableWith h entries) x i) ⌝ }
 {
@@ -43,6 +44,15 @@ pub fn row_image(h: Header, row: [u32; 8], x: [u32; 8], i: usize) -> u32
         value = mul_mod(value, pow_mod(row[j], x[j], h.modulus), h.modulus);
     }
     value
+}
+
+// Row i of the image of x: in kind 1 the product over the columns of the entry by x's slot, in kind 2 slot i by the exponent.
+pub fn row_image(h: Header, entries: [[u32; 8]; 8], x: [u32; 8], i: usize) -> u32
+    requires { ⌜ (0 < h .modulus) × (h .columns ≤ 8) × (i < 8) ⌝ }
+    ensures { λ r. ⌜ r ≡ rowImage (tableWith h entries) x i ⌝ }
+{
+    let row = entries[i];
+    row_product(h, row, x, i)
 }
 
 // The image of x, with the rows side by side.
@@ -58,31 +68,36 @@ fn image_rows(h: Header, entries: [[u32; 8]; 8], x: [u32; 8]) -> [u32; 8]
     first_places(multi_powers(entries, rows, x, columns, h.modulus), rows)
 }
 
-// The image of x, a value for each row. One row alone is computed by itself.
+// The image of x, a value for each row, side by side where that is worth while. The value of a row that is alone stands in its
+// array at once, so that what copies the array need not wait.
 pub fn image(h: Header, entries: [[u32; 8]; 8], x: [u32; 8]) -> [u32; 8]
     requires { ⌜ (0 < h .modulus) × (h .rows ≤ 8) × (h .columns ≤ 8) ⌝ }
     ensures { λ r. ⌜ r ≡ pad8 0 (image (tableWith h entries) x) ⌝ }
 {
     let rows = h.rows as usize;
-    if rows > 1 {
+    if rows == 1 {
+        let row = entries[0];
+        return [row_product(h, row, x, 0), 0, 0, 0, 0, 0, 0, 0];
+    }
+    if side_by_side(rows, h.modulus) {
         return image_rows(h, entries, x);
     }
     let mut values = [0u32; 8];
     for i in 0..rows {
         let row = entries[i];
-        values[i] = row_image(h, row, x, i);
+        values[i] = row_product(h, row, x, i);
     }
     values
 }
 
-// What the response's image has to be: t times the statement by the challenge, a value for each row. One row alone is
-// computed by itself.
+// What the response's image has to be: t times the statement by the challenge, a value for each row, side by side where that is
+// worth while.
 pub fn expected_image(h: Header, statement: [u32; 8], t: [u32; 8], c: u32) -> [u32; 8]
     requires { ⌜ (0 < h .modulus) × (h .rows ≤ 8) ⌝ }
     ensures { λ r. ⌜ ((entries : List (List ℕ)) → r ≡ pad8 0 (expectedImage (instanceWith h entries statement) t c)) ⌝ }
 {
     let rows = h.rows as usize;
-    if rows > 1 {
+    if side_by_side(rows, h.modulus) {
         return mul_powers(t, statement, rows, c, h.modulus);
     }
     let mut values = [0u32; 8];
@@ -141,7 +156,8 @@ fn compare(xs: [u32; 8], ys: [u32; 8], n: usize) -> Verdict
 }
 
 // The verdict on a commitment t, a challenge c and a response r: accepted where the two sides agree in every row, else
-// rejected with the first row in which they differ. The sides of one row alone are numbers, which need not wait for a copy.
+// rejected with the first row in which they differ. Sides that are not computed side by side are compared row by row, as
+// numbers, which need not wait for a copy.
 pub fn verdict(
     h: Header,
     entries: [[u32; 8]; 8],
@@ -154,18 +170,22 @@ pub fn verdict(
     ensures { λ answer. ⌜ answer ≡ verdict (instanceWith h entries statement) (places (h .rows) t) c (places (h .columns) r) ⌝ }
 {
     let rows = h.rows as usize;
-    if rows > 1 {
+    if side_by_side(rows, h.modulus) {
         return compare(
             image(h, entries, r),
             expected_image(h, statement, t, c),
             rows,
         );
     }
-    let row = entries[0];
-    let left = row_image(h, row, r, 0);
-    let right = mul_mod(t[0], pow_mod(statement[0], c, h.modulus), h.modulus);
-    if left != right {
-        return Verdict::Rejected(0);
+    let mut i: usize = 0;
+    while i < rows {
+        let row = entries[i];
+        let left = row_product(h, row, r, i);
+        let right = mul_mod(t[i], pow_mod(statement[i], c, h.modulus), h.modulus);
+        if left != right {
+            return Verdict::Rejected(i as u32);
+        }
+        i += 1;
     }
     Verdict::Accepted
 }
@@ -181,14 +201,14 @@ fn response_coordinate(h: Header, k: u32, c: u32, x: u32) -> u32
     mul_mod(k, pow_mod(x, c, h.modulus), h.modulus)
 }
 
-// The response to c, of nonce k and witness x, a value for each column. Several powers of kind 2 are computed side by side.
+// The response to c, of nonce k and witness x, a value for each column, in kind 2 side by side where that is worth while.
 pub fn response(h: Header, k: [u32; 8], c: u32, x: [u32; 8]) -> [u32; 8]
     requires { ⌜ (0 < h .modulus) × (0 < h .order) × (h .columns ≤ 8) ⌝ }
     ensures { λ r. ⌜ r ≡ pad8 0 (response h k c x) ⌝ }
 {
     let columns = h.columns as usize;
     if h.kind != 1 {
-        if columns > 1 {
+        if side_by_side(columns, h.modulus) {
             return mul_powers(k, x, columns, c, h.modulus);
         }
     }

@@ -5,6 +5,7 @@ mod several; // several.rt: the test of several group elements
 
 pub use divisors::Divisor;
 pub use divisors::first_divisor;
+use powers::side_by_side;
 use several::first_of_several;
 use types::Header;
 ghost use mathlib.Core.Path.{_≡_};
@@ -128,7 +129,7 @@ pub fn first_non_element(h: Header, values: [u32; 8], n: usize) -> usize
     ensures value { λ r. ⌜ r ≡ firstFailing (isElement h) n values ⌝ }
     ensures within { λ r. ⌜ r ≤ n ⌝ }
 {
-    if n > 1 {
+    if side_by_side(n, h.modulus) {
         return first_of_several(h, values, n);
     }
     let mut i: usize = 0;
@@ -148,7 +149,7 @@ pub fn first_non_coordinate(h: Header, values: [u32; 8], n: usize) -> usize
     ensures within { λ r. ⌜ r ≤ n ⌝ }
 {
     if h.kind != 1 {
-        if n > 1 {
+        if side_by_side(n, h.modulus) {
             return first_of_several(h, values, n);
         }
     }

@@ -1,10 +1,26 @@
-// Four numbers side by side: their products, and their powers by one exponent.
+// Four numbers side by side: when that is worth while, their products, and their powers by one exponent.
 use crate::barrett::mul_barrett;
 use crate::barrett::reciprocal;
 ghost use mathlib.Core.Path.{_≡_};
+ghost use mathlib.Core.Bool.{_&&_, _||_};
 ghost use Prim.Native.Nat.{_<_};
+ghost use lib.Dec.{ltb};
 ghost use Rattle.powers.specs.Places.{lanes, productsOf, powersOf};
 ghost use Rattle.powers.specs.Reciprocal.{reciprocalOf};
+
+// Whether n values modulo m are quicker side by side. Four are; two or three are where products pass 32 bits, so that dividing
+// takes long. What is computed is the same either way.
+pub fn side_by_side(n: usize, m: u32) -> bool
+    ensures { λ r. ⌜ r ≡ (ltb 3 n || (ltb 1 n && ltb 65535 m)) ⌝ }
+{
+    if n > 3 {
+        return true;
+    }
+    if n <= 1 {
+        return false;
+    }
+    m > 65535
+}
 
 // Four numbers, passed by value so that they stay in registers.
 pub struct Four {

@@ -13,3 +13,4 @@ pub use bound::power_exceeds;
 pub use bound::power_of_two_less_one;
 pub use four::Four;
 pub use four::mul_four;
+pub use four::side_by_side;

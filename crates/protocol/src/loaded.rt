@@ -7,6 +7,7 @@ use image::row_image;
 use modular::mul_mod;
 use modular::some_non_coordinate;
 use modular::some_non_element;
+use powers::side_by_side;
 use types::Computed;
 use types::Header;
 ghost use mathlib.Core.Path.{_≡_};
@@ -41,8 +42,8 @@ pub fn round_refusal(h: Header, commitment: [u32; 8], challenge: u32, response: 
     0
 }
 
-// The simulated commitment for challenge c and response r: the image of r times the statement by -c, a value for each row.
-// One row alone is computed by itself.
+// The simulated commitment for challenge c and response r: the image of r times the statement by -c, a value for each row,
+// side by side where that is worth while.
 fn simulated(
     h: Header,
     entries: [[u32; 8]; 8],
@@ -54,14 +55,13 @@ fn simulated(
     ensures { λ t. ⌜ t ≡ pad8 0 (simulated (instanceWith h entries statement) c (places (h .columns) r)) ⌝ }
 {
     let rows = h.rows as usize;
-    if rows > 1 {
+    if side_by_side(rows, h.modulus) {
         return mul_negative_powers(h, image(h, entries, r), statement, rows, c);
     }
     let mut values = [0u32; 8];
     for i in 0..rows {
-        let row = entries[i];
         values[i] = mul_mod(
-            row_image(h, row, r, i),
+            row_image(h, entries, r, i),
             negative_power(h, statement[i], c),
             h.modulus,
         );

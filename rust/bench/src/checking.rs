@@ -6,7 +6,7 @@ use crate::inputs::Inputs;
 
 /// Sheets of at most so many bytes are tried with each of their bits changed, and
 /// larger ones with one bit of each fifth byte.
-const SMALL: usize = 32;
+const SMALL: usize = 64;
 
 /// A call that a version in Rust answers differently.
 pub struct Difference {

@@ -31,13 +31,16 @@ struct Plan {
     modulus: u32,
     order: u32,
     challenges: u32,
-    size: usize,
+    rows: usize,
+    columns: usize,
 }
 
 /// What makes the inputs of each sheet, the smallest sheet first.
-pub const SHEETS: [fn() -> Inputs; 6] = [
+pub const SHEETS: [fn() -> Inputs; 8] = [
     page_a,
     page_g,
+    page_e,
+    page_f,
     || random(exponent("8 × 8, exponent, K 256", 256), (200, 77)),
     || random(root("8 × 8, root, K 256", 256), (200, 77)),
     || random(exponent("8 × 8, exponent, K 65,536", 65_536), (51_234, 777)),
@@ -47,7 +50,11 @@ pub const SHEETS: [fn() -> Inputs; 6] = [
 /// The inputs of sheets of two to seven rows, which are compared and not measured.
 pub fn between() -> impl Iterator<Item = Inputs> {
     let plans = (2..8).flat_map(|size| {
-        let plan = |plan| Plan { size, ..plan };
+        let plan = |plan| Plan {
+            rows: size,
+            columns: size,
+            ..plan
+        };
         [
             plan(exponent("fewer rows, exponent, K 256", 256)),
             plan(root("fewer rows, root, K 256", 256)),
@@ -65,7 +72,8 @@ fn exponent(name: &'static str, challenges: u32) -> Plan {
         modulus: 4_294_967_087,
         order: 2_147_483_543,
         challenges,
-        size: 8,
+        rows: 8,
+        columns: 8,
     }
 }
 
@@ -78,21 +86,28 @@ fn root(name: &'static str, challenges: u32) -> Plan {
         modulus: 4_292_870_399,
         order: 4_294_967_291,
         challenges,
-        size: 8,
+        rows: 8,
+        columns: 8,
     }
 }
 
 /// Pages A and B of 01.
 fn page_a() -> Inputs {
-    let plan = Plan {
-        name: "1 × 1, exponent, m 23, K 11",
-        kind: Kind::Exponent,
-        modulus: 23,
-        order: 11,
-        challenges: 11,
-        size: 1,
-    };
-    make(plan, &[2], place(7), place(5), (3, 1))
+    let plan = page("1 × 1, exponent, m 23, K 11", 1, 1);
+    make(plan, &[2], places([7]), places([5]), (3, 1))
+}
+
+/// Page E of 01, which has two rows.
+fn page_e() -> Inputs {
+    let plan = page("2 × 1, exponent, m 23, K 11", 2, 1);
+    make(plan, &[2, 16], places([7]), places([5]), (3, 1))
+}
+
+/// Page F of 01, which has two rows and three columns.
+fn page_f() -> Inputs {
+    let plan = page("2 × 3, exponent, m 23, K 11", 2, 3);
+    let entries = [2, 3, 1, 3, 1, 3];
+    make(plan, &entries, places([2, 1, 0]), places([5, 4, 3]), (3, 1))
 }
 
 /// Pages G and H of 01.
@@ -103,14 +118,30 @@ fn page_g() -> Inputs {
         modulus: 35,
         order: 5,
         challenges: 5,
-        size: 1,
+        rows: 1,
+        columns: 1,
     };
-    make(plan, &[], place(2), place(3), (1, 3))
+    make(plan, &[], places([2]), places([3]), (1, 3))
 }
 
-/// A value in the first place.
-fn place(value: u32) -> Places {
-    [value, 0, 0, 0, 0, 0, 0, 0]
+/// The fixed fields of pages A to F of 01.
+fn page(name: &'static str, rows: usize, columns: usize) -> Plan {
+    Plan {
+        name,
+        kind: Kind::Exponent,
+        modulus: 23,
+        order: 11,
+        challenges: 11,
+        rows,
+        columns,
+    }
+}
+
+/// Values in the first places, and zeros beyond them.
+fn places<const N: usize>(values: [u32; N]) -> Places {
+    let mut places = [0; 8];
+    places[..N].copy_from_slice(&values);
+    places
 }
 
 /// The inputs of a large sheet with made-up values. Squares are group elements
@@ -126,7 +157,7 @@ fn random(plan: Plan, challenges: (u32, u32)) -> Inputs {
     };
     let m = u64::from(plan.modulus);
     let entries: Vec<u32> = match plan.kind {
-        Kind::Exponent => (0..plan.size * plan.size)
+        Kind::Exponent => (0..plan.rows * plan.columns)
             .map(|_| u64::from(next()))
             .map(|v| (v * v % m) as u32)
             .collect(),
@@ -153,7 +184,7 @@ fn sheet_bytes(plan: &Plan, entries: &[u32], statement: &[u32]) -> Vec<u8> {
     for field in [plan.modulus, plan.order, plan.challenges] {
         bytes.extend(field.to_be_bytes());
     }
-    bytes.extend([plan.size as u8; 2]);
+    bytes.extend([plan.rows as u8, plan.columns as u8]);
     for value in entries.iter().chain(statement) {
         bytes.extend(value.to_be_bytes());
     }
@@ -169,7 +200,7 @@ fn make(
     nonce: Places,
     challenges: (u32, u32),
 ) -> Inputs {
-    let ones = sheet_bytes(&plan, entries, &[1; 8][..plan.size]);
+    let ones = sheet_bytes(&plan, entries, &[1; 8][..plan.rows]);
     let values = load::<Idiomatic>(&ones).unwrap_or_else(|number| panic!("refused with {number}"));
     let statement = values.image(&witness);
     let round = |challenge| Round {
@@ -179,11 +210,11 @@ fn make(
     };
     let mut file = b"RND\x00\x01\x02\x00".to_vec();
     for k in 0..ROUNDS {
-        file.extend(record(plan.size, k, round(k * 127 % plan.challenges)));
+        file.extend(record(&plan, k, round(k * 127 % plan.challenges)));
     }
     Inputs {
         name: plan.name,
-        sheet: sheet_bytes(&plan, entries, &statement[..plan.size]),
+        sheet: sheet_bytes(&plan, entries, &statement[..plan.rows]),
         witness,
         nonce,
         first: round(challenges.0),
@@ -196,14 +227,14 @@ fn make(
 
 /// The record of round k. Each eighth round has 1 as its last response, which
 /// is a slot of every sheet, and so most of them are rejected.
-fn record(size: usize, k: u32, mut round: Round) -> Vec<u8> {
+fn record(plan: &Plan, k: u32, mut round: Round) -> Vec<u8> {
     if k % 8 == 7 {
-        round.response[size - 1] = 1;
+        round.response[plan.columns - 1] = 1;
     }
     let numbers = [
-        &round.commitment[..size],
+        &round.commitment[..plan.rows],
         &[round.challenge],
-        &round.response[..size],
+        &round.response[..plan.columns],
     ];
     numbers
         .concat()

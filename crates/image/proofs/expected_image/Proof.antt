@@ -21,6 +21,9 @@ abbrev μ-loop : tie.MeasureT-loop
 cast-rows : tie.Need-cast-rows Inv-loop μ-loop
 cast-rows c = omega arith
 
+side-by-side-requires : tie.Need-side-by-side-requires Inv-loop μ-loop
+side-by-side-requires c κs = omega arith
+
 mul-powers-requires : tie.Need-mul-powers-requires Inv-loop μ-loop
 mul-powers-requires c κs = omega arith
 
@@ -77,6 +80,7 @@ expected-image-spec =
     Inv-loop
     μ-loop
     cast-rows
+    side-by-side-requires
     mul-powers-requires
     returns
     loop-holds

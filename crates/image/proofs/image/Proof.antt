@@ -6,6 +6,7 @@ use native.Mathlib.Omega.{arith}
 use Rattle.lists.proofs.Filling.{Filled, filled-start, filled-turn, filled-eight}
 use Rattle.sigma.specs.Image.{rowImage, image}
 use Rattle.sigma.specs.Instance.{tableWith}
+use Rattle.image.proofs.RowImage.{one-place}
 use Rattle.image.proofs.image.Statement.{statement}
 use Rattle.image.proofs.image.Tie as tie
 
@@ -19,11 +20,24 @@ abbrev μ-loop : tie.MeasureT-loop
 cast-rows : tie.Need-cast-rows Inv-loop μ-loop
 cast-rows c = omega arith
 
+array-copy-out-row : tie.Need-array-copy-out-row Inv-loop μ-loop
+array-copy-out-row c = omega arith
+
+row-product-requires : tie.Need-row-product-requires Inv-loop μ-loop
+row-product-requires c κs = omega arith
+
+returns : tie.Need-returns Inv-loop μ-loop
+unfolding image
+returns c = one-place _ _ (c .before .before .if1 .taken) (c .row-product .ensures _ refl)
+
+side-by-side-requires : tie.Need-side-by-side-requires Inv-loop μ-loop
+side-by-side-requires c κs = omega arith
+
 image-rows-requires : tie.Need-image-rows-requires Inv-loop μ-loop
 image-rows-requires c κs = omega arith
 
-returns : tie.Need-returns Inv-loop μ-loop
-returns c = c .image-rows .ensures
+returns-2 : tie.Need-returns-2 Inv-loop μ-loop
+returns-2 c = c .image-rows .ensures
 
 loop-holds : tie.Need-loop-holds Inv-loop μ-loop
 loop-holds c = filled-start (omega arith)
@@ -31,11 +45,11 @@ loop-holds c = filled-start (omega arith)
 mul-row : tie.Need-mul-row Inv-loop μ-loop
 mul-row c = omega arith
 
-array-copy-out-row : tie.Need-array-copy-out-row Inv-loop μ-loop
-array-copy-out-row c = omega arith
+array-copy-out-row-2 : tie.Need-array-copy-out-row-2 Inv-loop μ-loop
+array-copy-out-row-2 c = omega arith
 
-row-image-requires : tie.Need-row-image-requires Inv-loop μ-loop
-row-image-requires c κs = omega arith
+row-product-requires-2 : tie.Need-row-product-requires-2 Inv-loop μ-loop
+row-product-requires-2 c κs = omega arith
 
 mul-values : tie.Need-mul-values Inv-loop μ-loop
 mul-values c = omega arith
@@ -52,11 +66,11 @@ loop-less c = omega arith
 loop-again : tie.Need-loop-again Inv-loop μ-loop
 loop-again c =
     let at-loop = c .before .before .before in
-    filled-turn (at-loop .loop .inv) (omega arith) (c .row-image .ensures _ refl)
+    filled-turn (at-loop .loop .inv) (omega arith) (c .row-product2 .ensures _ refl)
 
-returns-2 : tie.Need-returns-2 Inv-loop μ-loop
+returns-3 : tie.Need-returns-3 Inv-loop μ-loop
 unfolding image
-returns-2 c = filled-eight (c .before .loop .inv) (omega arith)
+returns-3 c = filled-eight (c .before .loop .inv) (omega arith)
 
 pub image-spec : {M : Type 1} → statement M
 image-spec =
@@ -65,15 +79,19 @@ image-spec =
     Inv-loop
     μ-loop
     cast-rows
-    image-rows-requires
+    array-copy-out-row
+    row-product-requires
     returns
+    side-by-side-requires
+    image-rows-requires
+    returns-2
     loop-holds
     mul-row
-    array-copy-out-row
-    row-image-requires
+    array-copy-out-row-2
+    row-product-requires-2
     mul-values
     array-write-values
     add-i
     loop-less
     loop-again
-    returns-2)
+    returns-3)

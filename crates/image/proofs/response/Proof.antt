@@ -19,11 +19,14 @@ abbrev μ-loop : tie.MeasureT-loop
 cast-columns : tie.Need-cast-columns Inv-loop μ-loop
 cast-columns c = omega arith
 
+side-by-side-requires : tie.Need-side-by-side-requires Inv-loop μ-loop
+side-by-side-requires c κs = omega arith
+
 mul-powers-requires : tie.Need-mul-powers-requires Inv-loop μ-loop
 mul-powers-requires c κs = omega arith
 
 returns : tie.Need-returns Inv-loop μ-loop
-returns c = powers-response _ _ _ _ (c .before .before .if1 .taken) (c .mul-powers .ensures)
+returns c = powers-response _ _ _ _ (c .before .before .before .if1 .taken) (c .mul-powers .ensures)
 
 loop-holds : tie.Need-loop-holds Inv-loop μ-loop
 loop-holds c = filled-start (omega arith)
@@ -69,6 +72,7 @@ response-spec =
     Inv-loop
     μ-loop
     cast-columns
+    side-by-side-requires
     mul-powers-requires
     returns
     loop-holds

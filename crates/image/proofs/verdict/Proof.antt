@@ -1,91 +1,137 @@
--- `image::verdict` meets its contract: comparing the two sides in eight places is comparing the values that are read, and of
--- one row comparing its two numbers.
--- Assumes nothing.
-use mathlib.Core.Path.{_≡_, refl}
+-- `image::verdict` meets its contract: comparing the two sides in eight places is comparing the values that are read. The
+-- invariant: the rows before i agree. The measure: how many rows are left. Assumes nothing.
+use mathlib.Core.Path.{refl}
+use Prim.Native.Nat.{_-_}
 use native.Mathlib.Omega.{arith}
-use borrow.Author.Needs.{needs}
 use Rattle.sigma.specs.Instance.{instanceWith, statementAt}
 use Rattle.image.proofs.Slots.{product-reduced}
-use Rattle.image.proofs.Unread.{verdict-compared, verdict-differs, verdict-agrees}
+use Rattle.image.proofs.TwoSides.{agreed-none}
+use Rattle.image.proofs.Unread.{verdict-compared, RowsAgree, rows-on, verdict-differs, verdict-agrees}
 use Rattle.image.proofs.verdict.Statement.{statement}
 use Rattle.image.proofs.verdict.Tie as tie
 
-cast-rows : tie.Need-cast-rows
-cast-rows c = search needs
+abbrev Inv-loop : tie.InvT-loop
+Inv-loop h c r entries statement t rows i₀ i = RowsAgree (instanceWith h entries statement) t c r i
 
-image-requires : tie.Need-image-requires
-image-requires c κs = search needs
+abbrev μ-loop : tie.MeasureT-loop
+μ-loop h c r entries statement t rows i₀ i = rows - i
 
-expected-image-requires : tie.Need-expected-image-requires
-expected-image-requires c κs = search needs
+cast-rows : tie.Need-cast-rows Inv-loop μ-loop
+cast-rows c = omega arith
 
-compare-requires : tie.Need-compare-requires
-compare-requires c κs = search needs
+side-by-side-requires : tie.Need-side-by-side-requires Inv-loop μ-loop
+side-by-side-requires c κs = omega arith
 
-returns : tie.Need-returns
+image-requires : tie.Need-image-requires Inv-loop μ-loop
+image-requires c κs = omega arith
+
+expected-image-requires : tie.Need-expected-image-requires Inv-loop μ-loop
+expected-image-requires c κs = omega arith
+
+compare-requires : tie.Need-compare-requires Inv-loop μ-loop
+compare-requires c κs = omega arith
+
+returns : tie.Need-returns Inv-loop μ-loop
 returns c =
-    let start = c .before .before .before .before .before in
+    let start = c .before .before .before .before .before .before in
     let args = start .args in
     let left = c .before .before .image .ensures in
     let right = c .before .expected-image .ensures (args .t2) in
     verdict-compared (instanceWith (args .h) (args .t2) (args .t3)) (start .pre) _ _ _ left right (c .compare .ensures)
 
-array-copy-out-row : tie.Need-array-copy-out-row
-array-copy-out-row c = search needs
+loop-holds : tie.Need-loop-holds Inv-loop μ-loop
+loop-holds c = agreed-none _ _ _
 
-row-image-requires : tie.Need-row-image-requires
-row-image-requires c κs = search needs
+mul-row : tie.Need-mul-row Inv-loop μ-loop
+mul-row c = omega arith
 
-array-read-mul-mod : tie.Need-array-read-mul-mod
-array-read-mul-mod c = search needs
+array-copy-out-row : tie.Need-array-copy-out-row Inv-loop μ-loop
+array-copy-out-row c = omega arith
 
-array-read-pow-mod : tie.Need-array-read-pow-mod
-array-read-pow-mod c = search needs
+row-product-requires : tie.Need-row-product-requires Inv-loop μ-loop
+row-product-requires c κs = omega arith
 
-pow-mod-requires : tie.Need-pow-mod-requires
-pow-mod-requires c κs = search needs
+mul-mul-mod : tie.Need-mul-mul-mod Inv-loop μ-loop
+mul-mul-mod c = omega arith
 
-mul-mod-requires : tie.Need-mul-mod-requires
-mul-mod-requires c κs = search needs
+array-read-mul-mod : tie.Need-array-read-mul-mod Inv-loop μ-loop
+array-read-mul-mod c = omega arith
 
-returns-2 : tie.Need-returns-2
+mul-pow-mod : tie.Need-mul-pow-mod Inv-loop μ-loop
+mul-pow-mod c = omega arith
+
+array-read-pow-mod : tie.Need-array-read-pow-mod Inv-loop μ-loop
+array-read-pow-mod c = omega arith
+
+pow-mod-requires : tie.Need-pow-mod-requires Inv-loop μ-loop
+pow-mod-requires c κs = omega arith
+
+mul-mod-requires : tie.Need-mul-mod-requires Inv-loop μ-loop
+mul-mod-requires c κs = omega arith
+
+cast-t34 : tie.Need-cast-t34 Inv-loop μ-loop
+cast-t34 c = omega arith
+
+returns-2 : tie.Need-returns-2 Inv-loop μ-loop
 unfolding statementAt
 returns-2 c =
     let right = c .before in
     let left = right .before .before in
-    let small = left .before .before in
-    let start = small .before .before in
+    let inside = left .before .before in
+    let start = inside .before .before .before .before .before in
     let args = start .args in
-    verdict-differs (instanceWith (args .h) (args .t2) (args .t3)) (start .pre) (omega (arith, small .if1 .left, start .pre .table .some-row))
-    _ _ _ (left .row-image .ensures _ refl) (product-reduced _ _ _ (right .before .pow-mod .ensures .0) (right .mul-mod .ensures .0))
-    (c .if2 .taken)
+    verdict-differs (instanceWith (args .h) (args .t2) (args .t3)) _ _ _ _ (inside .loop-test .taken) (left .row-product .ensures _ refl)
+    (product-reduced _ _ _ (right .before .pow-mod .ensures .0) (right .mul-mod .ensures .0)) (start .pre) (c .if2 .taken)
+    (inside .before .loop .inv)
 
-returns-3 : tie.Need-returns-3
+add-i : tie.Need-add-i Inv-loop μ-loop
+add-i c = omega arith
+
+loop-less : tie.Need-loop-less Inv-loop μ-loop
+loop-less c = omega arith
+
+loop-again : tie.Need-loop-again Inv-loop μ-loop
 unfolding statementAt
-returns-3 c =
+loop-again c =
     let right = c .before in
     let left = right .before .before in
-    let small = left .before .before in
-    let start = small .before .before in
+    let inside = left .before .before in
+    let args = inside .before .before .before .before .before .args in
+    rows-on (instanceWith (args .h) (args .t2) (args .t3)) _ _ _ _ (inside .loop-test .taken) (left .row-product .ensures _ refl)
+    (product-reduced _ _ _ (right .before .pow-mod .ensures .0) (right .mul-mod .ensures .0)) (c .if2 .left)
+    (inside .before .loop .inv)
+
+returns-3 : tie.Need-returns-3 Inv-loop μ-loop
+returns-3 c =
+    let start = c .before .before .before .before .before in
     let args = start .args in
-    verdict-agrees (instanceWith (args .h) (args .t2) (args .t3)) (start .pre) (omega (arith, small .if1 .left, start .pre .table .some-row))
-    _ _ _ (left .row-image .ensures _ refl) (product-reduced _ _ _ (right .before .pow-mod .ensures .0) (right .mul-mod .ensures .0))
-    (c .if2 .left)
+    verdict-agrees (instanceWith (args .h) (args .t2) (args .t3)) _ _ _ _ (c .loop-test .left) (start .pre) (c .before .loop .inv)
 
 pub verdict-spec : {M : Type 1} → statement M
 verdict-spec =
     tie.close
     (tie.spec
+    Inv-loop
+    μ-loop
     cast-rows
+    side-by-side-requires
     image-requires
     expected-image-requires
     compare-requires
     returns
+    loop-holds
+    mul-row
     array-copy-out-row
-    row-image-requires
+    row-product-requires
+    mul-mul-mod
     array-read-mul-mod
+    mul-pow-mod
     array-read-pow-mod
     pow-mod-requires
     mul-mod-requires
+    cast-t34
     returns-2
+    add-i
+    loop-less
+    loop-again
     returns-3)

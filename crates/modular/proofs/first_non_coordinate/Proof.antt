@@ -15,12 +15,15 @@ Inv-loop h n values i₀ i = Passed (isCoordinate h) n values i
 abbrev μ-loop : tie.MeasureT-loop
 μ-loop h n values i₀ i = n - i
 
+side-by-side-requires : tie.Need-side-by-side-requires Inv-loop μ-loop
+side-by-side-requires c κs = omega arith
+
 first-of-several-requires : tie.Need-first-of-several-requires Inv-loop μ-loop
-first-of-several-requires c κs = c .before .before .before .pre
+first-of-several-requires c κs = c .before .before .before .before .pre
 
 returns : tie.Need-returns Inv-loop μ-loop
 returns c =
-    let (first, within) = c .first-of-several .ensures in (first ∙ coordinates-root _ _ _ (c .before .before .if1 .taken), within)
+    let (first, within) = c .first-of-several .ensures in (first ∙ coordinates-root _ _ _ (c .before .before .before .if1 .taken), within)
 
 loop-holds : tie.Need-loop-holds Inv-loop μ-loop
 loop-holds c = passed-none _ _ _
@@ -59,6 +62,7 @@ first-non-coordinate-spec =
     (tie.spec
     Inv-loop
     μ-loop
+    side-by-side-requires
     first-of-several-requires
     returns
     loop-holds

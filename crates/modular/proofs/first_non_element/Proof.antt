@@ -15,8 +15,11 @@ Inv-loop h n values i₀ i = Passed (isElement h) n values i
 abbrev μ-loop : tie.MeasureT-loop
 μ-loop h n values i₀ i = n - i
 
+side-by-side-requires : tie.Need-side-by-side-requires Inv-loop μ-loop
+side-by-side-requires c κs = omega arith
+
 first-of-several-requires : tie.Need-first-of-several-requires Inv-loop μ-loop
-first-of-several-requires c κs = c .before .pre
+first-of-several-requires c κs = c .before .before .pre
 
 returns : tie.Need-returns Inv-loop μ-loop
 returns c = c .first-of-several .ensures
@@ -58,6 +61,7 @@ first-non-element-spec =
     (tie.spec
     Inv-loop
     μ-loop
+    side-by-side-requires
     first-of-several-requires
     returns
     loop-holds

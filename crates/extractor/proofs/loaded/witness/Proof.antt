@@ -46,9 +46,12 @@ cast-a-3 c =
 cast-columns : tie.Need-cast-columns Inv-loop μ-loop
 cast-columns c = omega arith
 
+side-by-side-requires : tie.Need-side-by-side-requires Inv-loop μ-loop
+side-by-side-requires c κs = omega arith
+
 root-slots-requires : tie.Need-root-slots-requires Inv-loop μ-loop
 root-slots-requires c κs =
-    let other = c .before in
+    let other = c .before .before in
     let made = other .before .before .before .before in
     let fits = made .before .pre in
     record {
@@ -63,7 +66,7 @@ root-slots-requires c κs =
 
 returns : tie.Need-returns Inv-loop μ-loop
 returns c = λ entries.
-    let is-inverse = c .before .before .before .before .before .before .inverse .ensures .0 in
+    let is-inverse = c .before .before .before .before .before .before .before .inverse .ensures .0 in
     formula-filled _ _ _ _ _ _ entries (left-is _ _ is-inverse) is-inverse (c .root-slots .ensures)
 
 loop-holds : tie.Need-loop-holds Inv-loop μ-loop
@@ -137,6 +140,7 @@ witness-spec =
     div-a
     cast-a-3
     cast-columns
+    side-by-side-requires
     root-slots-requires
     returns
     loop-holds

@@ -1,6 +1,5 @@
 -- `protocol::loaded::simulated` meets its contract. The invariant: the first i places hold the first i rows, and those beyond hold 0.
 -- The measure: how many rows are left. Assumes nothing.
-use mathlib.Core.Path.{refl}
 use Prim.Native.Nat.{_-_}
 use native.Mathlib.Omega.{arith}
 use Rattle.lists.proofs.Filling.{Filled, filled-start, filled-turn, filled-eight}
@@ -11,14 +10,17 @@ use Rattle.protocol.proofs.loaded.simulated.Statement.{statement}
 use Rattle.protocol.proofs.loaded.simulated.Tie as tie
 
 abbrev Inv-loop : tie.InvT-loop
-Inv-loop h c r entries statement rows values₀ i₀ values i =
+Inv-loop h entries c r statement rows values₀ i₀ values i =
     Filled values₀ rows (simulatedRow (instanceWith h entries statement) c r) values i
 
 abbrev μ-loop : tie.MeasureT-loop
-μ-loop h c r entries statement rows values₀ i₀ values i = rows - i
+μ-loop h entries c r statement rows values₀ i₀ values i = rows - i
 
 cast-rows : tie.Need-cast-rows Inv-loop μ-loop
 cast-rows c = omega arith
+
+side-by-side-requires : tie.Need-side-by-side-requires Inv-loop μ-loop
+side-by-side-requires c κs = omega arith
 
 image-requires : tie.Need-image-requires Inv-loop μ-loop
 image-requires c κs = omega arith
@@ -26,7 +28,7 @@ image-requires c κs = omega arith
 mul-negative-powers-requires : tie.Need-mul-negative-powers-requires Inv-loop μ-loop
 unfolding statementAt
 mul-negative-powers-requires c κs =
-    let (valid, below) = c .before .before .before .pre in (
+    let (valid, below) = c .before .before .before .before .pre in (
       valid-modulus (valid .table),
       valid-order (valid .table),
       omega (arith, valid-challenge (valid .table) _ below),
@@ -37,16 +39,10 @@ mul-negative-powers-requires c κs =
 returns : tie.Need-returns Inv-loop μ-loop
 returns c =
     let images = c .before in
-    simulated-images _ (images .before .before .before .pre .0) _ _ (images .image .ensures) (c .mul-negative-powers .ensures)
+    simulated-images _ (images .before .before .before .before .pre .0) _ _ (images .image .ensures) (c .mul-negative-powers .ensures)
 
 loop-holds : tie.Need-loop-holds Inv-loop μ-loop
 loop-holds c = filled-start (omega arith)
-
-mul-row : tie.Need-mul-row Inv-loop μ-loop
-mul-row c = omega arith
-
-array-copy-out-row : tie.Need-array-copy-out-row Inv-loop μ-loop
-array-copy-out-row c = omega arith
 
 row-image-requires : tie.Need-row-image-requires Inv-loop μ-loop
 row-image-requires c κs = omega arith
@@ -61,7 +57,7 @@ negative-power-requires : tie.Need-negative-power-requires Inv-loop μ-loop
 unfolding statementAt
 negative-power-requires c κs =
     let (valid, below) = c .before .before .before .before .before .before .pre in
-    let inside = c .before .before .loop-test .taken in
+    let inside = c .before .loop-test .taken in
     (valid-modulus (valid .table), valid-order (valid .table), omega (arith, valid-challenge (valid .table) _ below), valid .statement _ inside)
 
 mul-mod-requires : tie.Need-mul-mod-requires Inv-loop μ-loop
@@ -82,14 +78,13 @@ loop-less c = omega arith
 loop-again : tie.Need-loop-again Inv-loop μ-loop
 unfolding simulatedRow statementAt
 loop-again c =
-    let at-loop = c .before .before .before .before .before in
-    filled-turn (at-loop .loop .inv) (omega arith)
-    (rw (c .mul-mod .ensures .0, c .before .before .row-image .ensures (at-loop .before .before .before .args .t2) refl, c .before .negative-power .ensures))
+    let at-loop = c .before .before .before .before in
+    filled-turn (at-loop .loop .inv) (omega arith) (rw (c .mul-mod .ensures .0, c .before .before .row-image .ensures, c .before .negative-power .ensures))
 
 returns-2 : tie.Need-returns-2 Inv-loop μ-loop
 returns-2 c =
     let at-loop = c .before in
-    rw (simulated-rows _ (at-loop .before .before .before .pre .0) _ _) (filled-eight (at-loop .loop .inv) (omega arith))
+    rw (simulated-rows _ (at-loop .before .before .before .before .pre .0) _ _) (filled-eight (at-loop .loop .inv) (omega arith))
 
 pub simulated-spec : {M : Type 1} → statement M
 simulated-spec =
@@ -98,12 +93,11 @@ simulated-spec =
     Inv-loop
     μ-loop
     cast-rows
+    side-by-side-requires
     image-requires
     mul-negative-powers-requires
     returns
     loop-holds
-    mul-row
-    array-copy-out-row
     row-image-requires
     mul-negative-power
     array-read-negative-power

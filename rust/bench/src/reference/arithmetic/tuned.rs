@@ -1,7 +1,7 @@
 //! The tuned version: products by a reciprocal, powers side by side in four
-//! lanes, and squarings that all columns share. A value or a row that is alone is
-//! computed as in the idiomatic version, which is quicker for it; what computes
-//! several is not inlined, so that this one can be.
+//! lanes, and squarings that all columns share. A value or a row that is alone, or
+//! one of few with a small modulus, is computed as in the idiomatic version, which
+//! is quicker for it; what computes several is not inlined, so that this one can be.
 
 use std::array::from_fn;
 
@@ -107,6 +107,12 @@ impl Modulus {
     }
 }
 
+/// Whether n values modulo m are quicker side by side. Four are; two or three are
+/// where products pass 32 bits, so that dividing takes long.
+fn side_by_side(n: usize, m: u32) -> bool {
+    n > 3 || n > 1 && m > 65_535
+}
+
 /// The values in the first lanes, and ones beyond them.
 fn lanes(values: impl Iterator<Item = u32>) -> Lanes {
     let mut lanes = [1; 4];
@@ -129,7 +135,7 @@ impl Arithmetic for Tuned {
     }
 
     fn have_order(values: &[u32], order: u32, m: u32) -> bool {
-        if values.len() == 1 {
+        if !side_by_side(values.len(), m) {
             return Idiomatic::have_order(values, order, m);
         }
         values.iter().all(|&v| in_range(v, m)) && {
@@ -140,7 +146,7 @@ impl Arithmetic for Tuned {
 
     /// A product has no divisor in common with m where no factor has.
     fn have_inverses(values: &[u32], m: u32) -> bool {
-        if values.len() == 1 {
+        if !side_by_side(values.len(), m) {
             return Idiomatic::have_inverses(values, m);
         }
         values.iter().all(|&v| in_range(v, m)) && {
@@ -152,7 +158,7 @@ impl Arithmetic for Tuned {
 
     #[inline]
     fn powers(bases: &[u32], exponent: u32, m: u32) -> Places {
-        if bases.len() == 1 {
+        if !side_by_side(bases.len(), m) {
             return Idiomatic::powers(bases, exponent, m);
         }
         Modulus::new(m).powers(bases, exponent)
@@ -160,7 +166,7 @@ impl Arithmetic for Tuned {
 
     #[inline]
     fn products(factors: &[u32], bases: &[u32], exponent: u32, m: u32) -> Places {
-        if bases.len() == 1 {
+        if !side_by_side(bases.len(), m) {
             return Idiomatic::products(factors, bases, exponent, m);
         }
         Modulus::new(m).products(factors, bases, exponent)
@@ -168,7 +174,7 @@ impl Arithmetic for Tuned {
 
     #[inline]
     fn row_products(rows: &[Places], exponents: &[u32], m: u32) -> Places {
-        if rows.len() == 1 {
+        if !side_by_side(rows.len(), m) {
             return Idiomatic::row_products(rows, exponents, m);
         }
         Modulus::new(m).row_products(rows, exponents)
