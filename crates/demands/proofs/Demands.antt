@@ -2,8 +2,9 @@
 -- Assumes nothing.
 use Rattle.examples.proofs.Pages.{worked-examples}
 use Rattle.formats.proofs.ByteLayout.{layout}
-use Rattle.formats.proofs.PatternMeaning.{patterns-mean}
 use Rattle.formats.proofs.Writers.{writers}
+use Rattle.patterns.proofs.Meaning.{patterns-mean}
+use Rattle.patterns.proofs.PatternCalls.{pattern-calls, pattern-refusals}
 use Rattle.reasons.proofs.ReasonsTrue.{reasons-true}
 use Rattle.runs.proofs.Demand1.{demand1}
 use Rattle.runs.proofs.Demand3.{demand3}
@@ -18,7 +19,10 @@ use Rattle.demands.proofs.ReadsBack.{reads-back}
 
 pub demands : Demands
 demands = record {
-  refusals = demand1;
+  refusals = record {
+    calls = demand1;
+    patterns = pattern-refusals;
+  };
   sessions = sessions;
   main-protocol = main-protocol;
   protocol = protocol;
@@ -34,5 +38,6 @@ demands = record {
   corners = worked-examples .1;
   cards = record {
     reason = reasons-true;
+    patterns = pattern-calls;
   };
 }

@@ -9,9 +9,9 @@ use Rattle.formats.specs.Write.{Writing}
 use Rattle.formats.proofs.FilesByCalls.{rewritten, appended-read}
 use Rattle.formats.proofs.Growing.{append-grows}
 use Rattle.formats.proofs.Loads.{loads}
-use Rattle.formats.proofs.Making.{make-loads}
 use Rattle.formats.proofs.SheetRoundTrip.{encode-loads, load-encodes}
 use Rattle.formats.proofs.Writing.{puts-front}
+use Rattle.patterns.proofs.Making.{make-loads}
 use Rattle.demands.specs.ReadsBack.{front, LoadsAs, ReadsBack}
 
 -- a sheet that was put at the front loads there
@@ -24,8 +24,8 @@ reads-back = record {
   encoded = λ inst buffer small short e.
       let (put, none, same) = encode-loads inst buffer small short e in
       front-loads put (none, same);
-  from-pattern = λ number modulus order challenges values statement buffer small short e.
-      let (put, none, same) = make-loads number modulus order challenges values statement buffer small short e in
+  from-pattern = λ f number m ℓ K values z buffer small short e.
+      let (put, none, same) = make-loads f number m ℓ K values z buffer e small short in
       front-loads put (none, same);
   sheet-again = λ sheet buffer bytes e fits. load-encodes sheet bytes e buffer fits;
   appended = λ sheet buffer e. appended-read sheet buffer (loads sheet .0 e);

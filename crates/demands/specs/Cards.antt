@@ -1,8 +1,12 @@
 -- What the cards of 02 ask beyond 01, a field for each card.
 -- Assumes nothing.
+use Rattle.patterns.specs.PatternCalls.{PatternCalls}
 use Rattle.reasons.specs.ReasonsTrue.{ReasonsTrue}
 
 pub record Cards : Type 0 where
   -- 1: the line on a sheet, a file or its round 0 tells the first value that breaks the first rule that is broken, or the first
   -- row whose two sides differ
   pub reason : ReasonsTrue
+  -- 2: which bytes are a pattern file and which pattern a number gives, what the sheet maker writes and what that means, and that
+  -- the shipped file gives 01's sheets
+  pub patterns : PatternCalls

@@ -8,9 +8,8 @@ use Rattle.examples.specs.Corners.{EveryCorner}
 use Rattle.examples.specs.Pages.{EveryPage}
 use Rattle.formats.specs.ByteLayout.{Layout}
 use Rattle.formats.specs.Load.{loadRefusal}
-use Rattle.formats.specs.PatternMeaning.{PatternsMean}
 use Rattle.formats.specs.Writers.{Writers}
-use Rattle.runs.specs.Demand1.{Demand1}
+use Rattle.patterns.specs.Meaning.{PatternsMean}
 use Rattle.runs.specs.Demand3.{Demand3}
 use Rattle.runs.specs.MainProtocol.{MainProtocol}
 use Rattle.runs.specs.Protocol.{Protocol}
@@ -20,11 +19,12 @@ use Rattle.demands.specs.Arithmetic.{Arithmetic}
 use Rattle.demands.specs.Cards.{Cards}
 use Rattle.demands.specs.MarksFiles.{MarksFiles}
 use Rattle.demands.specs.ReadsBack.{ReadsBack}
+use Rattle.demands.specs.Refusals.{Refusals}
 
 pub record Demands : Type 0 where
   -- 1: every call, for any bytes and any numbers, ends in a result or in one of its refusals, whose conditions are fixed, and a
   -- refused call changes neither a lent buffer nor a session
-  pub refusals : Demand1
+  pub refusals : Refusals
   -- 2: over any list of calls Peggy answers one challenge at most and keeps no nonce behind it, and Vic takes one commitment,
   -- then one challenge, then one response
   pub sessions : Sessions

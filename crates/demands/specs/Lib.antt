@@ -1,4 +1,5 @@
 -- What is demanded of the calls.
+pub mod Refusals
 pub mod Arithmetic
 pub mod ReadsBack
 pub mod MarksFiles

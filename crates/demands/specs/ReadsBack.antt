@@ -15,12 +15,12 @@ use Rattle.formats.specs.Encode.{encode}
 use Rattle.formats.specs.Load.{loadRefusal, loaded}
 use Rattle.formats.specs.Meaning.{readInstance}
 use Rattle.formats.specs.Outcome.{Puts}
-use Rattle.formats.specs.Pattern.{fromPattern, made}
 use Rattle.formats.specs.RoundCalls.{countRounds}
 use Rattle.formats.specs.RoundFile.{recordStart, widthOf}
 use Rattle.formats.specs.Rounds.{Grows, Words, appendEach, roundsRead}
 use Rattle.formats.specs.Sheet.{headerOf}
 use Rattle.formats.specs.Write.{Writing}
+use Rattle.patterns.specs.Maker.{asked, makeFrom}
 
 -- the bytes that a call has put at the front of a lent buffer
 abbrev pub front : Writing → List ℕ
@@ -35,11 +35,10 @@ pub record ReadsBack : Type 0 where
   pub encoded : (inst : Instance) (buffer : List ℕ) → inst .header .modulus < 2 ^ 32 → inst .header .order < 2 ^ 32
       → encode inst buffer .answer .refusal ≡ 0
       → LoadsAs (front (encode inst buffer)) (readInstance inst)
-  -- what the sheet maker writes loads as the pattern's entries over the public values, and z
-  pub from-pattern : (number modulus order challenges : ℕ) (values statement buffer : List ℕ) → modulus < 2 ^ 32 → order < 2 ^ 32
-      → fromPattern number modulus order challenges values statement buffer .answer .refusal ≡ 0
-      → LoadsAs (front (fromPattern number modulus order challenges values statement buffer))
-      (made number modulus order challenges values statement)
+  -- what the sheet maker writes loads as the asked pattern's entries over the public values, and z
+  pub from-pattern : (f : List ℕ) (number m ℓ K : ℕ) (values z buffer : List ℕ) → m < 2 ^ 32 → ℓ < 2 ^ 32
+      → makeFrom f number m ℓ K values z buffer .answer .refusal ≡ 0
+      → LoadsAs (front (makeFrom f number m ℓ K values z buffer)) (asked f number m ℓ K values z)
   -- a sheet that loads is written back as the same bytes from what loading gives
   pub sheet-again : (sheet buffer : List ℕ) → AllBytes sheet → loadRefusal sheet ≡ 0 → length sheet ≤ length buffer
       → Puts sheet buffer (encode (loaded sheet) buffer)

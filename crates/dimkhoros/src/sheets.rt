@@ -86,5 +86,5 @@ pub extern "C" fn dimkhoros_patterns(buffer: &mut [u8]) -> Written
     ensures answer { λ r. ⌜ r ≡ writeShipped (now (buffer .entry)) .answer ⌝ }
     ensures bytes { λ _. ⌜ now (buffer .exit) ≡ writeShipped (now (buffer .entry)) .buffer ⌝ }
 {
-    maker::write_shipped(buffer)
+    pattern_writer::write_shipped(buffer)
 }

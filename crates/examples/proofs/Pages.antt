@@ -1,6 +1,8 @@
 -- Every starred page, every line of the reason and every bound of a refusal hold of the definitions, by computation.
 -- Assumes nothing.
-use mathlib.Core.Path.{refl}
+use Prim.Native.Nat.{ℕ, _<_}
+use mathlib.Core.Path.{_≡_, refl, sym, ap, _∙_}
+use mathlib.Core.Logic.{inl}
 use mathlib.Core.List.{flatten}
 use Rattle.numbers.specs.Gcd.{euclid, gcd}
 use Rattle.numbers.specs.Integer.{residue, quotient, power, bezoutRight, bezoutLeft}
@@ -10,6 +12,7 @@ use Rattle.numbers.specs.Search.{find, any}
 use Rattle.lists.specs.Places.{eightByEight, itemsAt, tabulate, places, pad8, zeros8}
 use Rattle.rules.specs.Answer.{unlessRefused}
 use Rattle.rules.specs.Rule.{lowest}
+use Rattle.rules.proofs.Lowest.{pass, stop}
 use Rattle.encoding.specs.Bytes.{numberAt, bytesOf, bytesOfEach}
 use Rattle.encoding.specs.Text.{ascii, digits, decimal}
 use Rattle.sigma.specs.Admission.{
@@ -51,17 +54,6 @@ use Rattle.sigma.specs.Simulator.{simulated, simulateRules, simulateAfter}
 use Rattle.formats.specs.Append.{emptyFile, badInUse, appendRules, appended, appendAfter, append}
 use Rattle.formats.specs.Encode.{headerBytes, storedEntries, sheetOf, encodeRules, encode}
 use Rattle.formats.specs.Load.{badStart, badLength, shapeRules, loadRules, loadRefusal, noHeader, load, loadEntries}
-use Rattle.formats.specs.Pattern.{
-  patterns,
-  patternOf,
-  entryOf,
-  patternEntries,
-  madeHeader,
-  made,
-  badPattern,
-  makeRules,
-  fromPattern,
-}
 use Rattle.formats.specs.RoundCalls.{
   fileRules,
   roundRules,
@@ -98,6 +90,27 @@ use Rattle.formats.specs.Sheet.{
   instanceOf,
 }
 use Rattle.formats.specs.Write.{short, written, writtenAtStart}
+use Rattle.formats.proofs.Writing.{written-refusal}
+use Rattle.patterns.specs.Maker.{askedKind, askedPattern, asked, badAsked, madeRules, makeRules, makeFrom}
+use Rattle.patterns.specs.Pattern.{digit, entryOf, patternEntries, headerFor, madeFor, root}
+use Rattle.patterns.specs.PatternFile.{
+  patternMark,
+  patternVersion,
+  patternCount,
+  patternEnd,
+  patternStart,
+  patternFrom,
+  patternAt,
+  badSizes,
+  badPatternFile,
+  misnamed,
+  badDigits,
+  patternBytes,
+  patternFile,
+}
+use Rattle.patterns.specs.Table.{patterns, shipped, writeShipped}
+use Rattle.patterns.proofs.Shipped.{shipped-bytes, shipped-passes}
+use Rattle.patterns.proofs.Tests.{says-asked}
 use Rattle.runs.specs.Calls.{judgeRound, simulateCommitment, extractWitness}
 use Rattle.runs.specs.Knowledge.{honestRound}
 use Rattle.runs.specs.Marker.{
@@ -161,8 +174,13 @@ use Rattle.examples.specs.Corners.{
   manyChallenges,
   changed,
   rootBytes,
-  making,
   writingIn,
+  shippedBytes,
+  onePattern,
+  manyPatterns,
+  makingFrom,
+  making,
+  askingRoot,
   zerosFile,
   noBytes,
   counting,
@@ -193,6 +211,14 @@ use Rattle.examples.specs.Sheets.{
   rootSheet,
 }
 
+-- a number above the shipped file's count is refused with 1
+above-count : (number values statement : ℕ) → 5 < number → making number values statement ≡ 1
+unfolding making makingFrom shippedBytes makeFrom makeRules writtenAtStart patternCount numberAt
+above-count number values statement high =
+    written-refusal _ _ _ _ ∙ pass 23 _ (ap badPatternFile (sym shipped-bytes) ∙ shipped-passes .0)
+    ∙ pass 24 _ (ap badDigits (sym shipped-bytes) ∙ shipped-passes .1)
+    ∙ stop 1 _ (says-asked shippedBytes number _ _ .complete (inl high))
+
 -- both tables hold
 pub worked-examples : EveryPage × EveryCorner
 unfolding euclid gcd residue quotient power bezoutRight bezoutLeft inverse product find any itemsAt tabulate places
@@ -202,8 +228,10 @@ unfolding euclid gcd residue quotient power bezoutRight bezoutLeft inverse produ
     slotFormula formula extracted extractRules extractAfter rowImage image isExponent entry statementAt judgeRules
     judgeAfter responseCoordinate response expectedImage verdict badCommitment badChallenge badCoordinates
     badWitness simulated simulateRules simulateAfter headerBytes storedEntries sheetOf badStart badLength
-    shapeRules loadRules loadRefusal patterns patternOf entryOf patternEntries madeHeader made badPattern
-    makeRules fromPattern fileRules roundRules noRound countAfter checkAfter fetchAfter countRounds
+    shapeRules loadRules loadRefusal askedKind askedPattern asked badAsked madeRules makeRules makeFrom digit entryOf
+    patternEntries headerFor madeFor root patternMark patternVersion patternCount patternEnd patternStart patternFrom patternAt
+    badSizes badPatternFile misnamed badDigits patternBytes patternFile patterns shipped writeShipped shippedBytes onePattern
+    manyPatterns makingFrom askingRoot fileRules roundRules noRound countAfter checkAfter fetchAfter countRounds
     fetchRound roundMark fileVersion countField widthOf challengeWidth recordLength recordStart roundAt badFile
     sheetMark versionOf headerOf entryCount sheetLength zeros64 entriesOf statementOf instanceOf short written
     writtenAtStart judgeRound simulateCommitment extractWitness newline wordLine verdictText verdictLine resultLine
@@ -239,6 +267,10 @@ worked-examples = (
     refused-length = refl;
   },
   record {
+    shipped-bytes = refl;
+    refusal23 = (refl, refl);
+    refusal24 = (refl, refl);
+    above = above-count;
     refusal1 = (refl, refl);
     refusal2 = (refl, refl);
     refusal3 = (refl, refl);

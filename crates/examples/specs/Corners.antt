@@ -1,9 +1,9 @@
--- 01's refusals at their bounds ("Turned back"): for each number inputs just inside its condition's bounds, which are not
--- refused, and inputs outside, which are refused with it.
+-- The refusals of 01 ("Turned back") and of 02's cards at their bounds: for each number inputs just inside its condition's
+-- bounds, which are not refused, and inputs outside, which are refused with it.
 -- Assumes nothing.
-use Prim.Native.Nat.{ℕ}
+use Prim.Native.Nat.{ℕ, _<_}
 use mathlib.Core.Path.{_≡_}
-use mathlib.Core.List.{List, [], _∷_, _++_, map}
+use mathlib.Core.List.{List, [], _∷_, _++_, map, flatten}
 use lib.ListN.{length, replicate, take}
 use lib.Seq.{sets}
 use Rattle.types.specs.declared.Prover.{Prover}
@@ -18,8 +18,9 @@ use Rattle.examples.specs.Sheets.{schnorrSheet, sheetBytes, smallSheet}
 use Rattle.formats.specs.Append.{append, emptyFile}
 use Rattle.formats.specs.Encode.{encode}
 use Rattle.formats.specs.Load.{loadRefusal, loaded}
-use Rattle.formats.specs.Pattern.{fromPattern}
 use Rattle.formats.specs.RoundCalls.{checkRound, countRounds}
+use Rattle.patterns.specs.Maker.{makeFrom}
+use Rattle.patterns.specs.Table.{shipped, writeShipped}
 use Rattle.runs.specs.Calls.{extractWitness, simulateCommitment}
 use Rattle.runs.specs.Prover.{commit, dropSession, respond}
 use Rattle.runs.specs.Verifier.{takeChallenge, takeCommitment, takeResponse}
@@ -51,16 +52,40 @@ changed bytes at byte = sets bytes at (byte ∷ [])
 unfoldable pub rootBytes : List ℕ
 rootBytes = sheetBytes 2 35 5 5 1 1 (32 ∷ [])
 
--- the sheet maker's number for a pattern over so many public values 2 and statement values 13, m 23, q 11, K 11
-unfoldable pub making : ℕ → ℕ → ℕ → ℕ
-making pattern values statement =
-    fromPattern pattern 23 11 11 (replicate values 2) (replicate statement 13) (replicate 64 0) .answer .refusal
-
 -- the numbers of both writers for page A's sheet in a buffer of so many bytes
 unfoldable pub writingIn : ℕ → List ℕ
 writingIn size =
-    fromPattern 1 23 11 11 (2 ∷ []) (13 ∷ []) (replicate size 0) .answer .refusal ∷
+    makeFrom shipped 1 23 11 11 (2 ∷ []) (13 ∷ []) (replicate size 0) .answer .refusal ∷
     encode (loaded schnorrSheet) (replicate size 0) .answer .refusal ∷ []
+
+-- ---- pattern files
+
+-- the 34 bytes of the shipped file: mark, version and count, and the five patterns
+unfoldable pub shippedBytes : List ℕ
+shippedBytes =
+    0x50 ∷ 0x41 ∷ 0x54 ∷ 0x00 ∷ 0x01 ∷ 0x05 ∷ 0x01 ∷ 0x01 ∷ 0x01 ∷ 0x01 ∷ 0x01 ∷ 0x02 ∷ 0x02 ∷ 0x01 ∷ 0x02 ∷ 0x02 ∷ 0x01 ∷
+    0x02 ∷ 0x01 ∷ 0x02 ∷ 0x02 ∷ 0x01 ∷ 0x02 ∷ 0x01 ∷ 0x02 ∷ 0x02 ∷ 0x03 ∷ 0x03 ∷ 0x01 ∷ 0x02 ∷ 0x00 ∷ 0x03 ∷ 0x00 ∷ 0x02 ∷ []
+
+-- a file of one pattern
+unfoldable pub onePattern : ℕ → ℕ → ℕ → List ℕ → List ℕ
+onePattern rows columns values digits = 0x50 ∷ 0x41 ∷ 0x54 ∷ 0 ∷ 1 ∷ 1 ∷ rows ∷ columns ∷ values ∷ digits
+
+-- a file of so many patterns, each the first of the shipped
+unfoldable pub manyPatterns : ℕ → List ℕ
+manyPatterns n = 0x50 ∷ 0x41 ∷ 0x54 ∷ 0 ∷ 1 ∷ n ∷ flatten (replicate n (1 ∷ 1 ∷ 1 ∷ 1 ∷ []))
+
+-- the sheet maker's number for what is asked of a file, over so many public values 2 and statement values 13, m 23, q 11, K 11
+unfoldable pub makingFrom : List ℕ → ℕ → ℕ → ℕ → ℕ
+makingFrom f number values statement =
+    makeFrom f number 23 11 11 (replicate values 2) (replicate statement 13) (replicate 64 0) .answer .refusal
+
+-- for the shipped file
+unfoldable pub making : ℕ → ℕ → ℕ → ℕ
+making = makingFrom shippedBytes
+
+-- and for the root, asked of a file
+unfoldable pub askingRoot : List ℕ → ℕ
+askingRoot f = makingFrom f 0 0 1
 
 -- ---- round files of page A's sheet
 
@@ -120,13 +145,42 @@ asking c v = takeChallenge schnorrSheet v c .refusal
 unfoldable pub telling : ℕ → Verifier → ℕ
 telling r v = outcome (takeResponse schnorrSheet v (array (r ∷ [])) .verdict) .number
 
--- every refusal of 01 at its bounds
+-- every refusal of 01 and of the cards at its bounds
 pub record EveryCorner : Type 0 where
+  -- pattern files
+  pub shipped-bytes : writeShipped (replicate 34 0) .buffer ≡ shippedBytes
+  pub refusal23 :
+      Corner 23
+      (map askingRoot
+      (shippedBytes ∷ manyPatterns 1 ∷ manyPatterns 32 ∷ onePattern 8 1 1 (replicate 8 1) ∷ onePattern 1 8 1 (replicate 8 1) ∷
+      onePattern 1 8 8 (1 ∷ 2 ∷ 3 ∷ 4 ∷ 5 ∷ 6 ∷ 7 ∷ 8 ∷ []) ∷ []))
+      (map askingRoot
+      ([] ∷ take 5 shippedBytes ∷ changed shippedBytes 0 0x51 ∷ changed shippedBytes 1 0x42 ∷ changed shippedBytes 2 0x55 ∷
+      changed shippedBytes 4 0 ∷ changed shippedBytes 4 2 ∷ changed shippedBytes 3 1 ∷ manyPatterns 0 ∷ manyPatterns 33 ∷
+      changed shippedBytes 5 4 ∷ changed shippedBytes 5 6 ∷ onePattern 0 1 1 [] ∷ onePattern 9 1 1 (replicate 9 1) ∷
+      onePattern 1 0 1 [] ∷ onePattern 1 9 1 (replicate 9 1) ∷ onePattern 1 1 0 (0 ∷ []) ∷ onePattern 1 1 9 (1 ∷ []) ∷
+      take 33 shippedBytes ∷ take 26 shippedBytes ∷ (shippedBytes ++ 0 ∷ []) ∷
+      changed (changed shippedBytes 9 2) 25 9 ∷ []) ++
+      makingFrom (changed shippedBytes 25 9) 1 1 1 ∷ [])
+  pub refusal24 :
+      Corner 24
+      (map askingRoot
+      (onePattern 1 1 1 (1 ∷ []) ∷ onePattern 1 2 1 (0 ∷ 1 ∷ []) ∷ onePattern 2 1 2 (2 ∷ 1 ∷ []) ∷
+      onePattern 1 8 8 (8 ∷ 7 ∷ 6 ∷ 5 ∷ 4 ∷ 3 ∷ 2 ∷ 1 ∷ []) ∷ []))
+      (map askingRoot
+      (map (changed shippedBytes 9) (0 ∷ 2 ∷ 255 ∷ []) ++
+      changed shippedBytes 33 4 ∷ changed shippedBytes 31 2 ∷ onePattern 1 1 2 (1 ∷ []) ∷ onePattern 1 2 3 (1 ∷ 3 ∷ []) ∷
+      onePattern 1 8 8 (1 ∷ 2 ∷ 3 ∷ 4 ∷ 5 ∷ 6 ∷ 7 ∷ 7 ∷ []) ∷ []) ++
+      makingFrom (changed shippedBytes 33 4) 1 1 1 ∷ makingFrom (changed shippedBytes 9 2) 5 3 2 ∷
+      makingFrom (changed shippedBytes 9 2) 6 0 0 ∷ [])
+  -- a number above the file's count is 1, however far above
+  pub above : (number values statement : ℕ) → 5 < number → making number values statement ≡ 1
   -- sheets
   pub refusal1 :
-      Corner 1 (making 1 1 1 ∷ making 2 2 1 ∷ making 3 2 2 ∷ making 4 2 2 ∷ making 5 3 2 ∷ making 6 0 1 ∷ [])
-      (making 0 1 1 ∷ making 7 0 1 ∷ making 257 1 1 ∷ making 1 0 1 ∷ making 1 2 1 ∷ making 1 1 0 ∷ making 1 1 2 ∷
-      making 2 1 1 ∷ making 3 2 1 ∷ making 4 3 2 ∷ making 5 2 2 ∷ making 5 3 3 ∷ making 6 1 1 ∷ making 6 0 2 ∷ [])
+      Corner 1 (making 0 0 1 ∷ making 1 1 1 ∷ making 2 2 1 ∷ making 3 2 2 ∷ making 4 2 2 ∷ making 5 3 2 ∷ [])
+      (making 6 0 1 ∷ making 6 0 0 ∷ making 7 0 0 ∷ making 257 1 1 ∷ making 0 1 1 ∷ making 0 0 0 ∷ making 0 0 2 ∷
+      making 1 0 1 ∷ making 1 2 1 ∷ making 1 1 0 ∷ making 1 1 2 ∷ making 2 1 1 ∷ making 3 2 1 ∷ making 4 3 2 ∷
+      making 5 2 2 ∷ making 5 3 3 ∷ [])
   pub refusal2 :
       SheetCorner 2 (schnorrSheet ∷ [])
       ([] ∷ take 19 schnorrSheet ∷ changed schnorrSheet 0 0x49 ∷ changed schnorrSheet 1 0x4E ∷ changed schnorrSheet 2 0x4C ∷ [])
@@ -201,5 +255,8 @@ pub record EveryCorner : Type 0 where
       map (telling 4) (vic Waiting 9 3 ∷ vic Holding 9 3 ∷ vic Judged 9 3 ∷ vic Asked 5 3 ∷ vic Asked 9 11 ∷ []))
   -- buffers
   pub refusal22 :
-      Corner 22 (writingIn 28 ++ emptyFile (replicate 7 0) .answer .refusal ∷ appending 0 0 12 7 ∷ [])
-      (writingIn 27 ++ emptyFile (replicate 6 0) .answer .refusal ∷ appending 0 0 11 7 ∷ [])
+      Corner 22
+      (writingIn 28 ++
+      writeShipped (replicate 34 0) .answer .refusal ∷ emptyFile (replicate 7 0) .answer .refusal ∷ appending 0 0 12 7 ∷ [])
+      (writingIn 27 ++
+      writeShipped (replicate 33 0) .answer .refusal ∷ emptyFile (replicate 6 0) .answer .refusal ∷ appending 0 0 11 7 ∷ [])

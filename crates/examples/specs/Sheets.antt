@@ -1,10 +1,12 @@
--- The sheets of the calculator pages, as bytes. Those of one entry stand byte by byte; the others are made by the sheet maker.
+-- The sheets of the calculator pages, as bytes. Those of one entry stand byte by byte; the others are made by the sheet maker from
+-- the shipped pattern file.
 -- Assumes nothing.
 use Prim.Native.Nat.{ℕ}
 use mathlib.Core.List.{List, [], _∷_, _++_, map, flatten}
 use lib.ListN.{replicate, take}
-use Rattle.formats.specs.Pattern.{fromPattern}
 use Rattle.formats.specs.Write.{Writing}
+use Rattle.patterns.specs.Maker.{makeFrom}
+use Rattle.patterns.specs.Table.{shipped}
 
 -- a number below 256 in four bytes
 unfoldable pub fourBytes : ℕ → List ℕ
@@ -24,10 +26,10 @@ smallSheet modulus order challenges entry statement = sheetBytes 1 modulus order
 unfoldable pub schnorrSheet : List ℕ
 schnorrSheet = smallSheet 23 11 11 2 13
 
--- what the sheet maker leaves in a buffer of 64 zeros, cut to the length that it answers
+-- what the sheet maker leaves of a number of the shipped file in a buffer of 64 zeros, cut to the length that it answers
 unfoldable pub madeSheet : ℕ → ℕ → ℕ → ℕ → List ℕ → List ℕ → List ℕ
-madeSheet pattern modulus order challenges values statement =
-    let made : Writing = fromPattern pattern modulus order challenges values statement (replicate 64 0) in
+madeSheet number modulus order challenges values statement =
+    let made : Writing = makeFrom shipped number modulus order challenges values statement (replicate 64 0) in
     take (made .answer .length) (made .buffer)
 
 -- page D: two generators, 2 and 3
@@ -44,4 +46,4 @@ productSheet = madeSheet 5 23 11 11 (2 ∷ 3 ∷ 3 ∷ []) (12 ∷ 9 ∷ [])
 
 -- page G: m 35, e 5, K 5, z 32
 unfoldable pub rootSheet : List ℕ
-rootSheet = madeSheet 6 35 5 5 [] (32 ∷ [])
+rootSheet = madeSheet 0 35 5 5 [] (32 ∷ [])

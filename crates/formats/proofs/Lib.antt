@@ -12,17 +12,12 @@ pub mod Appending
 pub mod SheetWritten
 pub mod SheetRead
 pub mod SheetRoundTrip
-pub mod Patterns
-pub mod Making
-pub mod Maker
-pub mod PatternMeaning
 pub mod Records
 pub mod Rounds
 pub mod Growing
 pub mod RoundFileRoundTrip
 pub mod Part
 pub mod LongFiles
-pub mod MadeSheet
 pub mod ByteLayout
 pub mod FilesByCalls
 pub mod Writers

@@ -10,7 +10,6 @@ use Rattle.sigma.specs.Instance.{Instance}
 use Rattle.formats.specs.Append.{appendRules}
 use Rattle.formats.specs.Encode.{encodeRules}
 use Rattle.formats.specs.Load.{shapeRules, loadRules}
-use Rattle.formats.specs.Pattern.{makeRules}
 use Rattle.formats.specs.RoundCalls.{fileRules, roundRules}
 
 -- loading a sheet
@@ -22,12 +21,6 @@ load-positive s = tt
 pub encode-positive : (i : Instance) (buffer : List ℕ) → T (allPositive (encodeRules i buffer))
 unfolding encodeRules headerRules elementRules
 encode-positive i buffer = tt
-
--- the sheet maker
-pub make-positive : (number : ℕ) (values statement : List ℕ) (i : Instance) (buffer : List ℕ)
-    → T (allPositive (makeRules number values statement i buffer))
-unfolding makeRules
-make-positive number values statement i buffer = tt
 
 -- counting rounds
 pub count-positive : (s : List ℕ) (h : Header) (f : List ℕ) → T (allPositive (loadRules s ++ fileRules h f))

@@ -15,15 +15,12 @@ use Rattle.sigma.specs.Admission.{headerRules, elementRules}
 use Rattle.sigma.specs.Instance.{Instance}
 use Rattle.sigma.specs.Refusals.{headerConditions, elementConditions}
 use Rattle.sigma.proofs.Refusals.{header-tests, element-tests}
-use Rattle.sigma.proofs.Tests.{says-someNonElement, says-badModulus, says-badOrder, says-badCount, says-badStatement}
 use Rattle.formats.specs.Append.{appendRules}
 use Rattle.formats.specs.Encode.{encodeRules}
 use Rattle.formats.specs.Load.{badLength, shapeRules, loadRules}
-use Rattle.formats.specs.Pattern.{makeRules}
 use Rattle.formats.specs.Refusals.{
   loadConditions,
   encodeConditions,
-  makeConditions,
   fileConditions,
   roundConditions,
   emptyConditions,
@@ -34,7 +31,6 @@ use Rattle.formats.specs.RoundFile.{countField, noRounds, recordLength, 
 use Rattle.formats.specs.Sheet.{headerOf, instanceOf, sheetLength, versionOf}
 use Rattle.formats.specs.Write.{short}
 use Rattle.formats.proofs.Tests.{
-  says-badPattern,
   says-badStart,
   says-badLength,
   says-badFile,
@@ -63,32 +59,6 @@ encode-tests i buffer =
     (tests-append (headerRules (i .header)) (elementRules i) (headerConditions (i .header)) (elementConditions i)
     (header-tests (i .header)) (element-tests i))
     (refl, says-short buffer needed, tt)
-
--- 1, 5, 6, 8, 10, 11 and 22 of the sheet maker
-pub make-tests : (number : ℕ) (values statement : List ℕ) (i : Instance) (buffer : List ℕ)
-    → Tests (makeRules number values statement i buffer) (makeConditions number values statement i buffer)
-unfolding makeRules
-make-tests number values statement i buffer = (
-  refl,
-  says-badPattern number values statement,
-  (
-    refl,
-    says-badModulus (i .header),
-    (
-      refl,
-      says-badOrder (i .header),
-      (
-        refl,
-        says-badCount (i .header),
-        (
-          refl,
-          says-someNonElement (i .header) (length values) values,
-          (refl, says-badStatement i, (refl, says-short buffer (sheetLength (i .header)), tt)),
-        ),
-      ),
-    ),
-  ),
-)
 
 -- 12 of a round file
 pub file-tests : (h : Header) (f : List ℕ) → Tests (fileRules h f) (fileConditions h f)

@@ -1,4 +1,4 @@
--- What each test of bytes says: it is true exactly when 01's condition holds ("Turned back", 1, 2, 9, 12 and 22).
+-- What each test of bytes says: it is true exactly when 01's condition holds ("Turned back", 2, 9, 12 and 22).
 -- Assumes nothing.
 use Prim.Native.Nat.{ℕ, _<_, _≤_}
 use mathlib.Core.Logic.{_⊎_, _≢_}
@@ -12,25 +12,12 @@ use Rattle.sigma.specs.Reads.{Differ}
 use Rattle.sigma.proofs.Comparison.{says-differ}
 use Rattle.formats.specs.Append.{badInUse}
 use Rattle.formats.specs.Load.{badStart, badLength}
-use Rattle.formats.specs.Pattern.{patternOf, badPattern}
 use Rattle.formats.specs.Refusals.{Refusal12}
 use Rattle.formats.specs.RoundFile.{badFile, challengeWidth, countField, fileVersion, recordStart, roundMark}
 use Rattle.formats.specs.Sheet.{headerOf, sheetLength, sheetMark}
 use Rattle.formats.specs.Write.{short}
 
 -- ---- sheets
-
--- 1: the pattern number is outside 1 to 6, or a count of values is wrong
-pub says-badPattern : (number : ℕ) (values statement : List ℕ)
-    → Says (badPattern number values statement)
-    ((number < 1) ⊎ (6 < number) ⊎ (length values ≢ patternOf number .values) ⊎ (length statement ≢ patternOf number .rows))
-unfolding badPattern
-says-badPattern number values statement =
-    simp or-assoc
-    (says-or (says-less number 1)
-    (says-or (says-less 6 number)
-    (says-or (says-not (says-equal (length values) (patternOf number .values)))
-    (says-not (says-equal (length statement) (patternOf number .rows))))))
 
 -- 2: under 20 bytes, or another mark
 pub says-badStart : (s : List ℕ) → Says (badStart s) ((length s < 20) ⊎ Differ 3 s sheetMark)

@@ -8,7 +8,6 @@ use Rattle.formats.specs.RoundFile.{noRounds, roundMark}
 use Rattle.formats.specs.Sheet.{headerOf}
 use Rattle.formats.specs.Writers.{Writers}
 use Rattle.formats.proofs.Appending.{append-adds}
-use Rattle.formats.proofs.Making.{make-puts}
 use Rattle.formats.proofs.Unread.{append-same, encode-same, read-same}
 use Rattle.formats.proofs.Writing.{empty-puts, encode-puts}
 
@@ -16,7 +15,6 @@ pub writers : Writers
 unfolding noRounds roundMark ascii bytesOf
 writers = record {
   encoded = encode-puts;
-  made-sheet = make-puts;
   empty = empty-puts;
   appended = append-adds;
   values-read = λ inst buffer. sym (encode-same (read-same inst) buffer);

@@ -3,7 +3,6 @@ pub mod Sheet
 pub mod Load
 pub mod Write
 pub mod Encode
-pub mod Pattern
 pub mod RoundFile
 pub mod RoundCalls
 pub mod Append
@@ -13,4 +12,3 @@ pub mod Outcome
 pub mod Rounds
 pub mod ByteLayout
 pub mod Writers
-pub mod PatternMeaning

@@ -1,18 +1,15 @@
--- What 01 says of bytes, as facts: a sheet that loads, a sheet that is made, a round file of a sheet, and what is read of a
--- sheet's values.
+-- What 01 says of bytes, as facts: a sheet that loads, a round file of a sheet, and what is read of a sheet's values.
 -- Assumes nothing.
 use Prim.Native.Nat.{ℕ, _<_, _≤_}
 use mathlib.Core.Path.{_≡_}
 use mathlib.Core.Bool.{cond}
 use mathlib.Core.List.{List}
-use lib.ListN.{length, getD, take}
+use lib.ListN.{length, take}
 use Rattle.types.specs.declared.Header.{Header}
 use Rattle.lists.specs.Places.{eightByEight, pad8, places}
-use Rattle.sigma.specs.Element.{Element}
 use Rattle.sigma.specs.Instance.{Instance, tableOf, entry, isExponent}
 use Rattle.sigma.specs.Reads.{Agree}
 use Rattle.sigma.specs.Valid.{Valid}
-use Rattle.formats.specs.Pattern.{made, madeHeader, patternOf}
 use Rattle.formats.specs.RoundFile.{challengeWidth, countField, fileVersion, recordStart, roundMark}
 use Rattle.formats.specs.Sheet.{headerOf, instanceOf, sheetLength, sheetMark, versionOf, zeros64}
 
@@ -53,12 +50,3 @@ readInstance i =
           cond (isExponent (i .header)) (eightByEight (i .header .rows) (i .header .columns) (entry (tableOf i))) zeros64;
       statement = pad8 0 (places (i .header .rows) (i .statement));
     }
-
--- none of 1, 5, 6, 8, 10 and 11 applies to what the sheet maker is given
-pub record Makes (number modulus order challenges : ℕ) (values statement : List ℕ) : Type 0 where
-  pub low : 1 ≤ number
-  pub high : number ≤ 6
-  pub values-count : length values ≡ patternOf number .values
-  pub statement-count : length statement ≡ patternOf number .rows
-  pub values-elements : (j : ℕ) → j < length values → Element (madeHeader number modulus order challenges) (getD values j 0)
-  pub valid : Valid (made number modulus order challenges values statement)

@@ -1,4 +1,4 @@
--- The conditions of 01's refusals on bytes ("Turned back", 1 to 3, 9, 12, 13 and 22), as facts, and which of them each call
+-- The conditions of 01's refusals on bytes ("Turned back", 2, 3, 9, 12, 13 and 22), as facts, and which of them each call
 -- asks, in order.
 -- Assumes nothing.
 use Prim.Native.Nat.{ℕ, _+_, _<_, _≤_}
@@ -9,16 +9,7 @@ use Rattle.types.specs.declared.Header.{Header}
 use Rattle.rules.specs.Condition.{Condition, _if_}
 use Rattle.sigma.specs.Instance.{Instance}
 use Rattle.sigma.specs.Reads.{Differ}
-use Rattle.sigma.specs.Refusals.{
-  Refusal5,
-  Refusal6,
-  Refusal8,
-  Refusal11,
-  SomeNonElement,
-  headerConditions,
-  elementConditions,
-}
-use Rattle.formats.specs.Pattern.{patternOf}
+use Rattle.sigma.specs.Refusals.{headerConditions, elementConditions}
 use Rattle.formats.specs.RoundFile.{
   challengeWidth,
   countField,
@@ -48,19 +39,6 @@ loadConditions s =
 abbrev pub encodeConditions : Instance → List ℕ → List Condition
 encodeConditions inst buffer =
     headerConditions (inst .header) ++ elementConditions inst ++ (22 if (length buffer < sheetLength (inst .header))) ∷ []
-
--- the sheet maker; 1 is for a pattern number outside 1 to 6 or a wrong count of public or statement values
-abbrev pub makeConditions : ℕ → List ℕ → List ℕ → Instance → List ℕ → List Condition
-makeConditions number values statement inst buffer =
-    (1 if
-    ((number < 1) ⊎ (6 < number) ⊎ (length values ≢ patternOf number .values) ⊎
-    (length statement ≢ patternOf number .rows))) ∷
-    (5 if Refusal5 (inst .header)) ∷
-    (6 if Refusal6 (inst .header)) ∷
-    (8 if Refusal8 (inst .header)) ∷
-    (10 if SomeNonElement (inst .header) (length values) values) ∷
-    (11 if Refusal11 inst) ∷
-    (22 if (length buffer < sheetLength (inst .header))) ∷ []
 
 -- a round file
 abbrev pub fileConditions : Header → List ℕ → List Condition

@@ -11,18 +11,12 @@ use Rattle.formats.specs.Append.{append, emptyFile}
 use Rattle.formats.specs.Encode.{encode, sheetOf}
 use Rattle.formats.specs.Meaning.{readInstance}
 use Rattle.formats.specs.Outcome.{Adds, Puts}
-use Rattle.formats.specs.Pattern.{fromPattern, made}
 use Rattle.formats.specs.Sheet.{headerOf}
 
 pub record Writers : Type 0 where
   -- the second writer puts the sheet of its values at the buffer's start
   pub encoded : (inst : Instance) (buffer : List ℕ) → encode inst buffer .answer .refusal ≡ 0
       → Puts (sheetOf inst) buffer (encode inst buffer)
-  -- the sheet maker puts the sheet of the pattern there
-  pub made-sheet : (number modulus order challenges : ℕ) (values statement buffer : List ℕ)
-      → fromPattern number modulus order challenges values statement buffer .answer .refusal ≡ 0
-      → Puts (sheetOf (made number modulus order challenges values statement)) buffer
-      (fromPattern number modulus order challenges values statement buffer)
   -- a file of no rounds is seven bytes
   pub empty : (buffer : List ℕ) → emptyFile buffer .answer .refusal ≡ 0
       → Puts (0x52 ∷ 0x4E ∷ 0x44 ∷ 0 ∷ 1 ∷ 0 ∷ 0 ∷ []) buffer (emptyFile buffer)

@@ -1,17 +1,16 @@
 -- The number of a sheet's entries and statement, 10 and 11, test by test.
 -- Assumes nothing.
-use Prim.Native.Nat.{ℕ, _+_, _<_, _≤_}
+use Prim.Native.Nat.{ℕ, _<_, _≤_}
 use mathlib.Core.Path.{_≡_, refl, sym, _∙_}
 use mathlib.Core.Logic.{_≢_}
 use mathlib.Core.Bool.{Bool, true, false}
 use mathlib.Core.List.{List, []}
-use native.Mathlib.Numerals.{add-one}
 use native.Mathlib.Omega.{arith}
 use lib.ListN.{getD}
 use borrow.Author.Tests.{eq-eqb, ne-eqb}
 use Rattle.types.specs.declared.Header.{Header}
 use Rattle.numbers.specs.Search.{any}
-use Rattle.numbers.proofs.Search.{any-false, any-of, any-suc}
+use Rattle.numbers.proofs.Search.{any-of}
 use Rattle.rules.specs.Rule.{lowest}
 use Rattle.rules.proofs.Lowest.{pass, stop, lowest-clear}
 use Rattle.sigma.specs.Admission.{badEntries, badStatement, elementRules}
@@ -29,14 +28,6 @@ module _ (h : Header) (entries : List (List ℕ)) where
   pub row-test : (i : ℕ) {bad : Bool} → bad ≡ someNonElement h (h .columns) (getD entries i []) → isBadRow h entries i ≡ bad
   unfolding isBadRow
   row-test i told = sym told
-
-  -- before the first row there is no bad one
-  pub rows-start : any 0 (isBadRow h entries) ≡ false
-  rows-start = any-false 0 (isBadRow h entries) .1 (λ j b. absurd (omega arith))
-
-  -- one good row more
-  pub rows-on : (i : ℕ) → any i (isBadRow h entries) ≡ false → isBadRow h entries i ≡ false → any (i + 1) (isBadRow h entries) ≡ false
-  rows-on i before good = rw (add-one i) (any-suc i (isBadRow h entries) ∙ rw (before, good))
 
   module _ (kind : h .kind ≡ 1) where
     -- a bad row is met

@@ -1,4 +1,3 @@
 -- Definitions of the sheet maker's inner functions.
 pub mod Passes
 pub mod Rows
-pub mod Stored

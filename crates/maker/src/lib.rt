@@ -1,7 +1,6 @@
-// The sheet maker over pattern files, and the file of 01's first five patterns that is shipped (02, card 2). Both put what they
-// write at the start of the lent buffer and change no byte after it; a refused call changes no byte.
+// The sheet maker over pattern files (02, card 2): it puts the sheet at the start of the lent buffer and changes no byte after it; a
+// refused call changes no byte.
 mod entries; // entries.rt: the entries that a pattern's digits stand for
-mod shipped; // shipped.rt: the constant table of the shipped patterns, and its file
 
 use crate::entries::eight_of;
 use crate::entries::entries_of;
@@ -9,7 +8,6 @@ use fields::read_u8;
 use pattern_file::file_refusal;
 use pattern_file::sizes_at;
 use pattern_file::start_of;
-pub use shipped::write_shipped;
 use types::Header;
 use types::Written;
 use writer::encode;

@@ -158,3 +158,26 @@ any-suc n p = go (any n p) (p n) refl refl
           | yes before ↦ any-false n p .0 e j before
           | no after ↦ ap p {y = n} (omega arith) ∙ last
         ])
+
+-- ---- a loop that stops at the first place at which the test passes
+
+module _ (p : ℕ → Bool) where
+  -- before the first place none has passed
+  pub any-start : any 0 p ≡ false
+  any-start = any-false 0 p .1 (λ j b. absurd (omega arith))
+
+  module _ (i : ℕ) where
+    -- a place more at which the test fails
+    pub any-on : any i p ≡ false → p i ≡ false → any (i + 1) p ≡ false
+    any-on before fails = rw (add-one i) (any-suc i p ∙ rw (before, fails))
+
+    module _ (n : ℕ) where
+      -- a place at which it passes
+      pub any-here : i < n → p i ≡ true → true ≡ any n p
+      any-here inside holds = sym (any-of n p i inside holds)
+
+      -- behind the last place none has passed
+      pub any-end : i ≤ n → n ≤ i → any i p ≡ false → false ≡ any n p
+      any-end within past none =
+          let all : i ≡ n = omega arith in
+          sym (rw all at none)

@@ -1,5 +1,4 @@
 -- Laws that the proofs of the functions cite, by topic.
-pub mod Search
 pub mod Walk
 pub mod FileTest
 pub mod Naming

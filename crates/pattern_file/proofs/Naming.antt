@@ -5,7 +5,6 @@ use mathlib.Core.Path.{_≡_, ap, ap₂, _∙_}
 use mathlib.Core.Bool.{Bool, true, false, not, _||_}
 use mathlib.Core.List.{List}
 use lib.Dec.{eqb, ltb}
-use lib.ListN.{getD}
 use Rattle.lists.proofs.Places.{getD-tabulate}
 use Rattle.numbers.proofs.Search.{any-agree}
 use Rattle.patterns.specs.PatternFile.{misnamed, patternAt, patternFrom, patternStart}

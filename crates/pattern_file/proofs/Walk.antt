@@ -11,12 +11,11 @@ use lib.Dec.{eqb}
 use lib.ListN.{length}
 use borrow.Author.Tests.{ne-eqb}
 use Rattle.numbers.specs.Search.{any}
-use Rattle.numbers.proofs.Search.{any-of}
+use Rattle.numbers.proofs.Search.{any-end, any-of, any-on, any-start}
 use Rattle.patterns.specs.PatternFile.{badSizes, patternAt, patternCount, patternFrom, patternStart}
 use Rattle.patterns.proofs.Files.{Filed, start-next, start-rises, start-step, start-within}
 use Rattle.pattern_file.specs.declared.layout.Sizes.{Sizes}
 use Rattle.pattern_file.specs.Walk.{badPatterns, sizesAt, wrongSizes}
-use Rattle.pattern_file.proofs.Search.{none-found, none-still, none-yet}
 
 -- a test beside one that holds
 or-holds : (b : Bool) → true ≡ (b || true)
@@ -30,7 +29,7 @@ module _ (f : List ℕ) where
 
   -- before the first there is none
   pub sized-yet : SizedBefore 0
-  sized-yet = none-yet _
+  sized-yet = any-start _
 
   -- behind the last the file's end decides
   pub walk-end : {at : ℕ} (k count : ℕ) → at ≡ patternStart f k → SizedBefore k → k ≤ count → count ≤ k
@@ -38,7 +37,7 @@ module _ (f : List ℕ) where
   unfolding badPatterns
   walk-end {at} k count here sized within past =
       let all : k ≡ count = omega arith in
-      rw (sym (none-found (λ i. badSizes (patternAt f i)) k count within past sized), here, all)
+      rw (sym (any-end (λ i. badSizes (patternAt f i)) k count within past sized), here, all)
 
   -- where the next pattern begins
   pub next-start : {at : ℕ} {p : Sizes} (k : ℕ) → at ≡ patternStart f k → p ≡ sizesAt f at
@@ -75,7 +74,7 @@ module _ (f : List ℕ) where
 
       -- a pattern of right sizes more
       pub sized-still : SizedBefore k → wrongSizes p ≡ false → SizedBefore (k + 1)
-      sized-still sized right = none-still _ k sized (sym sizes-test ∙ right)
+      sized-still sized right = any-on _ k sized (sym sizes-test ∙ right)
 
   module _ {at : ℕ} (k : ℕ) (here : at ≡ patternStart f k) (filed : Filed f) (inside : k < patternCount f) where
     -- in a file that 23 lets through the sizes of a pattern lie within it

@@ -1,11 +1,9 @@
 -- What 02's second card asks holds of the definitions.
 -- Assumes nothing.
-use Prim.Native.Nat.{ℕ, suc, _+_, _*_, _%_, _^_, _<_}
-use mathlib.Core.Path.{_≡_, refl, sym, ap, ap₂, _∙_, subst}
+use Prim.Native.Nat.{ℕ, suc}
+use mathlib.Core.Path.{_≡_, refl, sym, ap, ap₂, _∙_}
 use mathlib.Core.List.{List}
-use lib.ListN.{getD}
 use Rattle.lists.specs.Places.{itemsAt, tabulate, zeros8}
-use Rattle.numbers.specs.Product.{product}
 use Rattle.rules.specs.Order.{isSublist, refusalOrder}
 use Rattle.rules.specs.Refuses.{conditionNumbers}
 use Rattle.rules.proofs.Refuses.{refuses-tested}
@@ -14,7 +12,7 @@ use Rattle.sigma.specs.Instance.{Instance, entry, isExponent, tableOf}
 use Rattle.formats.specs.Sheet.{zeros64}
 use Rattle.formats.specs.Write.{written, writtenAtStart}
 use Rattle.patterns.specs.Maker.{asked, askedKind, askedPattern, makeFrom}
-use Rattle.patterns.specs.Pattern.{Pattern, digit, entryOf, headerFor, madeFor, root}
+use Rattle.patterns.specs.Pattern.{Pattern, digit, headerFor, madeFor, root}
 use Rattle.patterns.specs.PatternCalls.{PatternCalls, PatternRefusals}
 use Rattle.patterns.specs.Table.{writeShipped}
 use Rattle.patterns.proofs.Files.{not-23}
@@ -26,6 +24,7 @@ use Rattle.patterns.proofs.Shipped.{
   asks-root,
   old-sheet,
   old-values,
+  others,
   same,
   same-values,
   shipped-bytes,
@@ -78,6 +77,7 @@ pattern-calls = record {
   ships = shipped-puts;
   same = same;
   same-root = old-sheet asks-root;
+  others = others;
   same-values = same-values;
   same-root-values = old-values asks-root;
 }

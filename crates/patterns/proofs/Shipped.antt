@@ -2,6 +2,7 @@
 -- Assumes nothing.
 use Prim.Native.Nat.{ℕ, _<_, _≤_}
 use mathlib.Core.Path.{_≡_, refl, sym, ap, ap₂, _∙_}
+use mathlib.Core.Logic.{_⊎_, inl}
 use mathlib.Core.Bool.{Bool, false, cond}
 use mathlib.Core.List.{List, [], _∷_, flatten}
 use native.Mathlib.Omega.{arith}
@@ -14,12 +15,13 @@ use Rattle.lists.specs.Places.{itemsAt, tabulate}
 use Rattle.numbers.specs.Search.{any, find}
 use Rattle.rules.specs.Condition.{Tests}
 use Rattle.rules.specs.Rule.{_when_, lowest}
-use Rattle.rules.proofs.Lowest.{clear-lowest, pass}
+use Rattle.rules.proofs.Lowest.{clear-lowest, pass, stop}
+use Rattle.rules.proofs.Says.{says-less, says-or, says-true}
 use Rattle.sigma.specs.Comparison.{differ, firstDifference}
 use Rattle.sigma.specs.Instance.{Instance}
 use Rattle.formats.specs.Encode.{sheetOf}
 use Rattle.formats.specs.Outcome.{Keeps, Puts}
-use Rattle.formats.specs.Write.{Writing, short, written, writtenAtStart}
+use Rattle.formats.specs.Write.{short, written, writtenAtStart}
 use Rattle.formats.proofs.Tests.{says-short}
 use Rattle.formats.proofs.Writing.{short-passes, start-written, written-refusal, written-refused}
 use Rattle.patterns.specs.Maker.{asked, askedKind, askedPattern, badAsked, madeRules, makeFrom, makeRules}
@@ -45,10 +47,14 @@ use Rattle.patterns.proofs.Meaning.{by-number}
 
 -- ---- its bytes
 
--- the 34 bytes of the old five
-pub shipped-bytes : shipped
-    ≡ 0x50 ∷ 0x41 ∷ 0x54 ∷ 0 ∷ 1 ∷ 5 ∷ 1 ∷ 1 ∷ 1 ∷ 1 ∷ 1 ∷ 2 ∷ 2 ∷ 1 ∷ 2 ∷ 2 ∷ 1 ∷ 2 ∷ 1 ∷ 2 ∷ 2 ∷ 1 ∷ 2 ∷ 1 ∷ 2 ∷
+-- the bytes of the old five
+abbrev pub thirtyFour : List ℕ
+thirtyFour =
+    0x50 ∷ 0x41 ∷ 0x54 ∷ 0 ∷ 1 ∷ 5 ∷ 1 ∷ 1 ∷ 1 ∷ 1 ∷ 1 ∷ 2 ∷ 2 ∷ 1 ∷ 2 ∷ 2 ∷ 1 ∷ 2 ∷ 1 ∷ 2 ∷ 2 ∷ 1 ∷ 2 ∷ 1 ∷ 2 ∷
     2 ∷ 3 ∷ 3 ∷ 1 ∷ 2 ∷ 0 ∷ 3 ∷ 0 ∷ 2 ∷ []
+
+-- they are the file
+pub shipped-bytes : shipped ≡ thirtyFour
 unfolding shipped patternFile patternBytes patternMark ascii bytesOf patterns flatten
 shipped-bytes = refl
 
@@ -78,55 +84,40 @@ module _ (buffer : List ℕ) where
 -- ---- its sheets
 
 -- neither 23 nor 24 applies to it
-shipped-passes : (badPatternFile shipped ≡ false) × (badDigits shipped ≡ false)
+pub shipped-passes : (badPatternFile shipped ≡ false) × (badDigits shipped ≡ false)
 unfolding badPatternFile badDigits badSizes misnamed patternAt patternCount patternEnd patternFrom patternMark patternStart
     patternVersion differ firstDifference any find numberAt ascii tabulate itemsAt
 shipped-passes = (ap badPatternFile shipped-bytes, ap badDigits shipped-bytes)
 
--- the number asks the shipped file for what 01 has under the old one, with the same counts of values
-pub record Asks (number old : ℕ) : Type 0 where
+-- the number asks a file for what 01 has under the old one, with the same counts of values
+pub record Asks (f : List ℕ) (number old : ℕ) : Type 0 where
   pub kind : askedKind number ≡ kindOf old
-  pub pattern : askedPattern shipped number ≡ patternOf old
-  pub counts : (values statement : List ℕ) → badAsked shipped number values statement ≡ badPattern old values statement
+  pub pattern : askedPattern f number ≡ patternOf old
+  pub counts : (values statement : List ℕ) → badAsked f number values statement ≡ badPattern old values statement
 
--- 0 asks for 01's 6, and 1 to 5 for 01's
-asks-old : (old : ℕ) → 1 ≤ old → old ≤ 6 → Asks (cond (eqb old 6) 0 old) old
+-- of these bytes 0 asks for 01's 6, and 1 to 5 for 01's
+asks-read : (old : ℕ) → 1 ≤ old → old ≤ 6 → Asks thirtyFour (cond (eqb old 6) 0 old) old
 unfolding askedKind kindOf askedPattern patternOf patterns root badAsked badPattern patternAt patternCount patternEnd patternFrom
     patternStart numberAt tabulate itemsAt
-asks-old =
-    by-number (λ n. Asks (cond (eqb n 6) 0 n) n)
-    (record {
-      kind = refl;
-      pattern = ap (λ (f : List ℕ). askedPattern f 1) shipped-bytes;
-      counts = λ values statement. ap (λ (f : List ℕ). badAsked f 1 values statement) shipped-bytes;
-    })
-    (record {
-      kind = refl;
-      pattern = ap (λ (f : List ℕ). askedPattern f 2) shipped-bytes;
-      counts = λ values statement. ap (λ (f : List ℕ). badAsked f 2 values statement) shipped-bytes;
-    })
-    (record {
-      kind = refl;
-      pattern = ap (λ (f : List ℕ). askedPattern f 3) shipped-bytes;
-      counts = λ values statement. ap (λ (f : List ℕ). badAsked f 3 values statement) shipped-bytes;
-    })
-    (record {
-      kind = refl;
-      pattern = ap (λ (f : List ℕ). askedPattern f 4) shipped-bytes;
-      counts = λ values statement. ap (λ (f : List ℕ). badAsked f 4 values statement) shipped-bytes;
-    })
-    (record {
-      kind = refl;
-      pattern = ap (λ (f : List ℕ). askedPattern f 5) shipped-bytes;
-      counts = λ values statement. ap (λ (f : List ℕ). badAsked f 5 values statement) shipped-bytes;
-    })
-    (record {
-      kind = refl;
-      pattern = ap (λ (f : List ℕ). askedPattern f 0) shipped-bytes;
-      counts = λ values statement. ap (λ (f : List ℕ). badAsked f 0 values statement) shipped-bytes;
-    })
+asks-read =
+    by-number (λ n. Asks thirtyFour (cond (eqb n 6) 0 n) n)
+    (record { kind = refl; pattern = refl; counts = λ values z. refl })
+    (record { kind = refl; pattern = refl; counts = λ values z. refl })
+    (record { kind = refl; pattern = refl; counts = λ values z. refl })
+    (record { kind = refl; pattern = refl; counts = λ values z. refl })
+    (record { kind = refl; pattern = refl; counts = λ values z. refl })
+    (record { kind = refl; pattern = refl; counts = λ values z. refl })
 
-module _ {number old : ℕ} (asks : Asks number old) (m ℓ K : ℕ) (values z : List ℕ) where
+-- so 1 to 5 ask the shipped file for what they asked for
+asks-same : (number : ℕ) → 1 ≤ number → number ≤ 5 → Asks shipped number number
+asks-same number low high =
+    rw shipped-bytes (rw (ne-eqb number 6 (λ (e : number ≡ 6). omega arith)) at (asks-read number low (omega arith)))
+
+-- and 0 asks it for the root
+pub asks-root : Asks shipped 0 6
+asks-root = rw shipped-bytes (asks-read 6 (omega arith) (omega arith))
+
+module _ {number old : ℕ} (asks : Asks shipped number old) (m ℓ K : ℕ) (values z : List ℕ) where
   -- the sheet that is asked for is 01's, value by value
   pub old-values : asked shipped number m ℓ K values z ≡ made old m ℓ K values z
   unfolding asked made
@@ -141,19 +132,21 @@ module _ {number old : ℕ} (asks : Asks number old) (m ℓ K : ℕ) (values z :
       ∙ ap₂ (λ (b : Bool) (i : Instance). lowest ((1 when b) ∷ madeRules values i buffer)) (asks .counts values z) old-values in
       ap₂ (λ (n : ℕ) (i : Instance). writtenAtStart n (sheetOf i) buffer) number-same old-values
 
--- 1 to 5 are asked for as such
-asks-same : (number : ℕ) → 1 ≤ number → number ≤ 5 → Asks number number
-asks-same number low high =
-    rw (ne-eqb number 6 (λ (e : number ≡ 6). omega arith)) at (asks-old number low (omega arith))
-
+-- 1 to 5 give what they gave
 pub same : (number m ℓ K : ℕ) (values z buffer : List ℕ) → 1 ≤ number → number ≤ 5
     → makeFrom shipped number m ℓ K values z buffer ≡ fromPattern number m ℓ K values z buffer
 same number m ℓ K values z buffer low high = old-sheet (asks-same number low high) m ℓ K values z buffer
 
+-- value by value too
 pub same-values : (number m ℓ K : ℕ) (values z : List ℕ) → 1 ≤ number → number ≤ 5
     → asked shipped number m ℓ K values z ≡ made number m ℓ K values z
 same-values number m ℓ K values z low high = old-values (asks-same number low high) m ℓ K values z
 
--- and the root as 0
-pub asks-root : Asks 0 6
-asks-root = asks-old 6 (omega arith) (omega arith)
+-- 01's sheet maker gives every number outside 1 to 6 the number 1
+pub others : (number m ℓ K : ℕ) (values z buffer : List ℕ) → (number < 1) ⊎ (6 < number)
+    → fromPattern number m ℓ K values z buffer .answer .refusal ≡ 1
+unfolding fromPattern writtenAtStart badPattern
+others number m ℓ K values z buffer outside =
+    let test = says-or (says-or (says-less number 1) (says-less 6 number)) (says-true _) in
+    let bad = says-or test (says-true _) .complete (inl (inl outside)) in
+    written-refusal _ _ _ _ ∙ stop 1 _ bad

@@ -31,16 +31,7 @@ use Rattle.formats.proofs.Loads.{begins}
 use Rattle.patterns.specs.Maker.{askedPattern}
 use Rattle.patterns.specs.Pattern.{Pattern, root}
 use Rattle.patterns.specs.PatternCalls.{Named, Sized, Spells}
-use Rattle.patterns.specs.PatternFile.{
-  patternAt,
-  patternBytes,
-  patternCount,
-  patternEnd,
-  patternFrom,
-  patternMark,
-  patternStart,
-  patternVersion,
-}
+use Rattle.patterns.specs.PatternFile.{patternAt, patternBytes, patternCount, patternFrom, patternMark, patternStart, patternVersion}
 use Rattle.patterns.specs.Refusals.{Misnamed, Refusal24}
 use Rattle.patterns.proofs.Files.{Filed, named, start-next, start-within}
 use Rattle.patterns.proofs.Maker.{asked-pattern}
@@ -146,14 +137,14 @@ read-back f pre rest p s e =
     let behind : (j : ℕ) → getD f (at + j) 0 ≡ getD (patternBytes p ++ rest) j 0 =
     λ j. ap (λ (l : List ℕ). getD l (at + j) 0) e ∙ getD-append-add pre (patternBytes p ++ rest) j 0 in
     let rows : getD f at 0 ≡ p .rows = ap (λ (k : ℕ). getD f k 0) (sym (add-zero at)) ∙ behind 0 in
-    let area : getD f at 0 * getD f (at + 1) 0 ≡ length (p .digits) = ap₂ (λ (r c : ℕ). r * c) rows (behind 1) ∙ sym (s .digits) in
-    let digits : tabulate (getD f at 0 * getD f (at + 1) 0) (λ d. getD f (at + 3 + d) 0) ≡ p .digits =
-    ext-getD 0 (tabulate (getD f at 0 * getD f (at + 1) 0) (λ d. getD f (at + 3 + d) 0)) (p .digits)
-    (length-tabulate _ _ ∙ area) (λ d b.
-    let inside : d < getD f at 0 * getD f (at + 1) 0 = omega (arith, length-tabulate (getD f at 0 * getD f (at + 1) 0) (λ d. getD f (at + 3 + d) 0)) in
+    let n = getD f at 0 * getD f (at + 1) 0 in
+    let area : n ≡ length (p .digits) = ap₂ (λ (r c : ℕ). r * c) rows (behind 1) ∙ sym (s .digits) in
+    let many = length-tabulate n (λ d. getD f (at + 3 + d) 0) in
+    let digits : tabulate n (λ d. getD f (at + 3 + d) 0) ≡ p .digits =
+    ext-getD 0 (tabulate n (λ d. getD f (at + 3 + d) 0)) (p .digits) (many ∙ area) (λ d b.
     let place : at + 3 + d ≡ at + suc (suc (suc d)) = omega arith in
-    getD-tabulate _ (λ d. getD f (at + 3 + d) 0) d 0 inside ∙ ap (λ (k : ℕ). getD f k 0) place ∙ behind (suc (suc (suc d)))
-    ∙ List·getD-append (p .digits) rest 0 d (omega arith)) in
+    getD-tabulate n (λ k. getD f (at + 3 + k) 0) d 0 (omega arith) ∙ ap (λ (k : ℕ). getD f k 0) place
+    ∙ behind (suc (suc (suc d))) ∙ List·getD-append (p .digits) rest 0 d (omega arith)) in
     λ i. record { rows = rows i; columns = behind 1 i; values = behind 2 i; digits = digits i }
 
 -- what is so of the first, and of the later ones, is so of all

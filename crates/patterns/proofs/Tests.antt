@@ -1,6 +1,6 @@
 -- What each test of a pattern file, and of what is asked of it, says (02, card 2; refusals 23, 24 and 1).
 -- Assumes nothing.
-use Prim.Native.Nat.{ℕ, suc, _-_, _*_, _<_, _≤_}
+use Prim.Native.Nat.{ℕ, suc, _-_, _*_, _<_}
 use mathlib.Core.Path.{_≡_, _∙_}
 use mathlib.Core.Logic.{_⊎_, _≢_}
 use mathlib.Core.Bool.{or-assoc}
@@ -13,17 +13,7 @@ use Rattle.sigma.proofs.Calculus.{says-any}
 use Rattle.sigma.proofs.Comparison.{says-differ}
 use Rattle.patterns.specs.Maker.{askedPattern, badAsked}
 use Rattle.patterns.specs.Pattern.{Pattern}
-use Rattle.patterns.specs.PatternFile.{
-  badDigits,
-  badPatternFile,
-  badSizes,
-  misnamed,
-  patternAt,
-  patternCount,
-  patternMark,
-  patternStart,
-  patternVersion,
-}
+use Rattle.patterns.specs.PatternFile.{badDigits, badPatternFile, badSizes, misnamed, patternAt, patternCount}
 use Rattle.patterns.specs.Refusals.{Misnamed, Missized, Refusal23, Refusal24}
 
 -- rows, columns or number of public values lie outside 1 to 8
@@ -31,23 +21,23 @@ pub says-missized : (p : Pattern) → Says (badSizes p) (Missized p)
 unfolding badSizes
 says-missized p =
     simp or-assoc
-    (says-or (says-less (p .rows) 1)
-    (says-or (says-less 8 (p .rows))
-    (says-or (says-less (p .columns) 1)
-    (says-or (says-less 8 (p .columns)) (says-or (says-less (p .values) 1) (says-less 8 (p .values)))))))
+    (says-or (says-less _ _)
+    (says-or (says-less _ _)
+    (says-or (says-less _ _)
+    (says-or (says-less _ _) (says-or (says-less _ _) (says-less _ _))))))
 
 -- 23: the file is not the bytes of 1 to 32 patterns of right size
 pub says-23 : (f : List ℕ) → Says (badPatternFile f) (Refusal23 f)
 unfolding badPatternFile
 says-23 f =
     simp or-assoc
-    (says-or (says-less (length f) 6)
-    (says-or (says-differ 3 f patternMark)
-    (says-or (says-not (says-equal (patternVersion f) 1))
-    (says-or (says-less (patternCount f) 1)
-    (says-or (says-less 32 (patternCount f))
+    (says-or (says-less _ _)
+    (says-or (says-differ _ _ _)
+    (says-or (says-not (says-equal _ _))
+    (says-or (says-less _ _)
+    (says-or (says-less _ _)
     (says-or (says-any _ _ _ (λ k. says-missized (patternAt f k)))
-    (says-not (says-equal (length f) (patternStart f (patternCount f))))))))))
+    (says-not (says-equal _ _))))))))
 
 -- a digit is above the number of public values, or a value is named by no digit
 pub says-misnamed : (p : Pattern) → Says (misnamed p) (Misnamed p)

@@ -3,7 +3,7 @@
 -- Assumes nothing.
 use Prim.Native.Nat.{ℕ, suc, _+_, _*_, _%_, _^_, _<_, _≤_}
 use mathlib.Core.Path.{_≡_}
-use mathlib.Core.Logic.{_↔_}
+use mathlib.Core.Logic.{_↔_, _⊎_}
 use mathlib.Core.Bool.{true}
 use mathlib.Core.List.{List, [], _∷_, map, flatten}
 use lib.ListN.{length, getD, replicate}
@@ -13,7 +13,7 @@ use Rattle.numbers.specs.Product.{product}
 use Rattle.rules.specs.Order.{isSublist, refusalOrder}
 use Rattle.rules.specs.Refuses.{Refuses}
 use Rattle.sigma.specs.Image.{rowImage}
-use Rattle.sigma.specs.Instance.{Instance, entry, statementAt, tableOf}
+use Rattle.sigma.specs.Instance.{entry, statementAt, tableOf}
 use Rattle.formats.specs.Encode.{sheetOf}
 use Rattle.formats.specs.Outcome.{Keeps, Puts}
 use Rattle.patterns.specs.Maker.{asked, askedPattern, makeFrom}
@@ -120,6 +120,9 @@ pub record PatternCalls : Type 0 where
       → makeFrom shipped number m ℓ K values z buffer ≡ fromPattern number m ℓ K values z buffer
   pub same-root : (m e K : ℕ) (values z buffer : List ℕ)
       → makeFrom shipped 0 m e K values z buffer ≡ fromPattern 6 m e K values z buffer
+  -- every other number was refused by 01's sheet maker with 1
+  pub others : (number m ℓ K : ℕ) (values z buffer : List ℕ) → (number < 1) ⊎ (6 < number)
+      → fromPattern number m ℓ K values z buffer .answer .refusal ≡ 1
   -- the sheets are 01's value by value too, so that 01's meanings of its patterns are said of them
   pub same-values : (number m ℓ K : ℕ) (values z : List ℕ) → 1 ≤ number → number ≤ 5
       → asked shipped number m ℓ K values z ≡ made number m ℓ K values z

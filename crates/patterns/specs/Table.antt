@@ -7,7 +7,7 @@ use mathlib.Core.List.{List, [], _∷_}
 use lib.Dec.{eqb, ltb}
 use lib.ListN.{length, getD, take}
 use Rattle.types.specs.declared.Header.{Header}
-use Rattle.rules.specs.Rule.{Rule, _when_, lowest}
+use Rattle.rules.specs.Rule.{_when_, lowest}
 use Rattle.sigma.specs.Instance.{Instance}
 use Rattle.formats.specs.Encode.{sheetOf}
 use Rattle.formats.specs.Write.{Writing, short, writtenAtStart}

@@ -1,4 +1,4 @@
--- 01's order of refusals ("Turned back", the lowest number that applies): where the numbers of conditions stand in that order,
+-- The order of refusals (01, "Turned back", the lowest number that applies): where the numbers of conditions stand in that order,
 -- the number given stands in it at or before every number that applies.
 -- Assumes nothing.
 use Prim.Native.Nat.{ℕ, suc, _≤_, zero-le, suc-le-suc}
@@ -129,12 +129,12 @@ given-earliest (y ∷ ys) ((m if P) ∷ conditions) k n d s g a =
     choose u f h (inl c) (inr e) (inr t) = earlier-rest y ys conditions k n u (c .1) f (e .1) t
     choose u f h (inr c) e t = earlier-rest y ys ((m if P) ∷ conditions) k n u c h e t
 
--- 1 to 22 stand in 01's order in rising order
+-- 1 to 22 stand in the order in rising order
 pub order-rises : isSublist (tabulate 22 suc) refusalOrder ≡ true
 unfolding isSublist refusalOrder tabulate itemsAt
 order-rises = refl
 
--- no number stands twice in 01's order
+-- no number stands twice in the order
 pub order-distinct : EachOnce refusalOrder
 unfolding isDistinct isMember refusalOrder
 order-distinct = says-distinct refusalOrder .sound refl

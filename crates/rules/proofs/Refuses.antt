@@ -1,4 +1,4 @@
--- A number that conditions give is 0 or one of theirs, and so one of 01's numbers, and of those that apply it is 01's lowest.
+-- A number that conditions give is 0 or one of theirs, and so one of the order's, and of those that apply it is the earliest there.
 -- Assumes nothing.
 use mathlib.Core.Path.{_≡_, subst}
 use mathlib.Core.Bool.{true}
@@ -23,7 +23,7 @@ given-among ((m if holds) ∷ conditions) n (inr later) =
 
 module _ (numbers : List ℕ) (conditions : List Condition) {Left : Type 0} (numbered : conditionNumbers conditions ≡ numbers)
     (ordered : isSublist numbers refusalOrder ≡ true) where
-  -- conditions with numbers in 01's order fix the answer
+  -- conditions with numbers in the order fix the answer
   pub refuses-given : (n : ℕ) → Given conditions n → (0 < n → Left) → Refuses numbers conditions n Left
   refuses-given n gives left = record {
     numbered = numbered;
@@ -38,13 +38,13 @@ module _ (numbers : List ℕ) (conditions : List Condition) {Left : Type 0} (num
       → Refuses numbers conditions (lowest rules) Left
   refuses-tested rules tests = refuses-given (lowest rules) (given rules conditions tests)
 
--- a call ends in a result or in one of 01's numbers
+-- a call ends in a result or in one of the order's numbers
 pub answers-known : {numbers : List ℕ} {conditions : List Condition} {n : ℕ} {Left : Type 0} → Refuses numbers conditions n Left
     → (n ≡ 0) ⊎ Member n refusalOrder
 answers-known {numbers} {conditions} {n} a =
     ⊎-elim (λ none. inl none) (λ found. inr (sublist-member n numbers refusalOrder (a .ordered) found)) (a .among)
 
--- of the numbers whose conditions hold, the one given stands first in 01's order
+-- of the numbers whose conditions hold, the one given stands first in the order
 pub earliest : {numbers : List ℕ} {conditions : List Condition} {n : ℕ} {Left : Type 0} → Refuses numbers conditions n Left
     → (m : ℕ) → Applies conditions m → position n ≤ position m
 unfolding position

@@ -21,12 +21,10 @@ use Rattle.formats.specs.Load.{load, loadRefusal, loadRules, noHeader}
 use Rattle.formats.specs.RoundCalls.{checkAfter, checkRound, countAfter, countRounds, fetchAfter, fetchRound, noRound}
 use Rattle.formats.specs.Sheet.{instanceOf, zeros64}
 use Rattle.formats.specs.Write.{written, writtenAtStart}
-use Rattle.formats.specs.Pattern.{fromPattern}
 use Rattle.formats.proofs.Appending.{append-refused}
 use Rattle.formats.proofs.Loads.{load-refused, entries-refused}
-use Rattle.formats.proofs.Making.{make-refused}
 use Rattle.formats.proofs.Part.{part-refused, part-not-empty}
-use Rattle.formats.proofs.Refusals.{load-tests, encode-tests, make-tests, count-tests, check-tests, empty-tests, record-tests}
+use Rattle.formats.proofs.Refusals.{load-tests, encode-tests, count-tests, check-tests, empty-tests, record-tests}
 use Rattle.formats.proofs.Writing.{encode-refused, empty-refused}
 use Rattle.sigma.specs.Answer.{computed, eightPlaces, judged, outcome}
 use Rattle.sigma.specs.Extractor.{extractAfter}
@@ -56,7 +54,7 @@ step-kept step p n e = (ap (λ (s : ProverStep). s .session) e, ap (λ (s : Prov
 
 -- demand 1 holds of every call
 pub demand1 : Demand1
-unfolding conditionNumbers isSublist refusalOrder sheetNumbers load loadRefusal encode fromPattern writtenAtStart written
+unfolding conditionNumbers isSublist refusalOrder sheetNumbers load loadRefusal encode writtenAtStart written
     countRounds countAfter checkRound checkAfter fetchRound fetchAfter emptyFile append appendAfter judgeRound judgeAfter
     simulateCommitment simulateAfter extractWitness extractAfter computed eightPlaces commit respond takeCommitment
     takeChallenge takeResponse noHeader zeros8 zeros64 noRound
@@ -68,9 +66,6 @@ demand1 = record {
       let refused = load-refused sheet some in
       let header = ap (λ (answer : Loaded). answer .header) refused in
       (header, ap (λ (answer : Loaded). answer .statement) refused, entries-refused sheet some));
-  making = λ number modulus order challenges values statement buffer.
-      refuses-tested _ _ refl refl _ (make-tests number values statement _ buffer)
-      (make-refused number modulus order challenges values statement buffer);
   encoding = λ inst buffer. refuses-tested _ _ refl refl _ (encode-tests inst buffer) (encode-refused inst buffer);
   counting = λ sheet file. refuses-tested _ _ refl refl _ (count-tests sheet file) (unlessRefused-positive _ 0 _);
   checking = λ sheet file k. refuses-tested _ _ refl refl _ (check-tests sheet file k) (part-refused sheet file k);

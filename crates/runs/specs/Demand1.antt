@@ -21,8 +21,7 @@ use Rattle.formats.specs.Append.{append, emptyFile}
 use Rattle.formats.specs.Encode.{encode}
 use Rattle.formats.specs.Load.{load, loadEntries}
 use Rattle.formats.specs.Outcome.{Keeps}
-use Rattle.formats.specs.Pattern.{fromPattern, made}
-use Rattle.formats.specs.Refusals.{loadConditions, encodeConditions, makeConditions}
+use Rattle.formats.specs.Refusals.{loadConditions, encodeConditions}
 use Rattle.formats.specs.Refusals.{fileConditions, roundConditions, emptyConditions, appendConditions}
 use Rattle.formats.specs.RoundCalls.{checkRound, countRounds, fetchRound, partOfRound}
 use Rattle.formats.specs.Sheet.{headerOf, instanceOf}
@@ -44,24 +43,18 @@ RefusesOn sheet numbers conditions n Left = Refuses (sheetNumbers ++ numbers) (l
 abbrev pub Unmoved : Prover → ProverStep → Type 0
 Unmoved p step = (step .session ≡ p) × (step .values ≡ zeros8)
 
--- demand 1: every call but the two that make a new session, which take nothing and refuse nothing, and the marker's, whose
--- lines name what is refused
+-- demand 1: every call but the sheet maker, which reads a pattern file (02, card 2), the two that make a new session, which take
+-- nothing and refuse nothing, and the marker's, whose lines name what is refused
 pub record Demand1 : Type 0 where
   -- 01's numbers 1 to 22 stand in its order in rising order, and none twice: the first of a call's numbers is the lowest
   pub order : (isSublist (tabulate 22 suc) refusalOrder ≡ true) × EachOnce refusalOrder
-  -- ---- the calls that load and make sheets
+  -- ---- the calls that load and write sheets
   -- loading; a refused sheet gives zeros beside the number
   pub loading : (sheet : List ℕ)
       → Refuses sheetNumbers (loadConditions sheet) (load sheet .refusal)
       ((load sheet .header ≡ record { kind = 0; modulus = 0; order = 0; challenges = 0; rows = 0; columns = 0 })
       × (load sheet .statement ≡ replicate 8 0) × (loadEntries sheet ≡ replicate 8 (replicate 8 0)))
-  -- the sheet maker; a refused call keeps the buffer's bytes and answers length 0
-  pub making : (number modulus order challenges : ℕ) (values statement buffer : List ℕ)
-      → Refuses (1 ∷ 5 ∷ 6 ∷ 8 ∷ 10 ∷ 11 ∷ 22 ∷ [])
-      (makeConditions number values statement (made number modulus order challenges values statement) buffer)
-      (fromPattern number modulus order challenges values statement buffer .answer .refusal)
-      (Keeps buffer (fromPattern number modulus order challenges values statement buffer))
-  -- the second writer; likewise
+  -- the second writer; a refused call keeps the buffer's bytes and answers length 0
   pub encoding : (inst : Instance) (buffer : List ℕ)
       → Refuses (4 ∷ 5 ∷ 6 ∷ 7 ∷ 8 ∷ 10 ∷ 11 ∷ 22 ∷ []) (encodeConditions inst buffer) (encode inst buffer .answer .refusal)
       (Keeps buffer (encode inst buffer))

@@ -5,7 +5,7 @@ mod steps; // steps.rt: which calls the states of the sessions allow
 
 use lines::front;
 use maker::make;
-use maker::write_shipped;
+use pattern_writer::write_shipped;
 
 // All of it, with the shipped pattern file, and on page A's sheet where a page has none of its own.
 fn main() {

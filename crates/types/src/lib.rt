@@ -23,14 +23,6 @@ pub struct Loaded {
     pub refusal: u32,
 }
 
-// A row of the pattern table: rows, columns, how many public values, and the digits, row i, column j at 3 i + j.
-pub struct Pattern {
-    pub rows: u32,
-    pub columns: u32,
-    pub values: u32,
-    pub digits: [u32; 6],
-}
-
 // What a call that writes into a lent buffer answers: the length of what stands in it.
 #[repr(C)]
 pub struct Written {

@@ -12,7 +12,7 @@ use Rattle.rules.specs.Answer.{unlessRefused}
 use Rattle.rules.specs.Rule.{Rule, _when_, lowest}
 use Rattle.rules.proofs.Lowest.{lowest-clear, lowest-earlier, lowest-later-zero, stop}
 use Rattle.sigma.specs.Admission.{elementRules, headerRules}
-use Rattle.sigma.specs.Instance.{Instance, instanceWith}
+use Rattle.sigma.specs.Instance.{Instance}
 use Rattle.sigma.proofs.Answer.{unlessRefused-positive}
 use Rattle.sigma.proofs.Positive.{element-positive, header-positive}
 use Rattle.formats.specs.Encode.{encode, encodeRules, sheetOf}

@@ -2,7 +2,6 @@
 -- Assumes nothing.
 use mathlib.Core.Logic.{inl}
 use native.Mathlib.Omega.{arith}
-use borrow.Author.Needs.{needs}
 use Rattle.patterns.proofs.Files.{passes-23}
 use Rattle.maker.specs.Passes.{Passes}
 use Rattle.maker.proofs.Answers.{asked-refused, file-passes, file-refused}
@@ -14,10 +13,10 @@ passes : (c : tie.Else1) → Passes (c .before .before .before .before .before .
 passes c = file-passes _ (c .before .file-refusal .ensures) (c .if1 .left)
 
 file-refusal-requires : tie.Need-file-refusal-requires
-file-refusal-requires c κs = search needs
+file-refusal-requires c κs = omega arith
 
 refused-requires : tie.Need-refused-requires
-refused-requires c κs = search needs
+refused-requires c κs = omega arith
 
 returns : tie.Need-returns
 returns c =
@@ -25,16 +24,16 @@ returns c =
     file-refused _ _ _ _ _ _ _ _ (c .refused .ensures) (asked .file-refusal .ensures) (omega arith)
 
 make-root-requires : tie.Need-make-root-requires
-make-root-requires c κs = search needs
+make-root-requires c κs = omega arith
 
 make-listed-requires : tie.Need-make-listed-requires
 make-listed-requires c κs = (passes (c .before .before .before), omega arith)
 
 refused-requires-2 : tie.Need-refused-requires-2
-refused-requires-2 c κs = search needs
+refused-requires-2 c κs = omega arith
 
 same-length : tie.Need-same-length
-same-length c = search needs
+same-length c = omega arith
 
 returns-2 : tie.Need-returns-2
 returns-2 c =
@@ -44,7 +43,7 @@ returns-2 c =
     rw (zero .match .keys1) (made .make-root .ensures .0 _ passed, made .make-root .ensures .1 _ passed)
 
 same-length-2 : tie.Need-same-length-2
-same-length-2 c = search needs
+same-length-2 c = omega arith
 
 returns-3 : tie.Need-returns-3
 returns-3 c = c .before .before .make-listed .ensures

@@ -3,7 +3,6 @@
 use Prim.Native.Nat.{_≤_}
 use mathlib.Core.Logic.{inl, inr}
 use native.Mathlib.Omega.{arith}
-use borrow.Author.Needs.{needs}
 use Rattle.patterns.specs.PatternFile.{patternCount}
 use Rattle.patterns.proofs.Files.{passes-23}
 use Rattle.pattern_file.proofs.Walk.{sizes-within}
@@ -35,7 +34,7 @@ read-u8-requires : tie.Need-read-u8-requires
 read-u8-requires c κs = omega (arith, passes-23 _ .0 (c .before .before .before .before .pre .0 .0) .long)
 
 refused-requires : tie.Need-refused-requires
-refused-requires c κs = search needs
+refused-requires c κs = omega arith
 
 returns : tie.Need-returns
 unfolding patternCount
@@ -44,7 +43,7 @@ returns c =
     asked-refused _ _ _ _ _ _ _ _ (read .before .before .before .before .before .pre .0) (c .refused .ensures) (inl (omega arith))
 
 sub-start-of : tie.Need-sub-start-of
-sub-start-of c = search needs
+sub-start-of c = omega arith
 
 start-of-requires : tie.Need-start-of-requires
 start-of-requires c κs = (c .before .before .before .before .before .before .pre .0 .0, omega (arith, few c))
@@ -55,10 +54,10 @@ sizes-at-requires c κs =
     sizes-within _ _ (c .start-of .ensures) (passes-23 _ .0 (passes .0)) (omega (arith, few (c .before)))
 
 cast-if2 : tie.Need-cast-if2
-cast-if2 c = search needs
+cast-if2 c = omega arith
 
 refused-requires-2 : tie.Need-refused-requires-2
-refused-requires-2 c κs = search needs
+refused-requires-2 c κs = omega arith
 
 returns-2 : tie.Need-returns-2
 returns-2 c =
@@ -69,10 +68,10 @@ returns-2 c =
     (inl (c .before .if2 .taken))
 
 cast-if3 : tie.Need-cast-if3
-cast-if3 c = search needs
+cast-if3 c = omega arith
 
 refused-requires-3 : tie.Need-refused-requires-3
-refused-requires-3 c κs = search needs
+refused-requires-3 c κs = omega arith
 
 returns-3 : tie.Need-returns-3
 returns-3 c =
@@ -91,10 +90,10 @@ eight-of-requires c κs =
     omega (arith, stands counted .few-rows, sizes-read _ _ (counted .before .before .sizes-at .ensures) .0)
 
 encode-requires : tie.Need-encode-requires
-encode-requires c κs = search needs
+encode-requires c κs = omega arith
 
 same-length : tie.Need-same-length
-same-length c = search needs
+same-length c = omega arith
 
 returns-4 : tie.Need-returns-4
 returns-4 c =

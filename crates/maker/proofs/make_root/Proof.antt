@@ -2,7 +2,6 @@
 -- Assumes nothing.
 use mathlib.Core.Logic.{inl, inr}
 use native.Mathlib.Omega.{arith}
-use borrow.Author.Needs.{needs}
 use Rattle.lists.specs.Places.{zeros8}
 use Rattle.formats.specs.Sheet.{zeros64}
 use Rattle.maker.proofs.Answers.{root-refused, root-written}
@@ -10,13 +9,13 @@ use Rattle.maker.proofs.make_root.Statement.{statement}
 use Rattle.maker.proofs.make_root.Tie as tie
 
 refused-requires : tie.Need-refused-requires
-refused-requires c κs = search needs
+refused-requires c κs = omega arith
 
 returns : tie.Need-returns
 returns c = root-refused _ _ _ _ _ _ (c .refused .ensures) (inl (c .before .if1 .taken))
 
 refused-requires-2 : tie.Need-refused-requires-2
-refused-requires-2 c κs = search needs
+refused-requires-2 c κs = omega arith
 
 returns-2 : tie.Need-returns-2
 returns-2 c = root-refused _ _ _ _ _ _ (c .refused2 .ensures) (inr (c .before .if2 .taken))
@@ -25,10 +24,10 @@ eight-of-requires : tie.Need-eight-of-requires
 eight-of-requires c κs = omega arith
 
 encode-requires : tie.Need-encode-requires
-encode-requires c κs = search needs
+encode-requires c κs = omega arith
 
 same-length : tie.Need-same-length
-same-length c = search needs
+same-length c = omega arith
 
 returns-3 : tie.Need-returns-3
 unfolding zeros64 zeros8

@@ -5,8 +5,9 @@ use mathlib.Core.Path.{_≡_, _∙_}
 use mathlib.Core.Bool.{false}
 use native.Mathlib.Omega.{arith}
 use Rattle.numbers.specs.Search.{any}
+use Rattle.numbers.proofs.Search.{any-on, any-start}
 use Rattle.instance.specs.Rows.{isBadRow}
-use Rattle.instance.proofs.ElementNumber.{entries-unread, row-found, row-test, rows-good, rows-on, rows-start}
+use Rattle.instance.proofs.ElementNumber.{entries-unread, row-found, row-test, rows-good}
 use Rattle.instance.proofs.elements.some_bad_entry.Statement.{statement}
 use Rattle.instance.proofs.elements.some_bad_entry.Tie as tie
 
@@ -26,7 +27,7 @@ returns : tie.Need-returns Inv-loop μ-loop
 returns c = entries-unread _ _ (c .if1 .taken)
 
 loop-holds : tie.Need-loop-holds Inv-loop μ-loop
-loop-holds c = (omega arith, rows-start _ _)
+loop-holds c = (omega arith, any-start _)
 
 mul-row : tie.Need-mul-row Inv-loop μ-loop
 mul-row c = omega arith
@@ -52,7 +53,7 @@ loop-less c = omega arith
 loop-again : tie.Need-loop-again Inv-loop μ-loop
 loop-again c =
     let at-loop = c .before .before .before .before in
-    (omega arith, rows-on _ _ _ (at-loop .loop .inv .1) (row-test _ _ _ (c .before .some-non-element .ensures) ∙ c .if2 .left))
+    (omega arith, any-on _ _ (at-loop .loop .inv .1) (row-test _ _ _ (c .before .some-non-element .ensures) ∙ c .if2 .left))
 
 returns-3 : tie.Need-returns-3 Inv-loop μ-loop
 returns-3 c =

@@ -1,6 +1,6 @@
 -- `maker::entries::entry_of` meets its contract: 0 stands for 1, and any other digit for the value of that position.
 -- Assumes nothing.
-use borrow.Author.Needs.{needs}
+use native.Mathlib.Omega.{arith}
 use mathlib.Core.Path.{sym}
 use Rattle.patterns.proofs.Sheets.{entryOf-none}
 use Rattle.maker.proofs.RowDigits.{digit-value}
@@ -11,13 +11,13 @@ returns : tie.Need-returns
 returns c = rw (c .if1 .taken) (sym (entryOf-none _))
 
 sub-result : tie.Need-sub-result
-sub-result c = search needs
+sub-result c = omega arith
 
 mul-result : tie.Need-mul-result
-mul-result c = search needs
+mul-result c = omega arith
 
 shared-slice-read-result : tie.Need-shared-slice-read-result
-shared-slice-read-result c = search needs
+shared-slice-read-result c = omega arith
 
 returns-2 : tie.Need-returns-2
 returns-2 c = digit-value _ _ (c .before .if1 .left)

@@ -6,10 +6,10 @@ use mathlib.Core.Bool.{false}
 use native.Mathlib.Omega.{arith}
 use lib.ListN.{length}
 use Rattle.numbers.specs.Search.{any}
+use Rattle.numbers.proofs.Search.{any-end, any-here, any-on, any-start}
 use Rattle.patterns.specs.PatternFile.{badDigits, misnamed, patternAt, patternCount, patternStart}
 use Rattle.patterns.proofs.Files.{passes-23}
 use Rattle.pattern_file.proofs.Naming.{above-misnamed, not-misnamed, unnamed-misnamed}
-use Rattle.pattern_file.proofs.Search.{found, none-found, none-still, none-yet}
 use Rattle.pattern_file.proofs.Walk.{digits-within, next-start, sizes-within}
 use Rattle.pattern_file.proofs.digits.bad_digits.Statement.{statement}
 use Rattle.pattern_file.proofs.digits.bad_digits.Tie as tie
@@ -40,7 +40,7 @@ read-u8-requires c κs = omega (arith, passes-23 _ .0 (c .before .pre) .long)
 
 loop-holds : tie.Need-loop-holds Inv-loop μ-loop
 unfolding patternStart
-loop-holds c = (refl, omega arith, none-yet _)
+loop-holds c = (refl, omega arith, any-start _)
 
 sizes-at-requires : tie.Need-sizes-at-requires Inv-loop μ-loop
 sizes-at-requires c κs =
@@ -58,7 +58,7 @@ unfolding badDigits
 returns c =
     let read = c .before .before in
     let turn = read .before in
-    found _ _ _ (inside turn)
+    any-here _ _ _ (inside turn)
     (above-misnamed _ _ (turn .before .loop .inv .0) (read .sizes-at .ensures) (c .before .digit-above .ensures) (c .if1 .taken))
 
 value-unnamed-requires : tie.Need-value-unnamed-requires Inv-loop μ-loop
@@ -70,7 +70,7 @@ returns-2 c =
     let low = c .before .before in
     let read = low .before .before in
     let turn = read .before in
-    found _ _ _ (inside turn)
+    any-here _ _ _ (inside turn)
     (unnamed-misnamed _ _ (turn .before .loop .inv .0) (read .sizes-at .ensures) (low .before .digit-above .ensures)
     (c .before .value-unnamed .ensures) (low .if1 .left) (c .if2 .taken))
 
@@ -91,7 +91,7 @@ loop-again c =
     let (here, _, none) = read .before .before .loop .inv in (
       omega (arith, next-start _ _ here (read .sizes-at .ensures)),
       omega arith,
-      none-still _ _ none
+      any-on _ _ none
           (not-misnamed _ _ here (read .sizes-at .ensures) (low .before .digit-above .ensures) (all .before .value-unnamed .ensures)
           (low .if1 .left) (all .if2 .left)),
     )
@@ -100,7 +100,7 @@ returns-3 : tie.Need-returns-3 Inv-loop μ-loop
 unfolding badDigits patternCount
 returns-3 c =
     let (_, few, none) = c .before .loop .inv in
-    none-found _ _ _ (omega arith) (omega arith) none
+    any-end _ _ _ (omega arith) (omega arith) none
 
 pub bad-digits-spec : {M : Type 1} → statement M
 bad-digits-spec =

@@ -8,9 +8,9 @@ use lib.Dec.{eqb}
 use lib.ListN.{getD}
 use borrow.Author.Tests.{eq-eqb, ne-eqb}
 use Rattle.numbers.specs.Search.{any}
+use Rattle.numbers.proofs.Search.{any-end, any-here, any-on, any-start}
 use Rattle.encoding.proofs.Bytes.{numberAt-one}
 use Rattle.pattern_file.specs.Naming.{names}
-use Rattle.pattern_file.proofs.Search.{found, none-found, none-still, none-yet}
 use Rattle.pattern_file.proofs.digits.names.Statement.{statement}
 use Rattle.pattern_file.proofs.digits.names.Tie as tie
 
@@ -21,7 +21,7 @@ abbrev μ-loop : tie.MeasureT-loop
 μ-loop file start n v d₀ d = n - d
 
 loop-holds : tie.Need-loop-holds Inv-loop μ-loop
-loop-holds c = (omega arith, none-yet _)
+loop-holds c = (omega arith, any-start _)
 
 add-read-u8 : tie.Need-add-read-u8 Inv-loop μ-loop
 add-read-u8 c = omega arith
@@ -33,7 +33,7 @@ returns : tie.Need-returns Inv-loop μ-loop
 unfolding names
 returns c =
     let read = c .before .read-u8 .ensures .0 ∙ numberAt-one _ _ in
-    found _ _ _ (c .before .before .loop-test .taken) (eq-eqb _ _ (sym read ∙ c .if1 .taken))
+    any-here _ _ _ (c .before .before .loop-test .taken) (eq-eqb _ _ (sym read ∙ c .if1 .taken))
 
 add-d : tie.Need-add-d Inv-loop μ-loop
 add-d c = omega arith
@@ -44,11 +44,11 @@ loop-less c = omega arith
 loop-again : tie.Need-loop-again Inv-loop μ-loop
 loop-again c =
     let read = c .before .read-u8 .ensures .0 ∙ numberAt-one _ _ in
-    (omega arith, none-still _ _ (c .before .before .before .loop .inv .1) (ne-eqb _ _ (λ e. c .if1 .left (read ∙ e))))
+    (omega arith, any-on _ _ (c .before .before .before .loop .inv .1) (ne-eqb _ _ (λ e. c .if1 .left (read ∙ e))))
 
 returns-2 : tie.Need-returns-2 Inv-loop μ-loop
 unfolding names
-returns-2 c = let (within, none) = c .before .loop .inv in none-found _ _ _ within (c .loop-test .left) none
+returns-2 c = let (within, none) = c .before .loop .inv in any-end _ _ _ within (c .loop-test .left) none
 
 pub names-spec : {M : Type 1} → statement M
 names-spec =

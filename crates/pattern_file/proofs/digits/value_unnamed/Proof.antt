@@ -7,8 +7,8 @@ use mathlib.Core.List.{List}
 use native.Mathlib.Numerals.{add-one}
 use native.Mathlib.Omega.{arith}
 use Rattle.numbers.specs.Search.{any}
+use Rattle.numbers.proofs.Search.{any-end, any-here, any-on, any-start}
 use Rattle.pattern_file.specs.Naming.{names, valueUnnamed}
-use Rattle.pattern_file.proofs.Search.{found, none-found, none-still, none-yet}
 use Rattle.pattern_file.proofs.digits.value_unnamed.Statement.{statement}
 use Rattle.pattern_file.proofs.digits.value_unnamed.Tie as tie
 
@@ -23,7 +23,7 @@ abbrev μ-loop : tie.MeasureT-loop
 μ-loop file start n values v₀ v = values - v
 
 loop-holds : tie.Need-loop-holds Inv-loop μ-loop
-loop-holds c = (omega arith, none-yet _)
+loop-holds c = (omega arith, any-start _)
 
 add-names : tie.Need-add-names Inv-loop μ-loop
 add-names c = omega arith
@@ -35,7 +35,7 @@ returns : tie.Need-returns Inv-loop μ-loop
 unfolding valueUnnamed
 returns c =
     let asked = c .before in
-    found _ _ _ (asked .before .loop-test .taken) (test _ _ _ _ (asked .names .ensures) ∙ c .if1 .taken)
+    any-here _ _ _ (asked .before .loop-test .taken) (test _ _ _ _ (asked .names .ensures) ∙ c .if1 .taken)
 
 add-v : tie.Need-add-v Inv-loop μ-loop
 add-v c = omega arith
@@ -46,11 +46,11 @@ loop-less c = omega arith
 loop-again : tie.Need-loop-again Inv-loop μ-loop
 loop-again c =
     let asked = c .before in
-    (omega arith, none-still _ _ (asked .before .before .loop .inv .1) (test _ _ _ _ (asked .names .ensures) ∙ c .if1 .left))
+    (omega arith, any-on _ _ (asked .before .before .loop .inv .1) (test _ _ _ _ (asked .names .ensures) ∙ c .if1 .left))
 
 returns-2 : tie.Need-returns-2 Inv-loop μ-loop
 unfolding valueUnnamed
-returns-2 c = let (within, none) = c .before .loop .inv in none-found _ _ _ within (c .loop-test .left) none
+returns-2 c = let (within, none) = c .before .loop .inv in any-end _ _ _ within (c .loop-test .left) none
 
 pub value-unnamed-spec : {M : Type 1} → statement M
 value-unnamed-spec =

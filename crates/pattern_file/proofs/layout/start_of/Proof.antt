@@ -1,9 +1,9 @@
 -- `pattern_file::layout::start_of` meets its contract. The invariant: `at` is where pattern i begins. The measure: how many patterns
 -- are left. Assumes nothing.
-use Prim.Native.Nat.{_-_, _≤_, _<_}
+use Prim.Native.Nat.{_-_, _≤_}
 use mathlib.Core.Path.{_≡_, refl, ap, _∙_}
 use native.Mathlib.Omega.{arith}
-use Rattle.patterns.specs.PatternFile.{patternCount, patternStart}
+use Rattle.patterns.specs.PatternFile.{patternStart}
 use Rattle.patterns.proofs.Files.{passes-23}
 use Rattle.pattern_file.proofs.Walk.{digits-within, next-start, sizes-within}
 use Rattle.pattern_file.proofs.layout.start_of.Statement.{statement}

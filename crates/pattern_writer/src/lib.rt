@@ -1,24 +1,24 @@
-// 01's patterns 1 to 5 as a constant table, and the pattern file of them that is shipped.
+// The pattern file that is shipped (02, card 2), written from 01's patterns 1 to 5 as a constant table.
 use fields::write_mark;
 use fields::write_u8;
 use fields::write_u16;
 use pattern_file::MARK;
 use pattern_file::START;
+use text::write_word;
 use types::Written;
-use writer::refused;
-ghost use Prim.Native.Nat.{_+_, _*_, _≤_};
+ghost use Prim.Native.Nat.{_+_, _*_, _≤_, _<_};
 ghost use mathlib.Core.Path.{_≡_};
 ghost use lib.ListN.{length};
 ghost use Rattle.encoding.specs.Placed.{Placed};
 ghost use Rattle.patterns.specs.Table.{writeShipped};
-ghost use Rattle.maker.specs.Stored.{storedPattern};
+ghost use Rattle.pattern_writer.specs.Stored.{storedPattern, tableAt};
 
 // A row of the table: rows, columns, how many public values, and the digits, row by row.
 pub struct Pattern {
-    rows: u32,
-    columns: u32,
-    values: u32,
-    digits: [u32; 6],
+    rows: u8,
+    columns: u8,
+    values: u8,
+    digits: [u8; 6],
 }
 
 // The patterns 1 to 5: Schnorr, Okamoto, equality, Diffie-Hellman and the product.
@@ -58,37 +58,45 @@ const PATTERNS: [Pattern; 5] = [
 // How many bytes the shipped file has.
 const LENGTH: usize = 34;
 
+// The pattern at a place of the table, the first being place 0.
+fn pattern_at(k: usize) -> Pattern
+    requires { ⌜ k < 5 ⌝ }
+    ensures { λ r. ⌜ r ≡ tableAt k ⌝ }
+{
+    PATTERNS[k]
+}
+
 // Stores the bytes of a pattern of the table from index at on, changes no other byte and answers the index behind them.
 fn write_pattern(buffer: &mut [u8], at: usize, p: Pattern) -> usize
-    requires few { ⌜ p .rows * p .columns ≤ 6 ⌝ }
+    requires held { ⌜ p .rows * p .columns ≤ length (p .digits) ⌝ }
     requires room { ⌜ at + 3 + p .rows * p .columns ≤ length (now buffer) ⌝ }
     ensures { λ r. ⌜ Placed (now (buffer .entry)) at (storedPattern p) (now (buffer .exit)) r ⌝ }
 {
-    write_u8(buffer, at, p.rows);
-    write_u8(buffer, at + 1, p.columns);
-    write_u8(buffer, at + 2, p.values);
-    let start = at + 3;
-    let count = (p.rows * p.columns) as usize;
-    for d in 0..count {
-        write_u8(buffer, start + d, p.digits[d]);
-    }
-    start + count
+    let sizes = [p.rows, p.columns, p.values];
+    let digits = p.digits;
+    let count = p.rows as usize * p.columns as usize;
+    let start = write_word(buffer, at, &sizes);
+    write_word(buffer, start, &digits[0..count])
 }
 
-// Writes the shipped file and answers its length, or refusal 22 for a buffer that is shorter.
+// Puts the shipped file at the start of buffer and answers its length. No byte behind it is changed, and a buffer that is shorter,
+// 22, keeps its bytes.
 pub fn write_shipped(buffer: &mut [u8]) -> Written
     ensures answer { λ r. ⌜ r ≡ writeShipped (now (buffer .entry)) .answer ⌝ }
-    ensures left { λ _. ⌜ now (buffer .exit) ≡ writeShipped (now (buffer .entry)) .buffer ⌝ }
+    ensures bytes { λ _. ⌜ now (buffer .exit) ≡ writeShipped (now (buffer .entry)) .buffer ⌝ }
 {
     if buffer.len() < LENGTH {
-        return refused(22);
+        return Written {
+            length: 0,
+            refusal: 22,
+        };
     }
     write_mark(buffer, MARK);
     write_u16(buffer, 3, 1);
     write_u8(buffer, 5, 5);
     let mut at: usize = START;
     for k in 0..5 {
-        at = write_pattern(buffer, at, PATTERNS[k]);
+        at = write_pattern(buffer, at, pattern_at(k));
     }
     Written {
         length: at,

@@ -2,14 +2,13 @@
 -- Assumes nothing.
 use Prim.Native.Nat.{ℕ, _*_}
 use mathlib.Core.List.{List, [], _∷_, flatten}
-use lib.ListN.{getD}
-use Rattle.encoding.specs.Bytes.{bytesOfEach}
-use Rattle.lists.specs.Places.{places, tabulate}
-use Rattle.maker.specs.declared.shipped.Pattern.{Pattern}
+use lib.ListN.{getD, take}
+use Rattle.lists.specs.Places.{tabulate}
+use Rattle.pattern_writer.specs.declared.Pattern.{Pattern}
 
 -- the bytes of a pattern of the table: rows, columns, number of public values, and rows × columns digits
 unfoldable pub storedPattern : Pattern → List ℕ
-storedPattern p = bytesOfEach 1 (p .rows ∷ p .columns ∷ p .values ∷ places (p .rows * p .columns) (p .digits))
+storedPattern p = p .rows ∷ p .columns ∷ p .values ∷ take (p .rows * p .columns) (p .digits)
 
 -- the table
 unfoldable pub table : List Pattern

@@ -1,0 +1,105 @@
+-- The shipped file, part by part: the patterns of the table one after another, and the file.
+-- Assumes nothing.
+use Prim.Native.Nat.{ℕ, zero, suc, _+_, _-_, _*_, _≤_, _<_}
+use mathlib.Core.Path.{_≡_, refl}
+use mathlib.Core.List.{List, [], _∷_, _++_, flatten}
+use native.Mathlib.Omega.{arith}
+use lib.ListN.{length, take}
+use lib.Seq.{sets}
+use borrow.Author.Tests.{lt-ltb, le-ltb}
+use Rattle.encoding.specs.Bytes.{bytesOf}
+use Rattle.encoding.specs.Placed.{Placed}
+use Rattle.encoding.specs.Text.{ascii}
+use Rattle.encoding.proofs.Placed.{placed-behind, placed-number}
+use Rattle.lists.specs.Places.{itemsAt, tabulate}
+use Rattle.rules.specs.Answer.{unlessRefused}
+use Rattle.rules.specs.Rule.{lowest}
+use Rattle.formats.specs.Write.{short, written, writtenAtStart}
+use Rattle.formats.proofs.Writing.{Leaves}
+use Rattle.patterns.specs.PatternFile.{patternBytes, patternFile, patternMark}
+use Rattle.patterns.specs.Table.{patterns, shipped, writeShipped}
+use Rattle.patterns.proofs.Shipped.{length-shipped}
+use Rattle.pattern_writer.specs.declared.Pattern.{Pattern}
+use Rattle.pattern_writer.specs.Stored.{storedPattern, storedPatterns, table, tableAt}
+
+-- the sizes and the digits of a pattern, one behind the other, are the pattern
+pub pattern-placed : {l m n : List ℕ} {at i j : ℕ} (p : Pattern) (count : ℕ) → count ≡ p .rows * p .columns
+    → Placed l at (p .rows ∷ p .columns ∷ p .values ∷ []) m i → Placed m i (take (count - 0) (p .digits)) n j
+    → Placed l at (storedPattern p) n j
+unfolding storedPattern
+pattern-placed p count whole sizes digits =
+    let all : count - 0 ≡ p .rows * p .columns = omega arith in
+    placed-behind sizes (rw all at digits)
+
+-- ---- the table
+
+-- what holds of 0 to 4 holds of every place of the table
+by-place : (P : ℕ → Type 0) → P 0 → P 1 → P 2 → P 3 → P 4 → (k : ℕ) → k < 5 → P k
+by-place P a b c d e zero h = a
+by-place P a b c d e (suc zero) h = b
+by-place P a b c d e (suc (suc zero)) h = c
+by-place P a b c d e (suc (suc (suc zero))) h = d
+by-place P a b c d e (suc (suc (suc (suc zero)))) h = e
+by-place P a b c d e (suc (suc (suc (suc (suc k))))) h = absurd (omega arith)
+
+-- a pattern of the table holds its digits, and ends within 34 bytes
+at-place : (k : ℕ) → k < 5
+    → (tableAt k .rows * tableAt k .columns ≤ length (tableAt k .digits))
+    × (6 + length (storedPatterns k) + 3 + tableAt k .rows * tableAt k .columns ≤ 34)
+unfolding storedPatterns storedPattern table tableAt itemsAt tabulate flatten
+at-place =
+    by-place _ (omega arith, omega arith) (omega arith, omega arith) (omega arith, omega arith) (omega arith, omega arith)
+    (omega arith, omega arith)
+
+-- one pattern more
+patterns-next : (k : ℕ) → k < 5 → storedPatterns k ++ storedPattern (tableAt k) ≡ storedPatterns (k + 1)
+unfolding storedPatterns storedPattern table tableAt itemsAt tabulate flatten
+patterns-next = by-place _ refl refl refl refl refl
+
+module _ {p : Pattern} (k : ℕ) (inside : k < 5) (found : p ≡ tableAt k) where
+  -- a pattern that was found in the table holds its digits
+  pub found-digits : p .rows * p .columns ≤ length (p .digits)
+  found-digits = rw found (at-place k inside .0)
+
+  -- behind those before it, it ends within 34 bytes
+  pub found-room : {l m : List ℕ} {at : ℕ} → Placed l 6 (storedPatterns k) m at → at + 3 + p .rows * p .columns ≤ 34
+  found-room placed = rw found (omega (arith, at-place k inside .1, placed .behind))
+
+  -- stored there, it is one more
+  pub found-placed : {l m n : List ℕ} {at next : ℕ} → Placed l 6 (storedPatterns k) m at → Placed m at (storedPattern p) n next
+      → Placed l 6 (storedPatterns (k + 1)) n next
+  found-placed before stored = rw (← patterns-next k inside, ← found) (placed-behind before stored)
+
+-- none is stored before the first
+pub none-placed : {l : List ℕ} → Placed l 6 (storedPatterns 0) l 6
+unfolding storedPatterns tabulate itemsAt flatten
+none-placed = record { stored = refl; behind = refl }
+
+-- ---- the file
+
+-- mark, version, count and all five patterns
+file-whole : patternMark ++ bytesOf 2 1 ++ bytesOf 1 5 ++ storedPatterns 5 ≡ shipped
+unfolding storedPatterns storedPattern table tableAt bytesOf itemsAt tabulate flatten patternMark ascii shipped
+    patternFile patternBytes patterns
+file-whole = refl
+
+module _ (buffer : List ℕ) where
+  -- the buffer is too short
+  pub shipped-none : length buffer < 34 → Leaves (record { refusal = 22; length = 0 }) buffer (writeShipped buffer)
+  unfolding writeShipped writtenAtStart written short lowest unlessRefused
+  shipped-none less =
+      let few = lt-ltb (length buffer) (length shipped) (omega (arith, length-shipped)) in
+      (rw few, rw few)
+
+  -- in any other the file is stored
+  pub shipped-made : {marked versioned counted after : List ℕ} {used : ℕ} → 34 ≤ length buffer → marked ≡ sets buffer 0 patternMark
+      → versioned ≡ sets marked 3 (bytesOf 2 1) → counted ≡ sets versioned 5 (bytesOf 1 5)
+      → Placed counted 6 (storedPatterns 5) after used
+      → Leaves (record { refusal = 0; length = used }) after (writeShipped buffer)
+  unfolding writeShipped writtenAtStart written short lowest unlessRefused patternMark ascii
+  shipped-made {marked} {used = used} room mark version count stored =
+      let start : Placed buffer 0 patternMark marked 3 = record { stored = mark; behind = refl } in
+      let placed = rw file-whole at (placed-behind (placed-number (placed-number start 2 1 version) 1 5 count) stored) in
+      let enough = le-ltb (length buffer) (length shipped) (omega (arith, length-shipped)) in
+      let size : used ≡ length shipped = omega (arith, placed .behind) in
+      (rw (enough, size), rw (enough, placed .stored))

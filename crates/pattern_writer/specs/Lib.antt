@@ -1,0 +1,2 @@
+-- Definitions of the shipped pattern file's writer.
+pub mod Stored
