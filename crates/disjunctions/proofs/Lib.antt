@@ -1,0 +1,1 @@
+-- Laws of the OR proof over two sheets.
