@@ -1,1 +1,3 @@
 -- Laws of the OR proof over two sheets.
+pub mod Tests
+pub mod SessionTests

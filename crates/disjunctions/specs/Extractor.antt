@@ -16,8 +16,7 @@ use Rattle.sigma.specs.Answer.{eightPlaces}
 use Rattle.sigma.specs.Comparison.{differ}
 use Rattle.sigma.specs.Extractor.{extracted}
 use Rattle.sigma.specs.Instance.{Instance}
-use Rattle.sigma.specs.Round.{badChallenge, badCommitment, badCoordinates}
-use Rattle.disjunctions.specs.Judge.{pairRules, verdictOr}
+use Rattle.disjunctions.specs.Judge.{badChallenges, badCommitments, badResponses, pairRules, verdictOr}
 use Rattle.disjunctions.specs.Round.{firstRound, readOr, secondRound}
 
 -- whether a verdict is accepted
@@ -29,12 +28,9 @@ isOrAccepted (OrRefused number) = false
 -- the rules of two rounds as they are read, each asked of both sides of both rounds before the next
 unfoldable pub extractOrRules : Instance → Instance → OrRound → OrRound → List Rule
 extractOrRules i j a b =
-    (14 when (badCommitment i (a .commitment0) || badCommitment j (a .commitment1) ||
-    badCommitment i (b .commitment0) || badCommitment j (b .commitment1))) ∷
-    (15 when (badChallenge i (a .challenge) || badChallenge i (a .challenge0) || badChallenge i (b .challenge) ||
-    badChallenge i (b .challenge0))) ∷
-    (16 when (badCoordinates i (a .response0) || badCoordinates j (a .response1) ||
-    badCoordinates i (b .response0) || badCoordinates j (b .response1))) ∷
+    (14 when (badCommitments i j a || badCommitments i j b)) ∷
+    (15 when (badChallenges i a || badChallenges i b)) ∷
+    (16 when (badResponses i j a || badResponses i j b)) ∷
     (18 when (differ (i .header .rows) (a .commitment0) (b .commitment0) ||
     differ (j .header .rows) (a .commitment1) (b .commitment1))) ∷
     (19 when eqb (a .challenge) (b .challenge)) ∷

@@ -1,7 +1,7 @@
 -- Judging a round of the OR proof (02, card 4; refusals 2 to 11 of either sheet, 26, then 14 to 16).
 -- Assumes nothing.
 use Prim.Native.Nat.{ℕ}
-use mathlib.Core.Bool.{not, _||_}
+use mathlib.Core.Bool.{Bool, not, _||_}
 use mathlib.Core.List.{List, [], _∷_, _++_}
 use lib.Dec.{eqb}
 use Rattle.types.specs.declared.Verdict.{Verdict}
@@ -24,12 +24,22 @@ pairRules s s′ =
     eitherRules (loadRules s) (loadRules s′) ++
     (26 when not (eqb (instanceOf s .header .challenges) (instanceOf s′ .header .challenges))) ∷ []
 
--- the rules of a round as it is read: both commitments, c and c0, both responses
+-- some value of one of a round's commitments is no group element of its sheet (14)
+unfoldable pub badCommitments : Instance → Instance → OrRound → Bool
+badCommitments i j round = badCommitment i (round .commitment0) || badCommitment j (round .commitment1)
+
+-- c or c0 is K or more (15)
+unfoldable pub badChallenges : Instance → OrRound → Bool
+badChallenges i round = badChallenge i (round .challenge) || badChallenge i (round .challenge0)
+
+-- some slot of one of a round's responses is no domain slot of its sheet (16)
+unfoldable pub badResponses : Instance → Instance → OrRound → Bool
+badResponses i j round = badCoordinates i (round .response0) || badCoordinates j (round .response1)
+
+-- the rules of a round as it is read
 unfoldable pub judgeOrRules : Instance → Instance → OrRound → List Rule
 judgeOrRules i j round =
-    (14 when (badCommitment i (round .commitment0) || badCommitment j (round .commitment1))) ∷
-    (15 when (badChallenge i (round .challenge) || badChallenge i (round .challenge0))) ∷
-    (16 when (badCoordinates i (round .response0) || badCoordinates j (round .response1))) ∷ []
+    (14 when badCommitments i j round) ∷ (15 when badChallenges i round) ∷ (16 when badResponses i j round) ∷ []
 
 -- the verdict on the second side alone
 unfoldable pub secondVerdict : Verdict → OrVerdict
