@@ -1,3 +1,4 @@
 -- Laws of the OR proof over two sheets.
 pub mod Tests
 pub mod SessionTests
+pub mod OrRefusals
