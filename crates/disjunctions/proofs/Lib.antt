@@ -2,3 +2,4 @@
 pub mod Tests
 pub mod SessionTests
 pub mod OrRefusals
+pub mod OrSessions

@@ -1,0 +1,200 @@
+-- Peggy's steps in the OR proof over any list of calls, from any session, with any sheets and arguments: one session answers one
+-- challenge at most, and holds zeros but for the commitments once it has answered or dropped.
+-- Assumes nothing.
+use Prim.Native.Nat.{ℕ, _<_, _≤_}
+use mathlib.Core.Path.{_≡_, refl, sym, ap, subst, _∙_}
+use mathlib.Core.Logic.{_⊎_, inl, inr, ⊎-elim, _↔_}
+use mathlib.Core.Bool.{Bool, true, false, cond, not}
+use mathlib.Core.List.{List, [], _∷_, _++_}
+use native.Mathlib.Omega.{arith}
+use lib.Dec.{T, eqb}
+use lib.ListN.{length}
+use Rattle.types.specs.declared.ProverPhase.{ProverPhase}
+use Rattle.types.specs.declared.ProverPhase.the-variants.{New, Committed, Answered, Dropped}
+use Rattle.disjunctions.specs.declared.OrProver.{OrProver}
+use Rattle.disjunctions.specs.declared.OrStep.{OrStep}
+use Rattle.lists.specs.Places.{pad8, zeros8}
+use Rattle.rules.specs.Answer.{unlessRefused}
+use Rattle.rules.specs.Either.{eitherRules}
+use Rattle.rules.specs.Rule.{Clear, Rule, allPositive, lowest}
+use Rattle.rules.proofs.Lowest.{clear-lowest, lowest-append-zero}
+use Rattle.rules.proofs.Says.{says-or}
+use Rattle.formats.specs.Load.{loadRules, shapeRules}
+use Rattle.formats.specs.Sheet.{instanceOf}
+use Rattle.runs.specs.OnSheet.{readSlots}
+use Rattle.runs.specs.Run.{Leads}
+use Rattle.runs.proofs.ProverCalls.{ended-apart}
+use Rattle.runs.proofs.Run.{trace-leads}
+use Rattle.sigma.specs.Admission.{elementRules, headerRules}
+use Rattle.sigma.specs.Answer.{eightPlaces}
+use Rattle.sigma.specs.Round.{response}
+use Rattle.sigma.proofs.Answer.{unlessRefused-positive}
+use Rattle.sigma.proofs.Calculus.{both-fail, says-passes}
+use Rattle.disjunctions.specs.Calls.{
+  KeepsBoth,
+  OrCall,
+  OrCommit,
+  OrDrop,
+  OrEnded,
+  OrMoves,
+  OrRespond,
+  Wiped,
+  callOr,
+  orAfter,
+  orAnswered,
+  orTrace,
+}
+use Rattle.disjunctions.specs.Judge.{pairRules}
+use Rattle.disjunctions.specs.OneOfTwo.{OrSessions}
+use Rattle.disjunctions.specs.Prover.{
+  commitOr,
+  commitOrAfter,
+  commitOrRules,
+  dropOr,
+  dropOrRules,
+  firstCommitment,
+  newOrProver,
+  orProverIn,
+  orStep,
+  own,
+  other,
+  respondOr,
+  respondOrAfter,
+  respondOrRules,
+  secondCommitment,
+  unfitOr,
+  wipedOr,
+}
+use Rattle.disjunctions.specs.Round.{otherChallenge}
+use Rattle.disjunctions.proofs.OrRefusals.{or-refusals}
+use Rattle.disjunctions.proofs.SessionTests.{says-or-prover}
+
+-- the numbers of two sheets' rules are positive
+pub pair-positive : (s s′ : List ℕ) → T (allPositive (pairRules s s′))
+unfolding pairRules eitherRules loadRules shapeRules headerRules elementRules
+pair-positive s s′ = tt
+
+-- a step whose number is 0
+pub or-given : (n : ℕ) (before after : OrProver) (xs ys : List ℕ) (c : ℕ) → n ≡ 0
+    → orStep n before after xs ys c
+    ≡ record { session = after; values0 = pad8 0 xs; values1 = pad8 0 ys; challenge0 = c; refusal = 0 }
+unfolding orStep eightPlaces unlessRefused
+or-given n before after xs ys c e = rw e
+
+-- ---- a wiped session
+
+module _ (phase : ProverPhase) (first second : List ℕ) where
+  -- it is in the state that is given
+  wiped-phase : wipedOr phase first second .phase ≡ phase
+  unfolding wipedOr
+  wiped-phase = refl
+
+  -- it holds zeros but for the commitments
+  wiped-holds : Wiped (wipedOr phase first second)
+  unfolding wipedOr
+  wiped-holds = record { nonce = refl; response = refl; challenge = refl; side = refl }
+
+-- it keeps both commitments
+wiped-keeps : (phase : ProverPhase) (p q : OrProver) → q ≡ wipedOr phase (p .commitment0) (p .commitment1) → KeepsBoth p q
+unfolding wipedOr
+wiped-keeps phase p q e = (ap (λ (r : OrProver). r .commitment0) e, ap (λ (r : OrProver). r .commitment1) e)
+
+-- ---- what a call hands back
+
+-- the instance of a side's sheet is the side's instance
+pub own-instance : (side : ℕ) (s s′ : List ℕ) → own side (instanceOf s) (instanceOf s′) ≡ instanceOf (own side s s′)
+unfolding own
+own-instance side s s′ = on (eqb side 0)
+  where
+    on : (b : Bool) → cond b (instanceOf s) (instanceOf s′) ≡ instanceOf (cond b s s′)
+    on true = refl
+    on false = refl
+
+pub other-instance : (side : ℕ) (s s′ : List ℕ) → other side (instanceOf s) (instanceOf s′) ≡ instanceOf (other side s s′)
+unfolding other
+other-instance side s s′ = on (eqb side 0)
+  where
+    on : (b : Bool) → cond b (instanceOf s′) (instanceOf s) ≡ instanceOf (cond b s′ s)
+    on true = refl
+    on false = refl
+
+module _ (s s′ : List ℕ) (p : OrProver) where
+  -- committing stores what it brings with both commitments, and answers these
+  pub commit-or-given : (side : ℕ) (nonce : List ℕ) (d : ℕ) (answer : List ℕ) → commitOr s s′ p side nonce d answer .refusal ≡ 0
+      → (k r : List ℕ) → k ≡ readSlots (own side s s′) nonce → r ≡ readSlots (other side s s′) answer
+      → commitOr s s′ p side nonce d answer
+      ≡ record {
+        session =
+            record {
+              nonce = pad8 0 k;
+              response = pad8 0 r;
+              commitment0 = pad8 0 (firstCommitment (instanceOf s) side k d r);
+              commitment1 = pad8 0 (secondCommitment (instanceOf s′) side k d r);
+              challenge = d;
+              side = own side 0 1;
+              phase = Committed;
+            };
+        values0 = pad8 0 (firstCommitment (instanceOf s) side k d r);
+        values1 = pad8 0 (secondCommitment (instanceOf s′) side k d r);
+        challenge0 = 0;
+        refusal = 0;
+      }
+  unfolding commitOr commitOrAfter orStep
+  commit-or-given side nonce d answer e k r a b =
+      rw (a, b, sym (own-instance side s s′), sym (other-instance side s s′)) (or-given _ p _ _ _ 0 e)
+
+  -- responding answers both responses and c0, and wipes the session
+  pub respond-or-given : (c : ℕ) (witness : List ℕ) → respondOr s s′ p c witness .refusal ≡ 0
+      → (k x r answer : List ℕ) (d : ℕ)
+      → k ≡ readSlots (own (p .side) s s′) (p .nonce)
+      → x ≡ readSlots (own (p .side) s s′) witness
+      → r ≡ readSlots (other (p .side) s s′) (p .response)
+      → d ≡ otherChallenge (instanceOf s .header .challenges) c (p .challenge)
+      → answer ≡ response (instanceOf (own (p .side) s s′) .header) k d x
+      → respondOr s s′ p c witness
+      ≡ record {
+        session = wipedOr Answered (p .commitment0) (p .commitment1);
+        values0 = pad8 0 (own (p .side) answer r);
+        values1 = pad8 0 (own (p .side) r answer);
+        challenge0 = own (p .side) d (p .challenge);
+        refusal = 0;
+      }
+  unfolding respondOr respondOrAfter orStep
+  respond-or-given c witness e k x r answer d a b f g h =
+      rw (h, a, b, f, g, sym (own-instance (p .side) s s′), sym (other-instance (p .side) s s′)) (or-given _ p _ _ _ _ e)
+
+-- dropping wipes the session
+drop-or-given : (p : OrProver) → dropOr p .refusal ≡ 0
+    → dropOr p
+    ≡ record {
+      session = wipedOr Dropped (p .commitment0) (p .commitment1);
+      values0 = zeros8;
+      values1 = zeros8;
+      challenge0 = 0;
+      refusal = 0;
+    }
+unfolding dropOr orStep pad8 zeros8
+drop-or-given p e = or-given _ p _ [] [] 0 e
+
+-- ---- one call
+
+module _ (s s′ : List ℕ) (p : OrProver) where
+  -- committing that is not refused is in New
+  commit-or-phase : (side : ℕ) (k : List ℕ) (d : ℕ) (r : List ℕ) → commitOr s s′ p side k d r .refusal ≡ 0 → p .phase ≡ New
+  unfolding commitOr commitOrAfter orStep commitOrRules
+  commit-or-phase side k d r e =
+      says-passes (says-or-prover New p) .0 (lowest-append-zero (pairRules s s′) _ (pair-positive s s′) tt .0 e .1 .1 .1 .0)
+
+  -- responding that is not refused is in Committed
+  respond-or-phase : (c : ℕ) (x : List ℕ) → respondOr s s′ p c x .refusal ≡ 0 → p .phase ≡ Committed
+  unfolding respondOr respondOrAfter orStep respondOrRules
+  respond-or-phase c x e =
+      let rules = lowest-append-zero (pairRules s s′) _ (pair-positive s s′) tt .0 e .1 in
+      says-passes (says-or-prover Committed p) .0
+      (both-fail (not (orProverIn Committed p)) (unfitOr (instanceOf s) (instanceOf s′) p) .0 (rules .1 .1 .1 .0) .0)
+
+-- dropping that is not refused is in New or Committed
+drop-or-phase : (p : OrProver) → dropOr p .refusal ≡ 0 → (p .phase ≡ New) ⊎ (p .phase ≡ Committed)
+unfolding dropOr orStep dropOrRules
+drop-or-phase p e =
+    says-passes (says-or (says-or-prover New p) (says-or-prover Committed p)) .0 (clear-lowest (dropOrRules p) tt e .0)
