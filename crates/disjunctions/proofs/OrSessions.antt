@@ -2,7 +2,7 @@
 -- challenge at most, and holds zeros but for the commitments once it has answered or dropped.
 -- Assumes nothing.
 use Prim.Native.Nat.{ℕ, _<_, _≤_}
-use mathlib.Core.Path.{_≡_, refl, sym, ap, subst, _∙_}
+use mathlib.Core.Path.{_≡_, refl, sym, ap, ap₂, subst, _∙_}
 use mathlib.Core.Logic.{_⊎_, inl, inr, ⊎-elim, _↔_}
 use mathlib.Core.Bool.{Bool, true, false, cond, not}
 use mathlib.Core.List.{List, [], _∷_, _++_}
@@ -198,3 +198,95 @@ drop-or-phase : (p : OrProver) → dropOr p .refusal ≡ 0 → (p .phase ≡ New
 unfolding dropOr orStep dropOrRules
 drop-or-phase p e =
     says-passes (says-or (says-or-prover New p) (says-or-prover Committed p)) .0 (clear-lowest (dropOrRules p) tt e .0)
+
+-- a refused call hands back the session
+or-kept : (call : OrCall) (p : OrProver) → 0 < callOr call p .refusal → callOr call p .session ≡ p
+unfolding callOr
+or-kept (OrCommit s s′ side k d r) p some = or-refusals .committing s s′ p side k d r .left some .0
+or-kept (OrRespond s s′ c x) p some = or-refusals .responding s s′ p c x .left some .0
+or-kept OrDrop p some = or-refusals .dropping p .left some .0
+
+-- any other call moves it
+or-moves : (call : OrCall) (p : OrProver) → callOr call p .refusal ≡ 0 → OrMoves p call (callOr call p)
+unfolding callOr
+or-moves (OrCommit s s′ side k d r) p e =
+    let given = commit-or-given s s′ p side k d r e _ _ refl refl in (
+      commit-or-phase s s′ p side k d r e,
+      ap (λ (step : OrStep). step .session) given
+          ∙ ap₂ (λ (t t′ : List ℕ). record {
+            nonce = pad8 0 (readSlots (own side s s′) k);
+            response = pad8 0 (readSlots (other side s s′) r);
+            commitment0 = t;
+            commitment1 = t′;
+            challenge = d;
+            side = own side 0 1;
+            phase = Committed;
+          }) (sym (ap (λ (step : OrStep). step .values0) given)) (sym (ap (λ (step : OrStep). step .values1) given)),
+    )
+or-moves (OrRespond s s′ c x) p e =
+    let given = ap (λ (step : OrStep). step .session) (respond-or-given s s′ p c x e _ _ _ _ _ refl refl refl refl refl) in (
+      respond-or-phase s s′ p c x e,
+      ap (λ (q : OrProver). q .phase) given ∙ wiped-phase Answered _ _,
+      subst Wiped (sym given) (wiped-holds Answered _ _),
+      wiped-keeps Answered p _ given,
+    )
+or-moves OrDrop p e =
+    let given = ap (λ (step : OrStep). step .session) (drop-or-given p e) in (
+      drop-or-phase p e,
+      ap (λ (q : OrProver). q .phase) given ∙ wiped-phase Dropped _ _,
+      subst Wiped (sym given) (wiped-holds Dropped _ _),
+      wiped-keeps Dropped p _ given,
+    )
+
+-- ---- steps that lead from one session to another
+
+-- the steps lead from p to q
+abbrev To : OrProver → List (OrCall × OrStep) → OrProver → Type 0
+To p steps q = Leads (λ step. step .session) OrMoves p steps q
+
+-- none leads from a session that is Answered or Dropped
+ended-last : (p q : OrProver) (steps : List (OrCall × OrStep)) → OrEnded p → To p steps q → (steps ≡ []) × (q ≡ p)
+ended-last p q [] ended leads = (refl, leads)
+ended-last p q ((OrCommit s s′ side k d r, step) ∷ later) ended leads = absurd (ended-apart (p .phase) ended (inl (leads .0 .0)))
+ended-last p q ((OrRespond s s′ c x, step) ∷ later) ended leads = absurd (ended-apart (p .phase) ended (inr (leads .0 .0)))
+ended-last p q ((OrDrop, step) ∷ later) ended leads = absurd (ended-apart (p .phase) ended (leads .0 .0))
+
+-- at most one answers a challenge
+answered-once : (steps : List (OrCall × OrStep)) (p q : OrProver) → To p steps q → length (orAnswered steps) ≤ 1
+unfolding orAnswered
+answered-once [] p q leads = omega arith
+answered-once ((OrCommit s s′ side k d r, step) ∷ later) p q leads = answered-once later (step .session) q (leads .1)
+answered-once ((OrRespond s s′ c x, step) ∷ later) p q leads =
+    let none = ended-last (step .session) q later (inl (leads .0 .1)) (leads .1) .0 in
+    subst (λ (rest : List (OrCall × OrStep)). length (c ∷ orAnswered rest) ≤ 1) (sym none) (omega arith)
+answered-once ((OrDrop, step) ∷ later) p q leads = answered-once later (step .session) q (leads .1)
+
+-- where they lead to Answered or Dropped, they lead from it or to a session that is wiped
+wiped-last : (steps : List (OrCall × OrStep)) (p q : OrProver) → To p steps q → OrEnded q → OrEnded p ⊎ Wiped q
+wiped-last [] p q leads ended = inl (subst OrEnded leads ended)
+wiped-last ((OrCommit s s′ side k d r, step) ∷ later) p q leads ended =
+    ⊎-elim (λ (e : OrEnded (step .session)). absurd (ended-apart _ e (inr (ap (λ (r : OrProver). r .phase) (leads .0 .1))))) inr
+    (wiped-last later (step .session) q (leads .1) ended)
+wiped-last ((OrRespond s s′ c x, step) ∷ later) p q leads ended =
+    inr (subst Wiped (sym (ended-last (step .session) q later (inl (leads .0 .1)) (leads .1) .1)) (leads .0 .2))
+wiped-last ((OrDrop, step) ∷ later) p q leads ended =
+    inr (subst Wiped (sym (ended-last (step .session) q later (inr (leads .0 .1)) (leads .1) .1)) (leads .0 .2))
+
+-- ---- any list of calls
+
+-- the calls that are carried out lead from the session to the one at the end
+or-leads : (calls : List OrCall) (p : OrProver) → Leads (λ step. step .session) OrMoves p (orTrace calls p) (orAfter calls p)
+unfolding orTrace orAfter
+or-leads = trace-leads callOr (λ step. step .session) (λ step. step .refusal) OrMoves or-kept or-moves
+
+-- the session's steps
+pub or-sessions : OrSessions
+unfolding newOrProver wipedOr zeros8
+or-sessions = record {
+  new = refl;
+  in-order = or-leads;
+  once = λ calls p. answered-once (orTrace calls p) p (orAfter calls p) (or-leads calls p);
+  wiped = λ calls p started ended.
+      ⊎-elim (λ e. absurd (started e)) (λ z. z) (wiped-last (orTrace calls p) p (orAfter calls p) (or-leads calls p) ended);
+  ended = λ calls p ended. ended-last p (orAfter calls p) (orTrace calls p) ended (or-leads calls p);
+}
