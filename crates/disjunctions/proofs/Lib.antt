@@ -1,5 +1,7 @@
 -- Laws of the OR proof over two sheets.
+pub mod Challenges
 pub mod Tests
 pub mod SessionTests
 pub mod OrRefusals
+pub mod Judged
 pub mod OrSessions
