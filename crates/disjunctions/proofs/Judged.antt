@@ -232,11 +232,24 @@ module _ (s s′ : List ℕ) (pair : Pair s s′) where
         → judgeOr s s′ round ≡ combined (judgeRound s (firstRound round)) (judgeRound s′ (secondRound K round))
     not-refused e = both-judged (clear-lowest _ (judge-or-positive round) (sym judge-or-number ∙ e))
 
+    -- no rule applies to an accepted round
+    pub accepted-clear : AcceptsOr s s′ round → Clear (judgeOrRules i j (readOr i j round))
+    accepted-clear e = clear-lowest _ (judge-or-positive round) (sym judge-or-number ∙ ap orNumber e ∙ accepted-number)
+
+    -- its c0 is below K
+    pub accepted-below : AcceptsOr s s′ round → round .challenge0 < K
+    unfolding firstRound
+    accepted-below e = round-clear .0 (accepted-clear e) .1 .challenge
+
+    -- and its values are accepted
+    pub accepted-verdict : AcceptsOr s s′ round → verdictOr i j (readOr i j round) ≡ OrAccepted
+    accepted-verdict e = sym (judge-or-clear (accepted-clear e)) ∙ e
+
     -- a round is accepted exactly where c is below K and both sides' rounds are accepted
     pub or-accepted : AcceptsOr s s′ round ↔ (Below s (round .challenge) × Accepts s (firstRound round) × Accepts s′ (secondRound K round))
     or-accepted = (
       λ e.
-          let none = clear-lowest _ (judge-or-positive round) (sym judge-or-number ∙ ap orNumber e ∙ accepted-number) in
+          let none = accepted-clear e in
           let both = combined-both _ _ .0 (sym (both-judged none) ∙ e) in
           (round-clear .0 none .0, both .0, both .1),
       λ (small, first, second).

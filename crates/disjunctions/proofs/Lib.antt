@@ -4,4 +4,5 @@ pub mod Tests
 pub mod SessionTests
 pub mod OrRefusals
 pub mod Judged
+pub mod Extracted
 pub mod OrSessions
