@@ -5,4 +5,5 @@ pub mod SessionTests
 pub mod OrRefusals
 pub mod Judged
 pub mod Extracted
+pub mod Made
 pub mod OrSessions
