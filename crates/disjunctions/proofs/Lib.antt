@@ -6,4 +6,5 @@ pub mod OrRefusals
 pub mod Judged
 pub mod Extracted
 pub mod Made
+pub mod Proved
 pub mod OrSessions
