@@ -7,4 +7,5 @@ pub mod Judged
 pub mod Extracted
 pub mod Made
 pub mod Proved
+pub mod Sides
 pub mod OrSessions
