@@ -8,4 +8,5 @@ pub mod Extracted
 pub mod Made
 pub mod Proved
 pub mod Sides
+pub mod OrLists
 pub mod OrSessions

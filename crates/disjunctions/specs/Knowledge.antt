@@ -4,13 +4,15 @@
 use Prim.Native.Nat.{ℕ, _<_}
 use mathlib.Core.Path.{_≡_}
 use mathlib.Core.Logic.{_↔_, _≢_}
-use mathlib.Core.List.{List, map, flatten}
+use mathlib.Core.Bool.{true}
+use mathlib.Core.List.{List, flatMap, map}
 use Rattle.types.specs.declared.Round.{Round}
 use Rattle.disjunctions.specs.declared.OrRound.{OrRound}
 use Rattle.disjunctions.specs.declared.OrStep.{OrStep}
 use Rattle.disjunctions.specs.declared.OrVerdict.the-variants.{OrAccepted}
 use Rattle.lists.specs.Member.{EachOnce, Member}
-use Rattle.lists.specs.Places.{pad8, tabulate}
+use Rattle.lists.specs.Choices.{selected}
+use Rattle.lists.specs.Places.{pad8}
 use Rattle.formats.specs.Load.{loadRefusal}
 use Rattle.formats.specs.Sheet.{instanceOf}
 use Rattle.runs.specs.Calls.{extractWitness}
@@ -62,12 +64,13 @@ pub record IsOrChoice (s s′ : List ℕ) (side : ℕ) (choice : OrChoice) : Typ
   pub challenge : Below s (choice .challenge)
   pub response : Choice (instanceOf (other side s s′)) (choice .response)
 
--- all choices of a side, listed
+-- all choices of a side, listed: each nonce with each challenge below K and each simulated response
 unfoldable pub allOrChoices : List ℕ → List ℕ → ℕ → List OrChoice
 allOrChoices s s′ side =
-    flatten (map (λ k. flatten (map (λ d. map (λ r. record { nonce = k; challenge = d; response = r })
-    (allChoices (instanceOf (other side s s′))))
-    (tabulate (instanceOf s .header .challenges) (λ d. d)))) (allChoices (instanceOf (own side s s′))))
+    flatMap
+    (λ k. flatMap
+    (λ d. map (λ r. record { nonce = k; challenge = d; response = r }) (allChoices (instanceOf (other side s s′))))
+    (selected (instanceOf s .header .challenges) (λ d. true))) (allChoices (instanceOf (own side s s′)))
 
 -- the round that Peggy makes with the witness x of a side for the challenge c: the commitments that she answers for her choice in a
 -- new session, and what she answers when the session then handed back gets c and x
