@@ -70,9 +70,10 @@ module _ (s s′ : List ℕ) (a b : OrRound) (p : AcceptedOrPair s s′ a b) whe
       (readOr (instanceOf s) (instanceOf s′) b .commitment1)) ≡ false
   unfolding readOr
   first-18 =
-      both-fail (differ (instanceOf s .header .rows) _ _) _ .1
-      (read-same _ (a .commitment0) (b .commitment0) (p .first-commitments),
-      read-same _ (a .commitment1) (b .commitment1) (p .second-commitments))
+      both-fail (differ (instanceOf s .header .rows) _ _) _ .1 (
+        read-same _ (a .commitment0) (b .commitment0) (p .first-commitments),
+        read-same _ (a .commitment1) (b .commitment1) (p .second-commitments),
+      )
 
   -- 19 does not apply
   first-19 : eqb (readOr (instanceOf s) (instanceOf s′) a .challenge) (readOr (instanceOf s) (instanceOf s′) b .challenge) ≡ false
@@ -134,8 +135,11 @@ module _ (s s′ : List ℕ) (pair : Pair s s′) (a b : OrRound) (p : AcceptedO
   extract-or-given =
       let zero = lowest-later (pairRules s s′) (extractOrRules i j (readOr i j a) (readOr i j b)) (pair-clear s s′ pair)
       ∙ lowest-clear _ extract-or-clear in
-      rw (zero, unlessRefused-zero (pad8 0 (extractedOr i j (readOr i j a) (readOr i j b))) _,
-      unlessRefused-zero (extractedSide (readOr i j a) (readOr i j b)) 0)
+      rw (
+        zero,
+        unlessRefused-zero (pad8 0 (extractedOr i j (readOr i j a) (readOr i j b))) _,
+        unlessRefused-zero (extractedSide (readOr i j a) (readOr i j b)) 0,
+      )
 
   -- where the c0 differ, the answer is that of 01's extractor on the rounds of side 0
   first-answer : a .challenge0 ≢ b .challenge0 → Extraction i (extractWitness s) (firstRound a) (firstRound b)

@@ -9,4 +9,5 @@ pub mod Made
 pub mod Proved
 pub mod Sides
 pub mod OrLists
+pub mod OneOfTwo
 pub mod OrSessions

@@ -116,11 +116,14 @@ module _ {i j : Instance} (v : Valid i) (w : Valid j) (side : ℕ) (k : List ℕ
       let challenge-false : challenge ≡ false = challenge-passes i d .1 below in
       let first-false : first ≡ false = rw (read, read′, first-read v w k d r side) (differ-false 8 _ _ .1 (λ a b. refl)) in
       let second-false : second ≡ false = rw (read, read′, second-read v w k d r side) (differ-false 8 _ _ .1 (λ a b. refl)) in
-      both-fail (known || nonce || answer || challenge || first) second .1
-      (both-fail (known || nonce || answer || challenge) first .1
-      (both-fail (known || nonce || answer) challenge .1
-      (both-fail (known || nonce) answer .1 (both-fail known nonce .1 (known-false, nonce-false), answer-false), challenge-false),
-      first-false), second-false)
+      both-fail (known || nonce || answer || challenge || first) second .1 (
+        both-fail (known || nonce || answer || challenge) first .1 (
+          both-fail (known || nonce || answer) challenge .1
+              (both-fail (known || nonce) answer .1 (both-fail known nonce .1 (known-false, nonce-false), answer-false), challenge-false),
+          first-false,
+        ),
+        second-false,
+      )
 
 -- ---- the calls of a new session
 

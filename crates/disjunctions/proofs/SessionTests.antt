@@ -117,11 +117,13 @@ module _ {i j : Instance} (v : Valid i) (w : Valid j) where
   unfolding unfitOr
   says-unfitOr p =
       simp or-assoc
-          (rw (first-read v w (p .nonce) (p .challenge) (p .response) (p .side),
-          second-read v w (p .nonce) (p .challenge) (p .response) (p .side))
-          (says-or (says-less 1 (p .side)) (says-or (coordinates-read (own (p .side) i j) (p .nonce))
-          (says-or (coordinates-read (other (p .side) i j) (p .response)) (says-or (says-badChallenge i (p .challenge))
-          (says-or (says-differ 8 _ (p .commitment0)) (says-differ 8 _ (p .commitment1))))))))
+      (rw (
+        first-read v w (p .nonce) (p .challenge) (p .response) (p .side),
+        second-read v w (p .nonce) (p .challenge) (p .response) (p .side),
+      )
+      (says-or (says-less 1 (p .side)) (says-or (coordinates-read (own (p .side) i j) (p .nonce))
+      (says-or (coordinates-read (other (p .side) i j) (p .response)) (says-or (says-badChallenge i (p .challenge))
+      (says-or (says-differ 8 _ (p .commitment0)) (says-differ 8 _ (p .commitment1))))))))
 
   -- responding
   pub respond-or-tests : (p : OrProver) (c : ℕ) (x : List ℕ)

@@ -46,14 +46,14 @@ module _ (s s′ : List ℕ) (pair : Pair s s′) (c : ℕ) (below : Below s c) 
 
   module _ (x : List ℕ) (witness : Witness (instanceOf s) x) (choice : OrChoice) (is : IsOrChoice s s′ 0 choice) where
     -- side 0 is an honest round for the challenge that is left
-    known-first : firstRound (orRound s s′ 0 x c choice) ≡ honestRound s x (otherChallenge K c (choice .challenge)) (choice .nonce)
+    pub known-first : firstRound (orRound s s′ 0 x c choice) ≡ honestRound s x (otherChallenge K c (choice .challenge)) (choice .nonce)
     unfolding firstRound firstCommitment own
     known-first =
         ap firstRound (round-given s s′ pair 0 (omega arith) choice is c below x witness _ _ refl refl)
         ∙ sym (honest-is s (pair .first-loads) _ (left-below (choice .challenge)) x witness (choice .nonce) (is .nonce))
 
     -- side 1 is the simulated round
-    simulated-second : secondRound K (orRound s s′ 0 x c choice)
+    pub simulated-second : secondRound K (orRound s s′ 0 x c choice)
         ≡ simulatedRound s′ (otherChallenge K c (otherChallenge K c (choice .challenge))) (choice .response)
     unfolding secondRound secondCommitment own other
     simulated-second =
@@ -66,14 +66,14 @@ module _ (s s′ : List ℕ) (pair : Pair s s′) (c : ℕ) (below : Below s c) 
 
   module _ (x : List ℕ) (witness : Witness (instanceOf s′) x) (choice : OrChoice) (is : IsOrChoice s s′ 1 choice) where
     -- side 0 is the simulated round
-    simulated-first : firstRound (orRound s s′ 1 x c choice) ≡ simulatedRound s (choice .challenge) (choice .response)
+    pub simulated-first : firstRound (orRound s s′ 1 x c choice) ≡ simulatedRound s (choice .challenge) (choice .response)
     unfolding firstRound firstCommitment own other
     simulated-first =
         ap firstRound (round-given s s′ pair 1 (omega arith) choice is c below x witness _ _ refl refl)
         ∙ sym (simulated-is s (pair .first-loads) (choice .challenge) (is .challenge) (choice .response) (is .response))
 
     -- side 1 is an honest round for the challenge that is left
-    known-second : secondRound K (orRound s s′ 1 x c choice)
+    pub known-second : secondRound K (orRound s s′ 1 x c choice)
         ≡ honestRound s′ x (otherChallenge K c (choice .challenge)) (choice .nonce)
     unfolding secondRound secondCommitment own
     known-second =
