@@ -222,6 +222,7 @@ or-moves (OrCommit s s′ side k d r) p e =
             side = own side 0 1;
             phase = Committed;
           }) (sym (ap (λ (step : OrStep). step .values0) given)) (sym (ap (λ (step : OrStep). step .values1) given)),
+      ap (λ (step : OrStep). step .challenge0) given,
     )
 or-moves (OrRespond s s′ c x) p e =
     let given = ap (λ (step : OrStep). step .session) (respond-or-given s s′ p c x e _ _ _ _ _ refl refl refl refl refl) in (
@@ -231,11 +232,17 @@ or-moves (OrRespond s s′ c x) p e =
       wiped-keeps Answered p _ given,
     )
 or-moves OrDrop p e =
-    let given = ap (λ (step : OrStep). step .session) (drop-or-given p e) in (
+    let whole = drop-or-given p e in
+    let given = ap (λ (step : OrStep). step .session) whole in (
       drop-or-phase p e,
       ap (λ (q : OrProver). q .phase) given ∙ wiped-phase Dropped _ _,
       subst Wiped (sym given) (wiped-holds Dropped _ _),
       wiped-keeps Dropped p _ given,
+      (
+        ap (λ (step : OrStep). step .values0) whole,
+        ap (λ (step : OrStep). step .values1) whole,
+        ap (λ (step : OrStep). step .challenge0) whole,
+      ),
     )
 
 -- ---- steps that lead from one session to another

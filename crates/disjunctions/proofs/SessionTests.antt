@@ -112,9 +112,9 @@ module _ {i j : Instance} (v : Valid i) (w : Valid j) where
       → Says (unfitOr i j p)
       ((1 < p .side) ⊎ Refusal16 (own (p .side) i j) (p .nonce) ⊎ Refusal16 (other (p .side) i j) (p .response) ⊎
       Refusal15 i (p .challenge) ⊎
-      Differ 8 (pad8 0 (firstCommitment i (p .side) (p .nonce) (p .challenge) (p .response))) (p .commitment0) ⊎
-      Differ 8 (pad8 0 (secondCommitment j (p .side) (p .nonce) (p .challenge) (p .response))) (p .commitment1))
-  unfolding unfitOr
+      Differ 8 (pad8 0 (own (p .side) (image (tableOf i) (p .nonce)) (simulated i (p .challenge) (p .response)))) (p .commitment0) ⊎
+      Differ 8 (pad8 0 (own (p .side) (simulated j (p .challenge) (p .response)) (image (tableOf j) (p .nonce)))) (p .commitment1))
+  unfolding unfitOr firstCommitment secondCommitment
   says-unfitOr p =
       simp or-assoc
       (rw (

@@ -48,7 +48,11 @@ OrEnded p = (p .phase ≡ Answered) ⊎ (p .phase ≡ Dropped)
 abbrev pub KeepsBoth : OrProver → OrProver → Type 0
 KeepsBoth p q = (q .commitment0 ≡ p .commitment0) × (q .commitment1 ≡ p .commitment1)
 
--- in which state a call is carried out, and what it hands back
+-- nothing is answered
+abbrev pub Empty : OrStep → Type 0
+Empty step = (step .values0 ≡ zeros8) × (step .values1 ≡ zeros8) × (step .challenge0 ≡ 0)
+
+-- in which state a call is carried out, and what it hands back: committing answers no challenge, and dropping nothing at all
 abbrev pub OrMoves : OrProver → OrCall → OrStep → Type 0
 OrMoves p (OrCommit s s′ side k d r) step =
     (p .phase ≡ New) ×
@@ -61,12 +65,13 @@ OrMoves p (OrCommit s s′ side k d r) step =
       challenge = d;
       side = own side 0 1;
       phase = Committed;
-    })
+    }) ×
+    (step .challenge0 ≡ 0)
 OrMoves p (OrRespond s s′ c x) step =
     (p .phase ≡ Committed) × (step .session .phase ≡ Answered) × Wiped (step .session) × KeepsBoth p (step .session)
 OrMoves p OrDrop step =
     ((p .phase ≡ New) ⊎ (p .phase ≡ Committed)) × (step .session .phase ≡ Dropped) × Wiped (step .session) ×
-    KeepsBoth p (step .session)
+    KeepsBoth p (step .session) × Empty step
 
 -- the challenges that the calls of a trace answered
 unfoldable pub orAnswered : {Outcome : Type 0} → List (OrCall × Outcome) → List ℕ

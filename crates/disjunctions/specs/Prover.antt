@@ -95,7 +95,7 @@ commitOrAfter before i j p side nonce d answer =
       phase = Committed;
     }) t t′ 0
 
--- the held side is none, a held slot is no domain slot of its sheet, the held challenge is K or more, or the held values do not
+-- the held side is neither 0 nor 1, a held slot is no domain slot of its sheet, the held challenge is K or more, or the held values do not
 -- make both held commitments, 0 beyond s, in all eight places
 unfoldable pub unfitOr : Instance → Instance → OrProver → Bool
 unfitOr i j p =

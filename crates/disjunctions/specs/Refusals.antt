@@ -12,12 +12,13 @@ use Rattle.rules.specs.Condition.{Condition, _if_}
 use Rattle.rules.specs.Either.{eitherConditions}
 use Rattle.formats.specs.Refusals.{loadConditions}
 use Rattle.formats.specs.Sheet.{instanceOf}
-use Rattle.sigma.specs.Image.{rowImage}
+use Rattle.sigma.specs.Image.{image, rowImage}
 use Rattle.sigma.specs.Instance.{Instance, statementAt, tableOf}
 use Rattle.sigma.specs.Meaning.{Holds}
 use Rattle.sigma.specs.Reads.{Differ}
 use Rattle.sigma.specs.Refusals.{Refusal14, Refusal15, Refusal16}
-use Rattle.disjunctions.specs.Prover.{firstCommitment, other, own, secondCommitment}
+use Rattle.sigma.specs.Simulator.{simulated}
+use Rattle.disjunctions.specs.Prover.{other, own}
 use Rattle.disjunctions.specs.Round.{firstRound, secondRound}
 
 -- two sheets: 2 to 11 of either, and 26 for different counts K
@@ -64,8 +65,8 @@ commitOrConditions i j p side k d r =
     (16 if (Refusal16 (own side i j) k ⊎ Refusal16 (other side i j) r)) ∷
     (21 if (p .phase ≢ New)) ∷ []
 
--- responding, the witness being one of the held side's sheet; 21: besides the state, the held side is none, a held value is no
--- slot or no challenge of its sheet, or the held values do not make both held commitments, 0 beyond s, in all eight places
+-- responding, the witness being one of the held side's sheet; 21: besides the state, the held side is neither 0 nor 1, a held value
+-- is no slot or no challenge of its sheet, or the held values do not make both held commitments, 0 beyond s, in all eight places
 abbrev pub respondOrConditions : Instance → Instance → OrProver → ℕ → List ℕ → List Condition
 respondOrConditions i j p c x =
     (15 if Refusal15 i c) ∷
@@ -74,9 +75,8 @@ respondOrConditions i j p c x =
     (rowImage (tableOf (own (p .side) i j)) x row ≢ statementAt (own (p .side) i j) row))) ∷
     (21 if ((p .phase ≢ Committed) ⊎ (1 < p .side) ⊎ Refusal16 (own (p .side) i j) (p .nonce) ⊎
     Refusal16 (other (p .side) i j) (p .response) ⊎ Refusal15 i (p .challenge) ⊎
-    Differ 8 (pad8 0 (firstCommitment i (p .side) (p .nonce) (p .challenge) (p .response))) (p .commitment0) ⊎
-    Differ 8 (pad8 0 (secondCommitment j (p .side) (p .nonce) (p .challenge) (p .response)))
-    (p .commitment1))) ∷ []
+    Differ 8 (pad8 0 (own (p .side) (image (tableOf i) (p .nonce)) (simulated i (p .challenge) (p .response)))) (p .commitment0) ⊎
+    Differ 8 (pad8 0 (own (p .side) (simulated j (p .challenge) (p .response)) (image (tableOf j) (p .nonce)))) (p .commitment1))) ∷ []
 
 -- dropping
 abbrev pub dropOrConditions : OrProver → List Condition
