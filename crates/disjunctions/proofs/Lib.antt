@@ -9,5 +9,6 @@ pub mod Made
 pub mod Proved
 pub mod Sides
 pub mod OrLists
+pub mod Steps
 pub mod OneOfTwo
 pub mod OrSessions
