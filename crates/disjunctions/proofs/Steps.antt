@@ -10,6 +10,7 @@ use native.Mathlib.Omega.{arith}
 use lib.Dec.{ltb}
 use borrow.Author.Tests.{ne-eqb}
 use Rattle.types.specs.declared.Computed.{Computed}
+use Rattle.types.specs.declared.Prover.{Prover}
 use Rattle.types.specs.declared.ProverPhase.the-variants.{Committed, New}
 use Rattle.types.specs.declared.ProverStep.{ProverStep}
 use Rattle.disjunctions.specs.declared.OrProver.{OrProver}
@@ -203,4 +204,72 @@ module _ (s s′ : List ℕ) (pair : Pair s s′) (p : OrProver) where
             ∙ sym (simulate-values s (pair .first-loads) d r below slots′),
         ap (λ (step : OrStep). step .values1) given ∙ ap (pad8 0) (later-second n (instanceOf s′) _ d _)
             ∙ sym (commit-values s′ (pair .second-loads) k slots),
+      )
+
+  -- a session of 01 that holds a nonce and its commitment answers a challenge below K with the response
+  answer-values : (sheet : List ℕ) → loadRefusal sheet ≡ 0 → (q : Prover) (e : ℕ) (x : List ℕ) → q .phase ≡ Committed → Below sheet e
+      → Coordinates (instanceOf sheet) (readSlots sheet x) → (badWitness (instanceOf sheet) (readSlots sheet x) ≡ false)
+      → Coordinates (instanceOf sheet) (readSlots sheet (q .nonce))
+      → Agree 8 (pad8 0 (image (tableOf (instanceOf sheet)) (readSlots sheet (q .nonce)))) (q .commitment)
+      → respond sheet q e x .values ≡ pad8 0 (response (instanceOf sheet .header) (readSlots sheet (q .nonce)) e (readSlots sheet x))
+  unfolding respond loadRefusal
+  answer-values sheet loads q e x phase below slots carried nonce agree =
+      let inst = instanceOf sheet in
+      let n = inst .header .columns in
+      let witness = witness-slots inst (places n x) (length-places n x) .0 (slots, witness-passes inst (places n x) .0 carried) in
+      let runs = respondAfter-runs (loadRules sheet) inst q e x (load-positive sheet) .1
+      (loads, record { challenge = below; witness = witness; phase = phase; nonce = nonce; commitment = agree }) in
+      ap (λ (step : ProverStep). step .values) (respondAfter-given (loadRules sheet) inst q e x runs)
+
+  -- the responses of a side that is known and of the other one
+  abbrev known : ℕ → ℕ → List ℕ → List ℕ
+  known side c x =
+      response (instanceOf (own side s s′) .header) (readSlots (own side s s′) (p .nonce))
+      (otherChallenge (instanceOf s .header .challenges) c (p .challenge)) (readSlots (own side s s′) x)
+
+  abbrev simulatedSlots : ℕ → List ℕ
+  simulatedSlots side = readSlots (other side s s′) (p .response)
+
+  -- responding in a session that holds side 0
+  pub responds-first : (c : ℕ) (x : List ℕ) → p .side ≡ 0 → respondOr s s′ p c x .refusal ≡ 0
+      → (respondOr s s′ p c x .challenge0 ≡ otherChallenge (instanceOf s .header .challenges) c (p .challenge))
+      × (respondOr s s′ p c x .values0
+      ≡ respond s (record { phase = Committed; nonce = p .nonce; commitment = p .commitment0 })
+      (otherChallenge (instanceOf s .header .challenges) c (p .challenge)) x .values)
+      × (respondOr s s′ p c x .values1 ≡ pad8 0 (readSlots s′ (p .response)))
+  unfolding own other firstCommitment
+  responds-first c x side e =
+      let facts = respond-or-facts s s′ p c x e in
+      let slots = rw side at (facts .0) in
+      let carried = rw side at (facts .1) in
+      let (nonce, first, second) = rw side at (unfit-facts s s′ p (facts .2) _ _ refl refl) in
+      let left = otherChallenge K c (p .challenge) in
+      let given = respond-or-given s s′ p c x e _ _ _ _ _ refl refl refl refl refl in
+      let mine = answer-values s (pair .first-loads) (record { phase = Committed; nonce = p .nonce; commitment = p .commitment0 }) left x refl
+      (other-less K c (p .challenge) (some-challenge s s′ pair)) slots carried nonce first in (
+        ap (λ (step : OrStep). step .challenge0) given ∙ ap (λ (n : ℕ). own n left (p .challenge)) side,
+        ap (λ (step : OrStep). step .values0) given ∙ ap (λ (n : ℕ). pad8 0 (own n (known n c x) (simulatedSlots n))) side ∙ sym mine,
+        ap (λ (step : OrStep). step .values1) given ∙ ap (λ (n : ℕ). pad8 0 (own n (simulatedSlots n) (known n c x))) side,
+      )
+
+  -- and in one that holds side 1
+  pub responds-second : (c : ℕ) (x : List ℕ) → p .side ≡ 1 → respondOr s s′ p c x .refusal ≡ 0
+      → (respondOr s s′ p c x .challenge0 ≡ p .challenge)
+      × (respondOr s s′ p c x .values0 ≡ pad8 0 (readSlots s (p .response)))
+      × (respondOr s s′ p c x .values1
+      ≡ respond s′ (record { phase = Committed; nonce = p .nonce; commitment = p .commitment1 })
+      (otherChallenge (instanceOf s .header .challenges) c (p .challenge)) x .values)
+  unfolding own other secondCommitment
+  responds-second c x side e =
+      let facts = respond-or-facts s s′ p c x e in
+      let slots = rw side at (facts .0) in
+      let carried = rw side at (facts .1) in
+      let (nonce, first, second) = rw side at (unfit-facts s s′ p (facts .2) _ _ refl refl) in
+      let left = otherChallenge K c (p .challenge) in
+      let given = respond-or-given s s′ p c x e _ _ _ _ _ refl refl refl refl refl in
+      let mine = answer-values s′ (pair .second-loads) (record { phase = Committed; nonce = p .nonce; commitment = p .commitment1 }) left x refl
+      (rw (sym (pair .one-count)) (other-less K c (p .challenge) (some-challenge s s′ pair))) slots carried nonce second in (
+        ap (λ (step : OrStep). step .challenge0) given ∙ ap (λ (n : ℕ). own n left (p .challenge)) side,
+        ap (λ (step : OrStep). step .values0) given ∙ ap (λ (n : ℕ). pad8 0 (own n (known n c x) (simulatedSlots n))) side,
+        ap (λ (step : OrStep). step .values1) given ∙ ap (λ (n : ℕ). pad8 0 (own n (simulatedSlots n) (known n c x))) side ∙ sym mine,
       )
