@@ -52,7 +52,7 @@ use Rattle.disjunctions.specs.Judge.{
   verdictOr,
 }
 use Rattle.disjunctions.specs.Knowledge.{AcceptsOr, Pair}
-use Rattle.disjunctions.specs.OneOfTwo.{orNumber}
+use Rattle.disjunctions.specs.OneOfTwo.{orNumber, orOutcome}
 use Rattle.disjunctions.specs.Round.{firstRound, otherChallenge, readOr, secondRound}
 use Rattle.disjunctions.proofs.Challenges.{other-less}
 use Rattle.disjunctions.proofs.OrRefusals.{load-numbers, or-number, verdict-or-number}
@@ -108,7 +108,7 @@ combined-second v w row = (from v w, λ (a, b). rw (a, b))
 
 -- an accepted verdict is no refusal
 accepted-number : orNumber OrAccepted ≡ 0
-unfolding orNumber
+unfolding orNumber orOutcome
 accepted-number = refl
 
 -- ---- two sheets that load with one K

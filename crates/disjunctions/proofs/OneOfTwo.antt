@@ -21,7 +21,7 @@ use Rattle.sigma.proofs.Lists.{all-choices-member}
 use Rattle.disjunctions.specs.Extractor.{extractOr, extractOrAfter}
 use Rattle.disjunctions.specs.Judge.{judgeOr, judgeOrAfter}
 use Rattle.disjunctions.specs.Knowledge.{AcceptsOr, IsOrChoice, OrChoice, Pair, allOrChoices, orRound, paddedOr}
-use Rattle.disjunctions.specs.OneOfTwo.{OneOfTwo, OrProof}
+use Rattle.disjunctions.specs.OneOfTwo.{OneOfTwo, OrProof, orOutcome}
 use Rattle.disjunctions.specs.Prover.{other, own}
 use Rattle.disjunctions.specs.Round.{firstRound, otherChallenge, secondRound}
 use Rattle.disjunctions.proofs.Challenges.{other-less, other-sum}
@@ -38,6 +38,7 @@ use Rattle.disjunctions.proofs.OrLists.{
 use Rattle.disjunctions.proofs.OrRefusals.{or-refusals}
 use Rattle.disjunctions.proofs.OrSessions.{or-sessions}
 use Rattle.disjunctions.proofs.Proved.{commit-runs, respond-runs}
+use Rattle.disjunctions.proofs.Steps.{commits-first, commits-second, responds-first, responds-second}
 use Rattle.disjunctions.proofs.Sides.{known-first, known-second, makes, simulated-first, simulated-second}
 
 -- an honest round stands in eight places
@@ -102,14 +103,19 @@ module _ (s s′ : List ℕ) (pair : Pair s s′) (c : ℕ) (below : Below s c) 
 
 -- the proof, of two sheets that load with one K
 pub one-of-two : (s s′ : List ℕ) → Pair s s′ → OneOfTwo s s′
-unfolding judgeOr judgeOrAfter extractOr extractOrAfter
+unfolding judgeOr judgeOrAfter extractOr extractOrAfter firstRound secondRound
 one-of-two s s′ pair = record {
   challenges = λ c d below taken. (other-less _ c d (some-challenge s s′ pair), other-sum _ c d below taken);
+  sides = λ round. (refl, refl);
   accepted = or-accepted s s′ pair;
   rejected-first = or-rejected-first s s′ pair;
   rejected-second = or-rejected-second s s′ pair;
   extracts-first = extracts-first s s′ pair;
   extracts-second = extracts-second s s′ pair;
+  commits-first = commits-first s s′ pair;
+  commits-second = commits-second s s′ pair;
+  responds-first = responds-first s s′ pair;
+  responds-second = responds-second s s′ pair;
   prover-runs = λ side c one below x w choice is.
       (commit-runs s s′ pair side one choice is, respond-runs s s′ pair side one choice is c below x w);
   prover = λ side c one below x w. makes s s′ pair c below side one x w;
@@ -128,4 +134,10 @@ one-of-two s s′ pair = record {
 
 -- the card
 pub or-proof : OrProof
-or-proof = record { refusals = or-refusals; sessions = or-sessions; proof = one-of-two }
+unfolding orOutcome
+or-proof = record {
+  refusals = or-refusals;
+  outcomes = record { accepted = refl; rejected = λ side row. refl; refused = λ number. refl };
+  sessions = or-sessions;
+  proof = one-of-two;
+}

@@ -36,7 +36,7 @@ use Rattle.sigma.proofs.Answer.{unlessRefused-positive}
 use Rattle.sigma.proofs.Verdict.{verdict-not-refused}
 use Rattle.disjunctions.specs.Extractor.{extractOr, extractOrAfter}
 use Rattle.disjunctions.specs.Judge.{combined, judgeOr, judgeOrAfter, pairRules, secondVerdict, verdictOr}
-use Rattle.disjunctions.specs.OneOfTwo.{OrRefusals, OrUnmoved, orNumber}
+use Rattle.disjunctions.specs.OneOfTwo.{OrRefusals, OrUnmoved, orNumber, orOutcome}
 use Rattle.disjunctions.specs.Prover.{
   commitOr,
   commitOrAfter,
@@ -78,7 +78,7 @@ behind-pair s s′ rules conditions tests =
 
 -- verdicts on values are no refusals
 or-not-refused : (v w : Verdict) → ((k : ℕ) → v ≢ Refused k) → ((k : ℕ) → w ≢ Refused k) → orNumber (combined v w) ≡ 0
-unfolding orNumber combined secondVerdict
+unfolding orNumber orOutcome combined secondVerdict
 or-not-refused Accepted Accepted f g = refl
 or-not-refused Accepted (Rejected row) f g = refl
 or-not-refused Accepted (Refused number) f g = absurd (g number refl)
@@ -87,7 +87,7 @@ or-not-refused (Refused number) w f g = absurd (f number refl)
 
 -- the number of a verdict behind a number
 pub or-number : (n : ℕ) (v : OrVerdict) → orNumber v ≡ 0 → orNumber (unlessRefused n v (OrRefused n)) ≡ n
-unfolding unlessRefused orNumber
+unfolding unlessRefused orNumber orOutcome
 or-number zero v none = none
 or-number (suc n) v none = rw (unlessRefused-positive v (OrRefused (suc n)) (suc n) (omega arith))
 

@@ -1,13 +1,14 @@
 -- Peggy's steps in the OR proof over any list of calls, from any session, with any sheets and arguments: one session answers one
 -- challenge at most, and holds zeros but for the commitments once it has answered or dropped.
 -- Assumes nothing.
-use Prim.Native.Nat.{ℕ, _<_, _≤_}
+use Prim.Native.Nat.{ℕ, suc, _<_, _≤_}
 use mathlib.Core.Path.{_≡_, refl, sym, ap, ap₂, subst, _∙_}
 use mathlib.Core.Logic.{_⊎_, inl, inr, ⊎-elim, _↔_}
 use mathlib.Core.Bool.{Bool, true, false, cond, not}
 use mathlib.Core.List.{List, [], _∷_, _++_}
 use native.Mathlib.Omega.{arith}
 use lib.Dec.{T, eqb}
+use borrow.Author.Tests.{ne-eqb}
 use lib.ListN.{length}
 use Rattle.types.specs.declared.ProverPhase.{ProverPhase}
 use Rattle.types.specs.declared.ProverPhase.the-variants.{New, Committed, Answered, Dropped}
@@ -98,6 +99,17 @@ module _ (phase : ProverPhase) (first second : List ℕ) where
 wiped-keeps : (phase : ProverPhase) (p q : OrProver) → q ≡ wipedOr phase (p .commitment0) (p .commitment1) → KeepsBoth p q
 unfolding wipedOr
 wiped-keeps phase p q e = (ap (λ (r : OrProver). r .commitment0) e, ap (λ (r : OrProver). r .commitment1) e)
+
+-- ---- every side but 0 is 1
+
+module _ {ℓ} {A : Type ℓ} (n : ℕ) (first second : A) where
+  pub later-own : own (suc n) first second ≡ second
+  unfolding own
+  later-own = rw (ne-eqb (suc n) 0 (λ (z : suc n ≡ 0). omega arith))
+
+  pub later-other : other (suc n) first second ≡ first
+  unfolding other
+  later-other = rw (ne-eqb (suc n) 0 (λ (z : suc n ≡ 0). omega arith))
 
 -- ---- what a call hands back
 
@@ -288,8 +300,9 @@ or-leads = trace-leads callOr (λ step. step .session) (λ step. step .refusal) 
 
 -- the session's steps
 pub or-sessions : OrSessions
-unfolding newOrProver wipedOr zeros8
+unfolding newOrProver wipedOr zeros8 own other
 or-sessions = record {
+  sides = λ n first second. (refl, later-own n first second, refl, later-other n first second);
   new = refl;
   in-order = or-leads;
   once = λ calls p. answered-once (orTrace calls p) p (orAfter calls p) (or-leads calls p);

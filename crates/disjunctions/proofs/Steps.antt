@@ -8,7 +8,6 @@ use mathlib.Core.Bool.{Bool, true, false, cond, not, _||_}
 use mathlib.Core.List.{List}
 use native.Mathlib.Omega.{arith}
 use lib.Dec.{ltb}
-use borrow.Author.Tests.{ne-eqb}
 use Rattle.types.specs.declared.Computed.{Computed}
 use Rattle.types.specs.declared.Prover.{Prover}
 use Rattle.types.specs.declared.ProverPhase.the-variants.{Committed, New}
@@ -61,7 +60,15 @@ use Rattle.disjunctions.specs.Prover.{
 use Rattle.disjunctions.specs.Round.{otherChallenge}
 use Rattle.disjunctions.proofs.Challenges.{other-less}
 use Rattle.disjunctions.proofs.Judged.{some-challenge}
-use Rattle.disjunctions.proofs.OrSessions.{commit-or-given, other-instance, own-instance, pair-positive, respond-or-given}
+use Rattle.disjunctions.proofs.OrSessions.{
+  commit-or-given,
+  later-other,
+  later-own,
+  other-instance,
+  own-instance,
+  pair-positive,
+  respond-or-given,
+}
 
 -- ---- 01's calls on a sheet that loads
 
@@ -155,15 +162,6 @@ module _ (s s′ : List ℕ) (p : OrProver) where
       )
 
 -- ---- every side but 0 is 1
-
-module _ {ℓ} {A : Type ℓ} (n : ℕ) (first second : A) where
-  pub later-own : own (suc n) first second ≡ second
-  unfolding own
-  later-own = rw (ne-eqb (suc n) 0 (λ (z : suc n ≡ 0). omega arith))
-
-  pub later-other : other (suc n) first second ≡ first
-  unfolding other
-  later-other = rw (ne-eqb (suc n) 0 (λ (z : suc n ≡ 0). omega arith))
 
 module _ (n : ℕ) (inst : Instance) (k : List ℕ) (d : ℕ) (r : List ℕ) where
   later-first : firstCommitment inst (suc n) k d r ≡ simulated inst d r

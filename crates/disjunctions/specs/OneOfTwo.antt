@@ -1,12 +1,12 @@
 -- What 02's fourth card asks: judging, extracting and proving "I know one of the two", for every two sheets that load with one K,
 -- and the refusals and the session for any bytes.
 -- Assumes nothing.
-use Prim.Native.Nat.{ℕ, _+_, _%_, _<_, _≤_}
+use Prim.Native.Nat.{ℕ, suc, _+_, _%_, _<_, _≤_}
 use mathlib.Core.Path.{_≡_}
 use mathlib.Core.Logic.{_↔_, _≢_}
 use mathlib.Core.List.{List, [], _∷_, _++_, map}
 use lib.ListN.{length, replicate}
-use Rattle.types.specs.declared.ProverPhase.the-variants.{New}
+use Rattle.types.specs.declared.ProverPhase.the-variants.{Committed, New}
 use Rattle.types.specs.declared.Verdict.the-variants.{Rejected}
 use Rattle.disjunctions.specs.declared.OrProver.{OrProver}
 use Rattle.disjunctions.specs.declared.OrRound.{OrRound}
@@ -14,16 +14,19 @@ use Rattle.disjunctions.specs.declared.OrStep.{OrStep}
 use Rattle.disjunctions.specs.declared.OrVerdict.{OrVerdict}
 use Rattle.disjunctions.specs.declared.OrVerdict.the-variants.{OrAccepted, OrRejected, OrRefused}
 use Rattle.lists.specs.Member.{EachOnce, Member}
-use Rattle.lists.specs.Places.{zeros8}
+use Rattle.lists.specs.Places.{pad8, zeros8}
 use Rattle.rules.specs.Condition.{Condition}
 use Rattle.rules.specs.Order.{sheetNumbers}
 use Rattle.rules.specs.Refuses.{Refuses}
 use Rattle.formats.specs.Sheet.{instanceOf}
-use Rattle.runs.specs.Calls.{judgeRound}
+use Rattle.runs.specs.Calls.{judgeRound, simulateCommitment}
 use Rattle.runs.specs.Knowledge.{Accepts}
-use Rattle.runs.specs.OnSheet.{Below}
+use Rattle.runs.specs.OnSheet.{Below, readSlots}
+use Rattle.runs.specs.Prover.{commit, newProver, respond}
 use Rattle.runs.specs.Run.{Leads}
+use Rattle.sigma.specs.Answer.{Outcome}
 use Rattle.sigma.specs.Knowledge.{Witness}
+use Rattle.sigma.specs.Reads.{roundOf}
 use Rattle.disjunctions.specs.Calls.{OrCall, OrEnded, OrMoves, Wiped, orAfter, orAnswered, orTrace}
 use Rattle.disjunctions.specs.Extractor.{extractOr}
 use Rattle.disjunctions.specs.Judge.{judgeOr}
@@ -39,7 +42,7 @@ use Rattle.disjunctions.specs.Knowledge.{
   orRound,
   paddedOr,
 }
-use Rattle.disjunctions.specs.Prover.{commitOr, dropOr, newOrProver, own, respondOr}
+use Rattle.disjunctions.specs.Prover.{commitOr, dropOr, newOrProver, other, own, respondOr}
 use Rattle.disjunctions.specs.Refusals.{
   commitOrConditions,
   dropOrConditions,
@@ -50,11 +53,15 @@ use Rattle.disjunctions.specs.Refusals.{
 }
 use Rattle.disjunctions.specs.Round.{firstRound, otherChallenge, secondRound}
 
+-- a verdict's outcome: 1 for accepted, 0 with the first side that is rejected and its first differing row
+unfoldable pub orOutcome : OrVerdict → Outcome
+orOutcome OrAccepted = record { number = 0; values = 1 ∷ [] }
+orOutcome (OrRejected side row) = record { number = 0; values = 0 ∷ side ∷ row ∷ [] }
+orOutcome (OrRefused number) = record { number = number; values = [] }
+
 -- the number that a verdict is refused with, 0 for none
 unfoldable pub orNumber : OrVerdict → ℕ
-orNumber OrAccepted = 0
-orNumber (OrRejected side row) = 0
-orNumber (OrRefused number) = number
+orNumber v = orOutcome v .number
 
 -- a call on two sheets: 2 to 11 of either and 26 come first, then the call's own
 abbrev pub RefusesOnPair : List ℕ → List ℕ → List ℕ → List Condition → ℕ → Type 0 → Type 0
@@ -84,8 +91,18 @@ pub record OrRefusals : Type 0 where
       (respondOr s s′ p c x .refusal) (OrUnmoved p (respondOr s s′ p c x))
   pub dropping : (p : OrProver) → Refuses (21 ∷ []) (dropOrConditions p) (dropOr p .refusal) (OrUnmoved p (dropOr p))
 
+-- the outcomes of the three verdicts, in numbers
+pub record OrOutcomes : Type 0 where
+  pub accepted : orOutcome OrAccepted ≡ record { number = 0; values = 1 ∷ [] }
+  pub rejected : (side row : ℕ) → orOutcome (OrRejected side row) ≡ record { number = 0; values = 0 ∷ side ∷ row ∷ [] }
+  pub refused : (number : ℕ) → orOutcome (OrRefused number) ≡ record { number = number; values = [] }
+
 -- the session, over any list of calls with any sheets
 pub record OrSessions : Type 0 where
+  -- as an argument and held, every side but 0 is 1
+  pub sides : (n : ℕ) (first second : List ℕ)
+      → (own 0 first second ≡ first) × (own (suc n) first second ≡ second)
+      × (other 0 first second ≡ second) × (other (suc n) first second ≡ first)
   -- a new session holds zeros
   pub new : newOrProver
       ≡ record {
@@ -112,6 +129,12 @@ pub record OneOfTwo (s s′ : List ℕ) : Type 0 where
   pub challenges : (c c0 : ℕ) → Below s c → Below s c0
       → Below s (otherChallenge (instanceOf s .header .challenges) c c0)
       × ((c0 + otherChallenge (instanceOf s .header .challenges) c c0) % instanceOf s .header .challenges ≡ c)
+  -- side 0 of a round is (t0, c0, r0), and side 1 (t1, c1, r1)
+  pub sides : (round : OrRound)
+      → (firstRound round ≡ roundOf (round .commitment0) (round .challenge0) (round .response0))
+      × (secondRound (instanceOf s .header .challenges) round
+      ≡ roundOf (round .commitment1) (otherChallenge (instanceOf s .header .challenges) (round .challenge) (round .challenge0))
+      (round .response1))
   -- a round is accepted exactly where c is below K and both sides' rounds are accepted by 01's judging call
   pub accepted : (round : OrRound)
       → AcceptsOr s s′ round
@@ -127,6 +150,28 @@ pub record OneOfTwo (s s′ : List ℕ) : Type 0 where
       → ExtractsSide s s′ s 0 firstRound a b
   pub extracts-second : (a b : OrRound) → AcceptedOrPair s s′ a b → a .challenge0 ≡ b .challenge0
       → ExtractsSide s s′ s′ 1 (secondRound (instanceOf s .header .challenges)) a b
+  -- in any session, committing answers for the side that is known what 01's commit answers for the nonce, and for the other what the
+  -- simulator gives for the simulated challenge and response
+  pub commits-first : (p : OrProver) (k : List ℕ) (d : ℕ) (r : List ℕ) → commitOr s s′ p 0 k d r .refusal ≡ 0
+      → (commitOr s s′ p 0 k d r .values0 ≡ commit s newProver k .values)
+      × (commitOr s s′ p 0 k d r .values1 ≡ simulateCommitment s′ d r .values)
+  pub commits-second : (p : OrProver) (n : ℕ) (k : List ℕ) (d : ℕ) (r : List ℕ) → commitOr s s′ p (suc n) k d r .refusal ≡ 0
+      → (commitOr s s′ p (suc n) k d r .values0 ≡ simulateCommitment s d r .values)
+      × (commitOr s s′ p (suc n) k d r .values1 ≡ commit s′ newProver k .values)
+  -- responding answers for the side that is known what 01's respond answers to the challenge that is left, and for the other the
+  -- simulated challenge and response
+  pub responds-first : (p : OrProver) (c : ℕ) (x : List ℕ) → p .side ≡ 0 → respondOr s s′ p c x .refusal ≡ 0
+      → (respondOr s s′ p c x .challenge0 ≡ otherChallenge (instanceOf s .header .challenges) c (p .challenge))
+      × (respondOr s s′ p c x .values0
+      ≡ respond s (record { phase = Committed; nonce = p .nonce; commitment = p .commitment0 })
+      (otherChallenge (instanceOf s .header .challenges) c (p .challenge)) x .values)
+      × (respondOr s s′ p c x .values1 ≡ pad8 0 (readSlots s′ (p .response)))
+  pub responds-second : (p : OrProver) (c : ℕ) (x : List ℕ) → p .side ≡ 1 → respondOr s s′ p c x .refusal ≡ 0
+      → (respondOr s s′ p c x .challenge0 ≡ p .challenge)
+      × (respondOr s s′ p c x .values0 ≡ pad8 0 (readSlots s (p .response)))
+      × (respondOr s s′ p c x .values1
+      ≡ respond s′ (record { phase = Committed; nonce = p .nonce; commitment = p .commitment1 })
+      (otherChallenge (instanceOf s .header .challenges) c (p .challenge)) x .values)
   -- for each side, each witness of that side's sheet and each c below K, no call on the way is refused
   pub prover-runs : (side c : ℕ) → side < 2 → Below s c → (x : List ℕ) → Witness (instanceOf (own side s s′)) x
       → (choice : OrChoice) → IsOrChoice s s′ side choice
@@ -155,5 +200,6 @@ pub record OneOfTwo (s s′ : List ℕ) : Type 0 where
 -- the card
 pub record OrProof : Type 0 where
   pub refusals : OrRefusals
+  pub outcomes : OrOutcomes
   pub sessions : OrSessions
   pub proof : (s s′ : List ℕ) → Pair s s′ → OneOfTwo s s′
