@@ -5,3 +5,4 @@ pub mod Order
 pub mod Condition
 pub mod Refuses
 pub mod Explains
+pub mod Either

@@ -5,3 +5,4 @@ pub mod Answer
 pub mod Says
 pub mod Condition
 pub mod Refuses
+pub mod Either

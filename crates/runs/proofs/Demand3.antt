@@ -43,7 +43,7 @@ use Rattle.runs.proofs.Unread.{read-agrees, commitAfter-same, respondAf
 -- ---- rounds in eight places
 
 -- s values and n slots, put in eight places
-abbrev padded : List ℕ → ℕ → List ℕ → Round
+abbrev pub padded : List ℕ → ℕ → List ℕ → Round
 padded t c r = roundOf (pad8 0 t) c (pad8 0 r)
 
 -- rounds that are the same are equal in eight places
@@ -133,7 +133,7 @@ module _ (sheet : List ℕ) (loaded : loadRefusal sheet ≡ 0) where
     simulated-given r slots = simulate-loaded sheet loaded c r ∙ simulate-answer valid c below r slots
 
     -- the simulated round, in eight places
-    simulated-is : (r : List ℕ) → Choice (instanceOf sheet) r
+    pub simulated-is : (r : List ℕ) → Choice (instanceOf sheet) r
         → simulatedRound sheet c r ≡ padded (simulated (instanceOf sheet) c r) c r
     unfolding simulatedRound
     simulated-is r slots = ap (λ (answer : Computed). roundOf (answer .values) c (pad8 0 r)) (simulated-given r slots)
@@ -180,7 +180,7 @@ module _ (sheet : List ℕ) (loaded : loadRefusal sheet ≡ 0) where
       sheet-honest-runs k slots = let (a, b, t, r) = honest-run k slots in (a, b)
 
       -- the honest round, in eight places
-      honest-is : (k : List ℕ) → Choice (instanceOf sheet) k
+      pub honest-is : (k : List ℕ) → Choice (instanceOf sheet) k
           → honestRound sheet x c k ≡ padded (image (tableOf (instanceOf sheet)) k) c (response (instanceOf sheet .header) k c x)
       unfolding honestRound jointSteps
       honest-is k slots = let (a, b, t, r) = honest-run k slots in λ i. roundOf (t i) c (r i)

@@ -92,7 +92,7 @@ module _ (i : Instance) where
 
 module _ (i : Instance) (round : Round) where
   -- judging gives a verdict that is no refusal exactly where the round fits and that is the verdict on what is read of it
-  judge-given : (w : Verdict) → ((k : ℕ) → w ≢ Refused k) → (judgeLoaded i round ≡ w)
+  pub judge-given : (w : Verdict) → ((k : ℕ) → w ≢ Refused k) → (judgeLoaded i round ≡ w)
       ↔ (Fits i (readRound (i .header) round)
       × (verdict i (places (i .header .rows) (round .commitment)) (round .challenge) (places (i .header .columns) (round .response)) ≡ w))
   unfolding judgeLoaded judgeAfter

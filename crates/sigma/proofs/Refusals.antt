@@ -2,7 +2,6 @@
 -- Assumes nothing.
 use Prim.Native.Nat.{ℕ, _<_}
 use mathlib.Core.Path.{_≡_, refl, sym, subst, _∙_}
-use mathlib.Core.Bool.{not}
 use mathlib.Core.Logic.{_↔_, _≢_}
 use mathlib.Core.List.{List}
 use lib.ListN.{getD}
@@ -66,7 +65,7 @@ module _ (i : Instance) where
   coordinates-read x = says-iff (says-badCoordinates i _) (some-read (Coordinate (i .header)) (i .header .columns) x)
 
   -- 18
-  commitments-read : (t t′ : List ℕ)
+  pub commitments-read : (t t′ : List ℕ)
       → Says (differ (i .header .rows) (places (i .header .rows) t) (places (i .header .rows) t′)) (Differ (i .header .rows) t t′)
   commitments-read t t′ =
       let s = i .header .rows in
@@ -90,14 +89,14 @@ pub witness-read : {i : Instance} → Valid i → (x : List ℕ)
 unfolding badWitness
 witness-read {i} v x = rw (image-read (v .table) x) (says-badWitness i x)
 
--- 20: a round is not accepted exactly when the two sides of some row differ
-round-read : {i : Instance} → Valid i → (round : Round)
-    → Says (not (isAccepted (verdict i (places (i .header .rows) (round .commitment)) (round .challenge)
-    (places (i .header .columns) (round .response))))) (¬ Holds i round)
-round-read {i} v round =
+-- a round is accepted exactly when the two sides of every row agree
+pub holds-read : {i : Instance} → Valid i → (round : Round)
+    → Says (isAccepted (verdict i (places (i .header .rows) (round .commitment)) (round .challenge)
+    (places (i .header .columns) (round .response)))) (Holds i round)
+holds-read {i} v round =
     let same = same-round-of-read (i .header) round in
-    says-not (says-iff (says-iff (says-accepted _) (verdict-accepted i _ (round .challenge) _))
-    (holds-same i same v, holds-same i (same-round-sym same) v))
+    says-iff (says-iff (says-accepted _) (verdict-accepted i _ (round .challenge) _))
+    (holds-same i same v, holds-same i (same-round-sym same) v)
 
 -- ---- the calls
 
@@ -137,7 +136,7 @@ extract-tests {i} v first second = (
         (
           refl,
           says-equal (first .challenge) (second .challenge),
-          (refl, says-or (round-read v first) (round-read v second), tt),
+          (refl, says-or (says-not (holds-read v first)) (says-not (holds-read v second)), tt),
         ),
       ),
     ),

@@ -1,0 +1,270 @@
+-- Judging a round of two sheets that load with one K is judging both of its sides.
+-- Assumes nothing.
+use Prim.Native.Nat.{ℕ, _<_}
+use mathlib.Core.Path.{_≡_, refl, sym, ap, ap₂, subst, _∙_}
+use mathlib.Core.Logic.{_↔_, _≢_}
+use mathlib.Core.Bool.{Bool, true, false, not, _&&_}
+use mathlib.Core.List.{List, [], _∷_, _++_}
+use native.Mathlib.Omega.{arith}
+use lib.Dec.{T, eqb}
+use borrow.Author.Tests.{eq-eqb}
+use Rattle.types.specs.declared.Round.{Round}
+use Rattle.types.specs.declared.Verdict.{Verdict}
+use Rattle.types.specs.declared.Verdict.the-variants.{Accepted, Rejected, Refused}
+use Rattle.disjunctions.specs.declared.OrRound.{OrRound}
+use Rattle.disjunctions.specs.declared.OrVerdict.{OrVerdict}
+use Rattle.disjunctions.specs.declared.OrVerdict.the-variants.{OrAccepted, OrRejected, OrRefused}
+use Rattle.lists.specs.Places.{places}
+use Rattle.rules.specs.Answer.{unlessRefused}
+use Rattle.rules.specs.Either.{eitherRules}
+use Rattle.rules.specs.Rule.{Clear, Rule, _when_, allPositive, lowest}
+use Rattle.rules.proofs.Either.{clear-either}
+use Rattle.rules.proofs.Lowest.{clear-append, clear-lowest, lowest-clear, lowest-later}
+use Rattle.formats.specs.Load.{loadRules}
+use Rattle.formats.specs.Sheet.{instanceOf}
+use Rattle.formats.proofs.Loads.{loads-valid}
+use Rattle.runs.specs.Calls.{judgeRound}
+use Rattle.runs.specs.Knowledge.{Accepts}
+use Rattle.runs.specs.OnSheet.{Below}
+use Rattle.runs.proofs.Loaded.{judge-loaded, sheet-clear}
+use Rattle.sigma.specs.Answer.{isAccepted}
+use Rattle.sigma.specs.Instance.{Instance}
+use Rattle.sigma.specs.Judge.{judgeLoaded}
+use Rattle.sigma.specs.Meaning.{Fits}
+use Rattle.sigma.specs.Reads.{readRound}
+use Rattle.sigma.specs.Round.{badChallenge, badCommitment, badCoordinates, verdict}
+use Rattle.sigma.specs.Valid.{Valid}
+use Rattle.sigma.proofs.Answer.{unlessRefused-zero}
+use Rattle.sigma.proofs.Calculus.{both-fail}
+use Rattle.sigma.proofs.Calls.{judge-accepted, judge-given}
+use Rattle.sigma.proofs.Passed.{challenge-passes, commitment-passes, coordinates-pass}
+use Rattle.sigma.proofs.Verdict.{verdict-not-refused}
+use Rattle.disjunctions.specs.Judge.{
+  badChallenges,
+  badCommitments,
+  badResponses,
+  combined,
+  judgeOr,
+  judgeOrAfter,
+  judgeOrRules,
+  pairRules,
+  secondVerdict,
+  verdictOr,
+}
+use Rattle.disjunctions.specs.Knowledge.{AcceptsOr, Pair}
+use Rattle.disjunctions.specs.OneOfTwo.{orNumber, orOutcome}
+use Rattle.disjunctions.specs.Round.{firstRound, otherChallenge, readOr, secondRound}
+use Rattle.disjunctions.proofs.Challenges.{other-less}
+use Rattle.disjunctions.proofs.OrRefusals.{load-numbers, or-number, verdict-or-number}
+
+-- ---- verdicts combined
+
+-- the side and the row of a verdict, with other numbers where there is none
+orSide : OrVerdict → ℕ
+orSide OrAccepted = 2
+orSide (OrRejected side row) = side
+orSide (OrRefused number) = 3
+
+orRow : OrVerdict → ℕ
+orRow OrAccepted = 0
+orRow (OrRejected side row) = row
+orRow (OrRefused number) = 0
+
+-- both are accepted exactly where each is
+combined-both : (v w : Verdict) → (combined v w ≡ OrAccepted) ↔ ((v ≡ Accepted) × (w ≡ Accepted))
+unfolding combined secondVerdict orSide
+combined-both v w = (from v w, λ (a, b). rw (a, b))
+  where
+    from : (v w : Verdict) → combined v w ≡ OrAccepted → (v ≡ Accepted) × (w ≡ Accepted)
+    from Accepted Accepted e = (refl, refl)
+    from Accepted (Rejected row) e = let z : _≡_ {A = ℕ} 1 2 = ap orSide e in absurd (omega arith)
+    from Accepted (Refused number) e = let z : _≡_ {A = ℕ} 3 2 = ap orSide e in absurd (omega arith)
+    from (Rejected row) w e = let z : _≡_ {A = ℕ} 0 2 = ap orSide e in absurd (omega arith)
+    from (Refused number) w e = let z : _≡_ {A = ℕ} 3 2 = ap orSide e in absurd (omega arith)
+
+-- side 0 is named exactly where it is rejected
+combined-first : (v w : Verdict) (row : ℕ) → (combined v w ≡ OrRejected 0 row) ↔ (v ≡ Rejected row)
+unfolding combined secondVerdict orSide orRow
+combined-first v w row = (from v w, λ a. rw a)
+  where
+    from : (v w : Verdict) → combined v w ≡ OrRejected 0 row → v ≡ Rejected row
+    from Accepted Accepted e = let z : _≡_ {A = ℕ} 2 0 = ap orSide e in absurd (omega arith)
+    from Accepted (Rejected k) e = let z : _≡_ {A = ℕ} 1 0 = ap orSide e in absurd (omega arith)
+    from Accepted (Refused number) e = let z : _≡_ {A = ℕ} 3 0 = ap orSide e in absurd (omega arith)
+    from (Rejected k) w e = ap Rejected (ap orRow e)
+    from (Refused number) w e = let z : _≡_ {A = ℕ} 3 0 = ap orSide e in absurd (omega arith)
+
+-- side 1 exactly where side 0 is accepted and it is rejected
+combined-second : (v w : Verdict) (row : ℕ) → (combined v w ≡ OrRejected 1 row) ↔ ((v ≡ Accepted) × (w ≡ Rejected row))
+unfolding combined secondVerdict orSide orRow
+combined-second v w row = (from v w, λ (a, b). rw (a, b))
+  where
+    from : (v w : Verdict) → combined v w ≡ OrRejected 1 row → (v ≡ Accepted) × (w ≡ Rejected row)
+    from Accepted Accepted e = let z : _≡_ {A = ℕ} 2 1 = ap orSide e in absurd (omega arith)
+    from Accepted (Rejected k) e = (refl, ap Rejected (ap orRow e))
+    from Accepted (Refused number) e = let z : _≡_ {A = ℕ} 3 1 = ap orSide e in absurd (omega arith)
+    from (Rejected k) w e = let z : _≡_ {A = ℕ} 0 1 = ap orSide e in absurd (omega arith)
+    from (Refused number) w e = let z : _≡_ {A = ℕ} 3 1 = ap orSide e in absurd (omega arith)
+
+-- an accepted verdict is no refusal
+accepted-number : orNumber OrAccepted ≡ 0
+unfolding orNumber orOutcome
+accepted-number = refl
+
+-- ---- two sheets that load with one K
+
+module _ (s s′ : List ℕ) (pair : Pair s s′) where
+  -- the values of both sheets, and K
+  abbrev i : Instance
+  i = instanceOf s
+
+  abbrev j : Instance
+  j = instanceOf s′
+
+  abbrev K : ℕ
+  K = instanceOf s .header .challenges
+
+  -- both are valid
+  pub first-valid : Valid (instanceOf s)
+  first-valid = loads-valid s (pair .first-loads)
+
+  pub second-valid : Valid (instanceOf s′)
+  second-valid = loads-valid s′ (pair .second-loads)
+
+  -- there is a challenge
+  pub some-challenge : 0 < instanceOf s .header .challenges
+  some-challenge = omega (arith, first-valid .table .some-challenges)
+
+  -- no rule of the sheets applies
+  pub pair-clear : Clear (pairRules s s′)
+  unfolding pairRules
+  pair-clear =
+      let count = 26 when not (eqb K (j .header .challenges)) in
+      clear-append (eitherRules (loadRules s) (loadRules s′)) (count ∷ []) .1 (
+        clear-either (loadRules s) (loadRules s′) (load-numbers s s′) .1
+            (sheet-clear s (pair .first-loads), sheet-clear s′ (pair .second-loads)),
+        (ap not (eq-eqb K (j .header .challenges) (pair .one-count)), tt),
+      )
+
+  -- no rule of a round has the number 0
+  judge-or-positive : (round : OrRound) → T (allPositive (judgeOrRules i j (readOr i j round)))
+  unfolding judgeOrRules
+  judge-or-positive round = tt
+
+  module _ (round : OrRound) where
+    -- the rules of a round pass exactly where c is below K and both sides fit
+    pub round-clear : Clear (judgeOrRules i j (readOr i j round))
+        ↔ (Below s (round .challenge) × Fits i (readRound (i .header) (firstRound round))
+        × Fits j (readRound (j .header) (secondRound K round)))
+    unfolding judgeOrRules badCommitments badChallenges badResponses readOr firstRound secondRound
+    round-clear =
+        let t = places (i .header .rows) (round .commitment0) in
+        let t′ = places (j .header .rows) (round .commitment1) in
+        let r = places (i .header .columns) (round .response0) in
+        let r′ = places (j .header .columns) (round .response1) in
+        let elements = both-fail (badCommitment i t) (badCommitment j t′) in
+        let below = both-fail (badChallenge i (round .challenge)) (badChallenge i (round .challenge0)) in
+        let slots = both-fail (badCoordinates i r) (badCoordinates j r′) in (
+          λ (a, (b, (c, none))). (
+            challenge-passes i (round .challenge) .0 (below .0 b .0),
+            record {
+              commitment = commitment-passes i t .0 (elements .0 a .0);
+              challenge = challenge-passes i (round .challenge0) .0 (below .0 b .1);
+              response = coordinates-pass i r .0 (slots .0 c .0);
+            },
+            record {
+              commitment = commitment-passes j t′ .0 (elements .0 a .1);
+              challenge = rw (sym (pair .one-count)) (other-less K _ _ some-challenge);
+              response = coordinates-pass j r′ .0 (slots .0 c .1);
+            },
+          ),
+          λ (small, first, second). (
+            elements .1 (commitment-passes i t .1 (first .commitment), commitment-passes j t′ .1 (second .commitment)),
+            (
+              below .1 (challenge-passes i (round .challenge) .1 small, challenge-passes i (round .challenge0) .1 (first .challenge)),
+              (slots .1 (coordinates-pass i r .1 (first .response), coordinates-pass j r′ .1 (second .response)), tt),
+            ),
+          ),
+        )
+
+    -- the number of judging is what the rules of the round give
+    judge-or-number : orNumber (judgeOr s s′ round) ≡ lowest (judgeOrRules i j (readOr i j round))
+    unfolding judgeOr judgeOrAfter
+    judge-or-number =
+        or-number _ _ (verdict-or-number i j (readOr i j round))
+        ∙ lowest-later (pairRules s s′) (judgeOrRules i j (readOr i j round)) pair-clear
+
+    -- where no rule applies, the verdict is that on both sides
+    judge-or-clear : Clear (judgeOrRules i j (readOr i j round)) → judgeOr s s′ round ≡ verdictOr i j (readOr i j round)
+    unfolding judgeOr judgeOrAfter
+    judge-or-clear none =
+        let zero = lowest-later (pairRules s s′) (judgeOrRules i j (readOr i j round)) pair-clear ∙ lowest-clear _ none in
+        rw (zero) (unlessRefused-zero (verdictOr i j (readOr i j round)) (OrRefused 0))
+
+    -- a side that fits has the verdict of 01's judging call
+    first-judged : Fits i (readRound (i .header) (firstRound round))
+        → judgeRound s (firstRound round)
+        ≡ verdict i (places (i .header .rows) (round .commitment0)) (round .challenge0) (places (i .header .columns) (round .response0))
+    unfolding firstRound
+    first-judged fits =
+        judge-loaded s (pair .first-loads) (firstRound round)
+        ∙ judge-given i (firstRound round) _ (verdict-not-refused i _ _ _) .1 (fits, refl)
+
+    second-judged : Fits j (readRound (j .header) (secondRound K round))
+        → judgeRound s′ (secondRound K round)
+        ≡ verdict j (places (j .header .rows) (round .commitment1)) (otherChallenge K (round .challenge) (round .challenge0))
+        (places (j .header .columns) (round .response1))
+    unfolding secondRound
+    second-judged fits =
+        judge-loaded s′ (pair .second-loads) (secondRound K round)
+        ∙ judge-given j (secondRound K round) _ (verdict-not-refused j _ _ _) .1 (fits, refl)
+
+    -- so the verdicts of 01's judging call are combined
+    both-judged : Clear (judgeOrRules i j (readOr i j round))
+        → judgeOr s s′ round ≡ combined (judgeRound s (firstRound round)) (judgeRound s′ (secondRound K round))
+    unfolding verdictOr readOr
+    both-judged none =
+        let (small, first, second) = round-clear .0 none in
+        judge-or-clear none ∙ sym (ap₂ combined (first-judged first) (second-judged second))
+
+    -- a round that is not refused has both verdicts combined
+    pub not-refused : orNumber (judgeOr s s′ round) ≡ 0
+        → judgeOr s s′ round ≡ combined (judgeRound s (firstRound round)) (judgeRound s′ (secondRound K round))
+    not-refused e = both-judged (clear-lowest _ (judge-or-positive round) (sym judge-or-number ∙ e))
+
+    -- no rule applies to an accepted round
+    pub accepted-clear : AcceptsOr s s′ round → Clear (judgeOrRules i j (readOr i j round))
+    accepted-clear e = clear-lowest _ (judge-or-positive round) (sym judge-or-number ∙ ap orNumber e ∙ accepted-number)
+
+    -- its c0 is below K
+    pub accepted-below : AcceptsOr s s′ round → round .challenge0 < K
+    unfolding firstRound
+    accepted-below e = round-clear .0 (accepted-clear e) .1 .challenge
+
+    -- and its values are accepted
+    pub accepted-verdict : AcceptsOr s s′ round → verdictOr i j (readOr i j round) ≡ OrAccepted
+    accepted-verdict e = sym (judge-or-clear (accepted-clear e)) ∙ e
+
+    -- a round is accepted exactly where c is below K and both sides' rounds are accepted
+    pub or-accepted : AcceptsOr s s′ round ↔ (Below s (round .challenge) × Accepts s (firstRound round) × Accepts s′ (secondRound K round))
+    or-accepted = (
+      λ e.
+          let none = accepted-clear e in
+          let both = combined-both _ _ .0 (sym (both-judged none) ∙ e) in
+          (round-clear .0 none .0, both .0, both .1),
+      λ (small, first, second).
+          let fits = judge-accepted i (firstRound round) .0 (sym (judge-loaded s (pair .first-loads) (firstRound round)) ∙ first) .0 in
+          let fits′ = judge-accepted j (secondRound K round) .0 (sym (judge-loaded s′ (pair .second-loads) (secondRound K round)) ∙ second) .0 in
+          both-judged (round-clear .1 (small, fits, fits′)) ∙ combined-both _ _ .1 (first, second),
+    )
+
+    -- side 0 is named exactly where its round is rejected
+    pub or-rejected-first : (row : ℕ) → orNumber (judgeOr s s′ round) ≡ 0
+        → (judgeOr s s′ round ≡ OrRejected 0 row) ↔ (judgeRound s (firstRound round) ≡ Rejected row)
+    or-rejected-first row e = rw (not-refused e) (combined-first _ _ row)
+
+    -- side 1 exactly where side 0's is accepted and its own is rejected
+    pub or-rejected-second : (row : ℕ) → orNumber (judgeOr s s′ round) ≡ 0
+        → (judgeOr s s′ round ≡ OrRejected 1 row)
+        ↔ (Accepts s (firstRound round) × (judgeRound s′ (secondRound K round) ≡ Rejected row))
+    or-rejected-second row e = rw (not-refused e) (combined-second _ _ row)

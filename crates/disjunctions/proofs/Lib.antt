@@ -1,0 +1,14 @@
+-- Laws of the OR proof over two sheets.
+pub mod Challenges
+pub mod Tests
+pub mod SessionTests
+pub mod OrRefusals
+pub mod Judged
+pub mod Extracted
+pub mod Made
+pub mod Proved
+pub mod Sides
+pub mod OrLists
+pub mod Steps
+pub mod OneOfTwo
+pub mod OrSessions

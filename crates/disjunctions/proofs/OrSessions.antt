@@ -1,0 +1,312 @@
+-- Peggy's steps in the OR proof over any list of calls, from any session, with any sheets and arguments: one session answers one
+-- challenge at most, and holds zeros but for the commitments once it has answered or dropped.
+-- Assumes nothing.
+use Prim.Native.Nat.{ℕ, suc, _<_, _≤_}
+use mathlib.Core.Path.{_≡_, refl, sym, ap, ap₂, subst, _∙_}
+use mathlib.Core.Logic.{_⊎_, inl, inr, ⊎-elim, _↔_}
+use mathlib.Core.Bool.{Bool, true, false, cond, not}
+use mathlib.Core.List.{List, [], _∷_, _++_}
+use native.Mathlib.Omega.{arith}
+use lib.Dec.{T, eqb}
+use borrow.Author.Tests.{ne-eqb}
+use lib.ListN.{length}
+use Rattle.types.specs.declared.ProverPhase.{ProverPhase}
+use Rattle.types.specs.declared.ProverPhase.the-variants.{New, Committed, Answered, Dropped}
+use Rattle.disjunctions.specs.declared.OrProver.{OrProver}
+use Rattle.disjunctions.specs.declared.OrStep.{OrStep}
+use Rattle.lists.specs.Places.{pad8, zeros8}
+use Rattle.rules.specs.Answer.{unlessRefused}
+use Rattle.rules.specs.Either.{eitherRules}
+use Rattle.rules.specs.Rule.{Clear, Rule, allPositive, lowest}
+use Rattle.rules.proofs.Lowest.{clear-lowest, lowest-append-zero}
+use Rattle.rules.proofs.Says.{says-or}
+use Rattle.formats.specs.Load.{loadRules, shapeRules}
+use Rattle.formats.specs.Sheet.{instanceOf}
+use Rattle.runs.specs.OnSheet.{readSlots}
+use Rattle.runs.specs.Run.{Leads}
+use Rattle.runs.proofs.ProverCalls.{ended-apart}
+use Rattle.runs.proofs.Run.{trace-leads}
+use Rattle.sigma.specs.Admission.{elementRules, headerRules}
+use Rattle.sigma.specs.Answer.{eightPlaces}
+use Rattle.sigma.specs.Round.{response}
+use Rattle.sigma.proofs.Answer.{unlessRefused-positive}
+use Rattle.sigma.proofs.Calculus.{both-fail, says-passes}
+use Rattle.disjunctions.specs.Calls.{
+  KeepsBoth,
+  OrCall,
+  OrCommit,
+  OrDrop,
+  OrEnded,
+  OrMoves,
+  OrRespond,
+  Wiped,
+  callOr,
+  orAfter,
+  orAnswered,
+  orTrace,
+}
+use Rattle.disjunctions.specs.Judge.{pairRules}
+use Rattle.disjunctions.specs.OneOfTwo.{OrSessions}
+use Rattle.disjunctions.specs.Prover.{
+  commitOr,
+  commitOrAfter,
+  commitOrRules,
+  dropOr,
+  dropOrRules,
+  firstCommitment,
+  newOrProver,
+  orProverIn,
+  orStep,
+  own,
+  other,
+  respondOr,
+  respondOrAfter,
+  respondOrRules,
+  secondCommitment,
+  unfitOr,
+  wipedOr,
+}
+use Rattle.disjunctions.specs.Round.{otherChallenge}
+use Rattle.disjunctions.proofs.OrRefusals.{or-refusals}
+use Rattle.disjunctions.proofs.SessionTests.{says-or-prover}
+
+-- the numbers of two sheets' rules are positive
+pub pair-positive : (s s′ : List ℕ) → T (allPositive (pairRules s s′))
+unfolding pairRules eitherRules loadRules shapeRules headerRules elementRules
+pair-positive s s′ = tt
+
+-- a step whose number is 0
+pub or-given : (n : ℕ) (before after : OrProver) (xs ys : List ℕ) (c : ℕ) → n ≡ 0
+    → orStep n before after xs ys c
+    ≡ record { session = after; values0 = pad8 0 xs; values1 = pad8 0 ys; challenge0 = c; refusal = 0 }
+unfolding orStep eightPlaces unlessRefused
+or-given n before after xs ys c e = rw e
+
+-- ---- a wiped session
+
+module _ (phase : ProverPhase) (first second : List ℕ) where
+  -- it is in the state that is given
+  wiped-phase : wipedOr phase first second .phase ≡ phase
+  unfolding wipedOr
+  wiped-phase = refl
+
+  -- it holds zeros but for the commitments
+  wiped-holds : Wiped (wipedOr phase first second)
+  unfolding wipedOr
+  wiped-holds = record { nonce = refl; response = refl; challenge = refl; side = refl }
+
+-- it keeps both commitments
+wiped-keeps : (phase : ProverPhase) (p q : OrProver) → q ≡ wipedOr phase (p .commitment0) (p .commitment1) → KeepsBoth p q
+unfolding wipedOr
+wiped-keeps phase p q e = (ap (λ (r : OrProver). r .commitment0) e, ap (λ (r : OrProver). r .commitment1) e)
+
+-- ---- every side but 0 is 1
+
+module _ {ℓ} {A : Type ℓ} (n : ℕ) (first second : A) where
+  pub later-own : own (suc n) first second ≡ second
+  unfolding own
+  later-own = rw (ne-eqb (suc n) 0 (λ (z : suc n ≡ 0). omega arith))
+
+  pub later-other : other (suc n) first second ≡ first
+  unfolding other
+  later-other = rw (ne-eqb (suc n) 0 (λ (z : suc n ≡ 0). omega arith))
+
+-- ---- what a call hands back
+
+-- the instance of a side's sheet is the side's instance
+pub own-instance : (side : ℕ) (s s′ : List ℕ) → own side (instanceOf s) (instanceOf s′) ≡ instanceOf (own side s s′)
+unfolding own
+own-instance side s s′ = on (eqb side 0)
+  where
+    on : (b : Bool) → cond b (instanceOf s) (instanceOf s′) ≡ instanceOf (cond b s s′)
+    on true = refl
+    on false = refl
+
+pub other-instance : (side : ℕ) (s s′ : List ℕ) → other side (instanceOf s) (instanceOf s′) ≡ instanceOf (other side s s′)
+unfolding other
+other-instance side s s′ = on (eqb side 0)
+  where
+    on : (b : Bool) → cond b (instanceOf s′) (instanceOf s) ≡ instanceOf (cond b s′ s)
+    on true = refl
+    on false = refl
+
+module _ (s s′ : List ℕ) (p : OrProver) where
+  -- committing stores what it brings with both commitments, and answers these
+  pub commit-or-given : (side : ℕ) (nonce : List ℕ) (d : ℕ) (answer : List ℕ) → commitOr s s′ p side nonce d answer .refusal ≡ 0
+      → (k r : List ℕ) → k ≡ readSlots (own side s s′) nonce → r ≡ readSlots (other side s s′) answer
+      → commitOr s s′ p side nonce d answer
+      ≡ record {
+        session =
+            record {
+              nonce = pad8 0 k;
+              response = pad8 0 r;
+              commitment0 = pad8 0 (firstCommitment (instanceOf s) side k d r);
+              commitment1 = pad8 0 (secondCommitment (instanceOf s′) side k d r);
+              challenge = d;
+              side = own side 0 1;
+              phase = Committed;
+            };
+        values0 = pad8 0 (firstCommitment (instanceOf s) side k d r);
+        values1 = pad8 0 (secondCommitment (instanceOf s′) side k d r);
+        challenge0 = 0;
+        refusal = 0;
+      }
+  unfolding commitOr commitOrAfter orStep
+  commit-or-given side nonce d answer e k r a b =
+      rw (a, b, sym (own-instance side s s′), sym (other-instance side s s′)) (or-given _ p _ _ _ 0 e)
+
+  -- responding answers both responses and c0, and wipes the session
+  pub respond-or-given : (c : ℕ) (witness : List ℕ) → respondOr s s′ p c witness .refusal ≡ 0
+      → (k x r answer : List ℕ) (d : ℕ)
+      → k ≡ readSlots (own (p .side) s s′) (p .nonce)
+      → x ≡ readSlots (own (p .side) s s′) witness
+      → r ≡ readSlots (other (p .side) s s′) (p .response)
+      → d ≡ otherChallenge (instanceOf s .header .challenges) c (p .challenge)
+      → answer ≡ response (instanceOf (own (p .side) s s′) .header) k d x
+      → respondOr s s′ p c witness
+      ≡ record {
+        session = wipedOr Answered (p .commitment0) (p .commitment1);
+        values0 = pad8 0 (own (p .side) answer r);
+        values1 = pad8 0 (own (p .side) r answer);
+        challenge0 = own (p .side) d (p .challenge);
+        refusal = 0;
+      }
+  unfolding respondOr respondOrAfter orStep
+  respond-or-given c witness e k x r answer d a b f g h =
+      rw (h, a, b, f, g, sym (own-instance (p .side) s s′), sym (other-instance (p .side) s s′)) (or-given _ p _ _ _ _ e)
+
+-- dropping wipes the session
+drop-or-given : (p : OrProver) → dropOr p .refusal ≡ 0
+    → dropOr p
+    ≡ record {
+      session = wipedOr Dropped (p .commitment0) (p .commitment1);
+      values0 = zeros8;
+      values1 = zeros8;
+      challenge0 = 0;
+      refusal = 0;
+    }
+unfolding dropOr orStep pad8 zeros8
+drop-or-given p e = or-given _ p _ [] [] 0 e
+
+-- ---- one call
+
+module _ (s s′ : List ℕ) (p : OrProver) where
+  -- committing that is not refused is in New
+  commit-or-phase : (side : ℕ) (k : List ℕ) (d : ℕ) (r : List ℕ) → commitOr s s′ p side k d r .refusal ≡ 0 → p .phase ≡ New
+  unfolding commitOr commitOrAfter orStep commitOrRules
+  commit-or-phase side k d r e =
+      says-passes (says-or-prover New p) .0 (lowest-append-zero (pairRules s s′) _ (pair-positive s s′) tt .0 e .1 .1 .1 .0)
+
+  -- responding that is not refused is in Committed
+  respond-or-phase : (c : ℕ) (x : List ℕ) → respondOr s s′ p c x .refusal ≡ 0 → p .phase ≡ Committed
+  unfolding respondOr respondOrAfter orStep respondOrRules
+  respond-or-phase c x e =
+      let rules = lowest-append-zero (pairRules s s′) _ (pair-positive s s′) tt .0 e .1 in
+      says-passes (says-or-prover Committed p) .0
+      (both-fail (not (orProverIn Committed p)) (unfitOr (instanceOf s) (instanceOf s′) p) .0 (rules .1 .1 .1 .0) .0)
+
+-- dropping that is not refused is in New or Committed
+drop-or-phase : (p : OrProver) → dropOr p .refusal ≡ 0 → (p .phase ≡ New) ⊎ (p .phase ≡ Committed)
+unfolding dropOr orStep dropOrRules
+drop-or-phase p e =
+    says-passes (says-or (says-or-prover New p) (says-or-prover Committed p)) .0 (clear-lowest (dropOrRules p) tt e .0)
+
+-- a refused call hands back the session
+or-kept : (call : OrCall) (p : OrProver) → 0 < callOr call p .refusal → callOr call p .session ≡ p
+unfolding callOr
+or-kept (OrCommit s s′ side k d r) p some = or-refusals .committing s s′ p side k d r .left some .0
+or-kept (OrRespond s s′ c x) p some = or-refusals .responding s s′ p c x .left some .0
+or-kept OrDrop p some = or-refusals .dropping p .left some .0
+
+-- any other call moves it
+or-moves : (call : OrCall) (p : OrProver) → callOr call p .refusal ≡ 0 → OrMoves p call (callOr call p)
+unfolding callOr
+or-moves (OrCommit s s′ side k d r) p e =
+    let given = commit-or-given s s′ p side k d r e _ _ refl refl in (
+      commit-or-phase s s′ p side k d r e,
+      ap (λ (step : OrStep). step .session) given
+          ∙ ap₂ (λ (t t′ : List ℕ). record {
+            nonce = pad8 0 (readSlots (own side s s′) k);
+            response = pad8 0 (readSlots (other side s s′) r);
+            commitment0 = t;
+            commitment1 = t′;
+            challenge = d;
+            side = own side 0 1;
+            phase = Committed;
+          }) (sym (ap (λ (step : OrStep). step .values0) given)) (sym (ap (λ (step : OrStep). step .values1) given)),
+      ap (λ (step : OrStep). step .challenge0) given,
+    )
+or-moves (OrRespond s s′ c x) p e =
+    let given = ap (λ (step : OrStep). step .session) (respond-or-given s s′ p c x e _ _ _ _ _ refl refl refl refl refl) in (
+      respond-or-phase s s′ p c x e,
+      ap (λ (q : OrProver). q .phase) given ∙ wiped-phase Answered _ _,
+      subst Wiped (sym given) (wiped-holds Answered _ _),
+      wiped-keeps Answered p _ given,
+    )
+or-moves OrDrop p e =
+    let whole = drop-or-given p e in
+    let given = ap (λ (step : OrStep). step .session) whole in (
+      drop-or-phase p e,
+      ap (λ (q : OrProver). q .phase) given ∙ wiped-phase Dropped _ _,
+      subst Wiped (sym given) (wiped-holds Dropped _ _),
+      wiped-keeps Dropped p _ given,
+      (
+        ap (λ (step : OrStep). step .values0) whole,
+        ap (λ (step : OrStep). step .values1) whole,
+        ap (λ (step : OrStep). step .challenge0) whole,
+      ),
+    )
+
+-- ---- steps that lead from one session to another
+
+-- the steps lead from p to q
+abbrev To : OrProver → List (OrCall × OrStep) → OrProver → Type 0
+To p steps q = Leads (λ step. step .session) OrMoves p steps q
+
+-- none leads from a session that is Answered or Dropped
+ended-last : (p q : OrProver) (steps : List (OrCall × OrStep)) → OrEnded p → To p steps q → (steps ≡ []) × (q ≡ p)
+ended-last p q [] ended leads = (refl, leads)
+ended-last p q ((OrCommit s s′ side k d r, step) ∷ later) ended leads = absurd (ended-apart (p .phase) ended (inl (leads .0 .0)))
+ended-last p q ((OrRespond s s′ c x, step) ∷ later) ended leads = absurd (ended-apart (p .phase) ended (inr (leads .0 .0)))
+ended-last p q ((OrDrop, step) ∷ later) ended leads = absurd (ended-apart (p .phase) ended (leads .0 .0))
+
+-- at most one answers a challenge
+answered-once : (steps : List (OrCall × OrStep)) (p q : OrProver) → To p steps q → length (orAnswered steps) ≤ 1
+unfolding orAnswered
+answered-once [] p q leads = omega arith
+answered-once ((OrCommit s s′ side k d r, step) ∷ later) p q leads = answered-once later (step .session) q (leads .1)
+answered-once ((OrRespond s s′ c x, step) ∷ later) p q leads =
+    let none = ended-last (step .session) q later (inl (leads .0 .1)) (leads .1) .0 in
+    subst (λ (rest : List (OrCall × OrStep)). length (c ∷ orAnswered rest) ≤ 1) (sym none) (omega arith)
+answered-once ((OrDrop, step) ∷ later) p q leads = answered-once later (step .session) q (leads .1)
+
+-- where they lead to Answered or Dropped, they lead from it or to a session that is wiped
+wiped-last : (steps : List (OrCall × OrStep)) (p q : OrProver) → To p steps q → OrEnded q → OrEnded p ⊎ Wiped q
+wiped-last [] p q leads ended = inl (subst OrEnded leads ended)
+wiped-last ((OrCommit s s′ side k d r, step) ∷ later) p q leads ended =
+    ⊎-elim (λ (e : OrEnded (step .session)). absurd (ended-apart _ e (inr (ap (λ (r : OrProver). r .phase) (leads .0 .1))))) inr
+    (wiped-last later (step .session) q (leads .1) ended)
+wiped-last ((OrRespond s s′ c x, step) ∷ later) p q leads ended =
+    inr (subst Wiped (sym (ended-last (step .session) q later (inl (leads .0 .1)) (leads .1) .1)) (leads .0 .2))
+wiped-last ((OrDrop, step) ∷ later) p q leads ended =
+    inr (subst Wiped (sym (ended-last (step .session) q later (inr (leads .0 .1)) (leads .1) .1)) (leads .0 .2))
+
+-- ---- any list of calls
+
+-- the calls that are carried out lead from the session to the one at the end
+or-leads : (calls : List OrCall) (p : OrProver) → Leads (λ step. step .session) OrMoves p (orTrace calls p) (orAfter calls p)
+unfolding orTrace orAfter
+or-leads = trace-leads callOr (λ step. step .session) (λ step. step .refusal) OrMoves or-kept or-moves
+
+-- the session's steps
+pub or-sessions : OrSessions
+unfolding newOrProver wipedOr zeros8 own other
+or-sessions = record {
+  sides = λ n first second. (refl, later-own n first second, refl, later-other n first second);
+  new = refl;
+  in-order = or-leads;
+  once = λ calls p. answered-once (orTrace calls p) p (orAfter calls p) (or-leads calls p);
+  wiped = λ calls p started ended.
+      ⊎-elim (λ e. absurd (started e)) (λ z. z) (wiped-last (orTrace calls p) p (orAfter calls p) (or-leads calls p) ended);
+  ended = λ calls p ended. ended-last p (orAfter calls p) (orTrace calls p) ended (or-leads calls p);
+}

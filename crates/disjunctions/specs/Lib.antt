@@ -1,0 +1,9 @@
+-- The OR proof over two sheets.
+pub mod Round
+pub mod Judge
+pub mod Extractor
+pub mod Prover
+pub mod Refusals
+pub mod Calls
+pub mod Knowledge
+pub mod OneOfTwo
