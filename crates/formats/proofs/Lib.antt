@@ -19,5 +19,6 @@ pub mod RoundFileRoundTrip
 pub mod Part
 pub mod LongFiles
 pub mod ByteLayout
+pub mod SameCommitment
 pub mod FilesByCalls
 pub mod Writers

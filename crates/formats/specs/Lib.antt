@@ -7,6 +7,7 @@ pub mod RoundFile
 pub mod RoundCalls
 pub mod Append
 pub mod Refusals
+pub mod SameCommitment
 pub mod Meaning
 pub mod Outcome
 pub mod Rounds

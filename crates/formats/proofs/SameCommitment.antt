@@ -1,0 +1,150 @@
+-- Comparing two commitments by bytes (02, card 5): the refusals, and that equal bytes are equal parts and equal values.
+-- Assumes nothing.
+use Prim.Native.Nat.{ℕ, zero, suc, _+_, _*_, _<_, _≤_}
+use mathlib.Core.Path.{_≡_, refl, sym, ap, _∙_}
+use mathlib.Core.Bool.{Bool, true, false, cond, false≢true}
+use mathlib.Core.Logic.{_↔_, _⊎_, inl, inr, Iff·trans}
+use mathlib.Core.List.{List, _++_}
+use native.Mathlib.Omega.{arith}
+use lib.Dec.{leb}
+use lib.ListN.{getD, take, drop}
+use lib.Seq.{getD-drop, getD-take}
+use Rattle.types.specs.declared.Fetched.{Fetched}
+use Rattle.types.specs.declared.Header.{Header}
+use Rattle.encoding.specs.Bytes.{AllBytes, numberAt}
+use Rattle.encoding.proofs.Words.{words-bytes}
+use Rattle.lists.proofs.Places.{getD-tabulate}
+use Rattle.rules.specs.Answer.{unlessRefused}
+use Rattle.rules.specs.Condition.{Tests}
+use Rattle.rules.specs.Order.{isSublist, refusalOrder, sheetNumbers}
+use Rattle.rules.specs.Refuses.{conditionNumbers}
+use Rattle.rules.specs.Rule.{lowest}
+use Rattle.rules.proofs.Condition.{tests-append}
+use Rattle.rules.proofs.Lowest.{lowest-append-zero}
+use Rattle.rules.proofs.Refuses.{refuses-tested}
+use Rattle.rules.proofs.Says.{says-at-most, says-or}
+use Rattle.sigma.specs.Comparison.{differ}
+use Rattle.sigma.specs.Reads.{Agree}
+use Rattle.sigma.proofs.Answer.{unlessRefused-positive, unlessRefused-zero}
+use Rattle.sigma.proofs.Calculus.{both-fail}
+use Rattle.sigma.proofs.Comparison.{differ-false}
+use Rattle.formats.specs.Load.{loadRules}
+use Rattle.formats.specs.Refusals.{loadConditions}
+use Rattle.formats.specs.RoundCalls.{checkAfter, checkRound, fetchRound, fileRules, partOfRound, roundRules}
+use Rattle.formats.specs.RoundFile.{challengeWidth, countField, recordLength, recordStart, roundAt}
+use Rattle.formats.specs.SameCommitment.{WordsCompare, commitmentBytes, sameAfter, sameCommitment, sameConditions, sameRules}
+use Rattle.formats.specs.Sheet.{headerOf}
+use Rattle.formats.proofs.ByteLayout.{word-at}
+use Rattle.formats.proofs.Files.{check-runs, fetch-given, number-passes}
+use Rattle.formats.proofs.Part.{part-given}
+use Rattle.formats.proofs.Positive.{check-positive, load-positive}
+use Rattle.formats.proofs.Refusals.{load-tests}
+use Rattle.formats.proofs.Tests.{says-badFile}
+
+-- the rules test the conditions
+same-tests : (sheet f : List ℕ) (i j : ℕ)
+    → Tests (loadRules sheet ++ sameRules (headerOf sheet) f i j) (loadConditions sheet ++ sameConditions (headerOf sheet) f i j)
+unfolding sameRules fileRules
+same-tests sheet f i j =
+    tests-append (loadRules sheet) _ (loadConditions sheet) _ (load-tests sheet)
+    (refl, says-badFile (headerOf sheet) f, (refl, says-or (says-at-most (countField f) i) (says-at-most (countField f) j), tt))
+
+module _ (sheet f : List ℕ) (i j : ℕ) where
+  -- where nothing is refused, the check gives 0 for both rounds
+  both-checked : sameCommitment sheet f i j .refusal ≡ 0 → (checkRound sheet f i ≡ 0) × (checkRound sheet f j ≡ 0)
+  unfolding sameCommitment sameAfter sameRules fileRules checkRound checkAfter roundRules
+  both-checked e =
+      let (loads, rules) = lowest-append-zero (loadRules sheet) _ (load-positive sheet) tt .0 e in
+      let numbers = both-fail (leb (countField f) i) (leb (countField f) j) .0 (rules .1 .0) in (
+        lowest-append-zero (loadRules sheet) _ (load-positive sheet) tt .1 (loads, (rules .0, (numbers .0, tt))),
+        lowest-append-zero (loadRules sheet) _ (load-positive sheet) tt .1 (loads, (rules .0, (numbers .1, tt))),
+      )
+
+-- 1 is answered exactly where a test fails
+one-where : (b : Bool) → (_≡_ {A = ℕ} (cond b 0 1) 1) ↔ (b ≡ false)
+one-where true = (λ e. absurd (omega arith), λ e. absurd (false≢true (sym e)))
+one-where false = (λ e. refl, λ e. refl)
+
+-- an answer is 0 or 1, whether or not the call is refused
+zero-or-one : (number : ℕ) (b : Bool)
+    → (_≡_ {A = ℕ} (unlessRefused number (cond b 0 1) 0) 0) ⊎ (_≡_ {A = ℕ} (unlessRefused number (cond b 0 1) 0) 1)
+zero-or-one zero true = inl (unlessRefused-zero _ _)
+zero-or-one zero false = inr (unlessRefused-zero _ _)
+zero-or-one (suc n) b = inl (unlessRefused-positive _ _ (suc n) (omega arith))
+
+module _ (sheet f : List ℕ) (i j : ℕ) (e : sameCommitment sheet f i j .refusal ≡ 0) where
+  -- the fixed fields, and where the two records begin
+  abbrev h : Header
+  h = headerOf sheet
+
+  abbrev a : ℕ
+  a = recordStart (challengeWidth f) (headerOf sheet) i
+
+  abbrev b : ℕ
+  b = recordStart (challengeWidth f) (headerOf sheet) j
+
+  -- where nothing is refused, the answer is whether the bytes differ
+  same-given : sameCommitment sheet f i j .same
+      ≡ cond (differ (4 * headerOf sheet .rows) (commitmentBytes (headerOf sheet) f i) (commitmentBytes (headerOf sheet) f j)) 0 1
+  unfolding sameCommitment sameAfter
+  same-given = rw e (unlessRefused-zero _ _)
+
+  -- the answer is 1 exactly where the bytes of both records' commitments agree
+  same-bytes : (sameCommitment sheet f i j .same ≡ 1)
+      ↔ ((k : ℕ) → k < 4 * headerOf sheet .rows → getD f (a + k) 0 ≡ getD f (b + k) 0)
+  unfolding commitmentBytes
+  same-bytes =
+      let at : (k : ℕ) → k < 4 * h .rows → getD (commitmentBytes h f i) k 0 ≡ getD f (a + k) 0 =
+      λ k. getD-tabulate (4 * h .rows) (λ k. getD f (a + k) 0) k 0 in
+      let at′ : (k : ℕ) → k < 4 * h .rows → getD (commitmentBytes h f j) k 0 ≡ getD f (b + k) 0 =
+      λ k. getD-tabulate (4 * h .rows) (λ k. getD f (b + k) 0) k 0 in
+      rw same-given
+      (Iff·trans (one-where _)
+      (Iff·trans (differ-false (4 * h .rows) (commitmentBytes h f i) (commitmentBytes h f j)) (
+        λ same k less. sym (at k less) ∙ same k less ∙ at′ k less,
+        λ same k less. at k less ∙ same k less ∙ sym (at′ k less),
+      )))
+
+  -- the bytes of a round's part are the record's
+  part-at : (r : ℕ) → checkRound sheet f r ≡ 0 → (k : ℕ) → k < 4 * headerOf sheet .rows
+      → getD (partOfRound sheet f r) k 0 ≡ getD f (recordStart (challengeWidth f) (headerOf sheet) r + k) 0
+  unfolding recordLength
+  part-at r checked k less =
+      let size = recordLength (challengeWidth f) h in
+      let start = recordStart (challengeWidth f) h r in
+      ap (λ (bytes : List ℕ). getD bytes k 0) (part-given sheet f r checked)
+      ∙ getD-take size (drop start f) k 0 (omega arith) ∙ getD-drop start f k 0
+
+  -- the commitment that is read has the record's words
+  value-at : (r : ℕ) → checkRound sheet f r ≡ 0 → (k : ℕ) → k < headerOf sheet .rows
+      → getD (fetchRound sheet f r .round .commitment) k 0
+      ≡ numberAt 4 f (recordStart (challengeWidth f) (headerOf sheet) r + 4 * k)
+  unfolding roundAt
+  value-at r checked k less =
+      ap (λ (fetched : Fetched). getD (fetched .round .commitment) k 0) (fetch-given sheet f r checked)
+      ∙ word-at f (recordStart (challengeWidth f) h r) (h .rows) k less
+
+-- what the card asks
+pub words-compare : WordsCompare
+unfolding conditionNumbers isSublist refusalOrder sheetNumbers sameCommitment sameAfter
+words-compare = record {
+  comparing = λ sheet f i j. refuses-tested _ _ refl refl _ (same-tests sheet f i j) (unlessRefused-positive _ 0 _);
+  answers = λ sheet f i j.
+      let h = headerOf sheet in
+      zero-or-one (lowest (loadRules sheet ++ sameRules h f i j)) (differ (4 * h .rows) (commitmentBytes h f i) (commitmentBytes h f j));
+  bytes = λ sheet f i j e.
+      let (x, y) = both-checked sheet f i j e in
+      Iff·trans (same-bytes sheet f i j e) (
+        λ same k less. part-at sheet f i j e i x k less ∙ same k less ∙ sym (part-at sheet f i j e j y k less),
+        λ same k less. sym (part-at sheet f i j e i x k less) ∙ same k less ∙ part-at sheet f i j e j y k less,
+      );
+  values = λ sheet f i j all e.
+      let (x, y) = both-checked sheet f i j e in
+      let words = words-bytes 4 f (recordStart (challengeWidth f) (headerOf sheet) i) (recordStart (challengeWidth f) (headerOf sheet) j) all
+      (headerOf sheet .rows) in
+      Iff·trans (same-bytes sheet f i j e) (
+        λ same k less. value-at sheet f i j e i x k less ∙ words .1 same k less ∙ sym (value-at sheet f i j e j y k less),
+        λ same.
+            words .0 (λ k less. sym (value-at sheet f i j e i x k less) ∙ same k less ∙ value-at sheet f i j e j y k less),
+      );
+}
