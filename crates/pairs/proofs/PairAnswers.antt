@@ -4,10 +4,9 @@
 use Prim.Native.Nat.{ℕ, _<_}
 use mathlib.Core.Path.{_≡_, sym, ap, ap₂, _∙_}
 use mathlib.Core.Logic.{_≢_}
-use mathlib.Core.Bool.{not}
 use mathlib.Core.List.{List}
 use native.Mathlib.Omega.{arith}
-use lib.Dec.{T, eqb}
+use lib.Dec.{T}
 use borrow.Author.Tests.{eqb-true, not-false}
 use Rattle.types.specs.declared.Header.{Header}
 use Rattle.rules.specs.Either.{eitherRules}

@@ -19,7 +19,7 @@ pub struct LoadedPair {
 }
 
 // Of two numbers the lower that is not 0.
-fn lower(a: u32, b: u32) -> u32
+pub fn lower(a: u32, b: u32) -> u32
     ensures { λ r. ⌜ r ≡ lowerOf a b ⌝ }
 {
     if a == 0 {
