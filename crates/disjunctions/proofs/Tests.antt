@@ -82,7 +82,7 @@ module _ (i j : Instance) (a b : OrRound) where
   says-19 = says-equal _ _
 
 -- both sides together are accepted where each is
-combined-accepted : (v w : Verdict) → isOrAccepted (combined v w) ≡ (isAccepted v && isAccepted w)
+pub combined-accepted : (v w : Verdict) → isOrAccepted (combined v w) ≡ (isAccepted v && isAccepted w)
 unfolding isOrAccepted combined secondVerdict isAccepted
 combined-accepted Accepted Accepted = refl
 combined-accepted Accepted (Rejected row) = refl
