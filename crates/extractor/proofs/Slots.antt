@@ -20,7 +20,7 @@ use Rattle.powers.proofs.Places.{power-at}
 use Rattle.sigma.specs.Extractor.{slotFormula, formula}
 use Rattle.sigma.specs.Instance.{instanceWith, statementAt}
 use Rattle.sigma.proofs.ByKind.{slotFormula-exponent, slotFormula-root}
-use Rattle.image.specs.Negative.{inversesOf, mulNegativePowers}
+use Rattle.negatives.specs.Negative.{inversesOf, mulNegativePowers}
 use Rattle.extractor.specs.Coefficients.{slotFormulas}
 
 module _ (h : Header) (z a b r s : ℕ) where

@@ -1,8 +1,5 @@
 // Extracting a witness from two rounds on loaded values (01, "A round"; refusals 14 to 16 of both rounds, then 18 to 20).
 use image::differ;
-use image::inverses;
-use image::mul_negative_powers;
-use image::negative_power;
 use image::refused;
 use image::verdict;
 use modular::inverse;
@@ -11,6 +8,9 @@ use modular::pow_mod;
 use modular::some_non_coordinate;
 use modular::some_non_element;
 use modular::sub_mod;
+use negatives::inverses;
+use negatives::mul_negative_powers;
+use negatives::negative_power;
 use powers::powers;
 use powers::products;
 use powers::side_by_side;

@@ -1,14 +1,10 @@
 // The values of a round on loaded values (01, "A round"): the image, the verifier's two sides and their comparison, the
-// response, a power by a negative exponent, and the places of an array that are read. Nothing is refused here.
+// response, and the places of an array that are read. Nothing is refused here.
 mod answer; // answer.rt: the answer of a refused call
-mod negative; // negative.rt: inverses and negative powers of several values
 
 pub use answer::refused;
-use modular::inverse;
 use modular::mul_mod;
 use modular::pow_mod;
-pub use negative::inverses;
-pub use negative::mul_negative_powers;
 use powers::mul_powers;
 use powers::powers;
 use powers::side_by_side;
@@ -18,12 +14,9 @@ use types::Verdict;
 ghost use mathlib.Core.Path.{_≡_};
 ghost use mathlib.Core.List.{List, []};
 ghost use Prim.Native.Nat.{ℕ, _≤_, _<_};
-ghost use lib.IntN.{pos, negℤ};
 ghost use lib.ListN.{getD};
 ghost use Rattle.lists.specs.Places.{places, pad8};
-ghost use Rattle.numbers.specs.Integer.{power};
 ghost use Rattle.sigma.specs.Comparison.{firstDifference, differ, compareSides};
-ghost use Rattle.sigma.specs.Element.{Element};
 ghost use Rattle.sigma.specs.Image.{rowImage, image};
 ghost use Rattle.sigma.specs.Round.{responseCoordinate, response, expectedImage, verdict};
 ghost use Rattle.sigma.specs.Valid.{Valid};
@@ -217,16 +210,4 @@ pub fn response(h: Header, k: [u32; 8], c: u32, x: [u32; 8]) -> [u32; 8]
         values[j] = response_coordinate(h, k[j], c, x[j]);
     }
     values
-}
-
-// The group element v by the exponent -n, modulo m: in kind 1 v by q - n, in kind 2 the inverse of v by n.
-pub fn negative_power(h: Header, v: u32, n: u32) -> u32
-    requires { ⌜ (1 < h .modulus) × (0 < h .order) × (n ≤ h .order) × Element h v ⌝ }
-    ensures { λ r. ⌜ r ≡ power (h .modulus) v (negℤ (pos n)) ⌝ }
-{
-    if h.kind == 1 {
-        let opposite = h.order - n;
-        return pow_mod(v, opposite, h.modulus);
-    }
-    pow_mod(inverse(v, h.modulus), n, h.modulus)
 }

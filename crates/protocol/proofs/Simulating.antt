@@ -10,7 +10,7 @@ use Rattle.lists.proofs.Places.{getD-places, pad8-at, tabulate-agree}
 use Rattle.numbers.specs.Integer.{power}
 use Rattle.rules.specs.Rule.{lowest, Clear}
 use Rattle.rules.proofs.Lowest.{lowest-clear}
-use Rattle.image.specs.Negative.{mulNegativePowers}
+use Rattle.negatives.specs.Negative.{mulNegativePowers}
 use Rattle.sigma.specs.Image.{rowImage, image}
 use Rattle.sigma.specs.Instance.{Instance, tableOf, statementAt}
 use Rattle.sigma.specs.Simulator.{simulated, simulateRules, simulateAfter, simulateLoaded}

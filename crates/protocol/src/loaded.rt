@@ -1,12 +1,12 @@
 // The tests of a round, and simulating a commitment, on loaded values (01, "A round"; refusals 14 to 16).
 use image::image;
-use image::mul_negative_powers;
-use image::negative_power;
 use image::refused;
 use image::row_image;
 use modular::mul_mod;
 use modular::some_non_coordinate;
 use modular::some_non_element;
+use negatives::mul_negative_powers;
+use negatives::negative_power;
 use powers::side_by_side;
 use types::Computed;
 use types::Header;

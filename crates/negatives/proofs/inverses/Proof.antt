@@ -1,13 +1,13 @@
--- `image::negative::inverses` meets its contract. The invariant: the first i places hold the first i inverses, and those beyond
+-- `negatives::inverses` meets its contract. The invariant: the first i places hold the first i inverses, and those beyond
 -- hold 0. The measure: how many places are left. Assumes nothing.
 use Prim.Native.Nat.{_-_}
 use native.Mathlib.Omega.{arith}
 use lib.ListN.{getD}
 use Rattle.lists.proofs.Filling.{Filled, filled-start, filled-turn, filled-eight}
 use Rattle.numbers.specs.Inverse.{inverse}
-use Rattle.image.specs.Negative.{inversesOf}
-use Rattle.image.proofs.negative.inverses.Statement.{statement}
-use Rattle.image.proofs.negative.inverses.Tie as tie
+use Rattle.negatives.specs.Negative.{inversesOf}
+use Rattle.negatives.proofs.inverses.Statement.{statement}
+use Rattle.negatives.proofs.inverses.Tie as tie
 
 abbrev Inv-loop : tie.InvT-loop
 Inv-loop n m values found₀ i₀ found i = Filled found₀ n (λ place. inverse m (getD values place 0)) found i

@@ -1,10 +1,10 @@
--- `image::negative::mul_negative_powers` meets its contract: each kind has its law.
+-- `negatives::mul_negative_powers` meets its contract: each kind has its law.
 -- Assumes nothing.
 use borrow.Author.Needs.{needs}
 use Rattle.sigma.proofs.ElementGroup.{element-coprime}
-use Rattle.image.proofs.Several.{negative-by-order, negative-by-inverses}
-use Rattle.image.proofs.negative.mul_negative_powers.Statement.{statement}
-use Rattle.image.proofs.negative.mul_negative_powers.Tie as tie
+use Rattle.negatives.proofs.Exponents.{negative-by-order, negative-by-inverses}
+use Rattle.negatives.proofs.mul_negative_powers.Statement.{statement}
+use Rattle.negatives.proofs.mul_negative_powers.Tie as tie
 
 sub-opposite : tie.Need-sub-opposite
 sub-opposite c = search needs

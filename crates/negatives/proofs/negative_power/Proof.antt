@@ -1,11 +1,11 @@
--- `image::negative_power` meets its contract: each kind has its law.
+-- `negatives::negative_power` meets its contract: each kind has its law.
 -- Assumes nothing.
 use mathlib.Core.Path.{_∙_}
 use borrow.Author.Needs.{needs}
 use Rattle.sigma.proofs.ElementGroup.{element-coprime}
-use Rattle.image.proofs.Slots.{negative-exponent, negative-root}
-use Rattle.image.proofs.negative_power.Statement.{statement}
-use Rattle.image.proofs.negative_power.Tie as tie
+use Rattle.negatives.proofs.Exponents.{negative-exponent, negative-root}
+use Rattle.negatives.proofs.negative_power.Statement.{statement}
+use Rattle.negatives.proofs.negative_power.Tie as tie
 
 sub-opposite : tie.Need-sub-opposite
 sub-opposite c = search needs
