@@ -1,5 +1,5 @@
-// The sheet maker over pattern files (02, card 2): it puts the sheet at the start of the lent buffer and changes no byte after it; a
-// refused call changes no byte.
+// The sheet maker over pattern files (02, card 2): it puts the sheet at the start of the lent buffer and changes no byte after
+// it; a refused call changes no byte.
 mod entries; // entries.rt: the entries that a pattern's digits stand for
 
 use crate::entries::eight_of;

@@ -1,14 +1,13 @@
 -- `maker::entries::entry_of` meets its contract: 0 stands for 1, and any other digit for the value of that position.
 -- Assumes nothing.
 use native.Mathlib.Omega.{arith}
-use mathlib.Core.Path.{sym}
 use Rattle.patterns.proofs.Sheets.{entryOf-none}
 use Rattle.maker.proofs.RowDigits.{digit-value}
 use Rattle.maker.proofs.entries.entry_of.Statement.{statement}
 use Rattle.maker.proofs.entries.entry_of.Tie as tie
 
 returns : tie.Need-returns
-returns c = rw (c .if1 .taken) (sym (entryOf-none _))
+returns c = rw (c .if1 .taken, entryOf-none)
 
 sub-result : tie.Need-sub-result
 sub-result c = omega arith

@@ -1,5 +1,5 @@
--- `pattern_file::digits::digit_above` meets its contract. The invariant: no digit is above the number of values before d. The measure: how many digits are
--- left. Assumes nothing.
+-- `pattern_file::digits::digit_above` meets its contract. The invariant: none of the first d digits is above the number of values.
+-- The measure: how many digits are left. Assumes nothing.
 use Prim.Native.Nat.{_+_, _-_, _≤_}
 use mathlib.Core.Path.{_≡_, _∙_}
 use mathlib.Core.Bool.{false}

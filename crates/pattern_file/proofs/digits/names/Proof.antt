@@ -1,5 +1,5 @@
--- `pattern_file::digits::names` meets its contract. The invariant: no digit names the value before d. The measure: how many digits are
--- left. Assumes nothing.
+-- `pattern_file::digits::names` meets its contract. The invariant: none of the first d digits names the value. The measure: how many
+-- digits are left. Assumes nothing.
 use Prim.Native.Nat.{_+_, _-_, _≤_}
 use mathlib.Core.Path.{_≡_, sym, _∙_}
 use mathlib.Core.Bool.{false}
