@@ -1,9 +1,9 @@
 //! A plain judge for proofs of a preimage under a group homomorphism.
 //!
 //! Every call takes any bytes and any numbers. It ends in a result or in one
-//! refusal, a number from 1 to 25. The earliest that applies is given, in the
-//! order 23, 24, then 1 to 12, then 25 and then 13 to 22. A refused call
-//! changes neither a lent buffer nor a session.
+//! refusal, a number from 1 to 26. The earliest that applies is given, in the
+//! order 23, 24, then 1 to 11, then 26, 12, 25 and then 13 to 22. A refused
+//! call changes neither a lent buffer nor a session.
 //!
 //! Each sheet is handed in as bytes and is tested on every call.
 
@@ -13,6 +13,8 @@
 mod arithmetic;
 mod bytes;
 mod marker;
+// A module of its own name: its calls stand beside 01's calls on one sheet.
+pub mod or_proof;
 mod pattern;
 // A module of its own name: its `make` stands beside 01's maker.
 pub mod pattern_file;
