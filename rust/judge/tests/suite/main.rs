@@ -1,5 +1,6 @@
 //! The tests of the judge, by topic.
 
+mod commitments;
 mod demand_three;
 mod files;
 mod levels;
