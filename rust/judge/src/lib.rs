@@ -1,9 +1,10 @@
 //! A plain judge for proofs of a preimage under a group homomorphism.
 //!
 //! Every call takes any bytes and any numbers. It ends in a result or in one
-//! refusal, a number from 1 to 26. The earliest that applies is given, in the
-//! order 23, 24, then 1 to 11, then 26, 12, 25 and then 13 to 22. A refused
-//! call changes neither a lent buffer nor a session.
+//! refusal, a number from 1 to 28. The earliest that applies is given, in the
+//! order 23, 24, then 1 to 9, then 27, 10, 11, 26, 12, 25, then 13 to 16, then
+//! 28 and then 17 to 22. A refused call changes neither a lent buffer nor a
+//! session.
 //!
 //! Each sheet is handed in as bytes and is tested on every call.
 
@@ -23,6 +24,7 @@ mod reason;
 mod round_file;
 mod sessions;
 mod sheet;
+mod team;
 
 pub use marker::marker;
 pub use pattern::make;
@@ -35,3 +37,4 @@ pub use sessions::{
     ProverPhase, Verifier, VerifierPhase,
 };
 pub use sheet::{encode, load, Sheet};
+pub use team::{join_responses, multiply_commitments};

@@ -142,6 +142,15 @@ pub fn lent(sheets: &[Vec<u8>; 2]) -> [&[u8]; 2] {
     [&sheets[0], &sheets[1]]
 }
 
+/// Eight rows of eight places, with `rest` in all places beyond the given ones.
+pub fn rows_with(rows: &[&[u32]], rest: u32) -> [[u32; 8]; 8] {
+    let mut all = [[rest; 8]; 8];
+    for (row, values) in all.iter_mut().zip(rows) {
+        *row = eight_with(values, rest);
+    }
+    all
+}
+
 /// The verdict as a result, so that refusals compare alike everywhere.
 pub fn as_result(verdict: Verdict) -> Result<Verdict, u32> {
     match verdict {
