@@ -1,9 +1,10 @@
 //! A plain judge for proofs of a preimage under a group homomorphism.
 //!
 //! Every call takes any bytes and any numbers. It ends in a result or in one
-//! refusal, a number from 1 to 25. The earliest that applies is given, in the
-//! order 23, 24, then 1 to 12, then 25 and then 13 to 22. A refused call
-//! changes neither a lent buffer nor a session.
+//! refusal, a number from 1 to 28. The earliest that applies is given, in the
+//! order 23, 24, then 1 to 9, then 27, 10, 11, 26, 12, 25, then 13 to 16, then
+//! 28 and then 17 to 22. A refused call changes neither a lent buffer nor a
+//! session.
 //!
 //! Each sheet is handed in as bytes and is tested on every call.
 
@@ -13,6 +14,8 @@
 mod arithmetic;
 mod bytes;
 mod marker;
+// A module of its own name: its calls stand beside 01's calls on one sheet.
+pub mod or_proof;
 mod pattern;
 // A module of its own name: its `make` stands beside 01's maker.
 pub mod pattern_file;
@@ -21,15 +24,17 @@ mod reason;
 mod round_file;
 mod sessions;
 mod sheet;
+mod team;
 
 pub use marker::marker;
 pub use pattern::make;
 pub use pattern_file::Written;
 pub use protocol::{extract, judge, simulate, Round, Verdict};
 pub use reason::reason;
-pub use round_file::{append, check, count, empty, part, read};
+pub use round_file::{append, check, count, empty, part, read, same_commitment};
 pub use sessions::{
     commit, drop_session, respond, take_challenge, take_commitment, take_response, Prover,
     ProverPhase, Verifier, VerifierPhase,
 };
 pub use sheet::{encode, load, Sheet};
+pub use team::{join_responses, multiply_commitments};

@@ -132,12 +132,17 @@ pub fn simulate(sheet: &[u8], challenge: u32, response: &[u32; 8]) -> Result<[u3
     let sheet = load(sheet)?;
     test_challenge(&sheet, challenge)?;
     test_slots(&sheet, response)?;
+    Ok(simulated(&sheet, challenge, response))
+}
+
+/// The commitment `[r]` · z^(−c) of values that have passed 15 and 16.
+pub(crate) fn simulated(sheet: &Sheet, challenge: u32, response: &[u32; 8]) -> [u32; 8] {
     let m = sheet.modulus;
     let mut commitment = sheet.image(response);
     for (value, z) in commitment.iter_mut().zip(&sheet.statement).take(sheet.s()) {
         *value = multiply(*value, signed_power(*z, -i128::from(challenge), m), m);
     }
-    Ok(commitment)
+    commitment
 }
 
 /// Answers the witness that two accepted rounds with equal commitments and
@@ -157,11 +162,7 @@ pub fn extract(sheet: &[u8], first: &Round, second: &Round) -> Result<[u32; 8], 
     test_challenge(&sheet, second.challenge)?;
     test_slots(&sheet, &first.response)?;
     test_slots(&sheet, &second.response)?;
-    // Decision: places beyond s "are not read", so they do not make two
-    // commitments differ.
-    let rows = sheet.s();
-    let mut pairs = first.commitment.iter().zip(&second.commitment).take(rows);
-    if pairs.any(|(one, other)| one != other) {
+    if differ(&sheet, &first.commitment, &second.commitment) {
         return Err(18);
     }
     if first.challenge == second.challenge {
@@ -176,11 +177,19 @@ pub fn extract(sheet: &[u8], first: &Round, second: &Round) -> Result<[u32; 8], 
     Ok(combine(&sheet, first, second))
 }
 
+/// Whether two commitments differ in a row in use.
+pub(crate) fn differ(sheet: &Sheet, first: &[u32; 8], second: &[u32; 8]) -> bool {
+    // Decision: places beyond s "are not read", so they do not make two
+    // commitments differ.
+    let mut pairs = first.iter().zip(second).take(sheet.s());
+    pairs.any(|(one, other)| one != other)
+}
+
 /// u^a · (r/r′)^b, slot by slot, with ℓ · a + (c − c′) · b = 1.
 ///
 /// The challenges differ and lie below K. By 8 no d from 2 to K − 1 divides
 /// ℓ, so the greatest common divisor of ℓ and c − c′ is 1.
-fn combine(sheet: &Sheet, first: &Round, second: &Round) -> [u32; 8] {
+pub(crate) fn combine(sheet: &Sheet, first: &Round, second: &Round) -> [u32; 8] {
     let difference = i128::from(first.challenge) - i128::from(second.challenge);
     let (_, a, b) = euclid(i128::from(sheet.order), difference);
     let m = sheet.modulus;

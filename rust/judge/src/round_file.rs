@@ -103,6 +103,21 @@ pub fn read(sheet: &[u8], file: &[u8], number: u64) -> Result<Round, u32> {
     file_round(&load(sheet)?, file, number)
 }
 
+/// Answers whether all 4s commitment bytes of two rounds, each by its number
+/// from 0, agree. The two numbers may be the same.
+///
+/// Refuses with 2 to 11 for the sheet, 12 for the file and 13 when either
+/// number is at or beyond the file's count.
+pub fn same_commitment(sheet: &[u8], file: &[u8], first: u64, second: u64) -> Result<bool, u32> {
+    let sheet = load(sheet)?;
+    let bytes = 4 * sheet.s();
+    // Decision: "a round's values are read without being tested", so values
+    // that are no group elements are compared too.
+    let one = &file[place(&sheet, file, first)?];
+    let other = &file[place(&sheet, file, second)?];
+    Ok(one[..bytes] == other[..bytes])
+}
+
 /// Writes a round file of no rounds at the start of the buffer and answers its
 /// length, 7. No byte after it changes.
 ///

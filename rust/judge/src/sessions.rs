@@ -6,5 +6,6 @@
 mod prover;
 mod verifier;
 
+pub(crate) use prover::answers;
 pub use prover::{commit, drop_session, respond, Prover, ProverPhase};
 pub use verifier::{take_challenge, take_commitment, take_response, Verifier, VerifierPhase};

@@ -110,7 +110,7 @@ impl Sheet {
     }
 
     /// Tests 10 and 11, in order, once 4 to 8 have passed.
-    fn test_values(&self) -> Result<(), u32> {
+    pub(crate) fn test_values(&self) -> Result<(), u32> {
         for value in self.table() {
             if !self.is_group_element(value) {
                 return Err(10);
@@ -169,6 +169,14 @@ pub(crate) fn header(sheet: &[u8]) -> Sheet {
 /// the header gives (9), an entry (10) or a statement value (11) that is no
 /// group element.
 pub fn load(sheet: &[u8]) -> Result<Sheet, u32> {
+    let loaded = unpack(sheet)?;
+    loaded.test_values()?;
+    Ok(loaded)
+}
+
+/// The values of a sheet after the tests 2 to 9. Entries and statement values
+/// are not tested.
+pub(crate) fn unpack(sheet: &[u8]) -> Result<Sheet, u32> {
     if sheet.len() < HEADER || !sheet.starts_with(MARK) {
         return Err(2);
     }
@@ -194,7 +202,6 @@ pub fn load(sheet: &[u8]) -> Result<Sheet, u32> {
         *value = number(sheet, at, 4);
         at += 4;
     }
-    loaded.test_values()?;
     Ok(loaded)
 }
 

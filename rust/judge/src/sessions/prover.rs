@@ -121,11 +121,7 @@ fn response(
     if session.phase != ProverPhase::Committed || !fits(&sheet, session) {
         return Err(21);
     }
-    let mut response = [0; 8];
-    for (j, slot) in response.iter_mut().enumerate().take(sheet.n()) {
-        *slot = answer(&sheet, session.nonce[j], challenge, witness[j]);
-    }
-    Ok(response)
+    Ok(answers(&sheet, &session.nonce, challenge, witness))
 }
 
 /// Whether the held nonce and commitment fit the sheet.
@@ -133,6 +129,20 @@ fn fits(sheet: &Sheet, session: &Prover) -> bool {
     // Decision: the commitment is compared in all eight places, but nonce
     // places beyond n are not read here either.
     are_slots(sheet, &session.nonce) && sheet.image(&session.nonce) == session.commitment
+}
+
+/// The response to a challenge, with 0 beyond the columns in use.
+pub(crate) fn answers(
+    sheet: &Sheet,
+    nonce: &[u32; 8],
+    challenge: u32,
+    witness: &[u32; 8],
+) -> [u32; 8] {
+    let mut response = [0; 8];
+    for (j, slot) in response.iter_mut().enumerate().take(sheet.n()) {
+        *slot = answer(sheet, nonce[j], challenge, witness[j]);
+    }
+    response
 }
 
 /// One slot of the response: k + c · x mod q, or k · x^c mod m.

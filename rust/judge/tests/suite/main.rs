@@ -1,22 +1,32 @@
 //! The tests of the judge, by topic.
 
+mod commitments;
 mod demand_three;
 mod files;
 mod levels;
 mod marking;
 mod naive;
+mod or_everything;
+mod or_rounds;
+mod or_sessions;
 mod pages;
 mod pattern_files;
 mod patterns;
 mod random;
+mod random_or;
 mod random_patterns;
 mod random_reasons;
+mod random_teams;
 mod reasons;
 mod reasons_in_order;
+mod refused_or_rounds;
+mod refused_or_sessions;
 mod refused_rounds;
 mod refused_sessions;
 mod refused_sheets;
+mod refused_teams;
 mod sessions;
 mod shipped_patterns;
+mod teams;
 mod tools;
 mod writing;

@@ -88,3 +88,29 @@ pub fn slow_row(sheet: &Sheet, t: &[u32; 8], c: u32, r: &[u32; 8]) -> Option<u32
         u64::from(image[i]) != u64::from(t[i]) * power % m
     })
 }
+
+/// The product of the parts mod m, row by row, with 0 beyond the rows.
+pub fn slow_multiplied(sheet: &Sheet, parts: &[[u32; 8]]) -> [u32; 8] {
+    std::array::from_fn(|row| {
+        let values = parts.iter().map(|part| u64::from(part[row]));
+        let m = u64::from(sheet.modulus);
+        match row < sheet.rows as usize {
+            true => values.fold(1, |product, value| product * value % m) as u32,
+            false => 0,
+        }
+    })
+}
+
+/// The parts, joined slot by slot by the domain's operation.
+pub fn slow_joined(sheet: &Sheet, parts: &[[u32; 8]]) -> [u32; 8] {
+    if sheet.kind == 2 {
+        return slow_multiplied(sheet, parts);
+    }
+    std::array::from_fn(|column| {
+        let values = parts.iter().map(|part| u64::from(part[column]));
+        match column < sheet.columns as usize {
+            true => (values.sum::<u64>() % u64::from(sheet.order)) as u32,
+            false => 0,
+        }
+    })
+}

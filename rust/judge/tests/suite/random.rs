@@ -129,7 +129,7 @@ fn random_runs_extract_a_witness() {
 }
 
 /// Random bytes: none, a few, or a sheet or file with some bytes changed.
-fn bytes(shifts: &mut Shifts) -> Vec<u8> {
+pub fn bytes(shifts: &mut Shifts) -> Vec<u8> {
     let mut bytes = match shifts.below(6) {
         0 => Vec::new(),
         1 => (0..shifts.below(90)).map(|_| shifts.word() as u8).collect(),

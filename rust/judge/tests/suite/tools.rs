@@ -1,5 +1,6 @@
 //! Builders that write bytes on their own, and a small generator.
 
+use judge::or_proof::OrRound;
 use judge::{Round, Verdict};
 
 /// The bytes of a sheet, written field by field without any test.
@@ -112,6 +113,42 @@ pub fn round(t: &[u32], c: u32, r: &[u32]) -> Round {
         challenge: c,
         response: eight(r),
     }
+}
+
+/// An OR round. Both sides' commitments and responses are given.
+pub fn or_round(t: [&[u32]; 2], c: u32, c0: u32, r: [&[u32]; 2]) -> OrRound {
+    OrRound {
+        commitments: t.map(eight),
+        challenge: c,
+        first_challenge: c0,
+        responses: r.map(eight),
+    }
+}
+
+/// Two sheets of m 23, q 11 and K 11: 2^x = 13 with the witness 7 and 3^x = 12
+/// with the witness 4.
+pub fn two_bases() -> [Vec<u8>; 2] {
+    [page_a(), exponent(23, 11, 11, &[&[3]], &[12]).bytes()]
+}
+
+/// Page A's sheet with K 5, which is below its q, and page G's sheet. The
+/// witnesses are 7 and 2.
+pub fn base_and_root() -> [Vec<u8>; 2] {
+    [exponent(23, 11, 5, &[&[2]], &[13]).bytes(), page_g()]
+}
+
+/// Two sheets as the calls take them.
+pub fn lent(sheets: &[Vec<u8>; 2]) -> [&[u8]; 2] {
+    [&sheets[0], &sheets[1]]
+}
+
+/// Eight rows of eight places, with `rest` in all places beyond the given ones.
+pub fn rows_with(rows: &[&[u32]], rest: u32) -> [[u32; 8]; 8] {
+    let mut all = [[rest; 8]; 8];
+    for (row, values) in all.iter_mut().zip(rows) {
+        *row = eight_with(values, rest);
+    }
+    all
 }
 
 /// The verdict as a result, so that refusals compare alike everywhere.
