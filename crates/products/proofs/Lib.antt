@@ -1,1 +1,2 @@
 -- Laws of a prover that is split over a team.
+pub mod Combined
