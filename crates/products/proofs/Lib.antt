@@ -1,2 +1,4 @@
 -- Laws of a prover that is split over a team.
 pub mod Combined
+pub mod TeamRefusals
+pub mod TeamAnswers
