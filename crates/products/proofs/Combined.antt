@@ -1,4 +1,4 @@
--- A team's rows multiplied and joined, on values: one player more is one row more by the operation on two, so that what holds of two
+-- A team's parts multiplied and joined, on values: one player more is one row more by the operation on two, so that what holds of two
 -- rounds over one table holds of a team's.
 -- Assumes nothing.
 use Prim.Native.Nat.{ℕ, zero, suc, _+_, _*_, _%_, _^_, _<_}
@@ -12,10 +12,10 @@ use lib.ListN.{getD, length}
 use lib.Seq.{ext-getD}
 use Rattle.types.specs.declared.Header.{Header}
 use Rattle.lists.proofs.Places.{getD-tabulate, length-tabulate, tabulate-agree}
-use Rattle.numbers.specs.Product.{product}
+use Rattle.numbers.specs.Product.{product, sum}
 use Rattle.numbers.proofs.Congruence.{_then_, cong-add, cong-mod, cong-mul, cong-of-equal, cong-pow, cong-refl, cong-sym, mod-mul-left}
 use Rattle.numbers.proofs.Powers.{one-pow}
-use Rattle.numbers.proofs.Product.{product-agree, product-one, product-suc, product-zero}
+use Rattle.numbers.proofs.Product.{product-agree, product-one, product-suc, product-zero, sum-suc, sum-zero}
 use Rattle.sigma.specs.Element.{combine}
 use Rattle.sigma.specs.Image.{rowImage}
 use Rattle.sigma.specs.Instance.{Instance, Table, entry, statementAt, tableOf}
@@ -52,61 +52,54 @@ use Rattle.sigma.proofs.Joined.{
 }
 use Rattle.sigma.proofs.Valid.{valid-modulus, valid-order}
 use Rattle.sigma.proofs.Values.{length-response, response-at}
-use Rattle.products.specs.Team.{joinAll, multiplyAll, part, sum}
+use Rattle.products.specs.Team.{joinAll, multiplyAll, part}
 
--- summands that are equal below n have equal sums
-pub sum-agree : (n : ℕ) (f g : ℕ → ℕ) → ((j : ℕ) → j < n → f j ≡ g j) → sum n f ≡ sum n g
-unfolding sum
-sum-agree zero f g same = refl
-sum-agree (suc n) f g same =
-    ap₂ (λ (x y : ℕ). x + y) (sum-agree n f g (λ j h. same j (omega arith))) (same n (omega arith))
-
-module _ (h : Header) (rows : List (List ℕ)) where
+module _ (h : Header) (parts : List (List ℕ)) where
   -- ---- places
 
-  -- row i of a team's rows multiplied
+  -- row i of a team's parts multiplied
   pub multiplyAll-at : (k i : ℕ) → i < h .rows
-      → getD (multiplyAll h k rows) i 0 ≡ product k (λ p. getD (part rows p) i 0) % h .modulus
+      → getD (multiplyAll h k parts) i 0 ≡ product k (λ p. getD (part parts p) i 0) % h .modulus
   unfolding multiplyAll
   multiplyAll-at k i b = getD-tabulate _ _ i 0 b
 
-  -- slot j of a team's rows joined, in kind 1
+  -- slot j of a team's parts joined, in kind 1
   pub joinAll-exponent : h .kind ≡ 1 → (k j : ℕ) → j < h .columns
-      → getD (joinAll h k rows) j 0 ≡ sum k (λ p. getD (part rows p) j 0) % h .order
+      → getD (joinAll h k parts) j 0 ≡ sum k (λ p. getD (part parts p) j 0) % h .order
   unfolding joinAll
   joinAll-exponent e k j b = getD-tabulate _ _ j 0 b ∙ rw (exponent-kind h e)
 
   -- and in kind 2
   pub joinAll-root : h .kind ≢ 1 → (k j : ℕ) → j < h .columns
-      → getD (joinAll h k rows) j 0 ≡ product k (λ p. getD (part rows p) j 0) % h .modulus
+      → getD (joinAll h k parts) j 0 ≡ product k (λ p. getD (part parts p) j 0) % h .modulus
   unfolding joinAll
   joinAll-root n k j b = getD-tabulate _ _ j 0 b ∙ rw (root-kind h n)
 
   -- how many there are
-  pub length-multiplyAll : (k : ℕ) → length (multiplyAll h k rows) ≡ h .rows
+  pub length-multiplyAll : (k : ℕ) → length (multiplyAll h k parts) ≡ h .rows
   unfolding multiplyAll
   length-multiplyAll k = length-tabulate _ _
 
-  pub length-joinAll : (k : ℕ) → length (joinAll h k rows) ≡ h .columns
+  pub length-joinAll : (k : ℕ) → length (joinAll h k parts) ≡ h .columns
   unfolding joinAll
   length-joinAll k = length-tabulate _ _
 
   -- ---- one player more
 
   -- the product with one row more
-  pub multiplyAll-suc : (k : ℕ) → multiplyAll h (suc k) rows ≡ multiplyRows h (multiplyAll h k rows) (part rows k)
+  pub multiplyAll-suc : (k : ℕ) → multiplyAll h (suc k) parts ≡ multiplyRows h (multiplyAll h k parts) (part parts k)
   unfolding multiplyRows multiplyAll
   multiplyAll-suc k = tabulate-agree (h .rows) _ _ (λ i b.
-      let f : ℕ → ℕ = λ p. getD (part rows p) i 0 in
+      let f : ℕ → ℕ = λ p. getD (part parts p) i 0 in
       ap (λ (n : ℕ). n % h .modulus) (product-suc k f) ∙ sym (mod-mul-left (h .modulus) (product k f) (f k))
       ∙ ap (λ (n : ℕ). n * f k % h .modulus) (sym (multiplyAll-at k i b)))
 
-  -- a slot of the joined rows with one row more
+  -- a slot of the joined parts with one row more
   slot-suc : (k j : ℕ) → j < h .columns
-      → getD (joinAll h (suc k) rows) j 0 ≡ combine h (getD (joinAll h k rows) j 0) (getD (part rows k) j 0)
+      → getD (joinAll h (suc k) parts) j 0 ≡ combine h (getD (joinAll h k parts) j 0) (getD (part parts k) j 0)
   unfolding sum
   slot-suc k j b =
-      let f : ℕ → ℕ = λ p. getD (part rows p) j 0 in
+      let f : ℕ → ℕ = λ p. getD (part parts p) j 0 in
       by-kind h
       (λ e.
       let q = h .order in
@@ -117,56 +110,56 @@ module _ (h : Header) (rows : List (List ℕ)) where
       rw (joinAll-root n (suc k) j b, joinAll-root n k j b, combine-root h n (product k f % m) (f k), product-suc k f)
       (sym (mod-mul-left m (product k f) (f k))))
 
-  -- the joined rows with one row more
-  pub joinAll-suc : (k : ℕ) → joinAll h (suc k) rows ≡ joinSlots h (joinAll h k rows) (part rows k)
+  -- the joined parts with one row more
+  pub joinAll-suc : (k : ℕ) → joinAll h (suc k) parts ≡ joinSlots h (joinAll h k parts) (part parts k)
   joinAll-suc k = ext-getD 0 _ _ (length-joinAll (suc k) ∙ sym (length-join h _ _)) (λ j inside.
       let b : j < h .columns = omega (arith, length-joinAll (suc k)) in
-      slot-suc k j b ∙ sym (join-at h (joinAll h k rows) (part rows k) j b))
+      slot-suc k j b ∙ sym (join-at h (joinAll h k parts) (part parts k) j b))
 
   -- ---- no player
 
-  -- the product of no rows is 1
-  none-multiplied : 1 < h .modulus → (i : ℕ) → i < h .rows → getD (multiplyAll h 0 rows) i 0 ≡ 1
+  -- the product of no parts is 1
+  none-multiplied : 1 < h .modulus → (i : ℕ) → i < h .rows → getD (multiplyAll h 0 parts) i 0 ≡ 1
   none-multiplied big i b = multiplyAll-at 0 i b ∙ ap (λ (n : ℕ). n % h .modulus) (product-zero _) ∙ mod-eq-of-lt big
 
-  -- no rows joined are 0 in kind 1
-  none-joined-exponent : h .kind ≡ 1 → (j : ℕ) → j < h .columns → getD (joinAll h 0 rows) j 0 ≡ 0
+  -- no parts joined are 0 in kind 1
+  none-joined-exponent : h .kind ≡ 1 → (j : ℕ) → j < h .columns → getD (joinAll h 0 parts) j 0 ≡ 0
   unfolding sum
   none-joined-exponent e j b = joinAll-exponent e 0 j b ∙ zero-mod (h .order)
 
   -- and 1 in kind 2
-  none-joined-root : 1 < h .modulus → h .kind ≢ 1 → (j : ℕ) → j < h .columns → getD (joinAll h 0 rows) j 0 ≡ 1
+  none-joined-root : 1 < h .modulus → h .kind ≢ 1 → (j : ℕ) → j < h .columns → getD (joinAll h 0 parts) j 0 ≡ 1
   none-joined-root big n j b = joinAll-root n 0 j b ∙ ap (λ (k : ℕ). k % h .modulus) (product-zero _) ∙ mod-eq-of-lt big
 
 -- ---- images and responses
 
 module _ {table : Table} (v : ValidTable table) where
-  -- a row of the image of no rows joined is 1
-  none-row : (rows : List (List ℕ)) (i : ℕ) → i < table .header .rows → rowImage table (joinAll (table .header) 0 rows) i ≡ 1
-  none-row rows i b =
+  -- a row of the image of no parts joined is 1
+  none-row : (parts : List (List ℕ)) (i : ℕ) → i < table .header .rows → rowImage table (joinAll (table .header) 0 parts) i ≡ 1
+  none-row parts i b =
       let h = table .header in
       let m = h .modulus in
       by-kind h
       (λ e.
       let ones =
-      product-agree (h .columns) (λ j. entry table i j ^ getD (joinAll h 0 rows) j 0) (λ j. 1)
-      (λ j d. ap (λ (n : ℕ). entry table i j ^ n) (none-joined-exponent h rows e j d) ∙ pow-zero (entry table i j)) in
+      product-agree (h .columns) (λ j. entry table i j ^ getD (joinAll h 0 parts) j 0) (λ j. 1)
+      (λ j d. ap (λ (n : ℕ). entry table i j ^ n) (none-joined-exponent h parts e j d) ∙ pow-zero (entry table i j)) in
       rowImage-exponent table e _ i ∙ ap (λ (n : ℕ). n % m) (ones ∙ product-one (h .columns)) ∙ mod-eq-of-lt (valid-modulus v))
       (λ n.
       rowImage-root table n _ i
-      ∙ ap (λ (k : ℕ). k ^ h .order % m) (none-joined-root h rows (valid-modulus v) n i (row-column v n i b))
+      ∙ ap (λ (k : ℕ). k ^ h .order % m) (none-joined-root h parts (valid-modulus v) n i (row-column v n i b))
       ∙ ap (λ (k : ℕ). k % m) (one-pow (h .order)) ∙ mod-eq-of-lt (valid-modulus v))
 
-  -- a row of the image of a team's rows joined is the product of their images' rows
-  pub row-all : (rows : List (List ℕ)) (i : ℕ) → i < table .header .rows → (k : ℕ)
-      → rowImage table (joinAll (table .header) k rows) i ≡ product k (λ p. rowImage table (part rows p) i) % table .header .modulus
-  row-all rows i b zero =
-      none-row rows i b ∙ sym (ap (λ (n : ℕ). n % table .header .modulus) (product-zero _) ∙ mod-eq-of-lt (valid-modulus v))
-  row-all rows i b (suc k) =
+  -- a row of the image of a team's parts joined is the product of their images' parts
+  pub row-all : (parts : List (List ℕ)) (i : ℕ) → i < table .header .rows → (k : ℕ)
+      → rowImage table (joinAll (table .header) k parts) i ≡ product k (λ p. rowImage table (part parts p) i) % table .header .modulus
+  row-all parts i b zero =
+      none-row parts i b ∙ sym (ap (λ (n : ℕ). n % table .header .modulus) (product-zero _) ∙ mod-eq-of-lt (valid-modulus v))
+  row-all parts i b (suc k) =
       let h = table .header in
-      let f : ℕ → ℕ = λ p. rowImage table (part rows p) i in
-      ap (λ (x : List ℕ). rowImage table x i) (joinAll-suc h rows k) ∙ row-joined v (joinAll h k rows) (part rows k) i b
-      ∙ ap (λ (n : ℕ). n * f k % h .modulus) (row-all rows i b k) ∙ mod-mul-left (h .modulus) (product k f) (f k)
+      let f : ℕ → ℕ = λ p. rowImage table (part parts p) i in
+      ap (λ (x : List ℕ). rowImage table x i) (joinAll-suc h parts k) ∙ row-joined v (joinAll h k parts) (part parts k) i b
+      ∙ ap (λ (n : ℕ). n * f k % h .modulus) (row-all parts i b k) ∙ mod-mul-left (h .modulus) (product k f) (f k)
       ∙ ap (λ (n : ℕ). n % h .modulus) (sym (product-suc k f))
 
 module _ (h : Header) (big : 1 < h .modulus) (ks xs rs : List (List ℕ)) (c : ℕ) where
@@ -211,29 +204,29 @@ module _ (h : Header) (big : 1 < h .modulus) (ks xs rs : List (List ℕ)) (c : �
 
 module _ {inst : Instance} (v : Valid inst) where
   -- the team's product is s group elements
-  pub multiplyAll-in : (rows : List (List ℕ)) (k : ℕ) → ((p : ℕ) → p < k → Elements inst (part rows p))
-      → Elements inst (multiplyAll (inst .header) k rows)
-  multiplyAll-in rows zero each = λ i b.
-      rw (none-multiplied (inst .header) rows (valid-modulus (v .table)) i b) (element-one (inst .header) (valid-modulus (v .table)))
-  multiplyAll-in rows (suc k) each =
-      rw (multiplyAll-suc (inst .header) rows k)
-      (multiply-in v _ _ (multiplyAll-in rows k (λ p b. each p (omega arith))) (each k (omega arith)))
+  pub multiplyAll-in : (parts : List (List ℕ)) (k : ℕ) → ((p : ℕ) → p < k → Elements inst (part parts p))
+      → Elements inst (multiplyAll (inst .header) k parts)
+  multiplyAll-in parts zero each = λ i b.
+      rw (none-multiplied (inst .header) parts (valid-modulus (v .table)) i b) (element-one (inst .header) (valid-modulus (v .table)))
+  multiplyAll-in parts (suc k) each =
+      rw (multiplyAll-suc (inst .header) parts k)
+      (multiply-in v _ _ (multiplyAll-in parts k (λ p b. each p (omega arith))) (each k (omega arith)))
 
-  -- no rows joined are n slots
-  none-in : (rows : List (List ℕ)) → Coordinates inst (joinAll (inst .header) 0 rows)
-  none-in rows j b =
+  -- no parts joined are n slots
+  none-in : (parts : List (List ℕ)) → Coordinates inst (joinAll (inst .header) 0 parts)
+  none-in parts j b =
       let h = inst .header in
       let big = valid-modulus (v .table) in
-      by-kind h (λ e. rw (none-joined-exponent h rows e j b) (coordinate-exponent h e 0 (valid-order (v .table))))
-      (λ n. rw (none-joined-root h rows big n j b) (coordinate-root h n 1 (element-one h big)))
+      by-kind h (λ e. rw (none-joined-exponent h parts e j b) (coordinate-exponent h e 0 (valid-order (v .table))))
+      (λ n. rw (none-joined-root h parts big n j b) (coordinate-root h n 1 (element-one h big)))
 
-  -- the team's joined rows are n slots
-  pub joinAll-in : (rows : List (List ℕ)) (k : ℕ) → ((p : ℕ) → p < k → Coordinates inst (part rows p))
-      → Coordinates inst (joinAll (inst .header) k rows)
-  joinAll-in rows zero each = none-in rows
-  joinAll-in rows (suc k) each =
-      rw (joinAll-suc (inst .header) rows k)
-      (join-in v _ _ (joinAll-in rows k (λ p b. each p (omega arith))) (each k (omega arith)))
+  -- the team's joined parts are n slots
+  pub joinAll-in : (parts : List (List ℕ)) (k : ℕ) → ((p : ℕ) → p < k → Coordinates inst (part parts p))
+      → Coordinates inst (joinAll (inst .header) k parts)
+  joinAll-in parts zero each = none-in parts
+  joinAll-in parts (suc k) each =
+      rw (joinAll-suc (inst .header) parts k)
+      (join-in v _ _ (joinAll-in parts k (λ p b. each p (omega arith))) (each k (omega arith)))
 
   module _ (images ts rs : List (List ℕ)) (c i : ℕ) (inside : i < inst .header .rows) where
     -- the round of the first k players holds in a row, for the product of their images

@@ -36,9 +36,7 @@ use Rattle.products.specs.Team.{
   badProduct,
   badTeam,
   commitmentsRules,
-  joinAfter,
   joinResponses,
-  multiplyAfter,
   multiplyCommitments,
   part,
   responsesRules,
@@ -101,7 +99,7 @@ module _ (sheet : List ℕ) (count : ℕ) (images : List (List ℕ)) where
 -- ---- both calls
 
 pub team-refusals : TeamRefusals
-unfolding conditionNumbers isSublist refusalOrder multiplyCommitments multiplyAfter joinResponses joinAfter computed eightPlaces
+unfolding conditionNumbers isSublist refusalOrder multiplyCommitments joinResponses computed eightPlaces
 team-refusals = record {
   multiplying = λ sheet count images commitments.
       refuses-tested _ _ refl refl _ (multiply-tests sheet count images commitments)
