@@ -2,3 +2,5 @@
 pub mod Combined
 pub mod TeamRefusals
 pub mod TeamAnswers
+pub mod PlayerSheets
+pub mod Whole
