@@ -95,7 +95,7 @@ module _ (h : Header) (parts : List (List ℕ)) where
       ∙ ap (λ (n : ℕ). n * f k % h .modulus) (sym (multiplyAll-at k i b)))
 
   -- a slot of the joined parts with one row more
-  slot-suc : (k j : ℕ) → j < h .columns
+  pub slot-suc : (k j : ℕ) → j < h .columns
       → getD (joinAll h (suc k) parts) j 0 ≡ combine h (getD (joinAll h k parts) j 0) (getD (part parts k) j 0)
   unfolding sum
   slot-suc k j b =

@@ -4,3 +4,5 @@ pub mod TeamRefusals
 pub mod TeamAnswers
 pub mod PlayerSheets
 pub mod Whole
+pub mod Single
+pub mod TeamWorks

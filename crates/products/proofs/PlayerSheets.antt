@@ -34,7 +34,7 @@ unfolding numberAt
 word-below s at bytes = omega (arith, bytes (at + 0), bytes (at + 1), bytes (at + 2), bytes (at + 3))
 
 -- what fits an instance with another statement fits it
-fits-own : (inst : Instance) (z : List ℕ) {round : Round} → Fits (withStatement inst z) round → Fits inst round
+pub fits-own : (inst : Instance) (z : List ℕ) {round : Round} → Fits (withStatement inst z) round → Fits inst round
 fits-own inst z f = record { commitment = f .commitment; challenge = f .challenge; response = f .response }
 
 -- a row reads one value of the statement
