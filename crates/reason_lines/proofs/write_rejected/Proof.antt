@@ -1,12 +1,12 @@
--- `diagnosis::lines::write_rejected` meets its contract: the parts of the line are placed one behind the other, and have room.
+-- `reason_lines::write_rejected` meets its contract: the parts of the line are placed one behind the other, and have room.
 -- Assumes nothing.
 use mathlib.Core.List.{[]}
 use native.Mathlib.Omega.{arith}
 use borrow.Author.Needs.{needs}
 use Rattle.encoding.specs.Text.{ascii}
-use Rattle.diagnosis.proofs.Pieces.{digits-short, numbered-short, rejected-placed}
-use Rattle.diagnosis.proofs.lines.write_rejected.Statement.{statement}
-use Rattle.diagnosis.proofs.lines.write_rejected.Tie as tie
+use Rattle.reason_lines.proofs.Pieces.{digits-short, numbered-short, rejected-placed}
+use Rattle.reason_lines.proofs.write_rejected.Statement.{statement}
+use Rattle.reason_lines.proofs.write_rejected.Tie as tie
 
 slice-aggregate-write-numbered : tie.Need-slice-aggregate-write-numbered
 slice-aggregate-write-numbered c = search needs

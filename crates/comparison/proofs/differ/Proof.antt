@@ -1,9 +1,9 @@
--- `image::differ` meets its contract: the lists differ exactly where the first difference stands before n.
+-- `comparison::differ` meets its contract: the lists differ exactly where the first difference stands before n.
 -- Assumes nothing.
 use borrow.Author.Needs.{needs}
 use Rattle.sigma.specs.Comparison.{differ}
-use Rattle.image.proofs.differ.Statement.{statement}
-use Rattle.image.proofs.differ.Tie as tie
+use Rattle.comparison.proofs.differ.Statement.{statement}
+use Rattle.comparison.proofs.differ.Tie as tie
 
 first-difference-requires : tie.Need-first-difference-requires
 first-difference-requires c κs = search needs

@@ -1,10 +1,10 @@
--- `image::first_difference` meets its contract. The invariant: what is left of the search gives what the whole search gives.
+-- `comparison::first_difference` meets its contract. The invariant: what is left of the search gives what the whole search gives.
 -- The measure: how many places are left. Assumes nothing.
 use Prim.Native.Nat.{_-_}
 use native.Mathlib.Omega.{arith}
-use Rattle.image.proofs.TwoSides.{Agreed, agreed-none, agreed-on, differ-here, differ-none}
-use Rattle.image.proofs.first_difference.Statement.{statement}
-use Rattle.image.proofs.first_difference.Tie as tie
+use Rattle.comparison.proofs.TwoSides.{Agreed, agreed-none, agreed-on, differ-here, differ-none}
+use Rattle.comparison.proofs.first_difference.Statement.{statement}
+use Rattle.comparison.proofs.first_difference.Tie as tie
 
 abbrev Inv-loop : tie.InvT-loop
 Inv-loop n xs ys i₀ i = Agreed n xs ys i

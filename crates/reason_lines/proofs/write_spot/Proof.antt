@@ -1,12 +1,12 @@
--- `diagnosis::lines::write_spot` meets its contract: a number of 64 bits has at most 20 digits.
+-- `reason_lines::write_spot` meets its contract: a number of 64 bits has at most 20 digits.
 -- Assumes nothing.
 use native.Mathlib.Omega.{arith}
 use borrow.Author.Needs.{needs}
 use Rattle.encoding.specs.Text.{ascii}
 use Rattle.encoding.proofs.Text.{decimal-length}
 use Rattle.reasons.specs.Reason.{spotText}
-use Rattle.diagnosis.proofs.lines.write_spot.Statement.{statement}
-use Rattle.diagnosis.proofs.lines.write_spot.Tie as tie
+use Rattle.reason_lines.proofs.write_spot.Statement.{statement}
+use Rattle.reason_lines.proofs.write_spot.Tie as tie
 
 enum-known-spot : tie.Need-enum-known-spot
 enum-known-spot c = search needs

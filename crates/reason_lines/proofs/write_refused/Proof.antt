@@ -1,12 +1,12 @@
--- `diagnosis::lines::write_refused` meets its contract: the parts of the line are placed one behind the other, and have room.
+-- `reason_lines::write_refused` meets its contract: the parts of the line are placed one behind the other, and have room.
 -- Assumes nothing.
 use native.Mathlib.Omega.{arith}
 use borrow.Author.Needs.{needs}
 use Rattle.encoding.specs.Text.{ascii}
 use Rattle.encoding.proofs.Placed.{placed-behind}
-use Rattle.diagnosis.proofs.Pieces.{digits-short, numbered-short}
-use Rattle.diagnosis.proofs.lines.write_refused.Statement.{statement}
-use Rattle.diagnosis.proofs.lines.write_refused.Tie as tie
+use Rattle.reason_lines.proofs.Pieces.{digits-short, numbered-short}
+use Rattle.reason_lines.proofs.write_refused.Statement.{statement}
+use Rattle.reason_lines.proofs.write_refused.Tie as tie
 
 slice-aggregate-write-numbered : tie.Need-slice-aggregate-write-numbered
 slice-aggregate-write-numbered c = search needs

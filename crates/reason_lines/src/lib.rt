@@ -1,4 +1,4 @@
-// The text of a line (02, card 1). Each function asks that its bytes have room, stores them, changes no other byte and answers
+// The text of the reason's line (02, card 1). Each function asks that its bytes have room, stores them, changes no other byte and answers
 // the index behind them.
 use reasons::Spot;
 use text::write_decimal;

@@ -1,9 +1,9 @@
--- `image::compare` meets its contract: the first difference decides.
+-- `comparison::compare` meets its contract: the first difference decides.
 -- Assumes nothing.
 use borrow.Author.Needs.{needs}
-use Rattle.image.proofs.TwoSides.{compare-row, compare-none}
-use Rattle.image.proofs.compare.Statement.{statement}
-use Rattle.image.proofs.compare.Tie as tie
+use Rattle.comparison.proofs.TwoSides.{compare-row, compare-none}
+use Rattle.comparison.proofs.compare.Statement.{statement}
+use Rattle.comparison.proofs.compare.Tie as tie
 
 first-difference-requires : tie.Need-first-difference-requires
 first-difference-requires c κs = search needs

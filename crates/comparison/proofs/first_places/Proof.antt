@@ -1,4 +1,4 @@
--- `image::first_places` meets its contract. The invariant: the first i places hold the first i values, and those beyond hold 0.
+-- `comparison::first_places` meets its contract. The invariant: the first i places hold the first i values, and those beyond hold 0.
 -- The measure: how many places are left. Assumes nothing.
 use Prim.Native.Nat.{_-_}
 use mathlib.Core.Path.{refl}
@@ -6,8 +6,8 @@ use native.Mathlib.Omega.{arith}
 use lib.ListN.{getD}
 use Rattle.lists.specs.Places.{places}
 use Rattle.lists.proofs.Filling.{Filled, filled-start, filled-turn, filled-eight}
-use Rattle.image.proofs.first_places.Statement.{statement}
-use Rattle.image.proofs.first_places.Tie as tie
+use Rattle.comparison.proofs.first_places.Statement.{statement}
+use Rattle.comparison.proofs.first_places.Tie as tie
 
 abbrev Inv-loop : tie.InvT-loop
 Inv-loop n values kept₀ i₀ kept i = Filled kept₀ n (λ j. getD values j 0) kept i
