@@ -1,0 +1,3 @@
+-- Laws of the forms in which the OR proof's verdict and session cross.
+pub mod OrJudgements
+pub mod OrCrossing
