@@ -2,7 +2,7 @@
 -- their number.
 -- Assumes nothing.
 use Prim.Native.Nat.{ℕ, _<_}
-use mathlib.Core.Path.{_≡_, sym, ap, _∙_}
+use mathlib.Core.Path.{_≡_}
 use mathlib.Core.List.{List, []}
 use Rattle.lists.specs.Places.{zeros8}
 use Rattle.rules.specs.Rule.{Clear, Rule, lowest}

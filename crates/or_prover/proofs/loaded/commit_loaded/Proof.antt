@@ -1,6 +1,6 @@
 -- `or_prover::loaded::commit_loaded` meets its contract: the rules' number decides, and what is stored is what is read by each side.
 -- Assumes nothing.
-use borrow.Author.Needs.{needs}
+use native.Mathlib.Omega.{arith}
 use Rattle.disjunctions.specs.Prover.{commitOrAfter}
 use Rattle.or_judge.proofs.Verdicts.{valid-few}
 use Rattle.or_sides.proofs.SideTests.{few-own}
@@ -16,7 +16,7 @@ commit-refusal-requires c κs =
     (valid-few (fit .first), valid-few (fit .second))
 
 refused-requires : tie.Need-refused-requires
-refused-requires c κs = search needs
+refused-requires c κs = omega arith
 
 returns : tie.Need-returns
 unfolding commitOrAfter
@@ -24,10 +24,10 @@ returns c =
     step-refused _ _ _ _ _ (c .before .before .commit-refusal .ensures _ _ _ _) (c .before .if1 .taken) (c .refused .ensures)
 
 own-header-requires : tie.Need-own-header-requires
-own-header-requires c κs = search needs
+own-header-requires c κs = omega arith
 
 own-header-requires-2 : tie.Need-own-header-requires-2
-own-header-requires-2 c κs = search needs
+own-header-requires-2 c κs = omega arith
 
 side-commitment-requires : tie.Need-side-commitment-requires
 side-commitment-requires c κs =
@@ -42,7 +42,7 @@ side-commitment-requires-2 c κs =
     (fit .second, commit-below fit _ _ _ _ _ (none .before .commit-refusal .ensures _ _ _ _) (none .if1 .left) .1)
 
 cast-first-places : tie.Need-cast-first-places
-cast-first-places c = search needs
+cast-first-places c = omega arith
 
 first-places-requires : tie.Need-first-places-requires
 first-places-requires c κs =
@@ -51,7 +51,7 @@ first-places-requires c κs =
     few-own _ _ _ (chosen .own-header .ensures) (valid-few (fit .first), valid-few (fit .second)) .2
 
 cast-first-places-2 : tie.Need-cast-first-places-2
-cast-first-places-2 c = search needs
+cast-first-places-2 c = omega arith
 
 first-places-requires-2 : tie.Need-first-places-requires-2
 first-places-requires-2 c κs =
@@ -60,7 +60,7 @@ first-places-requires-2 c κs =
     few-own _ _ _ (chosen .own-header2 .ensures) (valid-few (fit .second), valid-few (fit .first)) .2
 
 own-number-requires : tie.Need-own-number-requires
-own-number-requires c κs = search needs
+own-number-requires c κs = omega arith
 
 returns-2 : tie.Need-returns-2
 returns-2 c =

@@ -3,7 +3,6 @@
 use mathlib.Core.Path.{refl, sym}
 use mathlib.Core.List.{[]}
 use native.Mathlib.Omega.{arith}
-use borrow.Author.Needs.{needs}
 use Rattle.lists.specs.Places.{pad8}
 use Rattle.rules.specs.Rule.{lowest}
 use Rattle.rules.proofs.Lowest.{pass, stop}
@@ -14,10 +13,10 @@ use Rattle.or_prover.proofs.session.drop_session.Statement.{statement}
 use Rattle.or_prover.proofs.session.drop_session.Tie as tie
 
 wiped-requires : tie.Need-wiped-requires
-wiped-requires c κs = search needs
+wiped-requires c κs = omega arith
 
 refused-requires : tie.Need-refused-requires
-refused-requires c κs = search needs
+refused-requires c κs = omega arith
 
 returns : tie.Need-returns
 unfolding dropOr dropOrRules lowest pad8
