@@ -1,10 +1,10 @@
 // Committing and responding in the OR proof on loaded values (02, card 4; refusals 15 to 17 and 21). What a call brings is tested
 // before the session.
-use crate::session::refused;
-use crate::session::wiped;
 use disjunctions::OrProver;
 use disjunctions::OrStep;
 use image::first_places;
+use or_session::refused;
+use or_session::wiped;
 use or_sides::bad_slots;
 use or_sides::own_header;
 use or_sides::own_number;

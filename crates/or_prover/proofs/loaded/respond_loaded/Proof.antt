@@ -5,7 +5,7 @@ use native.Mathlib.Omega.{arith}
 use Rattle.sigma.proofs.Valid.{valid-modulus, valid-order}
 use Rattle.disjunctions.specs.Prover.{respondOrAfter}
 use Rattle.or_prover.proofs.Given.{respond-given}
-use Rattle.or_prover.proofs.Steps.{step-refused}
+use Rattle.or_session.proofs.Steps.{step-refused}
 use Rattle.or_prover.proofs.Tested.{respond-below}
 use Rattle.or_prover.proofs.loaded.respond_loaded.Statement.{statement}
 use Rattle.or_prover.proofs.loaded.respond_loaded.Tie as tie
