@@ -2,8 +2,8 @@
 // 21).
 use crate::sides::own_header;
 use crate::sides::side_commitment;
+use comparison::differ;
 use disjunctions::OrProver;
-use image::differ;
 use image::image;
 use modular::some_non_coordinate;
 use types::Header;

@@ -1,5 +1,5 @@
 // Choosing by the side that Peggy knows, and the commitment and the response of a side (02, card 4).
-use image::first_places;
+use comparison::first_places;
 use image::image;
 use image::response;
 use protocol::simulated;
