@@ -1,7 +1,10 @@
 -- The demands hold of the definitions of the calls.
 -- Assumes nothing.
+use Rattle.disjunctions.proofs.OneOfTwo.{or-proof}
+use Rattle.disjunctions.proofs.OrRefusals.{or-refusals}
 use Rattle.examples.proofs.Pages.{worked-examples}
 use Rattle.formats.proofs.ByteLayout.{layout}
+use Rattle.formats.proofs.SameCommitment.{words-compare, words-refusals}
 use Rattle.formats.proofs.Writers.{writers}
 use Rattle.patterns.proofs.Meaning.{patterns-mean}
 use Rattle.patterns.proofs.PatternCalls.{pattern-calls, pattern-refusals}
@@ -22,6 +25,8 @@ demands = record {
   refusals = record {
     calls = demand1;
     patterns = pattern-refusals;
+    one-of-two = or-refusals;
+    words = words-refusals;
   };
   sessions = sessions;
   main-protocol = main-protocol;
@@ -36,8 +41,11 @@ demands = record {
   knowledge = demand3;
   pages = worked-examples .0;
   corners = worked-examples .1;
+  or-page = worked-examples .2;
   cards = record {
     reason = reasons-true;
     patterns = pattern-calls;
+    one-of-two = or-proof;
+    words = words-compare;
   };
 }

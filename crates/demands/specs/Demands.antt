@@ -5,6 +5,7 @@ use Prim.Native.Nat.{ℕ}
 use mathlib.Core.Path.{_≡_}
 use mathlib.Core.List.{List}
 use Rattle.examples.specs.Corners.{EveryCorner}
+use Rattle.examples.specs.OrPage.{OrPage}
 use Rattle.examples.specs.Pages.{EveryPage}
 use Rattle.formats.specs.ByteLayout.{Layout}
 use Rattle.formats.specs.Load.{loadRefusal}
@@ -52,5 +53,7 @@ pub record Demands : Type 0 where
   -- the starred pages, and for each refusal inputs on both sides of its bounds
   pub pages : EveryPage
   pub corners : EveryCorner
+  -- a worked pair of sheets for the OR proof
+  pub or-page : OrPage
   -- what the cards of 02 ask
   pub cards : Cards

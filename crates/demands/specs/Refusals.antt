@@ -2,6 +2,8 @@
 -- whose conditions are fixed, and a refused call changes neither a lent buffer nor a session. The cards put their numbers into
 -- 01's order, and "lowest" is the earliest there.
 -- Assumes nothing.
+use Rattle.disjunctions.specs.OneOfTwo.{OrRefusals}
+use Rattle.formats.specs.SameCommitment.{WordsRefusals}
 use Rattle.patterns.specs.PatternCalls.{PatternRefusals}
 use Rattle.runs.specs.Demand1.{Demand1}
 
@@ -10,3 +12,7 @@ pub record Refusals : Type 0 where
   pub calls : Demand1
   -- card 2: the sheet maker, which takes a pattern file, and the call that writes the shipped one
   pub patterns : PatternRefusals
+  -- card 4: the calls of the OR proof
+  pub one-of-two : OrRefusals
+  -- card 5: comparing the commitments of two rounds of a file
+  pub words : WordsRefusals

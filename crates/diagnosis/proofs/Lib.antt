@@ -1,4 +1,4 @@
--- Laws that the proofs of the functions cite: the pieces of a line, the line on a round, the whole line, and whole files.
+-- Laws that the proofs of the functions cite: a line that is stored, the line on a round, the whole line, and whole files.
 pub mod Pieces
 pub mod JudgedLine
 pub mod WholeLine

@@ -1,8 +1,8 @@
 // The line on round 0 of a file that reads, on loaded values.
-use crate::lines::write_refused;
-use crate::lines::write_rejected;
 use image::expected_image;
 use image::image;
+use reason_lines::write_refused;
+use reason_lines::write_rejected;
 use round_file::START;
 use round_file::round_at;
 use round_lines::verdict_at;

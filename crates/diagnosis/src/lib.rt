@@ -1,11 +1,10 @@
 // The reason why a sheet, a round file or its round 0 is turned down, as the one line that is printed (02, card 1).
 mod judged; // judged.rt: the line on a round of a file that reads
-mod lines; // lines.rt: the text of a line
 
 use instance::load;
 use instance::loaded_entries;
 use judged::write_judged;
-use lines::write_refused;
+use reason_lines::write_refused;
 use round_file::check_in;
 use spots::file_spot;
 use spots::sheet_spot;

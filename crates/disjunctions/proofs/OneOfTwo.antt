@@ -35,7 +35,6 @@ use Rattle.disjunctions.proofs.OrLists.{
   padded-sides,
   read-or-padded,
 }
-use Rattle.disjunctions.proofs.OrRefusals.{or-refusals}
 use Rattle.disjunctions.proofs.OrSessions.{or-sessions}
 use Rattle.disjunctions.proofs.Proved.{commit-runs, respond-runs}
 use Rattle.disjunctions.proofs.Steps.{commits-first, commits-second, responds-first, responds-second}
@@ -132,11 +131,10 @@ one-of-two s s′ pair = record {
   extracted-read = λ a b. rw (read-or-padded s s′ a, read-or-padded s s′ b);
 }
 
--- the card
+-- the card, but for its refusals
 pub or-proof : OrProof
 unfolding orOutcome
 or-proof = record {
-  refusals = or-refusals;
   outcomes = record { accepted = refl; rejected = λ side row. refl; refused = λ number. refl };
   sessions = or-sessions;
   proof = one-of-two;

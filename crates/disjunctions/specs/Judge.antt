@@ -50,8 +50,8 @@ secondVerdict (Refused number) = OrRefused number
 -- the verdict on both: accepted where both sides are, else rejected with the first side that is not
 unfoldable pub combined : Verdict → Verdict → OrVerdict
 combined Accepted second = secondVerdict second
-combined (Rejected row) second = OrRejected 0 row
-combined (Refused number) second = OrRefused number
+combined (Rejected row) _ = OrRejected 0 row
+combined (Refused number) _ = OrRefused number
 
 -- the verdicts on both sides of a round as it is read, combined
 unfoldable pub verdictOr : Instance → Instance → OrRound → OrVerdict

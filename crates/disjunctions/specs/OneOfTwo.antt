@@ -197,9 +197,8 @@ pub record OneOfTwo (s s′ : List ℕ) : Type 0 where
   pub judged-read : (round : OrRound) → judgeOr s s′ round ≡ judgeOr s s′ (paddedOr s s′ round)
   pub extracted-read : (a b : OrRound) → extractOr s s′ a b ≡ extractOr s s′ (paddedOr s s′ a) (paddedOr s s′ b)
 
--- the card
+-- the card, but for its refusals
 pub record OrProof : Type 0 where
-  pub refusals : OrRefusals
   pub outcomes : OrOutcomes
   pub sessions : OrSessions
   pub proof : (s s′ : List ℕ) → Pair s s′ → OneOfTwo s s′

@@ -1,4 +1,5 @@
--- Every starred page, every line of the reason and every bound of a refusal hold of the definitions, by computation.
+-- Every starred page, every line of the reason, every bound of a refusal and the OR proof's worked numbers hold of the definitions,
+-- by computation.
 -- Assumes nothing.
 use Prim.Native.Nat.{ℕ, _<_}
 use mathlib.Core.Path.{_≡_, refl, sym, ap, _∙_}
@@ -11,6 +12,7 @@ use Rattle.numbers.specs.Product.{product}
 use Rattle.numbers.specs.Search.{find, any}
 use Rattle.lists.specs.Places.{eightByEight, itemsAt, tabulate, places, pad8, zeros8}
 use Rattle.rules.specs.Answer.{unlessRefused}
+use Rattle.rules.specs.Either.{eitherRules}
 use Rattle.rules.specs.Rule.{lowest}
 use Rattle.rules.proofs.Lowest.{pass, stop}
 use Rattle.encoding.specs.Bytes.{numberAt, bytesOf, bytesOfEach}
@@ -174,6 +176,49 @@ use Rattle.reasons.specs.Reason.{
   reasonLine,
   reasonText,
 }
+use Rattle.disjunctions.specs.Extractor.{
+  isOrAccepted,
+  extractOrRules,
+  extractedSide,
+  extractedOf,
+  extractedOr,
+  extractOrAfter,
+  extractOr,
+}
+use Rattle.disjunctions.specs.Judge.{
+  pairRules,
+  badCommitments,
+  badChallenges,
+  badResponses,
+  judgeOrRules,
+  secondVerdict,
+  combined,
+  verdictOr,
+  judgeOrAfter,
+  judgeOr,
+}
+use Rattle.disjunctions.specs.Knowledge.{orRound}
+use Rattle.disjunctions.specs.OneOfTwo.{orOutcome}
+use Rattle.disjunctions.specs.Prover.{
+  own,
+  other,
+  orProverIn,
+  wipedOr,
+  newOrProver,
+  orStep,
+  firstCommitment,
+  secondCommitment,
+  commitOrRules,
+  commitOrAfter,
+  unfitOr,
+  respondOrRules,
+  respondOrAfter,
+  dropOrRules,
+  commitOr,
+  respondOr,
+  dropOr,
+}
+use Rattle.disjunctions.specs.Round.{otherChallenge, firstRound, secondRound, readOr}
 use Rattle.examples.specs.Corners.{
   onesSheet,
   manyChallenges,
@@ -205,6 +250,22 @@ use Rattle.examples.specs.Corners.{
   EveryCorner,
 }
 use Rattle.examples.specs.MarkerExample.{exampleFile, exampleText}
+use Rattle.examples.specs.OrPage.{
+  logarithmSheet,
+  smallOr,
+  judgingOr,
+  orRun,
+  bothWaysOr,
+  orJudging,
+  orExtracting,
+  orPeggy,
+  knowsFirst,
+  orCommitting,
+  orResponding,
+  orNumbers,
+  fewerChallenges,
+  OrPage,
+}
 use Rattle.examples.specs.Pages.{array, smallRound, run, bothWays, judging, repeated, reasonOn, EveryPage}
 use Rattle.examples.specs.Sheets.{
   fourBytes,
@@ -226,8 +287,8 @@ above-count number values statement high =
     ∙ pass 24 _ (ap badDigits (sym shipped-bytes) ∙ shipped-passes .1)
     ∙ stop 1 _ (says-asked shippedBytes number _ _ .complete (inl high))
 
--- both tables hold
-pub worked-examples : EveryPage × EveryCorner
+-- the three tables hold
+pub worked-examples : EveryPage × EveryCorner × OrPage
 unfolding euclid gcd residue quotient power bezoutRight bezoutLeft inverse product find any itemsAt tabulate places
     pad8 zeros8 eightByEight unlessRefused lowest numberAt bytesOf bytesOfEach ascii digits decimal firstDivisor badKind
     badModulus badOrder badSize badCount badEntries badStatement headerRules elementRules outcome isAccepted judged
@@ -252,7 +313,12 @@ unfolding euclid gcd residue quotient power bezoutRight bezoutLeft inverse produ
     appendRules recordBytes appended appendAfter append emptyFile noHeader load loadEntries encodeRules encode
     dropRules dropSession checkRound firstNonElement firstNonCoordinate sheetSpot fileSpot roundSpot spotOf firstVerdict
     spotText rowText lineText reasonLine reasonText repeated reasonOn badLevel strongEnough failsAt markRules markRefusal
-    refusedWord marking lastLine
+    refusedWord marking lastLine eitherRules isOrAccepted extractOrRules extractedSide extractedOf extractedOr extractOrAfter
+    extractOr pairRules badCommitments badChallenges badResponses judgeOrRules secondVerdict combined verdictOr judgeOrAfter
+    judgeOr orRound orOutcome own other orProverIn wipedOr newOrProver orStep firstCommitment secondCommitment commitOrRules
+    commitOrAfter unfitOr respondOrRules respondOrAfter dropOrRules commitOr respondOr dropOr otherChallenge firstRound
+    secondRound readOr logarithmSheet smallOr judgingOr orRun bothWaysOr orJudging orExtracting orPeggy knowsFirst
+    orCommitting orResponding orNumbers fewerChallenges
 worked-examples = (
   record {
     A = refl;
@@ -306,5 +372,24 @@ worked-examples = (
     refusal22 = (refl, refl);
     refusal25 = (refl, refl);
     enough = refl;
+  },
+  record {
+    knows-first = refl;
+    knows-second = refl;
+    rejected = refl;
+    extracts-first = refl;
+    extracts-second = refl;
+    extracts-wrapped = refl;
+    refusal26 = (refl, refl);
+    refusal11 = (refl, refl);
+    refusal3 = (refl, refl);
+    refusal14 = (refl, refl);
+    refusal15 = (refl, refl);
+    refusal16 = (refl, refl);
+    refusal17 = (refl, refl);
+    refusal18 = (refl, refl);
+    refusal19 = (refl, refl);
+    refusal20 = (refl, refl);
+    refusal21 = (refl, refl);
   },
 )

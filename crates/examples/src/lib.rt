@@ -1,1 +1,1 @@
-// The worked examples of 01's calculator pages.
+// The worked examples: 01's calculator pages, and a pair of sheets for the OR proof.

@@ -1,5 +1,5 @@
 // Extracting a witness from two rounds on loaded values (01, "A round"; refusals 14 to 16 of both rounds, then 18 to 20).
-use image::differ;
+use comparison::differ;
 use image::refused;
 use image::verdict;
 use modular::inverse;

@@ -1,7 +1,6 @@
 -- Laws that the proofs of the functions cite, by topic.
 pub mod RowImage
 pub mod Slots
-pub mod TwoSides
 pub mod Several
 pub mod Unread
 pub mod Tested

@@ -19,7 +19,7 @@ use Rattle.sigma.specs.Instance.{Instance, Table, tableOf, statementAt}
 use Rattle.sigma.specs.Round.{responseCoordinate, response, expectedImage, verdict}
 use Rattle.sigma.specs.Valid.{Valid, ValidTable}
 use Rattle.sigma.proofs.Unread.{rowImage-agree}
-use Rattle.image.proofs.TwoSides.{Agreed, agreed-on, differ-here, differ-none, compare-row, compare-none}
+use Rattle.comparison.proofs.TwoSides.{Agreed, agreed-on, differ-here, differ-none, compare-row, compare-none}
 
 -- zeros behind two lists do not change where they first differ
 difference-pad8 : (n : ℕ) (xs ys : List ℕ) → firstDifference n (pad8 0 xs) (pad8 0 ys) ≡ firstDifference n xs ys

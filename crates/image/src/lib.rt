@@ -1,8 +1,10 @@
-// The values of a round on loaded values (01, "A round"): the image, the verifier's two sides and their comparison, the
-// response, and the places of an array that are read. Nothing is refused here.
+// The values of a round on loaded values (01, "A round"): the image, the verifier's two sides and the verdict on them, and the
+// response. Nothing is refused here.
 mod answer; // answer.rt: the answer of a refused call
 
 pub use answer::refused;
+use comparison::compare;
+use comparison::first_places;
 use modular::mul_mod;
 use modular::pow_mod;
 use powers::mul_powers;
@@ -16,7 +18,6 @@ ghost use mathlib.Core.List.{List, []};
 ghost use Prim.Native.Nat.{ℕ, _≤_, _<_};
 ghost use lib.ListN.{getD};
 ghost use Rattle.lists.specs.Places.{places, pad8};
-ghost use Rattle.sigma.specs.Comparison.{firstDifference, differ, compareSides};
 ghost use Rattle.sigma.specs.Image.{rowImage, image};
 ghost use Rattle.sigma.specs.Round.{responseCoordinate, response, expectedImage, verdict};
 ghost use Rattle.sigma.specs.Valid.{Valid};
@@ -98,54 +99,6 @@ pub fn expected_image(h: Header, statement: [u32; 8], t: [u32; 8], c: u32) -> [u
         values[i] = mul_mod(t[i], pow_mod(statement[i], c, h.modulus), h.modulus);
     }
     values
-}
-
-// The first n places of values, and zeros beyond them.
-pub fn first_places(values: [u32; 8], n: usize) -> [u32; 8]
-    requires { ⌜ n ≤ 8 ⌝ }
-    ensures { λ r. ⌜ r ≡ pad8 0 (places n values) ⌝ }
-{
-    let mut kept = [0u32; 8];
-    for i in 0..n {
-        kept[i] = values[i];
-    }
-    kept
-}
-
-// The first place below n at which xs and ys differ, or n where there is none.
-pub fn first_difference(xs: [u32; 8], ys: [u32; 8], n: usize) -> usize
-    requires { ⌜ n ≤ 8 ⌝ }
-    ensures value { λ r. ⌜ r ≡ firstDifference n xs ys ⌝ }
-    ensures within { λ r. ⌜ r ≤ n ⌝ }
-{
-    let mut i: usize = 0;
-    while i < n {
-        if xs[i] != ys[i] {
-            return i;
-        }
-        i += 1;
-    }
-    i
-}
-
-// Whether xs and ys differ at some place below n.
-pub fn differ(xs: [u32; 8], ys: [u32; 8], n: usize) -> bool
-    requires { ⌜ n ≤ 8 ⌝ }
-    ensures { λ r. ⌜ r ≡ differ n xs ys ⌝ }
-{
-    first_difference(xs, ys, n) < n
-}
-
-// The verdict on two sides of n rows: accepted where they agree in each, else rejected with the first row that differs.
-fn compare(xs: [u32; 8], ys: [u32; 8], n: usize) -> Verdict
-    requires { ⌜ n ≤ 8 ⌝ }
-    ensures { λ r. ⌜ r ≡ compareSides n xs ys ⌝ }
-{
-    let row = first_difference(xs, ys, n);
-    if row < n {
-        return Verdict::Rejected(row as u32);
-    }
-    Verdict::Accepted
 }
 
 // The verdict on a commitment t, a challenge c and a response r: accepted where the two sides agree in every row, else

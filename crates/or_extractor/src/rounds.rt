@@ -1,6 +1,6 @@
 // The tests of two rounds of the OR proof on loaded values (02, card 4; refusals 14 to 16, 18 and 19).
+use comparison::differ;
 use disjunctions::OrRound;
-use image::differ;
 use or_judge::round_refusal;
 use pairs::lower;
 use types::Header;

@@ -2,8 +2,8 @@
 // the session.
 use crate::session::ended;
 use crate::session::refused;
-use image::differ;
-use image::first_places;
+use comparison::differ;
+use comparison::first_places;
 use image::image;
 use image::response;
 use modular::some_non_coordinate;

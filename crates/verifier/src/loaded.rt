@@ -1,6 +1,6 @@
 // The calls on Vic's session for a loaded sheet, and the numbers that they are refused with: 14 to 16 for what a call brings,
 // then 21 for the session. A refused call hands back the session unchanged.
-use image::first_places;
+use comparison::first_places;
 use image::verdict;
 use modular::some_non_coordinate;
 use modular::some_non_element;

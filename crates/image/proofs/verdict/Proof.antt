@@ -5,7 +5,7 @@ use Prim.Native.Nat.{_-_}
 use native.Mathlib.Omega.{arith}
 use Rattle.sigma.specs.Instance.{instanceWith, statementAt}
 use Rattle.image.proofs.Slots.{product-reduced}
-use Rattle.image.proofs.TwoSides.{agreed-none}
+use Rattle.comparison.proofs.TwoSides.{agreed-none}
 use Rattle.image.proofs.Unread.{verdict-compared, RowsAgree, rows-on, verdict-differs, verdict-agrees}
 use Rattle.image.proofs.verdict.Statement.{statement}
 use Rattle.image.proofs.verdict.Tie as tie
