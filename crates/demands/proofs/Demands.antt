@@ -3,11 +3,14 @@
 use Rattle.disjunctions.proofs.OneOfTwo.{or-proof}
 use Rattle.disjunctions.proofs.OrRefusals.{or-refusals}
 use Rattle.examples.proofs.Pages.{worked-examples}
+use Rattle.examples.proofs.TeamPage.{team-page}
 use Rattle.formats.proofs.ByteLayout.{layout}
 use Rattle.formats.proofs.SameCommitment.{words-compare, words-refusals}
 use Rattle.formats.proofs.Writers.{writers}
 use Rattle.patterns.proofs.Meaning.{patterns-mean}
 use Rattle.patterns.proofs.PatternCalls.{pattern-calls, pattern-refusals}
+use Rattle.products.proofs.TeamRefusals.{team-refusals}
+use Rattle.products.proofs.TeamWorks.{team-works}
 use Rattle.reasons.proofs.ReasonsTrue.{reasons-true}
 use Rattle.runs.proofs.Demand1.{demand1}
 use Rattle.runs.proofs.Demand3.{demand3}
@@ -27,6 +30,7 @@ demands = record {
     patterns = pattern-refusals;
     one-of-two = or-refusals;
     words = words-refusals;
+    team = team-refusals;
   };
   sessions = sessions;
   main-protocol = main-protocol;
@@ -42,10 +46,12 @@ demands = record {
   pages = worked-examples .0;
   corners = worked-examples .1;
   or-page = worked-examples .2;
+  team-page = team-page;
   cards = record {
     reason = reasons-true;
     patterns = pattern-calls;
     one-of-two = or-proof;
     words = words-compare;
+    team = team-works;
   };
 }

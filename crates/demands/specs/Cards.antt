@@ -3,6 +3,7 @@
 use Rattle.disjunctions.specs.OneOfTwo.{OrProof}
 use Rattle.formats.specs.SameCommitment.{WordsCompare}
 use Rattle.patterns.specs.PatternCalls.{PatternCalls}
+use Rattle.products.specs.TeamWorks.{TeamWorks}
 use Rattle.reasons.specs.ReasonsTrue.{ReasonsTrue}
 
 pub record Cards : Type 0 where
@@ -18,3 +19,6 @@ pub record Cards : Type 0 where
   -- 5: comparing the commitments of two rounds of a file answers 1 exactly where all 4s commitment bytes agree, and so where the
   -- commitments that are read do
   pub words : WordsCompare
+  -- 6: what the combiner of a team answers is the round that a single Peggy with the joined witness and the joined nonce sends; where
+  -- all parts are accepted under their own images so is the whole, and where exactly one is rejected it is rejected
+  pub team : TeamWorks

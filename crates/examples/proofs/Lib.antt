@@ -1,2 +1,3 @@
 -- The theorem on the worked examples.
 pub mod Pages
+pub mod TeamPage

@@ -1,6 +1,7 @@
--- 01's calculator pages, the marker's example, and a worked pair of sheets for the OR proof.
+-- 01's calculator pages, the marker's example, a worked pair of sheets for the OR proof, and worked teams.
 pub mod Sheets
 pub mod Pages
 pub mod MarkerExample
 pub mod Corners
 pub mod OrPage
+pub mod TeamPage

@@ -1,5 +1,5 @@
--- The card: a combiner makes of a team's rounds the round of a single Peggy, for every sheet that loads, and its answers and refusals
--- are fixed for any bytes.
+-- The card: a combiner makes of a team's rounds the round of a single Peggy, for every sheet that loads, and its answers are fixed for
+-- any bytes.
 -- Assumes nothing.
 use Prim.Native.Nat.{ℕ, suc}
 use mathlib.Core.Path.{_≡_, sym, ap, _∙_}
@@ -21,7 +21,6 @@ use Rattle.products.proofs.Combined.{slot-suc}
 use Rattle.products.proofs.PlayerSheets.{player-loads, player-values}
 use Rattle.products.proofs.Single.{single}
 use Rattle.products.proofs.TeamAnswers.{joined-is, team-answers}
-use Rattle.products.proofs.TeamRefusals.{team-refusals}
 use Rattle.products.proofs.Whole.{all-accepted, one-rejected}
 
 -- one player more is joined to the others by the domain's operation
@@ -46,4 +45,4 @@ team-on sheet bytes loaded = record {
 }
 
 pub team-works : TeamWorks
-team-works = record { refusals = team-refusals; answers = team-answers; team = team-on }
+team-works = record { answers = team-answers; team = team-on }

@@ -104,6 +104,5 @@ pub record TeamOn (sheet : List ℕ) : Type 0 where
 
 -- the card; that the sheet is of bytes is asked so that its numbers are below 2^32, as a player's sheet stores them
 pub record TeamWorks : Type 0 where
-  pub refusals : TeamRefusals
   pub answers : TeamAnswers
   pub team : (sheet : List ℕ) → AllBytes sheet → loadRefusal sheet ≡ 0 → TeamOn sheet
