@@ -26,3 +26,4 @@ pub mod FormulaValue
 pub mod Extractor
 pub mod Lists
 pub mod Restated
+pub mod Joined

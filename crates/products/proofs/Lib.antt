@@ -1,0 +1,1 @@
+-- Laws of a prover that is split over a team.
