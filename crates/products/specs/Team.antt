@@ -1,7 +1,7 @@
 -- The combiner of a team (02, card 6; refusals 2 to 9 of the sheet, 27, 10, 11, then 14 or 16, then 28): it multiplies the players'
 -- commitments and joins their responses. What the players bring stands in arrays with a row for each, and both calls take the images.
 -- Assumes nothing.
-use Prim.Native.Nat.{ℕ, zero, suc, _+_, _%_}
+use Prim.Native.Nat.{ℕ, _%_}
 use mathlib.Core.Bool.{Bool, cond, _||_}
 use mathlib.Core.List.{List, [], _∷_, _++_}
 use lib.Dec.{ltb}
@@ -9,7 +9,7 @@ use lib.ListN.{getD}
 use Rattle.types.specs.declared.Computed.{Computed}
 use Rattle.types.specs.declared.Header.{Header}
 use Rattle.lists.specs.Places.{tabulate}
-use Rattle.numbers.specs.Product.{product}
+use Rattle.numbers.specs.Product.{product, sum}
 use Rattle.numbers.specs.Search.{any}
 use Rattle.rules.specs.Rule.{Rule, _when_, lowest}
 use Rattle.formats.specs.Load.{shapeRules}
@@ -23,23 +23,18 @@ use Rattle.sigma.specs.Round.{badCommitment, badCoordinates}
 
 -- what player p brings: row p of an array
 abbrev pub part : List (List ℕ) → ℕ → List ℕ
-part rows p = getD rows p []
+part parts p = getD parts p []
 
--- the sum of f p over the indices p below n
-unfoldable pub sum : ℕ → (ℕ → ℕ) → ℕ
-sum zero f = 0
-sum (suc n) f = sum n f + f n
-
--- the rows of all players multiplied mod m, place by place
+-- what all players bring multiplied mod m, row by row
 unfoldable pub multiplyAll : Header → ℕ → List (List ℕ) → List ℕ
-multiplyAll h count rows = tabulate (h .rows) (λ i. product count (λ p. getD (part rows p) i 0) % h .modulus)
+multiplyAll h count parts = tabulate (h .rows) (λ i. product count (λ p. getD (part parts p) i 0) % h .modulus)
 
--- the rows of all players joined, slot by slot: added mod q in kind 1, multiplied mod m in kind 2
+-- what all players bring joined, slot by slot: added mod q in kind 1, multiplied mod m in kind 2
 unfoldable pub joinAll : Header → ℕ → List (List ℕ) → List ℕ
-joinAll h count rows =
+joinAll h count parts =
     tabulate (h .columns)
-    (λ j. cond (isExponent h) (sum count (λ p. getD (part rows p) j 0) % h .order)
-    (product count (λ p. getD (part rows p) j 0) % h .modulus))
+    (λ j. cond (isExponent h) (sum count (λ p. getD (part parts p) j 0) % h .order)
+    (product count (λ p. getD (part parts p) j 0) % h .modulus))
 
 -- the team is outside 2 to 8 (27)
 unfoldable pub badTeam : ℕ → Bool
@@ -70,21 +65,14 @@ responsesRules inst count images responses =
     teamRules inst count images ++ (16 when any count (λ p. badCoordinates inst (part responses p))) ∷
     (28 when badProduct inst count images) ∷ []
 
--- after the rules of the sheet's shape: the commitments multiplied
-unfoldable pub multiplyAfter : List Rule → Instance → ℕ → List (List ℕ) → List (List ℕ) → Computed
-multiplyAfter before inst count images commitments =
-    computed (lowest (before ++ commitmentsRules inst count images commitments)) (multiplyAll (inst .header) count commitments)
-
--- after the rules of the sheet's shape: the responses joined
-unfoldable pub joinAfter : List Rule → Instance → ℕ → List (List ℕ) → List (List ℕ) → Computed
-joinAfter before inst count images responses =
-    computed (lowest (before ++ responsesRules inst count images responses)) (joinAll (inst .header) count responses)
-
 -- the call that multiplies the players' commitments
 unfoldable pub multiplyCommitments : List ℕ → ℕ → List (List ℕ) → List (List ℕ) → Computed
 multiplyCommitments sheet count images commitments =
-    multiplyAfter (shapeRules sheet) (instanceOf sheet) count images commitments
+    computed (lowest (shapeRules sheet ++ commitmentsRules (instanceOf sheet) count images commitments))
+    (multiplyAll (instanceOf sheet .header) count commitments)
 
 -- the call that joins the players' responses
 unfoldable pub joinResponses : List ℕ → ℕ → List (List ℕ) → List (List ℕ) → Computed
-joinResponses sheet count images responses = joinAfter (shapeRules sheet) (instanceOf sheet) count images responses
+joinResponses sheet count images responses =
+    computed (lowest (shapeRules sheet ++ responsesRules (instanceOf sheet) count images responses))
+    (joinAll (instanceOf sheet .header) count responses)

@@ -9,11 +9,11 @@ use mathlib.Core.Bool.{cond}
 use mathlib.Core.List.{List}
 use native.Mathlib.Nat.{add-comm, mul-comm, mul-mul-mul-comm, mod-eq-of-lt}
 use native.Mathlib.Omega.{arith}
-use lib.ListN.{getD}
+use lib.ListN.{getD, length}
 use Rattle.types.specs.declared.Header.{Header}
 use Rattle.lists.specs.Places.{places}
 use Rattle.lists.proofs.Each.{each-at, each-places}
-use Rattle.lists.proofs.Places.{getD-places, getD-tabulate, tabulate-agree}
+use Rattle.lists.proofs.Places.{getD-places, getD-tabulate, length-tabulate, tabulate-agree}
 use Rattle.numbers.specs.Congruence.{Cong}
 use Rattle.numbers.specs.Inverse.{Inverses}
 use Rattle.numbers.proofs.Congruence.{_then_, cong-add, cong-mod, cong-mul, cong-mul-cancel, cong-of-equal, cong-pow, cong-refl, cong-sym}
@@ -23,7 +23,7 @@ use Rattle.sigma.specs.Image.{image, rowImage}
 use Rattle.sigma.specs.Instance.{Instance, Table, isExponent, statementAt, tableOf}
 use Rattle.sigma.specs.Joined.{joinSlots, multiplyRows, withStatement}
 use Rattle.sigma.specs.Meaning.{Coordinates, Elements, RowHolds}
-use Rattle.sigma.specs.Reads.{roundOf}
+use Rattle.sigma.specs.Reads.{Agree, roundOf}
 use Rattle.sigma.specs.Round.{response, responseCoordinate}
 use Rattle.sigma.specs.Valid.{Valid, ValidTable}
 use Rattle.sigma.proofs.ByKind.{
@@ -48,6 +48,11 @@ module _ (h : Header) (x y : List ℕ) where
   unfolding joinSlots
   join-at j b = getD-tabulate _ _ j 0 b
 
+  -- there are n of them
+  pub length-join : length (joinSlots h x y) ≡ h .columns
+  unfolding joinSlots
+  length-join = length-tabulate _ _
+
   -- row i of multiplied rows
   pub multiply-at : (i : ℕ) → i < h .rows → getD (multiplyRows h x y) i 0 ≡ getD x i 0 * getD y i 0 % h .modulus
   unfolding multiplyRows
@@ -67,6 +72,11 @@ module _ (h : Header) (x y : List ℕ) where
 -- ---- slots
 
 module _ (h : Header) where
+  -- joined slots read n places of each
+  pub join-agree : (x y y′ : List ℕ) → Agree (h .columns) y y′ → joinSlots h x y ≡ joinSlots h x y′
+  unfolding joinSlots
+  join-agree x y y′ same = tabulate-agree (h .columns) _ _ (λ j b. ap (combine h (getD x j 0)) (same j b))
+
   -- a slot of the response of joined nonces and witnesses
   slot-joined : (k k′ c x x′ : ℕ)
       → responseCoordinate h (combine h k k′) c (combine h x x′) ≡ combine h (responseCoordinate h k c x) (responseCoordinate h k′ c x′)
@@ -113,7 +123,7 @@ module _ (h : Header) where
 
 module _ {table : Table} (v : ValidTable table) where
   -- a row of the image of joined slots is the product of the rows
-  row-joined : (x y : List ℕ) (i : ℕ) → i < table .header .rows
+  pub row-joined : (x y : List ℕ) (i : ℕ) → i < table .header .rows
       → rowImage table (joinSlots (table .header) x y) i ≡ rowImage table x i * rowImage table y i % table .header .modulus
   row-joined x y = row-combine v x y _ (join-at (table .header) x y)
 
