@@ -7,10 +7,11 @@ use team_values::multiply_all;
 use types::Computed;
 use types::Header;
 ghost use mathlib.Core.Path.{_≡_};
-ghost use mathlib.Core.List.{[]};
 ghost use Prim.Native.Nat.{_≤_, _<_};
+ghost use Rattle.rules.specs.Rule.{lowest};
+ghost use Rattle.sigma.specs.Answer.{computed};
 ghost use Rattle.sigma.specs.Instance.{instanceWith};
-ghost use Rattle.products.specs.Team.{joinAfter, multiplyAfter};
+ghost use Rattle.products.specs.Team.{commitmentsRules, joinAll, multiplyAll, responsesRules};
 
 // The players' commitments multiplied, or the number of 10, 11, 14, 27 and 28 that is refused with, beside zeros.
 pub fn multiply_loaded(
@@ -22,7 +23,8 @@ pub fn multiply_loaded(
     parts: [[u32; 8]; 8],
 ) -> Computed
     requires { ⌜ (0 < h .modulus) × (h .rows ≤ 8) × (h .columns ≤ 8) ⌝ }
-    ensures { λ r. ⌜ r ≡ multiplyAfter [] (instanceWith h entries statement) count images parts ⌝ }
+    ensures { λ r. ⌜ r ≡ computed (lowest (commitmentsRules (instanceWith h entries statement) count images parts))
+        (multiplyAll h count parts) ⌝ }
 {
     let refusal = commitments_refusal(h, entries, statement, count, images, parts);
     if refusal != 0 {
@@ -46,7 +48,8 @@ pub fn join_loaded(
 ) -> Computed
     requires fields { ⌜ (0 < h .modulus) × (h .rows ≤ 8) × (h .columns ≤ 8) ⌝ }
     requires order { ⌜ 0 < h .order ⌝ }
-    ensures { λ r. ⌜ r ≡ joinAfter [] (instanceWith h entries statement) count images parts ⌝ }
+    ensures { λ r. ⌜ r ≡ computed (lowest (responsesRules (instanceWith h entries statement) count images parts))
+        (joinAll h count parts) ⌝ }
 {
     let refusal = responses_refusal(h, entries, statement, count, images, parts);
     if refusal != 0 {

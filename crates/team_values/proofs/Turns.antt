@@ -1,17 +1,16 @@
 -- A product and a sum over the players of a team, a player a turn, and a slot that they make.
 -- Assumes nothing.
 use Prim.Native.Nat.{ℕ, _+_, _*_, _%_}
-use mathlib.Core.Path.{_≡_, refl, sym, ap}
+use mathlib.Core.Path.{_≡_, sym, ap}
 use mathlib.Core.Logic.{_≢_}
 use mathlib.Core.List.{List}
 use native.Mathlib.Numerals.{add-one}
 use borrow.Author.Tests.{eq-eqb, ne-eqb}
 use Rattle.types.specs.declared.Header.{Header}
-use Rattle.numbers.specs.Product.{product}
+use Rattle.numbers.specs.Product.{product, sum}
 use Rattle.numbers.proofs.Congruence.{mod-mul-left}
-use Rattle.numbers.proofs.Product.{product-zero, product-suc}
+use Rattle.numbers.proofs.Product.{product-suc, product-zero, sum-suc, sum-zero}
 use Rattle.sigma.specs.Instance.{isExponent}
-use Rattle.products.specs.Team.{sum}
 use Rattle.team_values.specs.Parts.{joinedSlot, placeOf}
 
 module _ (f : ℕ → ℕ) where
@@ -25,13 +24,11 @@ module _ (f : ℕ → ℕ) where
 
   -- no term yet
   pub sum-start : 0 ≡ sum 0 f
-  unfolding sum
-  sum-start = refl
+  sum-start = sym (sum-zero f)
 
   -- one term more
   pub sum-turn : (p : ℕ) {total : ℕ} → total ≡ sum p f → total + f p ≡ sum (p + 1) f
-  unfolding sum
-  sum-turn p is-total = rw (is-total, add-one p)
+  sum-turn p is-total = rw (is-total, add-one p, sum-suc p f)
 
 module _ (h : Header) (count : ℕ) (parts : List (List ℕ)) (j : ℕ) where
   -- in kind 1 the sum mod q

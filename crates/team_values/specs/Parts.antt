@@ -5,10 +5,10 @@ use mathlib.Core.Bool.{Bool, cond}
 use mathlib.Core.List.{List}
 use lib.ListN.{getD}
 use Rattle.types.specs.declared.Header.{Header}
-use Rattle.numbers.specs.Product.{product}
+use Rattle.numbers.specs.Product.{product, sum}
 use Rattle.sigma.specs.Element.{someNonCoordinate, someNonElement}
 use Rattle.sigma.specs.Instance.{isExponent}
-use Rattle.products.specs.Team.{part, sum}
+use Rattle.products.specs.Team.{part}
 
 -- what place i of part p holds
 unfoldable pub placeOf : List (List ℕ) → ℕ → ℕ → ℕ

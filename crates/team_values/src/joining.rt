@@ -4,8 +4,8 @@ use types::Header;
 ghost use mathlib.Core.Path.{_≡_};
 ghost use Prim.Native.Nat.{_+_, _*_, _%_, _≤_, _<_};
 ghost use Rattle.lists.specs.Places.{pad8};
-ghost use Rattle.numbers.specs.Product.{product};
-ghost use Rattle.products.specs.Team.{joinAll, multiplyAll, sum};
+ghost use Rattle.numbers.specs.Product.{product, sum};
+ghost use Rattle.products.specs.Team.{joinAll, multiplyAll};
 ghost use Rattle.team_values.specs.Parts.{joinedSlot, placeOf};
 
 // The product modulo m of what the first count parts hold in place i.

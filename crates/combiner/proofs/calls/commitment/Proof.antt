@@ -6,8 +6,8 @@ use native.Mathlib.Omega.{arith}
 use Rattle.rules.specs.Rule.{lowest}
 use Rattle.formats.specs.Load.{shapeRules}
 use Rattle.instance.proofs.LoadSteps.{shape-header, shape-long, shape-shaped}
-use Rattle.products.specs.Team.{multiplyAfter, multiplyCommitments}
-use Rattle.combiner.proofs.AfterShape.{multiplyAfter-clear, shape-call, shape-number}
+use Rattle.products.specs.Team.{commitmentsRules, multiplyAll, multiplyCommitments}
+use Rattle.combiner.proofs.AfterShape.{shape-call, shape-number}
 use Rattle.combiner.proofs.TeamNumber.{number-answer}
 use Rattle.combiner.proofs.calls.commitment.Statement.{statement}
 use Rattle.combiner.proofs.calls.commitment.Tie as tie
@@ -19,7 +19,7 @@ refused-requires : tie.Need-refused-requires
 refused-requires c κs = omega arith
 
 returns : tie.Need-returns
-unfolding multiplyCommitments multiplyAfter
+unfolding multiplyCommitments
 returns c =
     let tested = c .before .before in
     c .refused .ensures
@@ -52,7 +52,7 @@ returns-2 c =
     let passed = read .before in
     let args = passed .before .before .before .args in
     shape-call _ (passed .before .shape-refusal .ensures) (passed .if1 .left)
-    (λ before inst none. multiplyAfter-clear before inst none (args .count) (args .images) (args .parts))
+    (λ inst. commitmentsRules inst (args .count) (args .images) (args .parts)) (λ h. multiplyAll h (args .count) (args .parts))
     (read .header .ensures) (entered .read-entries .ensures) (stated .read-statement .ensures) (c .multiply-loaded .ensures)
 
 pub commitment-spec : {M : Type 1} → statement M

@@ -6,8 +6,8 @@ use native.Mathlib.Omega.{arith}
 use Rattle.rules.specs.Rule.{lowest}
 use Rattle.formats.specs.Load.{shapeRules}
 use Rattle.instance.proofs.LoadSteps.{shape-header, shape-long, shape-shaped}
-use Rattle.products.specs.Team.{joinAfter, joinResponses}
-use Rattle.combiner.proofs.AfterShape.{joinAfter-clear, shape-call, shape-number, shape-order}
+use Rattle.products.specs.Team.{joinAll, joinResponses, responsesRules}
+use Rattle.combiner.proofs.AfterShape.{shape-call, shape-number, shape-order}
 use Rattle.combiner.proofs.TeamNumber.{number-answer}
 use Rattle.combiner.proofs.calls.response.Statement.{statement}
 use Rattle.combiner.proofs.calls.response.Tie as tie
@@ -19,7 +19,7 @@ refused-requires : tie.Need-refused-requires
 refused-requires c κs = omega arith
 
 returns : tie.Need-returns
-unfolding joinResponses joinAfter
+unfolding joinResponses
 returns c =
     let tested = c .before .before in
     c .refused .ensures
@@ -53,7 +53,7 @@ returns-2 c =
     let passed = read .before in
     let args = passed .before .before .before .args in
     shape-call _ (passed .before .shape-refusal .ensures) (passed .if1 .left)
-    (λ before inst none. joinAfter-clear before inst none (args .count) (args .images) (args .parts))
+    (λ inst. responsesRules inst (args .count) (args .images) (args .parts)) (λ h. joinAll h (args .count) (args .parts))
     (read .header .ensures) (entered .read-entries .ensures) (stated .read-statement .ensures) (c .join-loaded .ensures)
 
 pub response-spec : {M : Type 1} → statement M

@@ -3,7 +3,7 @@
 use Prim.Native.Nat.{_-_, _*_, _≤_}
 use mathlib.Core.Path.{_≡_, _∙_}
 use native.Mathlib.Omega.{arith}
-use Rattle.products.specs.Team.{sum}
+use Rattle.numbers.specs.Product.{sum}
 use Rattle.team_values.specs.Parts.{placeOf}
 use Rattle.team_values.proofs.Turns.{sum-start, sum-turn}
 use Rattle.team_values.proofs.joining.sum_at.Statement.{statement}
