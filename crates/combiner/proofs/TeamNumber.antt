@@ -1,13 +1,12 @@
 -- The numbers of a team behind those of a sheet's shape, test by test, and the answers that they give.
 -- Assumes nothing.
 use Prim.Native.Nat.{ℕ, _<_, _≤_}
-use mathlib.Core.Path.{_≡_, refl, sym, ap, _∙_}
+use mathlib.Core.Path.{_≡_, refl, sym, _∙_}
 use mathlib.Core.Bool.{Bool, false, true, _||_, or-eq-true-iff}
 use mathlib.Core.List.{List, [], _∷_, _++_}
-use mathlib.Core.Logic.{_≢_, Or·inl, Or·inr}
+use mathlib.Core.Logic.{_≢_, Or·inr}
 use native.Mathlib.Omega.{arith}
 use lib.Dec.{T, ltb}
-use lib.ListN.{getD}
 use borrow.Author.Tests.{le-ltb, lt-ltb, ltb-false}
 use Rattle.lists.specs.Places.{pad8, zeros8}
 use Rattle.lists.proofs.Places.{getD-pad8}
@@ -53,7 +52,7 @@ module _ (count : ℕ) where
   unfolding badTeam
   team-right some few = sym (lowest-clear _ (rw (le-ltb count 2 some, le-ltb 8 count few), tt))
 
--- tests that a number above 0 comes from give it before further tests of the last number
+-- a number that is given of 10 and 11 is given too where 11 has a further test
 covered : (a b c : Bool) → 0 < lowest ((10 when a) ∷ (11 when b) ∷ [])
     → lowest ((10 when a) ∷ (11 when b) ∷ []) ≡ lowest ((10 when a) ∷ (11 when (b || c)) ∷ [])
 unfolding lowest
@@ -105,22 +104,42 @@ module _ (inst : Instance) (count : ℕ) (images : List (List ℕ)) where
   unfolding teamRules
   team-few number none = few-players count (clear-lowest (teamRules inst count images) tt (sym number ∙ none) .0)
 
-  module _ (rules : List Rule) where
-    -- nor with further rules behind those of the team
-    pub rules-few : T (allPositive rules) → {n : ℕ} → n ≡ lowest (teamRules inst count images ++ rules) → n ≡ 0 → count ≤ 8
-    unfolding teamRules
-    rules-few positive number none =
-        team-few refl (lowest-append-zero (teamRules inst count images) rules tt positive .0 (sym number ∙ none) .0)
+  -- and where further rules behind those of the team have none either
+  pub rules-few : (rules : List Rule) → T (allPositive rules) → {n : ℕ} → n ≡ lowest (teamRules inst count images ++ rules) → n ≡ 0
+      → count ≤ 8
+  unfolding teamRules
+  rules-few rules positive number none =
+      team-few refl (lowest-append-zero (teamRules inst count images) rules tt positive .0 (sym number ∙ none) .0)
 
-    module _ {n : ℕ} (number : n ≡ lowest (teamRules inst count images)) where
-      -- before those the team's number counts
-      pub team-first : n ≢ 0 → n ≡ lowest (teamRules inst count images ++ rules)
-      team-first other = number ∙ sym (lowest-earlier (teamRules inst count images) rules (omega (arith, number)))
+  -- ---- the rules of the parts, 14 or 16, and 28 behind those of the team
 
-      -- and they count where it is 0
-      pub team-passed : n ≡ 0 → lowest (teamRules inst count images ++ rules) ≡ lowest rules
-      unfolding teamRules
-      team-passed none = lowest-later-zero (teamRules inst count images) rules tt (sym number ∙ none)
+  module _ (number : ℕ) (parts whole : Bool) where
+    -- the rules
+    abbrev rest : List Rule
+    rest = (number when parts) ∷ (28 when whole) ∷ []
+
+    module _ {n : ℕ} (is-number : n ≡ lowest (teamRules inst count images)) where
+      -- the team's number is the first
+      pub team-first : n ≢ 0 → n ≡ lowest (teamRules inst count images ++ rest)
+      team-first other = is-number ∙ sym (lowest-earlier (teamRules inst count images) rest (omega (arith, is-number)))
+
+      module _ (none : n ≡ 0) where
+        -- where it is 0 the others count
+        passed : lowest (teamRules inst count images ++ rest) ≡ lowest rest
+        unfolding teamRules
+        passed = lowest-later-zero (teamRules inst count images) rest tt (sym is-number ∙ none)
+
+        -- that of the parts
+        pub parts-bad : parts ≡ true → number ≡ lowest (teamRules inst count images ++ rest)
+        parts-bad bad = sym (passed ∙ stop number _ bad)
+
+        -- then 28
+        pub product-bad : parts ≡ false → whole ≡ true → 28 ≡ lowest (teamRules inst count images ++ rest)
+        product-bad good bad = sym (passed ∙ pass number _ good ∙ stop 28 _ bad)
+
+        -- and then nothing
+        pub all-right : parts ≡ false → whole ≡ false → 0 ≡ lowest (teamRules inst count images ++ rest)
+        all-right good right = sym (passed ∙ lowest-clear rest (good, (right, tt)))
 
 -- ---- the answer of a call that computes values
 

@@ -2,11 +2,10 @@
 -- Assumes nothing.
 use mathlib.Core.Path.{sym, _∙_}
 use native.Mathlib.Omega.{arith}
-use Rattle.rules.proofs.Lowest.{lowest-clear, pass, stop}
 use Rattle.sigma.specs.Round.{badCoordinates}
 use Rattle.team_values.specs.Parts.{nonCoordinatePart}
 use Rattle.products.specs.Team.{responsesRules}
-use Rattle.combiner.proofs.TeamNumber.{team-few, team-first, team-passed}
+use Rattle.combiner.proofs.TeamNumber.{all-right, parts-bad, product-bad, team-few, team-first}
 use Rattle.combiner.proofs.testing.responses_refusal.Statement.{statement}
 use Rattle.combiner.proofs.testing.responses_refusal.Tie as tie
 
@@ -15,7 +14,7 @@ team-refusal-requires c κs = omega arith
 
 returns : tie.Need-returns
 unfolding responsesRules
-returns c = team-first _ _ _ _ (c .before .team-refusal .ensures) (c .if1 .taken)
+returns c = team-first _ _ _ 16 _ _ (c .before .team-refusal .ensures) (c .if1 .taken)
 
 some-non-coordinate-part-requires : tie.Need-some-non-coordinate-part-requires
 some-non-coordinate-part-requires c κs = omega (arith, team-few _ _ _ (c .before .team-refusal .ensures) (c .if1 .left))
@@ -24,8 +23,8 @@ returns-2 : tie.Need-returns-2
 unfolding responsesRules badCoordinates nonCoordinatePart
 returns-2 c =
     let team = c .before .before in
-    sym (team-passed _ _ _ _ (team .before .team-refusal .ensures) (team .if1 .left)
-    ∙ stop 16 _ (sym (c .before .some-non-coordinate-part .ensures) ∙ c .if2 .taken))
+    parts-bad _ _ _ 16 _ _ (team .before .team-refusal .ensures) (team .if1 .left)
+    (sym (c .before .some-non-coordinate-part .ensures) ∙ c .if2 .taken)
 
 bad-product-requires : tie.Need-bad-product-requires
 bad-product-requires c κs =
@@ -37,20 +36,16 @@ unfolding responsesRules badCoordinates nonCoordinatePart
 returns-3 c =
     let good = c .before .before in
     let team = good .before .before in
-    sym (team-passed _ _ _ _ (team .before .team-refusal .ensures) (team .if1 .left)
-    ∙ pass 16 _ (sym (good .before .some-non-coordinate-part .ensures) ∙ good .if2 .left)
-    ∙ stop 28 _ (sym (c .before .bad-product .ensures _) ∙ c .if3 .taken))
+    product-bad _ _ _ 16 _ _ (team .before .team-refusal .ensures) (team .if1 .left)
+    (sym (good .before .some-non-coordinate-part .ensures) ∙ good .if2 .left) (sym (c .before .bad-product .ensures _) ∙ c .if3 .taken)
 
 returns-4 : tie.Need-returns-4
 unfolding responsesRules badCoordinates nonCoordinatePart
 returns-4 c =
     let good = c .before .before in
     let team = good .before .before in
-    sym (team-passed _ _ _ _ (team .before .team-refusal .ensures) (team .if1 .left)
-    ∙ lowest-clear _ (
-      sym (good .before .some-non-coordinate-part .ensures) ∙ good .if2 .left,
-      (sym (c .before .bad-product .ensures _) ∙ c .if3 .left, tt),
-    ))
+    all-right _ _ _ 16 _ _ (team .before .team-refusal .ensures) (team .if1 .left)
+    (sym (good .before .some-non-coordinate-part .ensures) ∙ good .if2 .left) (sym (c .before .bad-product .ensures _) ∙ c .if3 .left)
 
 pub responses-refusal-spec : {M : Type 1} → statement M
 responses-refusal-spec =

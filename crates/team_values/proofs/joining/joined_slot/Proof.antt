@@ -1,7 +1,7 @@
 -- `team_values::joining::joined_slot` meets its contract: each kind has its law.
 -- Assumes nothing.
 use mathlib.Core.Path.{_∙_}
-use native.Mathlib.Nat.{lt-trans, mod-lt}
+use native.Mathlib.Nat.{mod-lt}
 use native.Mathlib.Omega.{arith}
 use borrow.Author.Needs.{needs}
 use Rattle.team_values.proofs.Turns.{slot-product, slot-sum}
