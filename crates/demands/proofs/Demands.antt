@@ -4,6 +4,7 @@ use Rattle.disjunctions.proofs.OneOfTwo.{or-proof}
 use Rattle.disjunctions.proofs.OrRefusals.{or-refusals}
 use Rattle.examples.proofs.Pages.{worked-examples}
 use Rattle.formats.proofs.ByteLayout.{layout}
+use Rattle.formats.proofs.SameCommitment.{words-compare, words-refusals}
 use Rattle.formats.proofs.Writers.{writers}
 use Rattle.patterns.proofs.Meaning.{patterns-mean}
 use Rattle.patterns.proofs.PatternCalls.{pattern-calls, pattern-refusals}
@@ -25,6 +26,7 @@ demands = record {
     calls = demand1;
     patterns = pattern-refusals;
     one-of-two = or-refusals;
+    words = words-refusals;
   };
   sessions = sessions;
   main-protocol = main-protocol;
@@ -44,5 +46,6 @@ demands = record {
     reason = reasons-true;
     patterns = pattern-calls;
     one-of-two = or-proof;
+    words = words-compare;
   };
 }

@@ -1,6 +1,7 @@
 -- What the cards of 02 ask beyond 01, a field for each card. Card 3, which changes the marker, stands in Demand1 and MarksFiles.
 -- Assumes nothing.
 use Rattle.disjunctions.specs.OneOfTwo.{OrProof}
+use Rattle.formats.specs.SameCommitment.{WordsCompare}
 use Rattle.patterns.specs.PatternCalls.{PatternCalls}
 use Rattle.reasons.specs.ReasonsTrue.{ReasonsTrue}
 
@@ -14,3 +15,6 @@ pub record Cards : Type 0 where
   -- 4: which rounds of two sheets with one K are accepted, whose witness two of them give, that the holders of either witness make
   -- exactly the accepted rounds with a challenge, each from a single choice, and that a session answers one challenge at most
   pub one-of-two : OrProof
+  -- 5: comparing the commitments of two rounds of a file answers 1 exactly where all 4s commitment bytes agree, and so where the
+  -- commitments that are read do
+  pub words : WordsCompare

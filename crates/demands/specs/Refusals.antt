@@ -3,6 +3,7 @@
 -- 01's order, and "lowest" is the earliest there.
 -- Assumes nothing.
 use Rattle.disjunctions.specs.OneOfTwo.{OrRefusals}
+use Rattle.formats.specs.SameCommitment.{WordsRefusals}
 use Rattle.patterns.specs.PatternCalls.{PatternRefusals}
 use Rattle.runs.specs.Demand1.{Demand1}
 
@@ -13,3 +14,5 @@ pub record Refusals : Type 0 where
   pub patterns : PatternRefusals
   -- card 4: the calls of the OR proof
   pub one-of-two : OrRefusals
+  -- card 5: comparing the commitments of two rounds of a file
+  pub words : WordsRefusals

@@ -32,7 +32,7 @@ use Rattle.formats.specs.Load.{loadRules}
 use Rattle.formats.specs.Refusals.{loadConditions}
 use Rattle.formats.specs.RoundCalls.{checkAfter, checkRound, fetchRound, fileRules, partOfRound, roundRules}
 use Rattle.formats.specs.RoundFile.{challengeWidth, countField, recordLength, recordStart, roundAt}
-use Rattle.formats.specs.SameCommitment.{WordsCompare, commitmentBytes, sameAfter, sameCommitment, sameConditions, sameRules}
+use Rattle.formats.specs.SameCommitment.{WordsCompare, WordsRefusals, commitmentBytes, sameAfter, sameCommitment, sameConditions, sameRules}
 use Rattle.formats.specs.Sheet.{headerOf}
 use Rattle.formats.proofs.ByteLayout.{word-at}
 use Rattle.formats.proofs.Files.{check-runs, fetch-given, number-passes}
@@ -124,11 +124,17 @@ module _ (sheet f : List ℕ) (i j : ℕ) (e : sameCommitment sheet f i j .refus
       ap (λ (fetched : Fetched). getD (fetched .round .commitment) k 0) (fetch-given sheet f r checked)
       ∙ word-at f (recordStart (challengeWidth f) h r) (h .rows) k less
 
+-- the refusals
+pub words-refusals : WordsRefusals
+unfolding conditionNumbers isSublist refusalOrder sheetNumbers sameCommitment sameAfter
+words-refusals = record {
+  comparing = λ sheet f i j. refuses-tested _ _ refl refl _ (same-tests sheet f i j) (unlessRefused-positive _ 0 _);
+}
+
 -- what the card asks
 pub words-compare : WordsCompare
-unfolding conditionNumbers isSublist refusalOrder sheetNumbers sameCommitment sameAfter
+unfolding sameCommitment sameAfter
 words-compare = record {
-  comparing = λ sheet f i j. refuses-tested _ _ refl refl _ (same-tests sheet f i j) (unlessRefused-positive _ 0 _);
   answers = λ sheet f i j.
       let h = headerOf sheet in
       zero-or-one (lowest (loadRules sheet ++ sameRules h f i j)) (differ (4 * h .rows) (commitmentBytes h f i) (commitmentBytes h f j));

@@ -52,11 +52,14 @@ sameConditions h f i j = (12 if Refusal12 h f) ∷ (13 if ((countField f ≤ i) 
 
 -- ---- the card
 
-pub record WordsCompare : Type 0 where
-  -- the refusals; a refused call answers 0
+-- its refusals; a refused call answers 0
+pub record WordsRefusals : Type 0 where
   pub comparing : (sheet f : List ℕ) (i j : ℕ)
       → Refuses (sheetNumbers ++ 12 ∷ 13 ∷ []) (loadConditions sheet ++ sameConditions (headerOf sheet) f i j)
       (sameCommitment sheet f i j .refusal) (sameCommitment sheet f i j .same ≡ 0)
+
+-- and what it answers
+pub record WordsCompare : Type 0 where
   -- the answer is 0 or 1
   pub answers : (sheet f : List ℕ) (i j : ℕ) → (sameCommitment sheet f i j .same ≡ 0) ⊎ (sameCommitment sheet f i j .same ≡ 1)
   -- where nothing is refused, it is 1 exactly where all 4s commitment bytes of the two records agree, the first of their parts

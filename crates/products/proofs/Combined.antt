@@ -1,11 +1,11 @@
 -- A team's parts multiplied and joined, on values: one player more is one row more by the operation on two, so that what holds of two
 -- rounds over one table holds of a team's.
 -- Assumes nothing.
-use Prim.Native.Nat.{ℕ, zero, suc, _+_, _*_, _%_, _^_, _<_}
-use mathlib.Core.Path.{_≡_, refl, sym, ap, ap₂, _∙_, subst}
+use Prim.Native.Nat.{ℕ, zero, suc, _*_, _%_, _^_, _<_}
+use mathlib.Core.Path.{_≡_, sym, ap, ap₂, _∙_, subst}
 use mathlib.Core.Logic.{_↔_, _≢_}
 use mathlib.Core.List.{List}
-use native.Mathlib.Nat.{mod-eq-of-lt, mul-zero, one-mul, pow-zero, zero-mod}
+use native.Mathlib.Nat.{mod-eq-of-lt, mul-zero, pow-zero, zero-mod}
 use native.Mathlib.Decide.{ℕ-discrete}
 use native.Mathlib.Omega.{arith}
 use lib.ListN.{getD, length}
@@ -13,43 +13,22 @@ use lib.Seq.{ext-getD}
 use Rattle.types.specs.declared.Header.{Header}
 use Rattle.lists.proofs.Places.{getD-tabulate, length-tabulate, tabulate-agree}
 use Rattle.numbers.specs.Product.{product, sum}
-use Rattle.numbers.proofs.Congruence.{_then_, cong-add, cong-mod, cong-mul, cong-of-equal, cong-pow, cong-refl, cong-sym, mod-mul-left}
+use Rattle.numbers.proofs.Congruence.{cong-add, cong-mod, cong-refl, cong-sym, mod-mul-left}
 use Rattle.numbers.proofs.Powers.{one-pow}
 use Rattle.numbers.proofs.Product.{product-agree, product-one, product-suc, product-zero, sum-suc, sum-zero}
 use Rattle.sigma.specs.Element.{combine}
 use Rattle.sigma.specs.Image.{rowImage}
-use Rattle.sigma.specs.Instance.{Instance, Table, entry, statementAt, tableOf}
+use Rattle.sigma.specs.Instance.{Instance, Table, entry, statementAt}
 use Rattle.sigma.specs.Joined.{joinSlots, multiplyRows, withStatement}
 use Rattle.sigma.specs.Meaning.{Coordinates, Elements, RowHolds}
 use Rattle.sigma.specs.Reads.{Agree, roundOf}
 use Rattle.sigma.specs.Round.{response, responseCoordinate}
 use Rattle.sigma.specs.Valid.{Valid, ValidTable}
-use Rattle.sigma.proofs.ByKind.{
-  by-kind,
-  combine-exponent,
-  combine-root,
-  exponent-kind,
-  responseCoordinate-exponent,
-  responseCoordinate-root,
-  root-kind,
-  rowImage-exponent,
-  rowImage-root,
-}
+use Rattle.sigma.proofs.ByKind.{by-kind, combine-exponent, combine-root, exponent-kind, responseCoordinate-exponent, responseCoordinate-root, root-kind, rowImage-exponent, rowImage-root}
 use Rattle.sigma.proofs.CoordinateGroup.{coordinate-exponent, coordinate-root}
 use Rattle.sigma.proofs.ElementGroup.{element-one}
 use Rattle.sigma.proofs.Homomorphism.{row-column}
-use Rattle.sigma.proofs.Joined.{
-  first-decides,
-  join-agree,
-  join-at,
-  join-in,
-  length-join,
-  multiply-at,
-  multiply-in,
-  response-joined,
-  row-joined,
-  second-decides,
-}
+use Rattle.sigma.proofs.Joined.{first-decides, join-agree, join-at, join-in, length-join, multiply-in, response-joined, row-joined, second-decides}
 use Rattle.sigma.proofs.Valid.{valid-modulus, valid-order}
 use Rattle.sigma.proofs.Values.{length-response, response-at}
 use Rattle.products.specs.Team.{joinAll, multiplyAll, part}
@@ -97,13 +76,12 @@ module _ (h : Header) (parts : List (List ℕ)) where
   -- a slot of the joined parts with one row more
   pub slot-suc : (k j : ℕ) → j < h .columns
       → getD (joinAll h (suc k) parts) j 0 ≡ combine h (getD (joinAll h k parts) j 0) (getD (part parts k) j 0)
-  unfolding sum
   slot-suc k j b =
       let f : ℕ → ℕ = λ p. getD (part parts p) j 0 in
       by-kind h
       (λ e.
       let q = h .order in
-      rw (joinAll-exponent e (suc k) j b, joinAll-exponent e k j b, combine-exponent h e (sum k f % q) (f k))
+      rw (joinAll-exponent e (suc k) j b, joinAll-exponent e k j b, combine-exponent h e (sum k f % q) (f k), sum-suc k f)
       (cong-add (cong-sym (cong-mod q (sum k f))) (cong-refl q (f k)) .same))
       (λ n.
       let m = h .modulus in
@@ -124,8 +102,7 @@ module _ (h : Header) (parts : List (List ℕ)) where
 
   -- no parts joined are 0 in kind 1
   none-joined-exponent : h .kind ≡ 1 → (j : ℕ) → j < h .columns → getD (joinAll h 0 parts) j 0 ≡ 0
-  unfolding sum
-  none-joined-exponent e j b = joinAll-exponent e 0 j b ∙ zero-mod (h .order)
+  none-joined-exponent e j b = joinAll-exponent e 0 j b ∙ ap (λ (n : ℕ). n % h .order) (sum-zero _) ∙ zero-mod (h .order)
 
   -- and 1 in kind 2
   none-joined-root : 1 < h .modulus → h .kind ≢ 1 → (j : ℕ) → j < h .columns → getD (joinAll h 0 parts) j 0 ≡ 1

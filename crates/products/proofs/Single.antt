@@ -1,7 +1,7 @@
 -- Honest players: what both calls answer to their rounds is the round that a single Peggy sends for the joined nonce and the joined
 -- witness, which is a witness.
 -- Assumes nothing.
-use Prim.Native.Nat.{ℕ, _*_, _%_, _<_}
+use Prim.Native.Nat.{ℕ, _%_, _<_}
 use mathlib.Core.Path.{_≡_, refl, sym, ap, ap₂, _∙_, subst}
 use mathlib.Core.List.{List}
 use lib.ListN.{getD}
@@ -23,7 +23,7 @@ use Rattle.sigma.specs.Instance.{Instance, statementAt, tableOf}
 use Rattle.sigma.specs.Joined.{withStatement}
 use Rattle.sigma.specs.Knowledge.{Choice, Witness, honestOn}
 use Rattle.sigma.specs.Meaning.{Coordinates, Fits}
-use Rattle.sigma.specs.Reads.{Agree, SameRound, roundOf}
+use Rattle.sigma.specs.Reads.{SameRound, roundOf}
 use Rattle.sigma.specs.Round.{response, responseCoordinate}
 use Rattle.sigma.specs.Valid.{Valid}
 use Rattle.sigma.proofs.Calls.{valid-judge-accepted}
@@ -33,7 +33,7 @@ use Rattle.sigma.proofs.Valid.{valid-modulus}
 use Rattle.sigma.proofs.Values.{image-at, response-at}
 use Rattle.products.specs.Players.{BothRun, Hold, Honest, IsTeam, Joined, Sends, partRound, playerSheet, wholeRound}
 use Rattle.products.specs.Team.{joinAll, multiplyAll, part}
-use Rattle.products.proofs.Combined.{joinAll-in, length-joinAll, multiplyAll-at, response-all, row-all}
+use Rattle.products.proofs.Combined.{joinAll-in, length-joinAll, response-all, row-all}
 use Rattle.products.proofs.PlayerSheets.{fits-own, player-loads, player-values, restated-valid}
 use Rattle.products.proofs.TeamAnswers.{joined-is}
 use Rattle.products.proofs.Whole.{both-run, whole-is}

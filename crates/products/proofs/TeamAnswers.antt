@@ -1,76 +1,58 @@
 -- What the combiner's calls answer: when they are not refused, what they then give, and that only the places that are read count.
 -- Assumes nothing.
 use Prim.Native.Nat.{ℕ, _%_, _<_, _≤_}
-use mathlib.Core.Path.{_≡_, refl, sym, ap, ap₂, _∙_}
-use mathlib.Core.Logic.{_↔_, _≢_}
+use mathlib.Core.Path.{_≡_, sym, ap, ap₂, _∙_}
+use mathlib.Core.Logic.{_⊎_, inl, ⊎-elim}
 use mathlib.Core.Bool.{Bool, cond, false, not}
 use mathlib.Core.List.{List, [], _∷_, _++_}
 use native.Mathlib.Omega.{arith}
-use lib.Dec.{T, ltb}
-use lib.ListN.{List·getD-eq-default, getD, length}
-use borrow.Author.Tests.{le-ltb}
+use lib.Dec.{T}
+use lib.ListN.{List·getD-eq-default, length}
 use Rattle.types.specs.declared.Computed.{Computed}
 use Rattle.types.specs.declared.Header.{Header}
 use Rattle.lists.specs.Places.{pad8}
 use Rattle.lists.proofs.Places.{getD-pad8, tabulate-agree}
-use Rattle.numbers.specs.Product.{product}
 use Rattle.numbers.specs.Search.{any}
 use Rattle.numbers.proofs.Product.{product-agree, sum-agree}
 use Rattle.numbers.proofs.Search.{any-agree, any-false}
 use Rattle.rules.specs.Rule.{Clear, Rule, _when_, allPositive, lowest}
 use Rattle.rules.proofs.Lowest.{clear-append, clear-lowest, lowest-clear}
+use Rattle.rules.proofs.Says.{says-false}
 use Rattle.formats.specs.Load.{loadRefusal, loadRules, shapeRules}
 use Rattle.formats.specs.Sheet.{instanceOf}
 use Rattle.formats.proofs.ByteLayout.{length-padded}
 use Rattle.formats.proofs.Loads.{load-clear, loads}
 use Rattle.formats.proofs.Unread.{someNonElement-agree}
 use Rattle.sigma.specs.Answer.{computed}
-use Rattle.sigma.specs.Admission.{badStatement, elementRules, headerRules}
-use Rattle.sigma.specs.Comparison.{differ}
+use Rattle.sigma.specs.Admission.{elementRules, headerRules}
 use Rattle.sigma.specs.Element.{isCoordinate, someNonCoordinate, someNonElement}
 use Rattle.sigma.specs.Instance.{Instance, isExponent, statementAt}
 use Rattle.sigma.specs.Meaning.{Coordinates, Elements}
 use Rattle.sigma.specs.Reads.{Agree}
+use Rattle.sigma.specs.Refusals.{Refusal11, SomeNonElement}
 use Rattle.sigma.specs.Round.{badCommitment, badCoordinates}
 use Rattle.sigma.specs.Valid.{Valid}
 use Rattle.sigma.proofs.Answer.{computed-given, computed-zero}
 use Rattle.sigma.proofs.ByKind.{by-kind}
-use Rattle.sigma.proofs.Calculus.{both-fail}
-use Rattle.sigma.proofs.Comparison.{differ-false}
 use Rattle.sigma.proofs.Passed.{commitment-passes, coordinates-pass}
+use Rattle.sigma.proofs.Tests.{says-badStatement}
 use Rattle.sigma.proofs.Valid.{valid-kind}
-use Rattle.products.specs.Players.{AgreeParts, IsTeam, Joined, Multiplied, ZeroBeyond}
-use Rattle.products.specs.Team.{
-  badImages,
-  badProduct,
-  badTeam,
-  commitmentsRules,
-  joinAll,
-  joinResponses,
-  multiplyAll,
-  multiplyCommitments,
-  part,
-  responsesRules,
-  teamRules,
-}
+use Rattle.products.specs.Players.{AgreeParts, IsTeam, Joined, ZeroBeyond}
+use Rattle.products.specs.Team.{badImages, badProduct, commitmentsRules, joinAll, joinResponses, multiplyAll, multiplyCommitments, part, responsesRules, teamRules}
 use Rattle.products.specs.TeamWorks.{TeamAnswers}
-use Rattle.products.proofs.Combined.{
-  joinAll-exponent,
-  joinAll-root,
-  length-joinAll,
-  length-multiplyAll,
-  multiplyAll-at,
-}
+use Rattle.products.proofs.TeamRefusals.{says-badImages, says-badProduct, says-badTeam}
+use Rattle.products.proofs.Combined.{joinAll-exponent, joinAll-root, length-joinAll, length-multiplyAll, multiplyAll-at}
 
 -- ---- when nothing is refused
 
 module _ (sheet : List ℕ) (count : ℕ) (images : List (List ℕ)) where
   -- where no rule of the sheet's shape, the team and the images applies, the sheet loads
   clear-loads : Clear (shapeRules sheet) → Clear (teamRules (instanceOf sheet) count images) → Valid (instanceOf sheet)
-  unfolding teamRules badImages loadRules elementRules
+  unfolding teamRules loadRules elementRules
   clear-loads shape (team, (entries, (elements, none))) =
       let inst = instanceOf sheet in
-      let statement = both-fail (badStatement inst) _ .0 elements .0 in
+      let sound = says-false (says-badImages inst count images) .0 elements in
+      let statement = says-false (says-badStatement inst) .1 (λ bad. sound (inl bad)) in
       load-clear sheet .0 (clear-append (shapeRules sheet) (elementRules inst) .1 (shape, (entries, (statement, tt)))) .valid
 
   module _ (loaded : loadRefusal sheet ≡ 0) (team : IsTeam sheet count images) where
@@ -81,29 +63,19 @@ module _ (sheet : List ℕ) (count : ℕ) (images : List (List ℕ)) where
 
     -- no rule of the team and its images applies
     team-clear : Clear (teamRules (instanceOf sheet) count images)
-    unfolding teamRules badTeam badImages elementRules badCommitment
+    unfolding teamRules elementRules
     team-clear =
         let inst = instanceOf sheet in
-        let (entries, (statement, none)) = shape-clear .1 in (
-          both-fail (ltb count 2) _ .1 (le-ltb count 2 (team .two), le-ltb 8 count (team .eight)),
-          (
-            entries,
-            (
-              both-fail (badStatement inst) _ .1 (
-                statement,
-                any-false count _ .1 (λ p b. commitment-passes inst (part images p) .1 (team .elements p b)),
-              ),
-              tt,
-            ),
-          ),
-        )
+        let (entries, (statement, none)) = shape-clear .1 in
+        let size : ¬ ((count < 2) ⊎ (8 < count)) = ⊎-elim (λ (low : count < 2). omega (arith, team .two)) (λ (high : 8 < count). omega (arith, team .eight)) in
+        let sound : ¬ (Refusal11 inst ⊎ ((p : ℕ) × (p < count) × SomeNonElement (inst .header) (inst .header .rows) (part images p))) =
+        ⊎-elim (says-false (says-badStatement inst) .0 statement) (λ (p, b, (i, d, other)). other (team .elements p b i d)) in
+        (says-false (says-badTeam count) .1 size, (entries, (says-false (says-badImages inst count images) .1 sound, tt)))
 
     -- 28 does not apply
     product-passes : badProduct (instanceOf sheet) count images ≡ false
-    unfolding badProduct statementAt
-    product-passes =
-        let inst = instanceOf sheet in
-        differ-false (inst .header .rows) _ (inst .statement) .1 (λ i b. multiplyAll-at (inst .header) images count i b ∙ sym (team .whole i b))
+    unfolding statementAt
+    product-passes = says-false (says-badProduct (instanceOf sheet) count images) .1 (λ (i, b, other). other (sym (team .whole i b)))
 
     -- behind them a call's own rule and 28 give 0 where that rule does not apply
     none-applies : (n : ℕ) (bad : Bool) → bad ≡ false

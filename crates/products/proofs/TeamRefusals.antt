@@ -23,43 +23,27 @@ use Rattle.sigma.specs.Refusals.{Refusal11, SomeNonElement}
 use Rattle.sigma.proofs.Answer.{unlessRefused-positive}
 use Rattle.sigma.proofs.Calculus.{says-any}
 use Rattle.sigma.proofs.Comparison.{says-differ}
-use Rattle.sigma.proofs.Tests.{
-  says-badCommitment,
-  says-badCoordinates,
-  says-badEntries,
-  says-badStatement,
-  says-someNonElement,
-}
+use Rattle.sigma.proofs.Tests.{says-badCommitment, says-badCoordinates, says-badEntries, says-badStatement, says-someNonElement}
 use Rattle.products.specs.Refusals.{Refusal28, joinConditions, multiplyConditions, teamConditions}
-use Rattle.products.specs.Team.{
-  badImages,
-  badProduct,
-  badTeam,
-  commitmentsRules,
-  joinResponses,
-  multiplyCommitments,
-  part,
-  responsesRules,
-  teamRules,
-}
+use Rattle.products.specs.Team.{badImages, badProduct, badTeam, commitmentsRules, joinResponses, multiplyCommitments, part, responsesRules, teamRules}
 use Rattle.products.specs.TeamWorks.{TeamRefusals}
 use Rattle.products.proofs.Combined.{multiplyAll-at}
 
 -- 27: the team is outside 2 to 8
-says-badTeam : (count : ℕ) → Says (badTeam count) ((count < 2) ⊎ (8 < count))
+pub says-badTeam : (count : ℕ) → Says (badTeam count) ((count < 2) ⊎ (8 < count))
 unfolding badTeam
 says-badTeam count = says-or (says-less count 2) (says-less 8 count)
 
 module _ (inst : Instance) (count : ℕ) (images : List (List ℕ)) where
   -- 11: some value of the statement or of a player's image is no group element
-  says-badImages : Says (badImages inst count images)
+  pub says-badImages : Says (badImages inst count images)
       (Refusal11 inst ⊎ ((p : ℕ) × (p < count) × SomeNonElement (inst .header) (inst .header .rows) (part images p)))
   unfolding badImages
   says-badImages =
       says-or (says-badStatement inst) (says-any count _ _ (λ p. says-someNonElement (inst .header) (inst .header .rows) (part images p)))
 
   -- 28: the images do not multiply to the statement
-  says-badProduct : Says (badProduct inst count images) (Refusal28 inst count images)
+  pub says-badProduct : Says (badProduct inst count images) (Refusal28 inst count images)
   unfolding badProduct statementAt
   says-badProduct =
       let at = multiplyAll-at (inst .header) images count in

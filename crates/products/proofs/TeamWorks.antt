@@ -1,13 +1,12 @@
 -- The card: a combiner makes of a team's rounds the round of a single Peggy, for every sheet that loads, and its answers and refusals
 -- are fixed for any bytes.
 -- Assumes nothing.
-use Prim.Native.Nat.{ℕ, suc, _<_}
+use Prim.Native.Nat.{ℕ, suc}
 use mathlib.Core.Path.{_≡_, sym, ap, _∙_}
 use mathlib.Core.List.{List}
 use lib.ListN.{getD}
 use Rattle.encoding.specs.Bytes.{AllBytes}
 use Rattle.formats.specs.Load.{loadRefusal}
-use Rattle.formats.specs.Sheet.{instanceOf}
 use Rattle.formats.proofs.Loads.{loads-valid}
 use Rattle.sigma.specs.Element.{combine}
 use Rattle.sigma.specs.Instance.{Instance}

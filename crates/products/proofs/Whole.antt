@@ -1,7 +1,7 @@
 -- The round of what both calls answer: it fits where all parts do, it is accepted where all parts are, and where exactly one is
 -- rejected it is rejected with that one's row.
 -- Assumes nothing.
-use Prim.Native.Nat.{ℕ, zero, suc, _<_, _≤_}
+use Prim.Native.Nat.{ℕ, _<_}
 use mathlib.Core.Path.{_≡_, refl, sym, ap, ap₂, _∙_, subst}
 use mathlib.Core.Logic.{_↔_, _≢_}
 use mathlib.Core.List.{List}
@@ -10,7 +10,7 @@ use native.Mathlib.Omega.{arith}
 use lib.ListN.{getD}
 use Rattle.types.specs.declared.Computed.{Computed}
 use Rattle.types.specs.declared.Round.{Round}
-use Rattle.types.specs.declared.Verdict.the-variants.{Accepted, Rejected}
+use Rattle.types.specs.declared.Verdict.the-variants.{Rejected}
 use Rattle.encoding.specs.Bytes.{AllBytes}
 use Rattle.lists.specs.Places.{pad8}
 use Rattle.lists.proofs.Places.{getD-pad8}
@@ -20,14 +20,13 @@ use Rattle.formats.proofs.Loads.{loads-valid}
 use Rattle.runs.specs.Calls.{judgeRound}
 use Rattle.runs.specs.Knowledge.{Accepts}
 use Rattle.runs.proofs.Protocol.{sheet-accepted, sheet-rejected}
-use Rattle.sigma.specs.Instance.{Instance, statementAt}
 use Rattle.sigma.specs.Meaning.{Coordinates, FailsFirst, Fits, Holds, RowHolds}
 use Rattle.sigma.specs.Joined.{withStatement}
 use Rattle.sigma.specs.Reads.{roundOf}
 use Rattle.sigma.specs.Valid.{Valid}
 use Rattle.sigma.proofs.Unread.{judgeAfter-same}
 use Rattle.products.specs.Players.{BothRun, IsTeam, partRound, playerSheet, wholeRound}
-use Rattle.products.specs.Team.{joinAll, joinResponses, multiplyAll, multiplyCommitments, part}
+use Rattle.products.specs.Team.{joinAll, multiplyAll, part}
 use Rattle.products.proofs.Combined.{PartHolds, WholeHolds, all-hold, joinAll-in, multiplyAll-at, multiplyAll-in, one-fails}
 use Rattle.products.proofs.PlayerSheets.{player-accepted, player-rejected, row-restated}
 use Rattle.products.proofs.TeamAnswers.{join-runs, multiply-runs}
