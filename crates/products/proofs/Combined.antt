@@ -24,11 +24,31 @@ use Rattle.sigma.specs.Meaning.{Coordinates, Elements, RowHolds}
 use Rattle.sigma.specs.Reads.{Agree, roundOf}
 use Rattle.sigma.specs.Round.{response, responseCoordinate}
 use Rattle.sigma.specs.Valid.{Valid, ValidTable}
-use Rattle.sigma.proofs.ByKind.{by-kind, combine-exponent, combine-root, exponent-kind, responseCoordinate-exponent, responseCoordinate-root, root-kind, rowImage-exponent, rowImage-root}
+use Rattle.sigma.proofs.ByKind.{
+  by-kind,
+  combine-exponent,
+  combine-root,
+  exponent-kind,
+  responseCoordinate-exponent,
+  responseCoordinate-root,
+  root-kind,
+  rowImage-exponent,
+  rowImage-root,
+}
 use Rattle.sigma.proofs.CoordinateGroup.{coordinate-exponent, coordinate-root}
 use Rattle.sigma.proofs.ElementGroup.{element-one}
 use Rattle.sigma.proofs.Homomorphism.{row-column}
-use Rattle.sigma.proofs.Joined.{first-decides, join-agree, join-at, join-in, length-join, multiply-in, response-joined, row-joined, second-decides}
+use Rattle.sigma.proofs.Joined.{
+  first-decides,
+  join-agree,
+  join-at,
+  join-in,
+  length-join,
+  multiply-in,
+  response-joined,
+  row-joined,
+  second-decides,
+}
 use Rattle.sigma.proofs.Valid.{valid-modulus, valid-order}
 use Rattle.sigma.proofs.Values.{length-response, response-at}
 use Rattle.products.specs.Team.{joinAll, multiplyAll, part}

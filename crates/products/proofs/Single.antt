@@ -9,7 +9,15 @@ use Rattle.types.specs.declared.Round.{Round}
 use Rattle.encoding.specs.Bytes.{AllBytes}
 use Rattle.lists.specs.Places.{pad8, places}
 use Rattle.lists.proofs.Each.{each-at, each-from}
-use Rattle.lists.proofs.Places.{getD-pad8, getD-places, length-places, places-agree, places-pad8, places-whole, tabulate-agree}
+use Rattle.lists.proofs.Places.{
+  getD-pad8,
+  getD-places,
+  length-places,
+  places-agree,
+  places-pad8,
+  places-whole,
+  tabulate-agree,
+}
 use Rattle.numbers.proofs.Product.{product-agree}
 use Rattle.formats.specs.Load.{loadRefusal}
 use Rattle.formats.specs.Sheet.{instanceOf}
@@ -72,12 +80,14 @@ module _ (sheet : List ℕ) (bytes : AllBytes sheet) (loaded : loadRefusal sheet
         let s = instanceOf sheet .header .rows in
         record {
           slots = stored-witness .slots;
-          carried = stored-witness .carried ∙ places-pad8 s (readValues sheet (part images p)) ∙ places-whole s _ (length-places s (part images p));
+          carried =
+              stored-witness .carried ∙ places-pad8 s (readValues sheet (part images p)) ∙ places-whole s _ (length-places s (part images p));
         }
 
     -- the player's honest round, in eight places
     player-round : honestRound (playerSheet sheet images p) (part xs p) c (part ks p)
-        ≡ roundOf (pad8 0 (commitmentOf (instanceOf sheet) (part ks p))) c (pad8 0 (responseOf (instanceOf sheet) (part xs p) c (part ks p)))
+        ≡ roundOf (pad8 0 (commitmentOf (instanceOf sheet) (part ks p))) c
+        (pad8 0 (responseOf (instanceOf sheet) (part xs p) c (part ks p)))
     player-round =
         honest-round (playerSheet sheet images p) (player-loads sheet bytes loaded (part images p) (team .elements p b)) _ values
         (part xs p) (part ks p) c stored-witness (held .nonces p b) below
@@ -149,9 +159,11 @@ module _ (sheet : List ℕ) (bytes : AllBytes sheet) (loaded : loadRefusal sheet
           → SameRound (instanceOf sheet .header) (partRound ts c rs p)
           (roundOf (commitmentOf (instanceOf sheet) (part ks p)) c (responseOf (instanceOf sheet) (part xs p) c (part ks p)))
       part-same p b = record {
-        commitment = λ i d. honest p b .commitment i d ∙ ap (λ (round : Round). getD (round .commitment) i 0) (player-round p b) ∙ getD-pad8 0 _ i;
+        commitment = λ i d.
+            honest p b .commitment i d ∙ ap (λ (round : Round). getD (round .commitment) i 0) (player-round p b) ∙ getD-pad8 0 _ i;
         challenge = refl;
-        response = λ j d. honest p b .response j d ∙ ap (λ (round : Round). getD (round .response) j 0) (player-round p b) ∙ getD-pad8 0 _ j;
+        response = λ j d.
+            honest p b .response j d ∙ ap (λ (round : Round). getD (round .response) j 0) (player-round p b) ∙ getD-pad8 0 _ j;
       }
 
       -- it fits the sheet
@@ -174,7 +186,8 @@ module _ (sheet : List ℕ) (bytes : AllBytes sheet) (loaded : loadRefusal sheet
 
       -- the responses joined are the response of the joined nonce and witness
       responses-are : joinAll (instanceOf sheet .header) count rs
-          ≡ response (instanceOf sheet .header) (joinAll (instanceOf sheet .header) count ks) c (joinAll (instanceOf sheet .header) count xs)
+          ≡ response (instanceOf sheet .header) (joinAll (instanceOf sheet .header) count ks) c
+          (joinAll (instanceOf sheet .header) count xs)
       responses-are =
           let h = instanceOf sheet .header in
           let n = h .columns in

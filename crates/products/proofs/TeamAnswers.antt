@@ -38,10 +38,27 @@ use Rattle.sigma.proofs.Passed.{commitment-passes, coordinates-pass}
 use Rattle.sigma.proofs.Tests.{says-badStatement}
 use Rattle.sigma.proofs.Valid.{valid-kind}
 use Rattle.products.specs.Players.{AgreeParts, IsTeam, Joined, ZeroBeyond}
-use Rattle.products.specs.Team.{badImages, badProduct, commitmentsRules, joinAll, joinResponses, multiplyAll, multiplyCommitments, part, responsesRules, teamRules}
+use Rattle.products.specs.Team.{
+  badImages,
+  badProduct,
+  commitmentsRules,
+  joinAll,
+  joinResponses,
+  multiplyAll,
+  multiplyCommitments,
+  part,
+  responsesRules,
+  teamRules,
+}
 use Rattle.products.specs.TeamWorks.{TeamAnswers}
 use Rattle.products.proofs.TeamRefusals.{says-badImages, says-badProduct, says-badTeam}
-use Rattle.products.proofs.Combined.{joinAll-exponent, joinAll-root, length-joinAll, length-multiplyAll, multiplyAll-at}
+use Rattle.products.proofs.Combined.{
+  joinAll-exponent,
+  joinAll-root,
+  length-joinAll,
+  length-multiplyAll,
+  multiplyAll-at,
+}
 
 -- ---- when nothing is refused
 
@@ -67,7 +84,8 @@ module _ (sheet : List ℕ) (count : ℕ) (images : List (List ℕ)) where
     team-clear =
         let inst = instanceOf sheet in
         let (entries, (statement, none)) = shape-clear .1 in
-        let size : ¬ ((count < 2) ⊎ (8 < count)) = ⊎-elim (λ (low : count < 2). omega (arith, team .two)) (λ (high : 8 < count). omega (arith, team .eight)) in
+        let size : ¬ ((count < 2) ⊎ (8 < count)) =
+        ⊎-elim (λ (low : count < 2). omega (arith, team .two)) (λ (high : 8 < count). omega (arith, team .eight)) in
         let sound : ¬ (Refusal11 inst ⊎ ((p : ℕ) × (p < count) × SomeNonElement (inst .header) (inst .header .rows) (part images p))) =
         ⊎-elim (says-false (says-badStatement inst) .0 statement) (λ (p, b, (i, d, other)). other (team .elements p b i d)) in
         (says-false (says-badTeam count) .1 size, (entries, (says-false (says-badImages inst count images) .1 sound, tt)))
@@ -125,7 +143,8 @@ module _ (inst : Instance) (count : ℕ) (parts : List (List ℕ)) where
   }
 
   -- and in a kind that loads joined slots agree with what `joinAll` gives
-  pub joined-is : Valid inst → (x : List ℕ) → Joined inst count parts x → Agree (inst .header .columns) x (joinAll (inst .header) count parts)
+  pub joined-is : Valid inst → (x : List ℕ) → Joined inst count parts x
+      → Agree (inst .header .columns) x (joinAll (inst .header) count parts)
   joined-is v x joined j b =
       by-kind (inst .header) (λ e. joined .exponent e j b ∙ sym (joinAll-joined .exponent e j b))
       (λ n. let e = valid-kind (v .table) n in joined .root e j b ∙ sym (joinAll-joined .root e j b))
@@ -242,6 +261,7 @@ team-answers = record {
         joined-agree (instanceOf sheet) count responses _ _ (λ j b. getD-pad8 0 _ j) (joinAll-joined (instanceOf sheet) count responses),
         padded-beyond (h .columns) _ (valid .table .few-columns) (length-joinAll h responses count),
       );
-  multiplied-read = λ sheet count images images′ commitments commitments′. multiply-read sheet count images images′ commitments commitments′;
+  multiplied-read = λ sheet count images images′ commitments commitments′.
+      multiply-read sheet count images images′ commitments commitments′;
   joined-read = λ sheet count images images′ responses responses′. join-read sheet count images images′ responses responses′;
 }

@@ -23,9 +23,25 @@ use Rattle.sigma.specs.Refusals.{Refusal11, SomeNonElement}
 use Rattle.sigma.proofs.Answer.{unlessRefused-positive}
 use Rattle.sigma.proofs.Calculus.{says-any}
 use Rattle.sigma.proofs.Comparison.{says-differ}
-use Rattle.sigma.proofs.Tests.{says-badCommitment, says-badCoordinates, says-badEntries, says-badStatement, says-someNonElement}
+use Rattle.sigma.proofs.Tests.{
+  says-badCommitment,
+  says-badCoordinates,
+  says-badEntries,
+  says-badStatement,
+  says-someNonElement,
+}
 use Rattle.products.specs.Refusals.{Refusal28, joinConditions, multiplyConditions, teamConditions}
-use Rattle.products.specs.Team.{badImages, badProduct, badTeam, commitmentsRules, joinResponses, multiplyCommitments, part, responsesRules, teamRules}
+use Rattle.products.specs.Team.{
+  badImages,
+  badProduct,
+  badTeam,
+  commitmentsRules,
+  joinResponses,
+  multiplyCommitments,
+  part,
+  responsesRules,
+  teamRules,
+}
 use Rattle.products.specs.TeamWorks.{TeamRefusals}
 use Rattle.products.proofs.Combined.{multiplyAll-at}
 

@@ -27,7 +27,15 @@ use Rattle.sigma.specs.Valid.{Valid}
 use Rattle.sigma.proofs.Unread.{judgeAfter-same}
 use Rattle.products.specs.Players.{BothRun, IsTeam, partRound, playerSheet, wholeRound}
 use Rattle.products.specs.Team.{joinAll, multiplyAll, part}
-use Rattle.products.proofs.Combined.{PartHolds, WholeHolds, all-hold, joinAll-in, multiplyAll-at, multiplyAll-in, one-fails}
+use Rattle.products.proofs.Combined.{
+  PartHolds,
+  WholeHolds,
+  all-hold,
+  joinAll-in,
+  multiplyAll-at,
+  multiplyAll-in,
+  one-fails,
+}
 use Rattle.products.proofs.PlayerSheets.{player-accepted, player-rejected, row-restated}
 use Rattle.products.proofs.TeamAnswers.{join-runs, multiply-runs}
 
@@ -83,7 +91,8 @@ module _ (sheet : List ℕ) (loaded : loadRefusal sheet ≡ 0) (count : ℕ) (im
     }
 
     -- where all parts hold in every row, it is accepted
-    whole-accepted : ((p : ℕ) → p < count → (i : ℕ) (inside : i < instanceOf sheet .header .rows) → PartHolds valid images ts rs c i inside p)
+    whole-accepted :
+        ((p : ℕ) → p < count → (i : ℕ) (inside : i < instanceOf sheet .header .rows) → PartHolds valid images ts rs c i inside p)
         → Accepts sheet (wholeRound sheet count images ts c rs)
     whole-accepted holds =
         whole-judged
@@ -98,7 +107,8 @@ module _ (sheet : List ℕ) (loaded : loadRefusal sheet ≡ 0) (count : ℕ) (im
         → judgeRound sheet (wholeRound sheet count images ts c rs) ≡ Rejected row
     whole-rejected p row b first others =
         let slots : (q : ℕ) → q < count → Coordinates (instanceOf sheet) (part rs q) = λ q d. fits q d .response in
-        let earlier : (k : ℕ) (h : k < instanceOf sheet .header .rows) → k < row → (q : ℕ) → q < count → PartHolds valid images ts rs c k h q =
+        let earlier : (k : ℕ) (h : k < instanceOf sheet .header .rows) → k < row → (q : ℕ) → q < count
+        → PartHolds valid images ts rs c k h q =
         λ k h low q d. elim (ℕ-discrete q p) [
           | yes e ↦ subst (PartHolds valid images ts rs c k h) (sym e) (first .before k low)
           | no apart ↦ others q d apart k h

@@ -16,7 +16,17 @@ use Rattle.lists.proofs.Each.{each-at, each-places}
 use Rattle.lists.proofs.Places.{getD-places, getD-tabulate, length-tabulate, tabulate-agree}
 use Rattle.numbers.specs.Congruence.{Cong}
 use Rattle.numbers.specs.Inverse.{Inverses}
-use Rattle.numbers.proofs.Congruence.{_then_, cong-add, cong-mod, cong-mul, cong-mul-cancel, cong-of-equal, cong-pow, cong-refl, cong-sym}
+use Rattle.numbers.proofs.Congruence.{
+  _then_,
+  cong-add,
+  cong-mod,
+  cong-mul,
+  cong-mul-cancel,
+  cong-of-equal,
+  cong-pow,
+  cong-refl,
+  cong-sym,
+}
 use Rattle.numbers.proofs.Powers.{mul-pow}
 use Rattle.sigma.specs.Element.{Element, combine}
 use Rattle.sigma.specs.Image.{image, rowImage}
