@@ -28,6 +28,7 @@ mod making;
 mod options;
 mod outcome;
 mod page_k;
+mod pair;
 mod pattern_files;
 mod printing;
 mod program;
