@@ -2,6 +2,7 @@
 -- Assumes nothing.
 use Rattle.examples.proofs.Pages.{worked-examples}
 use Rattle.formats.proofs.ByteLayout.{layout}
+use Rattle.formats.proofs.SameCommitment.{words-compare}
 use Rattle.formats.proofs.Writers.{writers}
 use Rattle.patterns.proofs.Meaning.{patterns-mean}
 use Rattle.patterns.proofs.PatternCalls.{pattern-calls, pattern-refusals}
@@ -22,6 +23,7 @@ demands = record {
   refusals = record {
     calls = demand1;
     patterns = pattern-refusals;
+    comparing = words-compare .comparing;
   };
   sessions = sessions;
   main-protocol = main-protocol;
@@ -39,5 +41,6 @@ demands = record {
   cards = record {
     reason = reasons-true;
     patterns = pattern-calls;
+    words = words-compare;
   };
 }

@@ -1,5 +1,6 @@
 -- What the cards of 02 ask beyond 01, a field for each card. Card 3, which changes the marker, stands in Demand1 and MarksFiles.
 -- Assumes nothing.
+use Rattle.formats.specs.SameCommitment.{WordsCompare}
 use Rattle.patterns.specs.PatternCalls.{PatternCalls}
 use Rattle.reasons.specs.ReasonsTrue.{ReasonsTrue}
 
@@ -10,3 +11,6 @@ pub record Cards : Type 0 where
   -- 2: which bytes are a pattern file and which pattern a number gives, what the sheet maker writes and what that means, and that
   -- the shipped file gives 01's sheets
   pub patterns : PatternCalls
+  -- 5: comparing the commitments of two rounds of a file answers 1 exactly where all 4s commitment bytes agree, and so where the
+  -- commitments that are read do
+  pub words : WordsCompare

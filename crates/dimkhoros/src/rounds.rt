@@ -1,4 +1,5 @@
 // The calls on round files.
+use formats::Compared;
 use types::Counted;
 use types::Fetched;
 use types::Part;
@@ -7,6 +8,7 @@ use types::Written;
 ghost use mathlib.Core.Path.{_≡_};
 ghost use Rattle.formats.specs.Append.{append, emptyFile};
 ghost use Rattle.formats.specs.RoundCalls.{checkRound, countRounds, fetchRound, locateRound};
+ghost use Rattle.formats.specs.SameCommitment.{sameCommitment};
 
 // How many rounds a file has; 0 beside the number, 2 to 12, where the sheet or the file is refused.
 #[no_mangle]
@@ -38,6 +40,20 @@ pub extern "C" fn dimkhoros_read(sheet: &[u8], file: &[u8], number: usize) -> Fe
     ensures { λ r. ⌜ r ≡ fetchRound (now (sheet .entry)) (now (file .entry)) number ⌝ }
 {
     round_file::read(sheet, file, number)
+}
+
+// Whether the rounds of these two numbers have the same commitment, 1 or 0; 0 beside the number, 2 to 13, where either is
+// refused.
+#[no_mangle]
+pub extern "C" fn dimkhoros_same_commitment(
+    sheet: &[u8],
+    file: &[u8],
+    first: usize,
+    second: usize,
+) -> Compared
+    ensures { λ r. ⌜ r ≡ sameCommitment (now (sheet .entry)) (now (file .entry)) first second ⌝ }
+{
+    round_words::same_commitment(sheet, file, first, second)
 }
 
 // Puts the file of no rounds at the start of buffer and answers its length. No byte behind it is changed, and a buffer that
