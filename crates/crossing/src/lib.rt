@@ -6,7 +6,9 @@ mod verifiers; // verifiers.rt: Vic's session
 
 pub use provers::prover_answer;
 pub use provers::prover_of;
+pub use provers::prover_phase;
 pub use provers::prover_session;
+pub use provers::prover_state;
 pub use verdicts::judgement_of;
 pub use verifiers::verifier_answer;
 pub use verifiers::verifier_judgement;

@@ -9,7 +9,7 @@ ghost use Rattle.runs.specs.Prover.{proverState};
 ghost use Rattle.crossing.specs.Provers.{proverPhase, proverOf, proverSession, proverAnswer};
 
 // The state of a number; a number that is no state's is taken as Dropped, which allows no call.
-fn prover_phase(number: u32) -> ProverPhase
+pub fn prover_phase(number: u32) -> ProverPhase
     ensures { λ r. ⌜ r ≡ proverPhase number ⌝ }
 {
     match number {
@@ -21,7 +21,7 @@ fn prover_phase(number: u32) -> ProverPhase
 }
 
 // The number of a state: its place in 01's sentence, from 0.
-fn prover_state(phase: ProverPhase) -> u32
+pub fn prover_state(phase: ProverPhase) -> u32
     ensures { λ r. ⌜ r ≡ proverState phase ⌝ }
 {
     match phase {

@@ -3,6 +3,8 @@
 mod explaining; // explaining.rt: the reason
 mod judging; // judging.rt: the calls on a round's values
 mod marking; // marking.rt: the marker's text
+mod or_judging; // or_judging.rt: the calls on rounds of the OR proof
+mod or_proving; // or_proving.rt: the calls on Peggy's session of the OR proof
 mod proving; // proving.rt: the calls on Peggy's session
 mod rounds; // rounds.rt: the calls on round files
 mod sheets; // sheets.rt: the calls on sheets

@@ -44,7 +44,7 @@ pub fn round_refusal(h: Header, commitment: [u32; 8], challenge: u32, response: 
 
 // The simulated commitment for challenge c and response r: the image of r times the statement by -c, a value for each row,
 // side by side where that is worth while.
-fn simulated(
+pub fn simulated(
     h: Header,
     entries: [[u32; 8]; 8],
     statement: [u32; 8],

@@ -1,0 +1,88 @@
+-- The four numbers of each verdict on a round of the OR proof, and that they tell it: no two verdicts that judging gives have the same.
+-- Assumes nothing.
+use Prim.Native.Nat.{ℕ, zero, suc}
+use mathlib.Core.Path.{_≡_, refl, sym, ap, _∙_}
+use mathlib.Core.Logic.{_↔_, _≢_}
+use mathlib.Core.List.{List}
+use native.Mathlib.Omega.{arith}
+use Rattle.types.specs.declared.Verdict.{Verdict}
+use Rattle.types.specs.declared.Verdict.the-variants.{Accepted, Rejected, Refused}
+use Rattle.rules.specs.Answer.{unlessRefused}
+use Rattle.sigma.proofs.Answer.{unlessRefused-zero, unlessRefused-positive}
+use Rattle.sigma.proofs.Verdict.{verdict-not-refused}
+use Rattle.disjunctions.specs.declared.OrRound.{OrRound}
+use Rattle.disjunctions.specs.declared.OrVerdict.{OrVerdict}
+use Rattle.disjunctions.specs.declared.OrVerdict.the-variants.{OrAccepted, OrRejected, OrRefused}
+use Rattle.disjunctions.specs.Judge.{combined, judgeOr, judgeOrAfter, secondVerdict, verdictOr}
+use Rattle.disjunctions.specs.OneOfTwo.{orOutcome}
+use Rattle.or_crossing.specs.Verdicts.{orJudgement}
+use Rattle.or_crossing.specs.declared.OrJudgement.{OrJudgement}
+
+-- an accepted round has 1 for accepted
+pub or-judgement-accepted : orJudgement OrAccepted ≡ record { accepted = 1; side = 0; row = 0; refusal = 0 }
+unfolding orJudgement orOutcome
+or-judgement-accepted = refl
+
+-- a rejected round has its side and its row
+pub or-judgement-rejected : (side row : ℕ)
+    → orJudgement (OrRejected side row) ≡ record { accepted = 0; side = side; row = row; refusal = 0 }
+unfolding orJudgement orOutcome
+or-judgement-rejected side row = refl
+
+-- a refused round has its number
+pub or-judgement-refused : (number : ℕ)
+    → orJudgement (OrRefused number) ≡ record { accepted = 0; side = 0; row = 0; refusal = number }
+unfolding orJudgement orOutcome
+or-judgement-refused number = refl
+
+-- so a round is accepted exactly where that number is 1
+pub or-accepted-told : (v : OrVerdict) → (orJudgement v .accepted ≡ 1) ↔ (v ≡ OrAccepted)
+unfolding orJudgement orOutcome
+or-accepted-told v = (accepted v, ap (λ (v : OrVerdict). orJudgement v .accepted))
+  where
+    accepted : (v : OrVerdict) → orJudgement v .accepted ≡ 1 → v ≡ OrAccepted
+    accepted OrAccepted e = refl
+    accepted (OrRejected side row) e = absurd (omega arith)
+    accepted (OrRefused number) e = absurd (omega arith)
+
+-- two verdicts with the same four numbers are the same, if neither is a refusal with 0
+pub or-judgement-injective : (v w : OrVerdict) → v ≢ OrRefused 0 → w ≢ OrRefused 0 → orJudgement v ≡ orJudgement w → v ≡ w
+unfolding orJudgement orOutcome
+or-judgement-injective v w some some′ e =
+    compare v w some some′ (ap (λ (j : OrJudgement). j .refusal) e) (ap (λ (j : OrJudgement). j .accepted) e)
+    (ap (λ (j : OrJudgement). j .side) e) (ap (λ (j : OrJudgement). j .row) e)
+  where
+    compare : (v w : OrVerdict) → v ≢ OrRefused 0 → w ≢ OrRefused 0 → orJudgement v .refusal ≡ orJudgement w .refusal
+        → orJudgement v .accepted ≡ orJudgement w .accepted → orJudgement v .side ≡ orJudgement w .side
+        → orJudgement v .row ≡ orJudgement w .row → v ≡ w
+    compare OrAccepted OrAccepted s t a b c d = refl
+    compare OrAccepted (OrRejected side row) s t a b c d = absurd (omega arith)
+    compare OrAccepted (OrRefused n) s t a b c d = absurd (omega arith)
+    compare (OrRejected side row) OrAccepted s t a b c d = absurd (omega arith)
+    compare (OrRejected side row) (OrRejected side′ row′) s t a b c d = rw (c, d)
+    compare (OrRejected side row) (OrRefused n) s t a b c d = absurd (t (ap OrRefused (sym a)))
+    compare (OrRefused n) OrAccepted s t a b c d = absurd (omega arith)
+    compare (OrRefused n) (OrRejected side row) s t a b c d = absurd (s (ap OrRefused a))
+    compare (OrRefused n) (OrRefused n′) s t a b c d = ap OrRefused a
+
+-- verdicts on both sides that are no refusals give none
+combined-not-refused : (v w : Verdict) → ((k : ℕ) → v ≢ Refused k) → ((k : ℕ) → w ≢ Refused k) → (k : ℕ) → combined v w ≢ OrRefused k
+unfolding combined secondVerdict
+combined-not-refused Accepted Accepted f g k e = let z : _≡_ {A = ℕ} 0 1 = cc in omega arith
+combined-not-refused Accepted (Rejected row) f g k e = let z : _≡_ {A = ℕ} 0 1 = cc in omega arith
+combined-not-refused Accepted (Refused number) f g k e = g number refl
+combined-not-refused (Rejected row) w f g k e = let z : _≡_ {A = ℕ} 0 1 = cc in omega arith
+combined-not-refused (Refused number) w f g k e = f number refl
+
+-- the number of a refusal is not 0
+refusal-not-zero : (n : ℕ) (v : OrVerdict) → ((k : ℕ) → v ≢ OrRefused k) → unlessRefused n v (OrRefused n) ≢ OrRefused 0
+refusal-not-zero zero v never e = never 0 (sym (unlessRefused-zero v (OrRefused 0)) ∙ e)
+refusal-not-zero (suc n) v never e =
+    let given = unlessRefused-positive v (OrRefused (suc n)) (suc n) (omega arith) in
+    let same : suc n ≡ 0 = cc (given) in omega arith
+
+-- judging does not refuse with 0
+pub judge-or-not-zero : (s s′ : List ℕ) (round : OrRound) → judgeOr s s′ round ≢ OrRefused 0
+unfolding judgeOr judgeOrAfter verdictOr
+judge-or-not-zero s s′ round =
+    refusal-not-zero _ _ (combined-not-refused _ _ (verdict-not-refused _ _ _ _) (verdict-not-refused _ _ _ _))

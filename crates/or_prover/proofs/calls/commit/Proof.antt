@@ -1,0 +1,63 @@
+-- `or_prover::calls::commit` meets its contract: a refused pair's number is the answer, else the values of both sheets are loaded.
+-- Assumes nothing.
+use mathlib.Core.Path.{sym}
+use borrow.Author.Needs.{needs}
+use Rattle.disjunctions.specs.Prover.{commitOr}
+use Rattle.pairs.proofs.PairAnswers.{first-header, first-valid, pair-call, pair-count, pair-refused, second-header, second-valid}
+use Rattle.or_prover.proofs.AfterPair.{commitOrAfter-clear, commitOrAfter-refused}
+use Rattle.or_prover.proofs.calls.commit.Statement.{statement}
+use Rattle.or_prover.proofs.calls.commit.Tie as tie
+
+load-pair-requires : tie.Need-load-pair-requires
+load-pair-requires c κs = search needs
+
+refused-requires : tie.Need-refused-requires
+refused-requires c κs = search needs
+
+returns : tie.Need-returns
+unfolding commitOr
+returns c =
+    let (number, some) = pair-refused _ _ _ (c .before .before .load-pair .ensures) (c .before .if1 .taken) in
+    rw (c .refused .ensures, number) (sym (commitOrAfter-refused _ _ _ some _ _ _ _ _))
+
+loaded-entries-requires : tie.Need-loaded-entries-requires
+loaded-entries-requires c κs =
+    let passed = c .before .before in
+    first-header _ _ _ (passed .before .load-pair .ensures) (passed .if1 .left)
+
+loaded-entries-requires-2 : tie.Need-loaded-entries-requires-2
+loaded-entries-requires-2 c κs =
+    let passed = c .before .before .before in
+    second-header _ _ _ (passed .before .load-pair .ensures) (passed .if1 .left)
+
+commit-loaded-requires : tie.Need-commit-loaded-requires
+commit-loaded-requires c κs =
+    let passed = c .before .before .before .before in
+    let same = passed .before .load-pair .ensures in
+    record {
+      first = first-valid _ _ _ same (passed .if1 .left) (c .before .loaded-entries .ensures);
+      second = second-valid _ _ _ same (passed .if1 .left) (c .loaded-entries2 .ensures);
+      one-count = pair-count _ _ _ same (passed .if1 .left);
+    }
+
+returns-2 : tie.Need-returns-2
+unfolding commitOr
+returns-2 c =
+    let entries = c .before in
+    let passed = entries .before .before .before .before in
+    let args = passed .before .before .before .before .args in
+    pair-call _ _ _ (passed .before .load-pair .ensures) (passed .if1 .left)
+    (λ before i j none. commitOrAfter-clear before i j none (args .session) (args .side) (args .nonce) (args .challenge) (args .response))
+    (entries .before .loaded-entries .ensures) (entries .loaded-entries2 .ensures) (c .commit-loaded .ensures)
+
+pub commit-spec : {M : Type 1} → statement M
+commit-spec =
+    tie.close
+    (tie.spec
+    load-pair-requires
+    refused-requires
+    returns
+    loaded-entries-requires
+    loaded-entries-requires-2
+    commit-loaded-requires
+    returns-2)
