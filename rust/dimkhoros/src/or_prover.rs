@@ -67,6 +67,7 @@ pub struct OrProver {
     session: OrSession,
 }
 
+#[allow(clippy::result_large_err, reason = "a refused call hands the session back")]
 impl OrProver {
     /// A new session, which holds zeros.
     ///
