@@ -3,7 +3,7 @@ use or_crossing::OrAnswer;
 use or_crossing::OrSession;
 use or_crossing::or_answer;
 use or_crossing::or_prover_of;
-use or_crossing::or_session;
+use or_crossing::or_session_of;
 ghost use mathlib.Core.Path.{_≡_};
 ghost use Rattle.disjunctions.specs.Prover.{newOrProver, commitOr, respondOr, dropOr};
 ghost use Rattle.or_crossing.specs.Provers.{orProverOf, orSession, orAnswer};
@@ -13,7 +13,7 @@ ghost use Rattle.or_crossing.specs.Provers.{orProverOf, orSession, orAnswer};
 pub extern "C" fn dimkhoros_or_prover_new() -> OrSession
     ensures { λ r. ⌜ r ≡ orSession newOrProver ⌝ }
 {
-    or_session(or_prover::new())
+    or_session_of(or_session::new())
 }
 
 // Commits a New session to a nonce of the side that she knows, 0 or else 1, and to a simulated challenge and response of the
@@ -72,5 +72,5 @@ pub extern "C" fn dimkhoros_or_prover_respond(
 pub extern "C" fn dimkhoros_or_prover_drop(session: OrSession) -> OrAnswer
     ensures { λ r. ⌜ r ≡ orAnswer session (dropOr (orProverOf session)) ⌝ }
 {
-    or_answer(session, or_prover::drop_session(or_prover_of(session)))
+    or_answer(session, or_session::drop_session(or_prover_of(session)))
 }

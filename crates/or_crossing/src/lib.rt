@@ -5,7 +5,7 @@ mod verdicts; // verdicts.rt: what judging answers
 
 pub use provers::or_answer;
 pub use provers::or_prover_of;
-pub use provers::or_session;
+pub use provers::or_session_of;
 pub use verdicts::or_judgement_of;
 
 // A verdict: accepted is 1, rejected is 0 with the first side that is and its first differing row, and refused is the number

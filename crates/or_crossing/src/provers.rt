@@ -28,7 +28,7 @@ pub fn or_prover_of(session: OrSession) -> OrProver
 }
 
 // The session as it is handed out.
-pub fn or_session(session: OrProver) -> OrSession
+pub fn or_session_of(session: OrProver) -> OrSession
     ensures { λ r. ⌜ r ≡ orSession session ⌝ }
 {
     let nonce = session.nonce;
@@ -66,7 +66,7 @@ pub fn or_answer(given: OrSession, step: OrStep) -> OrAnswer
     }
     let session = step.session;
     OrAnswer {
-        session: or_session(session),
+        session: or_session_of(session),
         values0,
         values1,
         challenge0,

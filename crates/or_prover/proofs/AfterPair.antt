@@ -2,7 +2,7 @@
 -- their number.
 -- Assumes nothing.
 use Prim.Native.Nat.{ℕ, _<_}
-use mathlib.Core.Path.{_≡_, sym, ap, _∙_}
+use mathlib.Core.Path.{_≡_}
 use mathlib.Core.List.{List, []}
 use Rattle.lists.specs.Places.{zeros8}
 use Rattle.rules.specs.Rule.{Clear, Rule, lowest}
@@ -11,7 +11,7 @@ use Rattle.sigma.specs.Instance.{Instance}
 use Rattle.disjunctions.specs.declared.OrProver.{OrProver}
 use Rattle.disjunctions.specs.declared.OrStep.{OrStep}
 use Rattle.disjunctions.specs.Prover.{commitOrAfter, respondOrAfter}
-use Rattle.or_prover.proofs.Steps.{step-positive}
+use Rattle.or_session.proofs.Steps.{step-positive}
 
 -- the answer that is refused with a number
 abbrev Refuses : OrProver → ℕ → OrStep → Type 0

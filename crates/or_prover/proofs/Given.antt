@@ -17,7 +17,7 @@ use Rattle.or_judge.specs.Values.{FitTogether}
 use Rattle.or_sides.specs.Sides.{sideCommitment, sideResponse}
 use Rattle.or_sides.proofs.SideValues.{first-commitment, first-response, own-places, second-commitment, second-response}
 use Rattle.or_prover.specs.Brought.{commitRules, respondRules}
-use Rattle.or_prover.proofs.Steps.{step-given}
+use Rattle.or_session.proofs.Steps.{step-given}
 
 -- committing: both commitments, stored with what is read of what is brought
 pub commit-given : {i j : Instance} → FitTogether i j → (p : OrProver) (side : ℕ) (k : List ℕ) (d : ℕ) (r : List ℕ) {n : ℕ}

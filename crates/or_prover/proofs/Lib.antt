@@ -1,6 +1,4 @@
 -- Laws that the proofs of the functions cite, by topic.
-pub mod States
-pub mod Steps
 pub mod Tested
 pub mod Given
 pub mod AfterPair

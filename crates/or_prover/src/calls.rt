@@ -1,10 +1,10 @@
 // The calls on two sheets' bytes (02, card 4): each loads both sheets, and the number of a refused pair is its answer.
 use crate::loaded::commit_loaded;
 use crate::loaded::respond_loaded;
-use crate::session::refused;
 use disjunctions::OrProver;
 use disjunctions::OrStep;
 use instance::loaded_entries;
+use or_session::refused;
 use pairs::load_pair;
 ghost use mathlib.Core.Path.{_≡_};
 ghost use Rattle.disjunctions.specs.Prover.{commitOr, respondOr};

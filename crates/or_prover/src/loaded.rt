@@ -1,10 +1,10 @@
 // Committing and responding in the OR proof on loaded values (02, card 4; refusals 15 to 17 and 21). What a call brings is tested
 // before the session.
-use crate::session::refused;
-use crate::session::wiped;
 use disjunctions::OrProver;
 use disjunctions::OrStep;
 use image::first_places;
+use or_session::refused;
+use or_session::wiped;
 use or_sides::bad_slots;
 use or_sides::own_header;
 use or_sides::own_number;
@@ -13,14 +13,12 @@ use or_sides::side_commitment;
 use or_sides::side_response;
 use or_sides::unfit;
 use pairs::other_challenge;
-use types::Header;
 use types::Loaded;
 use types::ProverPhase;
 ghost use mathlib.Core.List.{List, []};
 ghost use mathlib.Core.Path.{_≡_};
 ghost use Prim.Native.Nat.{ℕ};
 ghost use Rattle.rules.specs.Rule.{lowest};
-ghost use Rattle.sigma.specs.Instance.{instanceWith};
 ghost use Rattle.disjunctions.specs.Prover.{commitOrAfter, respondOrAfter};
 ghost use Rattle.or_judge.specs.Values.{FewPlaces, FitTogether, instanceFrom};
 ghost use Rattle.or_prover.specs.Brought.{commitRules, respondRules};
@@ -28,23 +26,23 @@ ghost use Rattle.or_prover.specs.Brought.{commitRules, respondRules};
 // The number that committing is refused with: 15 for a simulated challenge of K or more, 16 for a slot of the nonce or of the
 // simulated response that is no domain slot of its sheet, 21 in any state but New, or 0.
 fn commit_refusal(
-    first: Header,
-    second: Header,
+    first: Loaded,
+    second: Loaded,
     session: OrProver,
     side: u32,
     nonce: [u32; 8],
     challenge: u32,
     response: [u32; 8],
 ) -> u32
-    requires { ⌜ FewPlaces first × FewPlaces second ⌝ }
-    ensures { λ r. ⌜ ((entries entries′ : List (List ℕ)) (z z′ : List ℕ)
-        → r ≡ lowest (commitRules (instanceWith first entries z) (instanceWith second entries′ z′) session side nonce challenge
+    requires { ⌜ FewPlaces (first .header) × FewPlaces (second .header) ⌝ }
+    ensures { λ r. ⌜ ((entries entries′ : List (List ℕ))
+        → r ≡ lowest (commitRules (instanceFrom first entries) (instanceFrom second entries′) session side nonce challenge
         response)) ⌝ }
 {
-    if challenge >= first.challenges {
+    if challenge >= first.header.challenges {
         return 15;
     }
-    if bad_slots(first, second, side, nonce, response) {
+    if bad_slots(first.header, second.header, side, nonce, response) {
         return 16;
     }
     let phase = session.phase;
@@ -71,14 +69,12 @@ pub fn commit_loaded(
     ensures { λ r. ⌜ r ≡ commitOrAfter [] (instanceFrom first entries0) (instanceFrom second entries1) session side nonce
         challenge response ⌝ }
 {
-    let left = first.header;
-    let right = second.header;
-    let refusal = commit_refusal(left, right, session, side, nonce, challenge, response);
+    let refusal = commit_refusal(first, second, session, side, nonce, challenge, response);
     if refusal != 0 {
         return refused(session, refusal);
     }
-    let mine = own_header(side, left, right);
-    let yours = own_header(side, right, left);
+    let mine = own_header(side, first.header, second.header);
+    let yours = own_header(side, second.header, first.header);
     let t0 = side_commitment(first, entries0, side == 0, nonce, challenge, response);
     let t1 = side_commitment(second, entries1, side != 0, nonce, challenge, response);
     OrStep {

@@ -7,11 +7,11 @@ use Rattle.dimkhoros.proofs.or_proving.dimkhoros_or_prover_new.Tie as t
 new-requires : tie.Need-new-requires
 new-requires c κs = search needs
 
-or-session-requires : tie.Need-or-session-requires
-or-session-requires c κs = search needs
+or-session-of-requires : tie.Need-or-session-of-requires
+or-session-of-requires c κs = search needs
 
 returns : tie.Need-returns
-returns c = rw (c .or-session .ensures, c .before .new .ensures)
+returns c = rw (c .or-session-of .ensures, c .before .new .ensures)
 
 pub dimkhoros-or-prover-new-spec : {M : Type 1} → statement M
-dimkhoros-or-prover-new-spec = tie.close (tie.spec new-requires or-session-requires returns)
+dimkhoros-or-prover-new-spec = tie.close (tie.spec new-requires or-session-of-requires returns)

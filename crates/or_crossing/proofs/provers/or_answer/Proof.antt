@@ -15,14 +15,14 @@ returns c =
     let refused : 0 < c .before .before .before .args .step .refusal = omega arith in
     rw (unlessRefused-positive _ _ _ refused)
 
-or-session-requires : tie.Need-or-session-requires
-or-session-requires c κs = search needs
+or-session-of-requires : tie.Need-or-session-of-requires
+or-session-of-requires c κs = search needs
 
 returns-2 : tie.Need-returns-2
 unfolding orAnswer
 returns-2 c =
     let passed : c .before .before .before .before .before .args .step .refusal ≡ 0 = omega arith in
-    rw (c .or-session .ensures, passed, unlessRefused-zero)
+    rw (c .or-session-of .ensures, passed, unlessRefused-zero)
 
 pub or-answer-spec : {M : Type 1} → statement M
-or-answer-spec = tie.close (tie.spec returns or-session-requires returns-2)
+or-answer-spec = tie.close (tie.spec returns or-session-of-requires returns-2)

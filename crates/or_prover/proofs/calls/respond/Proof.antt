@@ -1,7 +1,7 @@
 -- `or_prover::calls::respond` meets its contract: a refused pair's number is the answer, else the values of both sheets are loaded.
 -- Assumes nothing.
 use mathlib.Core.Path.{sym}
-use borrow.Author.Needs.{needs}
+use native.Mathlib.Omega.{arith}
 use Rattle.disjunctions.specs.Prover.{respondOr}
 use Rattle.pairs.proofs.PairAnswers.{first-header, first-valid, pair-call, pair-count, pair-refused, second-header, second-valid}
 use Rattle.or_prover.proofs.AfterPair.{respondOrAfter-clear, respondOrAfter-refused}
@@ -9,10 +9,10 @@ use Rattle.or_prover.proofs.calls.respond.Statement.{statement}
 use Rattle.or_prover.proofs.calls.respond.Tie as tie
 
 load-pair-requires : tie.Need-load-pair-requires
-load-pair-requires c κs = search needs
+load-pair-requires c κs = omega arith
 
 refused-requires : tie.Need-refused-requires
-refused-requires c κs = search needs
+refused-requires c κs = omega arith
 
 returns : tie.Need-returns
 unfolding respondOr

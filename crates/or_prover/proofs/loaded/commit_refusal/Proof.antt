@@ -10,42 +10,42 @@ use Rattle.sigma.proofs.Tests.{says-badChallenge}
 use Rattle.disjunctions.specs.Prover.{commitOrRules}
 use Rattle.disjunctions.proofs.SessionTests.{says-or-prover}
 use Rattle.or_sides.specs.Sides.{badSlots}
-use Rattle.or_prover.proofs.States.{not-new}
+use Rattle.or_session.proofs.States.{not-new}
 use Rattle.or_prover.proofs.loaded.commit_refusal.Statement.{statement}
 use Rattle.or_prover.proofs.loaded.commit_refusal.Tie as tie
 
 returns : tie.Need-returns
 unfolding commitOrRules
-returns c = λ entries entries′ z z′. sym (stop 15 _ (says-badChallenge _ _ .complete (c .if1 .taken)))
+returns c = λ entries entries′. sym (stop 15 _ (says-badChallenge _ _ .complete (c .if1 .taken)))
 
 bad-slots-requires : tie.Need-bad-slots-requires
 bad-slots-requires c κs = c .before .before .pre
 
 returns-2 : tie.Need-returns-2
 unfolding commitOrRules badSlots
-returns-2 c = λ entries entries′ z z′.
+returns-2 c = λ entries entries′.
     sym (pass 15 _ (challenge-passes _ _ .1 (c .before .before .if1 .left))
-    ∙ stop 16 _ (sym (c .before .bad-slots .ensures entries entries′ z z′) ∙ c .if2 .taken))
+    ∙ stop 16 _ (sym (c .before .bad-slots .ensures _ _ _ _) ∙ c .if2 .taken))
 
 enum-told : tie.Need-enum-told
 enum-told c = search needs
 
 returns-3 : tie.Need-returns-3
 unfolding commitOrRules badSlots
-returns-3 c = λ entries entries′ z z′.
+returns-3 c = λ entries entries′.
     let slots = c .before in
     sym (pass 15 _ (challenge-passes _ _ .1 (slots .before .before .if1 .left))
-    ∙ pass 16 _ (sym (slots .before .bad-slots .ensures entries entries′ z z′) ∙ slots .if2 .left)
+    ∙ pass 16 _ (sym (slots .before .bad-slots .ensures _ _ _ _) ∙ slots .if2 .left)
     ∙ stop 21 _ (not-new _ (c .match .keys2)))
 
 returns-4 : tie.Need-returns-4
 unfolding commitOrRules badSlots
-returns-4 c = λ entries entries′ z z′.
+returns-4 c = λ entries entries′.
     let slots = c .before .before in
     sym (lowest-clear _ (
       challenge-passes _ _ .1 (slots .before .before .if1 .left),
       (
-        sym (slots .before .bad-slots .ensures entries entries′ z z′) ∙ slots .if2 .left,
+        sym (slots .before .bad-slots .ensures _ _ _ _) ∙ slots .if2 .left,
         (says-passes (says-or-prover New _) .1 (c .enum-told .given .1), tt),
       ),
     ))

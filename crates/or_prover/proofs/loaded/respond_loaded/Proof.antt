@@ -2,10 +2,10 @@
 -- Assumes nothing.
 use native.Mathlib.Nat.{le-of-lt}
 use native.Mathlib.Omega.{arith}
-use borrow.Author.Needs.{needs}
+use Rattle.sigma.proofs.Valid.{valid-modulus, valid-order}
 use Rattle.disjunctions.specs.Prover.{respondOrAfter}
 use Rattle.or_prover.proofs.Given.{respond-given}
-use Rattle.or_prover.proofs.Steps.{step-refused}
+use Rattle.or_session.proofs.Steps.{step-refused}
 use Rattle.or_prover.proofs.Tested.{respond-below}
 use Rattle.or_prover.proofs.loaded.respond_loaded.Statement.{statement}
 use Rattle.or_prover.proofs.loaded.respond_loaded.Tie as tie
@@ -14,7 +14,7 @@ respond-refusal-requires : tie.Need-respond-refusal-requires
 respond-refusal-requires c κs = c .pre
 
 refused-requires : tie.Need-refused-requires
-refused-requires c κs = search needs
+refused-requires c κs = omega arith
 
 returns : tie.Need-returns
 unfolding respondOrAfter
@@ -29,16 +29,20 @@ other-challenge-requires c κs =
     )
 
 wiped-requires : tie.Need-wiped-requires
-wiped-requires c κs = search needs
+wiped-requires c κs = omega arith
 
 side-response-requires : tie.Need-side-response-requires
-side-response-requires c κs = search needs
+side-response-requires c κs =
+    let table = c .before .before .before .before .before .before .pre .first .table in
+    (omega (arith, valid-modulus table), valid-order table, table .few-columns)
 
 side-response-requires-2 : tie.Need-side-response-requires-2
-side-response-requires-2 c κs = search needs
+side-response-requires-2 c κs =
+    let table = c .before .before .before .before .before .before .before .pre .second .table in
+    (omega (arith, valid-modulus table), valid-order table, table .few-columns)
 
 own-number-requires : tie.Need-own-number-requires
-own-number-requires c κs = search needs
+own-number-requires c κs = omega arith
 
 returns-2 : tie.Need-returns-2
 returns-2 c =

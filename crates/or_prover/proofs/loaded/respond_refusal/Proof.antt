@@ -11,7 +11,7 @@ use Rattle.sigma.proofs.Calculus.{says-passes, both-fail}
 use Rattle.sigma.proofs.Tests.{says-badChallenge}
 use Rattle.disjunctions.specs.Prover.{orProverIn, respondOrRules}
 use Rattle.disjunctions.proofs.SessionTests.{says-or-prover}
-use Rattle.or_prover.proofs.States.{not-committed}
+use Rattle.or_session.proofs.States.{not-committed}
 use Rattle.or_prover.proofs.Tested.{session-left, witness-stops}
 use Rattle.or_prover.proofs.loaded.respond_refusal.Statement.{statement}
 use Rattle.or_prover.proofs.loaded.respond_refusal.Tie as tie

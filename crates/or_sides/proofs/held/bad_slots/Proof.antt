@@ -1,7 +1,6 @@
 -- `or_sides::held::bad_slots` meets its contract: it is both searches, one after the other, each by its own sheet.
 -- Assumes nothing.
 use mathlib.Core.Path.{sym, _∙_}
-use native.Mathlib.Omega.{arith}
 use borrow.Author.Needs.{needs}
 use Rattle.or_sides.proofs.SideTests.{few-own, slots-first, slots-second}
 use Rattle.or_sides.proofs.held.bad_slots.Statement.{statement}

@@ -1,7 +1,6 @@
 -- `or_sides::held::own_witness_refusal` meets its contract: the side's sheet decides.
 -- Assumes nothing.
 use mathlib.Core.Path.{ap, _∙_}
-use borrow.Author.Needs.{needs}
 use Rattle.rules.specs.Rule.{lowest}
 use Rattle.sigma.specs.Instance.{Instance}
 use Rattle.or_sides.specs.Sides.{witnessRules}

@@ -1,9 +1,6 @@
 -- `or_sides::held::unfit` meets its contract: each return is a law of the tests of what is held.
 -- Assumes nothing.
-use mathlib.Core.Path.{_≡_, sym, _∙_}
-use mathlib.Core.Bool.{not}
-use lib.Dec.{eqb}
-use native.Mathlib.Omega.{arith}
+use mathlib.Core.Path.{sym, _∙_}
 use borrow.Author.Tests.{le-ltb}
 use borrow.Author.Needs.{needs}
 use Rattle.sigma.proofs.Passed.{challenge-passes}

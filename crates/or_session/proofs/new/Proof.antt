@@ -1,10 +1,10 @@
--- `or_prover::session::new` meets its contract: eight zeros are written out.
+-- `or_session::new` meets its contract: eight zeros are written out.
 -- Assumes nothing.
 use mathlib.Core.Path.{refl}
 use Rattle.lists.specs.Places.{zeros8}
 use Rattle.disjunctions.specs.Prover.{newOrProver, wipedOr}
-use Rattle.or_prover.proofs.session.new.Statement.{statement}
-use Rattle.or_prover.proofs.session.new.Tie as tie
+use Rattle.or_session.proofs.new.Statement.{statement}
+use Rattle.or_session.proofs.new.Tie as tie
 
 returns : tie.Need-returns
 unfolding newOrProver wipedOr zeros8

@@ -1,23 +1,22 @@
--- `or_prover::session::drop_session` meets its contract: the state's rule alone decides.
+-- `or_session::drop_session` meets its contract: the state's rule alone decides.
 -- Assumes nothing.
 use mathlib.Core.Path.{refl, sym}
 use mathlib.Core.List.{[]}
 use native.Mathlib.Omega.{arith}
-use borrow.Author.Needs.{needs}
 use Rattle.lists.specs.Places.{pad8}
 use Rattle.rules.specs.Rule.{lowest}
 use Rattle.rules.proofs.Lowest.{pass, stop}
 use Rattle.disjunctions.specs.Prover.{dropOr, dropOrRules}
-use Rattle.or_prover.proofs.States.{is-started, not-started}
-use Rattle.or_prover.proofs.Steps.{step-refused, step-given}
-use Rattle.or_prover.proofs.session.drop_session.Statement.{statement}
-use Rattle.or_prover.proofs.session.drop_session.Tie as tie
+use Rattle.or_session.proofs.States.{is-started, not-started}
+use Rattle.or_session.proofs.Steps.{step-refused, step-given}
+use Rattle.or_session.proofs.drop_session.Statement.{statement}
+use Rattle.or_session.proofs.drop_session.Tie as tie
 
 wiped-requires : tie.Need-wiped-requires
-wiped-requires c κs = search needs
+wiped-requires c κs = omega arith
 
 refused-requires : tie.Need-refused-requires
-refused-requires c κs = search needs
+refused-requires c κs = omega arith
 
 returns : tie.Need-returns
 unfolding dropOr dropOrRules lowest pad8

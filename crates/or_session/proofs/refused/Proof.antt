@@ -1,9 +1,9 @@
--- `or_prover::session::refused` meets its contract: eight zeros are written out.
+-- `or_session::refused` meets its contract: eight zeros are written out.
 -- Assumes nothing.
 use mathlib.Core.Path.{refl}
 use Rattle.lists.specs.Places.{zeros8}
-use Rattle.or_prover.proofs.session.refused.Statement.{statement}
-use Rattle.or_prover.proofs.session.refused.Tie as tie
+use Rattle.or_session.proofs.refused.Statement.{statement}
+use Rattle.or_session.proofs.refused.Tie as tie
 
 returns : tie.Need-returns
 unfolding zeros8

@@ -1,5 +1,5 @@
-// Peggy's session of the OR proof where no sheet is taken: a new session, the answer of a refused call, a wiped session, and
-// dropping.
+// Peggy's session of the OR proof where no sheet is taken (02, card 4): a new session, the answer of a refused call, a wiped
+// session, and dropping.
 use disjunctions::OrProver;
 use disjunctions::OrStep;
 use types::ProverPhase;
