@@ -26,8 +26,8 @@
  * What a call takes. Any bytes and any numbers: every call ends in an answer, and it is proved to be the one that the call's
  * definition gives (docs/promises/exports.md lists the definitions). The caller owes four things. A pointer with a length
  * behind it points to that many bytes or numbers (where the length is 0 it is not used and may be NULL). A pointer written
- * with the size of an array points to that much, and one to a session or a verdict to one. What a call writes to shares no
- * byte with anything else that the same call is given. And nobody else changes these bytes during the call.
+ * with the size of an array points to that much, and one to a session, a round or a verdict to one. What a call writes to
+ * shares no byte with anything else that the same call is given. And nobody else changes these bytes during the call.
  *
  * Sheets. A sheet describes a homomorphism, its table, with a statement, and comes as bytes. Each call that takes one tests
  * it from the start and refuses a bad one with 2 to 11. m is the modulus, q the order and e the exponent, K the challenge
@@ -37,11 +37,11 @@
  *
  * Arrays of eight. Commitments and statements have s values, witnesses, nonces and responses n. They cross in arrays of
  * eight. The places behind these values are not read where a call takes them, and are 0 where a call answers them. A
- * session keeps what it holds in all eight, and the commitment that Peggy's holds is tested in all eight (by 21).
+ * session keeps what it holds in all eight, and the commitments that Peggy's hold are tested in all eight (by 21).
  *
  * Refusals. A call answers a number, or a struct with a field `refusal`: 0, or the number of what was refused. Where several
- * apply it is the earliest in the order 23, 24, 1 to 12, 25, 13 to 22. A refused call changes no session, array or buffer,
- * and has 0 in every other field of its answer. Compilers warn of a call whose answer is thrown away.
+ * apply it is the earliest in the order 23, 24, 1 to 11, 26, 12, 25, 13 to 22. A refused call changes no session, array or
+ * buffer, and has 0 in every other field of its answer. Compilers warn of a call whose answer is thrown away.
  *
  * Random numbers are the caller's: nonces, challenges and simulated responses are handed in. A nonce has to be drawn at
  * random from all coordinates for each session, or the responses give the witness away.
@@ -85,6 +85,7 @@ extern "C" {
 #define DIMKHOROS_LONGEST_REASON 48     /* bytes that hold every line of the reason */
 #define DIMKHOROS_STORED_PROVER 79      /* bytes of a stored session of Peggy's */
 #define DIMKHOROS_STORED_VERIFIER 51    /* bytes of a stored session of Vic's */
+#define DIMKHOROS_STORED_OR_PROVER 151  /* bytes of a stored session of Peggy's of the OR proof */
 
 /* Kinds of sheets. */
 #define DIMKHOROS_EXPONENT 1 /* the image multiplies powers of the table's entries; the witness is in the exponents */
@@ -100,7 +101,7 @@ extern "C" {
 #define DIMKHOROS_PATTERN_DIFFIE_HELLMAN 4 /* values h B; rows h and B */
 #define DIMKHOROS_PATTERN_PRODUCT 5        /* values g h B; rows g h 1 and B 1 h */
 
-/* States of Peggy's session. */
+/* States of Peggy's sessions. In the OR proof the side and the simulated values are held with the nonce, and gone with it. */
 #define DIMKHOROS_PROVER_NEW 0       /* nothing has happened */
 #define DIMKHOROS_PROVER_COMMITTED 1 /* a nonce and its commitment are held */
 #define DIMKHOROS_PROVER_ANSWERED 2  /* a challenge was answered and the nonce is gone */
@@ -112,7 +113,7 @@ extern "C" {
 #define DIMKHOROS_VERIFIER_ASKED 2   /* a commitment and the challenge given on it are held */
 #define DIMKHOROS_VERIFIER_JUDGED 3  /* a response was judged */
 
-/* Every refusal by its number, with its name and what it says. 23 and 24 are tested before 1. */
+/* Every refusal by its number, with its name and what it says. 23 and 24 are tested before 1, 26 behind 11 and 25 behind 12. */
 #define DIMKHOROS_REFUSALS(REFUSAL)                                                                               \
     REFUSAL(1, PATTERN, "the pattern file has no pattern of this number, or it takes another count of values")    \
     REFUSAL(2, SHEET_MARK, "the sheet is shorter than a header or does not begin with HOM")                       \
@@ -140,7 +141,8 @@ extern "C" {
     REFUSAL(23, PATTERN_FILE, "the bytes are no pattern file: the mark, version, count, rows, columns, number of" \
                               " values or length is wrong")                                                       \
     REFUSAL(24, PATTERN_DIGITS, "a pattern has a digit above its number of values, or a value that no digit names") \
-    REFUSAL(25, LEVEL, "the level has to be one byte from 1 to 64")
+    REFUSAL(25, LEVEL, "the level has to be one byte from 1 to 64")                                               \
+    REFUSAL(26, COUNTS_DIFFER, "the two sheets have different challenge counts")
 
 /* The refusals by name: DIMKHOROS_REFUSED_PATTERN is 1, and so on through the list. */
 enum {
@@ -212,6 +214,12 @@ typedef struct {
     size_t length;
 } DimkhorosPart;
 
+/* Whether two rounds of a file have the same commitment. */
+typedef struct {
+    uint32_t same; /* 1 if they have, else 0 */
+    uint32_t refusal;
+} DimkhorosCompared;
+
 /* A simulated commitment or an extracted witness. */
 typedef struct {
     uint32_t values[DIMKHOROS_PLACES];
@@ -225,6 +233,31 @@ typedef struct {
     uint32_t refusal;
 } DimkhorosJudgement;
 
+/* One run of the OR proof. Side 1 has the challenge (c - c0) mod K. */
+typedef struct {
+    uint32_t commitment0[DIMKHOROS_PLACES]; /* side 0's t */
+    uint32_t commitment1[DIMKHOROS_PLACES]; /* side 1's t */
+    uint32_t response0[DIMKHOROS_PLACES];   /* side 0's r */
+    uint32_t response1[DIMKHOROS_PLACES];   /* side 1's r */
+    uint32_t challenge;                     /* c */
+    uint32_t challenge0;                    /* c0, side 0's challenge */
+} DimkhorosOrRound;
+
+/* A verdict on a round of the OR proof. It is accepted only where `accepted` is 1: a refused round has 0 there too. */
+typedef struct {
+    uint32_t accepted; /* 1 if both sides are accepted, else 0 */
+    uint32_t side;     /* of a rejected round, the first side, 0 or 1, that is rejected */
+    uint32_t row;      /* and the first row, from 0, in which that side's two values differ */
+    uint32_t refusal;
+} DimkhorosOrJudgement;
+
+/* An extracted witness of one of two sheets. */
+typedef struct {
+    uint32_t values[DIMKHOROS_PLACES];
+    uint32_t side; /* the side that it is a witness of, 0 or 1 */
+    uint32_t refusal;
+} DimkhorosOrExtracted;
+
 /*
  * Peggy's session. Over any calls on one session at most one challenge is answered: this is proved of the archive's calls. The
  * library cannot know of copies. Whoever answers two challenges from two copies of one session gives the witness away, so a
@@ -237,6 +270,20 @@ typedef struct {
     uint32_t commitment[DIMKHOROS_PLACES];
     uint32_t phase;
 } DimkhorosProverSession;
+
+/*
+ * Peggy's session of the OR proof, of which the same is proved. The side and the simulated values are as secret as the nonce:
+ * they tell which of the two witnesses she holds. Any phase beyond the four is a state that allows no call.
+ */
+typedef struct {
+    uint32_t nonce[DIMKHOROS_PLACES];       /* of the side whose witness she knows */
+    uint32_t response[DIMKHOROS_PLACES];    /* the other side's, simulated */
+    uint32_t commitment0[DIMKHOROS_PLACES];
+    uint32_t commitment1[DIMKHOROS_PLACES];
+    uint32_t challenge;                     /* the other side's, simulated */
+    uint32_t side;                          /* the side whose witness she knows, 0 or 1 */
+    uint32_t phase;
+} DimkhorosOrSession;
 
 /* Vic's session. Any phase beyond the four is a state that allows no call. */
 typedef struct {
@@ -306,8 +353,8 @@ DimkhorosWritten dimkhoros_from_pattern(const uint8_t *patterns, size_t patterns
 
 /*
  * A call that is given a session's address, Peggy's or Vic's, answers 0 where it is carried out: the session is then the one
- * that comes after the call, and the values are given. Else it answers the refusal's number, and the session, array and
- * verdict that it was given keep what they hold.
+ * that comes after the call, and the values are given. Else it answers the refusal's number, and the session, arrays, round
+ * and verdict that it was given keep what they hold.
  */
 
 /* A new session: DIMKHOROS_PROVER_NEW, with zeros. */
@@ -366,16 +413,17 @@ static inline uint32_t dimkhoros_take_response(const uint8_t *sheet, size_t shee
 /*
  * The bytes of a stored session, numbers with the high byte first:
  *
- *     0 to 2   PRV for Peggy's, VRF for Vic's
+ *     0 to 2   PRV for Peggy's, VRF for Vic's, ORP for Peggy's of the OR proof
  *     3, 4     the version, 1
- *     5, 6     the length of the whole, 79 or 51
- *     7 on     32-bit numbers: Peggy's nonce (8), commitment (8) and state; Vic's commitment (8), challenge and state
+ *     5, 6     the length of the whole, 79, 51 or 151
+ *     7 on     32-bit numbers: Peggy's nonce (8), commitment (8) and state; Vic's commitment (8), challenge and state; in the
+ *              OR proof nonce (8), simulated response (8), commitments (8 and 8), simulated challenge, side and state
  *     last 4   the CRC-32 of IEEE 802.3 of all bytes before
  *
  * Anything else is refused. So a file that is empty, cut, longer or changed in one byte is never taken for a session, and one
- * that is damaged otherwise, by chance, once in four billion times. A session whose phase is beyond the four is stored, and
- * refused when it is restored. A committed Peggy's bytes hold her nonce: whoever reads them computes the witness from her
- * response.
+ * that is damaged otherwise, by chance, once in four billion times. A session whose phase is beyond the four, or whose side is
+ * beyond 1, is stored, and refused when it is restored. A committed Peggy's bytes hold her nonce: whoever reads them computes
+ * the witness from her response.
  */
 
 /* Puts the stored form of Peggy's session into `stored`. */
@@ -399,6 +447,17 @@ static inline void dimkhoros_verifier_store(const DimkhorosVerifierSession *sess
 DIMKHOROS_CHECKED
 static inline int dimkhoros_verifier_restore(const uint8_t *stored, size_t length, DimkhorosVerifierSession *session);
 
+/* Puts the stored form of Peggy's session of the OR proof into `stored`. */
+static inline void dimkhoros_or_prover_store(const DimkhorosOrSession *session,
+                                             uint8_t stored[DIMKHOROS_STORED_OR_PROVER]);
+
+/*
+ * Sets Peggy's session of the OR proof to the one that these bytes hold and answers 1. Answers 0, and leaves the session alone,
+ * where they are anything else than what dimkhoros_or_prover_store writes of one of the four states and of side 0 or 1.
+ */
+DIMKHOROS_CHECKED
+static inline int dimkhoros_or_prover_restore(const uint8_t *stored, size_t length, DimkhorosOrSession *session);
+
 /* --- Rounds --- */
 
 /* Answers Vic's verdict on a round. Refuses 2 to 11 and 14 to 16. */
@@ -420,6 +479,62 @@ DimkhorosComputed dimkhoros_simulate(const uint8_t *sheet, size_t sheet_length, 
 DIMKHOROS_CHECKED
 DimkhorosComputed dimkhoros_extract(const uint8_t *sheet, size_t sheet_length, DimkhorosRound first,
                                     DimkhorosRound second);
+
+/* --- The OR proof --- */
+
+/*
+ * "I know a witness of one of the two." There are two sheets with one K, and so two sides, 0 and 1; else they may differ in
+ * everything. Peggy knows a witness of one side. Of the other she chooses the challenge and the response before she commits, and
+ * simulates its commitment. When she then hears c, her own side answers what is left of it: c0 + c1 is c modulo K. Holders of
+ * either witness make the same rounds, so that a round does not tell which of the two is known: this is proved.
+ *
+ * Each of 2 to 11 is asked of both sheets before the next number, and then 26 is given where their challenge counts differ. What
+ * belongs to a side is tested by its own sheet.
+ */
+
+/* A new session: DIMKHOROS_PROVER_NEW, with zeros. */
+DIMKHOROS_CHECKED
+DimkhorosOrSession dimkhoros_or_prover_new(void);
+
+/*
+ * Commits a new session: `side` is the side whose witness Peggy knows, 0, or 1 for any other number; the nonce is that side's,
+ * and `challenge` and `response` are those that she simulates the other side with. Gives both commitments. Leads to Committed.
+ * Nonce, challenge and response are the caller's and have to be drawn at random. Refuses 2 to 11, 26, 15, 16 and 21.
+ */
+DIMKHOROS_CHECKED
+static inline uint32_t dimkhoros_or_commit(const uint8_t *first, size_t first_length, const uint8_t *second,
+                                           size_t second_length, DimkhorosOrSession *session, uint32_t side,
+                                           const uint32_t nonce[DIMKHOROS_PLACES], uint32_t challenge,
+                                           const uint32_t response[DIMKHOROS_PLACES],
+                                           uint32_t commitment0[DIMKHOROS_PLACES],
+                                           uint32_t commitment1[DIMKHOROS_PLACES]);
+
+/*
+ * Answers a challenge by a witness of the side that the session holds: sets `round` to the whole round, with the held
+ * commitments, and sets nonce, side, simulated challenge and simulated response to zeros. Leads to Answered. Refuses 2 to 11, 26,
+ * 15 to 17 and 21; a committed session that is refused stays committed and can still answer.
+ */
+DIMKHOROS_CHECKED
+static inline uint32_t dimkhoros_or_respond(const uint8_t *first, size_t first_length, const uint8_t *second,
+                                            size_t second_length, DimkhorosOrSession *session, uint32_t challenge,
+                                            const uint32_t witness[DIMKHOROS_PLACES], DimkhorosOrRound *round);
+
+/* Gives up a new or committed session and sets all but its commitments to zeros. Leads to Dropped. Refuses 21. */
+DIMKHOROS_CHECKED
+static inline uint32_t dimkhoros_or_drop(DimkhorosOrSession *session);
+
+/* Answers the verdict on a round of two sheets. Refuses 2 to 11, 26 and 14 to 16; 15 is for c and for c0. */
+DIMKHOROS_CHECKED
+DimkhorosOrJudgement dimkhoros_or_judge(const uint8_t *first, size_t first_length, const uint8_t *second,
+                                        size_t second_length, DimkhorosOrRound round);
+
+/*
+ * The extractor: answers the witness that two accepted rounds with the same two commitments and different c give away: side 0's
+ * if the two c0 differ, else side 1's. Refuses 2 to 11, 26, 14 to 16 and 18 to 20.
+ */
+DIMKHOROS_CHECKED
+DimkhorosOrExtracted dimkhoros_or_extract(const uint8_t *first, size_t first_length, const uint8_t *second,
+                                          size_t second_length, DimkhorosOrRound a, DimkhorosOrRound b);
 
 /* --- Round files --- */
 
@@ -444,6 +559,14 @@ DimkhorosPart dimkhoros_part(const uint8_t *sheet, size_t sheet_length, const ui
 DIMKHOROS_CHECKED
 DimkhorosFetched dimkhoros_read(const uint8_t *sheet, size_t sheet_length, const uint8_t *file, size_t file_length,
                                 size_t number);
+
+/*
+ * Answers whether the rounds of these two numbers, which may be the same, have the same commitment: whether all its 4 * s bytes
+ * agree as they stand in the file. Refuses 2 to 13; 13 is for either number.
+ */
+DIMKHOROS_CHECKED
+DimkhorosCompared dimkhoros_same_commitment(const uint8_t *sheet, size_t sheet_length, const uint8_t *file,
+                                            size_t file_length, uint32_t i, uint32_t j);
 
 /* Writes a file without rounds to the start of `buffer` and answers its length, 7. Refuses 22. */
 DIMKHOROS_CHECKED
@@ -526,6 +649,15 @@ typedef struct {
     DimkhorosVerifierSession session;
 } DimkhorosVerifierJudgement;
 
+/* What a call on Peggy's session of the OR proof answers. */
+typedef struct {
+    DimkhorosOrSession session;
+    uint32_t values0[DIMKHOROS_PLACES]; /* side 0's commitment or response */
+    uint32_t values1[DIMKHOROS_PLACES]; /* side 1's commitment or response */
+    uint32_t challenge0;                /* c0 beside the responses, 0 beside the commitments */
+    uint32_t refusal;
+} DimkhorosOrAnswer;
+
 /* The pure form of dimkhoros_commit. */
 DIMKHOROS_CHECKED
 DimkhorosProverAnswer dimkhoros_prover_commit(const uint8_t *sheet, size_t sheet_length, DimkhorosProverSession session,
@@ -558,16 +690,38 @@ DimkhorosVerifierJudgement dimkhoros_verifier_response(const uint8_t *sheet, siz
                                                        DimkhorosVerifierSession session,
                                                        const uint32_t response[DIMKHOROS_PLACES]);
 
+/* The pure form of dimkhoros_or_commit. */
+DIMKHOROS_CHECKED
+DimkhorosOrAnswer dimkhoros_or_prover_commit(const uint8_t *first, size_t first_length, const uint8_t *second,
+                                             size_t second_length, DimkhorosOrSession session, uint32_t side,
+                                             const uint32_t nonce[DIMKHOROS_PLACES], uint32_t challenge,
+                                             const uint32_t response[DIMKHOROS_PLACES]);
+
+/* The pure form of dimkhoros_or_respond. */
+DIMKHOROS_CHECKED
+DimkhorosOrAnswer dimkhoros_or_prover_respond(const uint8_t *first, size_t first_length, const uint8_t *second,
+                                              size_t second_length, DimkhorosOrSession session, uint32_t challenge,
+                                              const uint32_t witness[DIMKHOROS_PLACES]);
+
+/* The pure form of dimkhoros_or_drop. The values of its answer are zeros. */
+DIMKHOROS_CHECKED
+DimkhorosOrAnswer dimkhoros_or_prover_drop(DimkhorosOrSession session);
+
 /* --- How the calls on sessions come from the pure form --- */
+
+/* Puts eight numbers into eight places. */
+static inline void dimkhoros_places_copy(uint32_t to[DIMKHOROS_PLACES], const uint32_t from[DIMKHOROS_PLACES]) {
+    for (size_t i = 0; i < DIMKHOROS_PLACES; i++) {
+        to[i] = from[i];
+    }
+}
 
 /* Takes over what a call on Peggy's session answered: the session first, then the values where nothing is refused. */
 static inline uint32_t dimkhoros_prover_step(const DimkhorosProverAnswer *answer, DimkhorosProverSession *session,
                                              uint32_t values[DIMKHOROS_PLACES]) {
     *session = answer->session;
     if (answer->refusal == 0) {
-        for (size_t i = 0; i < DIMKHOROS_PLACES; i++) {
-            values[i] = answer->values[i];
-        }
+        dimkhoros_places_copy(values, answer->values);
     }
     return answer->refusal;
 }
@@ -614,6 +768,45 @@ static inline uint32_t dimkhoros_take_response(const uint8_t *sheet, size_t shee
         *verdict = answer.verdict;
     }
     return answer.verdict.refusal;
+}
+
+static inline uint32_t dimkhoros_or_commit(const uint8_t *first, size_t first_length, const uint8_t *second,
+                                           size_t second_length, DimkhorosOrSession *session, uint32_t side,
+                                           const uint32_t nonce[DIMKHOROS_PLACES], uint32_t challenge,
+                                           const uint32_t response[DIMKHOROS_PLACES],
+                                           uint32_t commitment0[DIMKHOROS_PLACES],
+                                           uint32_t commitment1[DIMKHOROS_PLACES]) {
+    DimkhorosOrAnswer answer = dimkhoros_or_prover_commit(first, first_length, second, second_length, *session, side,
+                                                          nonce, challenge, response);
+    *session = answer.session;
+    if (answer.refusal == 0) {
+        dimkhoros_places_copy(commitment0, answer.values0);
+        dimkhoros_places_copy(commitment1, answer.values1);
+    }
+    return answer.refusal;
+}
+
+static inline uint32_t dimkhoros_or_respond(const uint8_t *first, size_t first_length, const uint8_t *second,
+                                            size_t second_length, DimkhorosOrSession *session, uint32_t challenge,
+                                            const uint32_t witness[DIMKHOROS_PLACES], DimkhorosOrRound *round) {
+    DimkhorosOrAnswer answer =
+        dimkhoros_or_prover_respond(first, first_length, second, second_length, *session, challenge, witness);
+    *session = answer.session;
+    if (answer.refusal == 0) {
+        dimkhoros_places_copy(round->commitment0, answer.session.commitment0);
+        dimkhoros_places_copy(round->commitment1, answer.session.commitment1);
+        dimkhoros_places_copy(round->response0, answer.values0);
+        dimkhoros_places_copy(round->response1, answer.values1);
+        round->challenge = challenge;
+        round->challenge0 = answer.challenge0;
+    }
+    return answer.refusal;
+}
+
+static inline uint32_t dimkhoros_or_drop(DimkhorosOrSession *session) {
+    DimkhorosOrAnswer answer = dimkhoros_or_prover_drop(*session);
+    *session = answer.session;
+    return answer.refusal;
 }
 
 /* --- How sessions are stored --- */
@@ -664,7 +857,7 @@ static inline void dimkhoros_stored_write(const char *mark, const uint32_t *valu
  */
 static inline int dimkhoros_stored_read(const char *mark, const uint8_t *stored, size_t length, uint32_t *values,
                                         uint32_t count) {
-    uint8_t expected[DIMKHOROS_STORED_PROVER];
+    uint8_t expected[DIMKHOROS_STORED_OR_PROVER];
     if (length != 11 + 4 * count) {
         return 0;
     }
@@ -724,6 +917,35 @@ static inline int dimkhoros_verifier_restore(const uint8_t *stored, size_t lengt
     }
     session->challenge = values[DIMKHOROS_PLACES];
     session->phase = values[DIMKHOROS_PLACES + 1];
+    return 1;
+}
+
+static inline void dimkhoros_or_prover_store(const DimkhorosOrSession *session,
+                                             uint8_t stored[DIMKHOROS_STORED_OR_PROVER]) {
+    uint32_t values[4 * DIMKHOROS_PLACES + 3];
+    dimkhoros_places_copy(values, session->nonce);
+    dimkhoros_places_copy(values + DIMKHOROS_PLACES, session->response);
+    dimkhoros_places_copy(values + 2 * DIMKHOROS_PLACES, session->commitment0);
+    dimkhoros_places_copy(values + 3 * DIMKHOROS_PLACES, session->commitment1);
+    values[4 * DIMKHOROS_PLACES] = session->challenge;
+    values[4 * DIMKHOROS_PLACES + 1] = session->side;
+    values[4 * DIMKHOROS_PLACES + 2] = session->phase;
+    dimkhoros_stored_write("ORP", values, 4 * DIMKHOROS_PLACES + 3, stored);
+}
+
+static inline int dimkhoros_or_prover_restore(const uint8_t *stored, size_t length, DimkhorosOrSession *session) {
+    uint32_t values[4 * DIMKHOROS_PLACES + 3];
+    if (!dimkhoros_stored_read("ORP", stored, length, values, 4 * DIMKHOROS_PLACES + 3) ||
+        values[4 * DIMKHOROS_PLACES + 1] > 1) {
+        return 0;
+    }
+    dimkhoros_places_copy(session->nonce, values);
+    dimkhoros_places_copy(session->response, values + DIMKHOROS_PLACES);
+    dimkhoros_places_copy(session->commitment0, values + 2 * DIMKHOROS_PLACES);
+    dimkhoros_places_copy(session->commitment1, values + 3 * DIMKHOROS_PLACES);
+    session->challenge = values[4 * DIMKHOROS_PLACES];
+    session->side = values[4 * DIMKHOROS_PLACES + 1];
+    session->phase = values[4 * DIMKHOROS_PLACES + 2];
     return 1;
 }
 

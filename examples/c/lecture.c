@@ -1,6 +1,7 @@
 /*
- * The extractor and the simulator, for a lecture. Two rounds on one nonce give the witness away, so nobody can make such
- * rounds without knowing it; and rounds can be simulated without the witness, so a round tells Vic nothing about it.
+ * The extractor, the simulator and the OR proof, for a lecture. Two rounds on one nonce give the witness away, so nobody can make
+ * such rounds without knowing it; rounds can be simulated without the witness, so a round tells Vic nothing about it; and Peggy,
+ * who knows a witness of one of two sheets, simulates the other, so a round does not tell which of the two she knows.
  */
 #include "common.h"
 #include <string.h>
@@ -67,10 +68,86 @@ static void show_simulator(const uint8_t *sheet, size_t length, uint32_t challen
     printf("%s\n", same ? "The rounds are the same, so none of them tells who made it." : "The rounds differ.");
 }
 
+/* Page A's sheet and a root sheet, y^11 = 18 modulo 35, with one K. */
+typedef struct {
+    const uint8_t *first;
+    size_t first_length;
+    uint8_t second[DIMKHOROS_LONGEST_SHEET];
+    size_t second_length;
+} Pair;
+
+/* Who knows a witness of one side, and what is drawn: that side's nonce, and a challenge and a response to simulate the other. */
+typedef struct {
+    const char *knows;
+    uint32_t side, witness[8], nonce[8], challenge, response[8];
+} Holder;
+
+/* Two Peggys, who draw what leads to the same round where they are asked 4. */
+static const Holder holders[2] = {{"y = 2", 1, {2}, {3}, 6, {2}}, {"x = 7", 0, {7}, {4}, 9, {31}}};
+
+static Pair paired(const uint8_t *sheet, size_t length) {
+    const uint32_t z = 18;
+    Pair pair = {.first = sheet, .first_length = length};
+    uint8_t patterns[DIMKHOROS_SHIPPED_PATTERNS];
+    expect(dimkhoros_patterns(patterns, sizeof patterns).refusal);
+    DimkhorosWritten made = dimkhoros_from_pattern(patterns, sizeof patterns, DIMKHOROS_PATTERN_ROOT, 35, 11, 11, NULL, 0,
+                                                   &z, 1, pair.second, sizeof pair.second);
+    expect(made.refusal);
+    pair.second_length = made.length;
+    return pair;
+}
+
+/* A session that is committed to what its holder drew. */
+static DimkhorosOrSession committed_either(const Pair *pair, const Holder *peggy) {
+    uint32_t commitment0[8], commitment1[8];
+    DimkhorosOrSession session = dimkhoros_or_prover_new();
+    expect(dimkhoros_or_commit(pair->first, pair->first_length, pair->second, pair->second_length, &session, peggy->side,
+                               peggy->nonce, peggy->challenge, peggy->response, commitment0, commitment1));
+    return session;
+}
+
+/* A copy of a session answers this challenge and the round is shown. The caller keeps the session itself. */
+static DimkhorosOrRound answer_either(const Pair *pair, const Holder *peggy, DimkhorosOrSession copy, uint32_t challenge) {
+    DimkhorosOrRound round;
+    expect(dimkhoros_or_respond(pair->first, pair->first_length, pair->second, pair->second_length, &copy, challenge,
+                                peggy->witness, &round));
+    DimkhorosOrJudgement verdict =
+        dimkhoros_or_judge(pair->first, pair->first_length, pair->second, pair->second_length, round);
+    expect(verdict.refusal);
+    printf("asked %u: t0 = %u, t1 = %u, c0 = %u, c1 = %u, r0 = %u, r1 = %u, %s\n", challenge, round.commitment0[0],
+           round.commitment1[0], round.challenge0, (challenge + ORDER - round.challenge0) % ORDER, round.response0[0],
+           round.response1[0], verdict.accepted ? "accepted" : "rejected");
+    return round;
+}
+
+/* Holders of either witness make the same round, and two rounds of one of them name the side. */
+static void show_or_proof(const Pair *pair) {
+    printf("\nThe OR proof. Peggy knows x with 2^x = 13 modulo 23, or y with y^11 = 18 modulo 35.\n");
+    DimkhorosOrSession sessions[2];
+    DimkhorosOrRound rounds[2];
+    for (int i = 0; i < 2; i++) {
+        printf("Peggy knows %s and simulates side %u.\n", holders[i].knows, 1 - holders[i].side);
+        sessions[i] = committed_either(pair, &holders[i]);
+        rounds[i] = answer_either(pair, &holders[i], sessions[i], 4);
+    }
+    int same = memcmp(&rounds[0], &rounds[1], sizeof rounds[0]) == 0;
+    printf("%s\n", same ? "The rounds are the same, so none of them tells what she knows." : "The rounds differ.");
+    for (int i = 0; i < 2; i++) {
+        printf("A copy of her who knows %s answers once more, which no box may do.\n", holders[i].knows);
+        DimkhorosOrRound second = answer_either(pair, &holders[i], sessions[i], 7);
+        DimkhorosOrExtracted extracted = dimkhoros_or_extract(pair->first, pair->first_length, pair->second,
+                                                              pair->second_length, rounds[i], second);
+        expect(extracted.refusal);
+        printf("the two rounds give away the witness of side %u: %u\n", extracted.side, extracted.values[0]);
+    }
+}
+
 int main(void) {
     uint8_t sheet[DIMKHOROS_LONGEST_SHEET];
     size_t length = page_a(sheet);
     show_extractor(sheet, length);
     show_simulator(sheet, length, 3);
+    Pair pair = paired(sheet, length);
+    show_or_proof(&pair);
     return 0;
 }

@@ -12,11 +12,14 @@ pub enum Call {
     Check,
     Part,
     Read,
+    SameCommitment,
     Empty,
     Append,
     Judge,
     Simulate,
     Extract,
+    OrJudge,
+    OrExtract,
     ProverNew,
     ProverCommit,
     ProverRespond,
@@ -25,12 +28,16 @@ pub enum Call {
     VerifierCommitment,
     VerifierChallenge,
     VerifierResponse,
+    OrProverNew,
+    OrProverCommit,
+    OrProverRespond,
+    OrProverDrop,
     Mark,
     Reason,
 }
 
 /// A call's name in the interface, without the library's own name, whether it
-/// loads a sheet, and the other numbers that it can give, in their order.
+/// loads a sheet or two, and the other numbers that it can give, in their order.
 struct Entry {
     call: Call,
     name: &'static str,
@@ -60,11 +67,14 @@ const CALLS: &[Entry] = &[
     entry(Call::Check, "check", true, &[12, 13]),
     entry(Call::Part, "part", true, &[12, 13]),
     entry(Call::Read, "read", true, &[12, 13]),
+    entry(Call::SameCommitment, "same_commitment", true, &[12, 13]),
     entry(Call::Empty, "empty", false, &[22]),
     entry(Call::Append, "append", true, &[12, 22]),
     entry(Call::Judge, "judge", true, &[14, 15, 16]),
     entry(Call::Simulate, "simulate", true, &[15, 16]),
     entry(Call::Extract, "extract", true, &[14, 15, 16, 18, 19, 20]),
+    entry(Call::OrJudge, "or_judge", true, &[26, 14, 15, 16]),
+    entry(Call::OrExtract, "or_extract", true, &[26, 14, 15, 16, 18, 19, 20]),
     entry(Call::ProverNew, "prover_new", false, &[]),
     entry(Call::ProverCommit, "prover_commit", true, &[16, 21]),
     entry(Call::ProverRespond, "prover_respond", true, &[15, 16, 17, 21]),
@@ -73,6 +83,10 @@ const CALLS: &[Entry] = &[
     entry(Call::VerifierCommitment, "verifier_commitment", true, &[14, 21]),
     entry(Call::VerifierChallenge, "verifier_challenge", true, &[15, 21]),
     entry(Call::VerifierResponse, "verifier_response", true, &[16, 21]),
+    entry(Call::OrProverNew, "or_prover_new", false, &[]),
+    entry(Call::OrProverCommit, "or_prover_commit", true, &[26, 15, 16, 21]),
+    entry(Call::OrProverRespond, "or_prover_respond", true, &[26, 15, 16, 17, 21]),
+    entry(Call::OrProverDrop, "or_prover_drop", false, &[21]),
     entry(Call::Mark, "mark", true, &[12, 25, 14, 15, 16]),
     entry(Call::Reason, "reason", true, &[12, 13, 14, 15, 16]),
 ];
@@ -83,7 +97,7 @@ pub const CALL_COUNT: usize = CALLS.len();
 /// All numbers in the order in which they are tested, the cards' numbers where
 /// 02 puts them. Of several that apply the first here is given.
 pub const ORDER: [u32; LAST as usize] = [
-    23, 24, 1, 2, 3, 4, 5, 6, 7, 8, 9, 10, 11, 12, 25, 13, 14, 15, 16, 17, 18, 19, 20, 21, 22,
+    23, 24, 1, 2, 3, 4, 5, 6, 7, 8, 9, 10, 11, 26, 12, 25, 13, 14, 15, 16, 17, 18, 19, 20, 21, 22,
 ];
 
 /// The numbers that the loading of a sheet can give.
@@ -138,9 +152,13 @@ impl Call {
         number == 0 || self.others().contains(&number) || loads && SHEET_NUMBERS.contains(&number)
     }
 
-    /// Whether the call answers a verdict.
-    pub fn judges(self) -> bool {
-        matches!(self, Call::Judge | Call::VerifierResponse | Call::Reason)
+    /// How many sides the call answers a verdict on.
+    pub fn sides(self) -> usize {
+        match self {
+            Call::Judge | Call::VerifierResponse | Call::Reason => 1,
+            Call::OrJudge => 2,
+            _ => 0,
+        }
     }
 }
 

@@ -1,6 +1,8 @@
 //! One call, or one run of calls, with all its inputs.
 
 mod files;
+mod or_rounds;
+mod or_sessions;
 mod rounds;
 mod sessions;
 mod sheets;
@@ -13,7 +15,9 @@ use crate::calls::Call;
 use crate::library::{Header, Library, Places};
 use crate::outcome::Outcome;
 
-pub use files::{FileCall, FileCase};
+pub use files::{FileCall, FileCase, SameCase};
+pub use or_rounds::{OrRoundCall, OrRoundCase};
+pub use or_sessions::{OrSessionCase, OrStep};
 pub use rounds::{RoundCall, RoundCase};
 pub use sessions::{SessionCase, Step};
 pub use sheets::SheetCase;
@@ -34,10 +38,10 @@ pub trait Case: fmt::Debug + fmt::Display {
             .collect()
     }
 
-    /// The fixed fields of the sheet, where it has all of them.
+    /// The fixed fields of the sheet, the first of two, where it has all of them.
     fn header(&self) -> Option<Header>;
 
-    /// The nonces, witnesses and responses that are handed in.
+    /// The nonces, witnesses and responses that are handed in for this sheet.
     fn slots(&self) -> Vec<Places> {
         Vec::new()
     }

@@ -5,10 +5,12 @@
 //! witness. Two accepted rounds with one commitment and two challenges extract
 //! a witness, the same one in either order.
 
-mod sheets;
+pub mod sheets;
 
 use std::cell::Cell;
 use std::collections::{BTreeMap, HashSet};
+use std::fmt::Debug;
+use std::hash::Hash;
 
 use crate::groups::Group;
 use crate::library::{Library, Places, Round};
@@ -33,7 +35,7 @@ pub fn check(library: Library) -> Result<String, String> {
 }
 
 /// Every choice of so many of the values, with 0 in the places beyond.
-fn choices(values: &[u32], count: usize) -> Vec<Places> {
+pub fn choices(values: &[u32], count: usize) -> Vec<Places> {
     let mut all = vec![[0; 8]];
     for place in 0..count {
         let extended = all.iter().flat_map(|choice| {
@@ -50,17 +52,17 @@ fn choices(values: &[u32], count: usize) -> Vec<Places> {
 
 /// A small sheet with all its nonces, which are also its responses, and all its
 /// witnesses.
-struct Small {
+pub struct Small {
     library: Library,
     calls: Cell<u64>,
-    bytes: Vec<u8>,
-    sheet: Sheet,
-    domain: Vec<Places>,
-    witnesses: Vec<Places>,
+    pub bytes: Vec<u8>,
+    pub sheet: Sheet,
+    pub domain: Vec<Places>,
+    pub witnesses: Vec<Places>,
 }
 
 impl Small {
-    fn new(library: Library, sheet: Sheet) -> Small {
+    pub fn new(library: Library, sheet: Sheet) -> Small {
         let header = sheet.header;
         let group = Group::new(header.kind, header.modulus, header.order);
         let slots: Vec<u32> = match header.kind {
@@ -106,9 +108,9 @@ impl Small {
         rounds.values().try_for_each(|rounds| self.extract(rounds))
     }
 
-    /// All accepted rounds with this challenge, by judging every choice of
-    /// numbers in range and of some that are not.
-    fn accepted(&self, challenge: u32) -> Vec<Round> {
+    /// The commitments and the responses that are tried: every choice of numbers in
+    /// range and of some that are not.
+    pub fn tried(&self) -> [Vec<Places>; 2] {
         let header = self.sheet.header;
         let values: Vec<u32> = (0..=header.modulus + 1).collect();
         let most = match header.kind {
@@ -116,9 +118,17 @@ impl Small {
             _ => header.modulus + 1,
         };
         let slots: Vec<u32> = (0..=most).collect();
-        let responses = choices(&slots, header.columns as usize);
+        [
+            choices(&values, header.rows as usize),
+            choices(&slots, header.columns as usize),
+        ]
+    }
+
+    /// All accepted rounds with this challenge, by judging every choice.
+    fn accepted(&self, challenge: u32) -> Vec<Round> {
+        let [commitments, responses] = self.tried();
         let mut accepted = Vec::new();
-        for commitment in choices(&values, header.rows as usize) {
+        for commitment in commitments {
             for response in &responses {
                 let round = Round {
                     commitment,
@@ -187,11 +197,11 @@ impl Small {
 }
 
 /// Whether the made rounds are the accepted ones, each met once.
-fn meets_each_once(
-    made: impl Iterator<Item = Result<Round, u32>>,
-    accepted: &[Round],
+pub fn meets_each_once<R: Copy + Debug + Eq + Hash>(
+    made: impl Iterator<Item = Result<R, u32>>,
+    accepted: &[R],
 ) -> Result<(), String> {
-    let all: HashSet<&Round> = accepted.iter().collect();
+    let all: HashSet<&R> = accepted.iter().collect();
     let mut met = HashSet::new();
     for round in made {
         let round = round.map_err(|number| format!("refused with {number}"))?;

@@ -4,6 +4,9 @@ mod extracting;
 mod files;
 mod list;
 mod marking;
+mod or_extracting;
+mod or_prover;
+mod or_rounds;
 mod patterns;
 mod prover;
 mod reasons;
@@ -13,9 +16,12 @@ mod verifier;
 mod writers;
 
 pub use extracting::extract;
-pub use files::{check, count, part, read};
+pub use files::{check, count, part, read, same_commitment};
 pub use list::{Fault, FAULTS};
 pub use marking::mark;
+pub use or_extracting::or_extract;
+pub use or_prover::{or_prover_commit, or_prover_drop, or_prover_new, or_prover_respond};
+pub use or_rounds::or_judge;
 pub use patterns::{from_pattern, patterns};
 pub use prover::{prover_commit, prover_drop, prover_new, prover_respond};
 pub use reasons::reason;
@@ -57,7 +63,7 @@ mod tests {
 
     #[test]
     fn the_judge_agrees_with_itself_and_gives_every_number() {
-        let tally = run(2, 40_000, Judge).unwrap();
+        let tally = run(2, 56_000, Judge).unwrap();
         assert_eq!(tally.lacks(3), [""; 0]);
     }
 }

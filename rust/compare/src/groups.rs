@@ -156,19 +156,31 @@ impl Group {
         least_divisor(self.order).min(MOST_CHALLENGES)
     }
 
-    /// A challenge count. A large one is rare, because it takes long to test.
+    /// A challenge count.
     pub fn challenges(&self, random: &mut Random) -> u32 {
+        count_up_to(random, self.most_challenges())
+    }
+
+    /// A challenge count that another group allows too.
+    pub fn shared_challenges(&self, random: &mut Random, other: &Group) -> u32 {
+        count_up_to(random, self.most_shared(other))
+    }
+
+    /// The largest challenge count that another group allows too.
+    pub fn most_shared(&self, other: &Group) -> u32 {
+        self.most_challenges().min(other.most_challenges())
+    }
+
+    /// A challenge count that is not this one, where there is one.
+    pub fn other_challenges(&self, random: &mut Random, count: u32) -> Option<u32> {
         let most = self.most_challenges();
-        let usual = if most > 1000 && !random.once_in(12) {
-            100
-        } else {
-            most
+        let other = match random.below(4) {
+            0 | 1 => count + 1,
+            2 => count - 1,
+            _ => count_up_to(random, most),
         };
-        match random.below(3) {
-            0 => 2,
-            1 => usual,
-            _ => random.between(2, usual),
-        }
+        let allowed = |other: &u32| (2..=most).contains(other) && *other != count;
+        [other, count + 1, 2].into_iter().find(allowed)
     }
 
     /// A challenge count that is refused.
@@ -180,6 +192,21 @@ impl Group {
             4 => random.between(most + 1, u32::MAX),
             _ => random.pick(&[MOST_CHALLENGES + 1, 0x0001_0002, 0x8000_0000, u32::MAX]),
         }
+    }
+}
+
+/// A challenge count up to this one. A large one is rare, because it takes long to
+/// test.
+fn count_up_to(random: &mut Random, most: u32) -> u32 {
+    let usual = if most > 1000 && !random.once_in(12) {
+        100
+    } else {
+        most
+    };
+    match random.below(3) {
+        0 => 2,
+        1 => usual,
+        _ => random.between(2, usual),
     }
 }
 

@@ -110,7 +110,13 @@ impl Instance {
 
     /// An accepted round, with 0 beyond s and n.
     pub fn accepted(&self, random: &mut Random) -> Round {
-        let (challenge, slots) = (self.challenge(random), self.slots(random));
+        let challenge = self.challenge(random);
+        self.accepted_to(random, challenge)
+    }
+
+    /// An accepted round with this challenge.
+    pub fn accepted_to(&self, random: &mut Random, challenge: u32) -> Round {
+        let slots = self.slots(random);
         match &self.witness {
             Some(witness) if random.once_in(2) => Round {
                 commitment: self.sheet.image(&slots),

@@ -1,19 +1,24 @@
 //! The judge, behind the calls of the library.
 
+mod or_proof;
 mod sessions;
 mod values;
 
 use judge::pattern_file;
 
 use crate::library::{
-    Computed, Counted, Fetched, Header, Judgement, Loaded, Part, Places, Plan, ProverAnswer,
-    ProverSession, Round, VerifierAnswer, VerifierJudgement, VerifierSession, Written,
-    LONGEST_REASON, LONGEST_TEXT,
+    Compared, Computed, Counted, Fetched, Header, Judgement, Loaded, Part, Places, Plan,
+    ProverAnswer, ProverSession, Round, VerifierAnswer, VerifierJudgement, VerifierSession,
+    Written, LONGEST_REASON, LONGEST_TEXT,
 };
 use sessions::{
     prover, prover_answer, prover_session, verifier, verifier_answer, verifier_session,
 };
 use values::{computed, judgement, loaded, round, written};
+
+pub use or_proof::{
+    or_extract, or_judge, or_prover_commit, or_prover_drop, or_prover_new, or_prover_respond,
+};
 
 pub fn load(sheet: &[u8]) -> Loaded {
     loaded(judge::load(sheet))
@@ -91,6 +96,16 @@ pub fn read(sheet: &[u8], file: &[u8], number: usize) -> Fetched {
             refusal,
             ..Fetched::default()
         },
+    }
+}
+
+pub fn same_commitment(sheet: &[u8], file: &[u8], i: u32, j: u32) -> Compared {
+    match judge::same_commitment(sheet, file, i.into(), j.into()) {
+        Ok(same) => Compared {
+            refusal: 0,
+            same: same.into(),
+        },
+        Err(refusal) => Compared { refusal, same: 0 },
     }
 }
 

@@ -4,9 +4,10 @@ use crate::faults::{self, Fault};
 use crate::{judged, proved};
 
 pub use dimkhoros_sys::{
-    phases, Computed, Counted, Fetched, Header, Judgement, Loaded, Part, Places, ProverAnswer,
-    ProverSession, Round, VerifierAnswer, VerifierJudgement, VerifierSession, Written,
-    LONGEST_FILE, LONGEST_REASON, LONGEST_SHEET, LONGEST_TEXT, MOST_ROUNDS, SHIPPED_PATTERNS,
+    phases, Compared, Computed, Counted, Fetched, Header, Judgement, Loaded, OrAnswer, OrExtracted,
+    OrJudgement, OrRound, OrSession, Part, Places, ProverAnswer, ProverSession, Round,
+    VerifierAnswer, VerifierJudgement, VerifierSession, Written, LONGEST_FILE, LONGEST_REASON,
+    LONGEST_SHEET, LONGEST_TEXT, MOST_ROUNDS, SHIPPED_PATTERNS,
 };
 
 /// The numbers that the sheet maker takes. The pattern number 0 is that of root
@@ -47,6 +48,7 @@ pub enum Library {
 macro_rules! calls {
     ($($name:ident($($argument:ident: $type:ty),*) -> $answer:ty;)*) => {
         #[allow(clippy::wrong_self_convention, reason = "from_pattern is the name of a call")]
+        #[allow(clippy::too_many_arguments, reason = "the calls take these")]
         impl Library {
             $(pub fn $name(self, $($argument: $type),*) -> $answer {
                 match self {
@@ -75,12 +77,16 @@ calls! {
     check(sheet: &[u8], file: &[u8], number: usize) -> u32;
     part(sheet: &[u8], file: &[u8], number: usize) -> Part;
     read(sheet: &[u8], file: &[u8], number: usize) -> Fetched;
+    same_commitment(sheet: &[u8], file: &[u8], i: u32, j: u32) -> Compared;
     empty(buffer: &mut [u8]) -> Written;
     append(sheet: &[u8], buffer: &mut [u8], used: usize, round: &Round) -> Written;
 
     judge(sheet: &[u8], round: &Round) -> Judgement;
     simulate(sheet: &[u8], challenge: u32, response: &Places) -> Computed;
     extract(sheet: &[u8], first: &Round, second: &Round) -> Computed;
+
+    or_judge(first: &[u8], second: &[u8], round: &OrRound) -> OrJudgement;
+    or_extract(first: &[u8], second: &[u8], a: &OrRound, b: &OrRound) -> OrExtracted;
 
     prover_new() -> ProverSession;
     prover_commit(sheet: &[u8], session: ProverSession, nonce: &Places) -> ProverAnswer;
@@ -97,6 +103,16 @@ calls! {
     verifier_response(
         sheet: &[u8], session: VerifierSession, response: &Places
     ) -> VerifierJudgement;
+
+    or_prover_new() -> OrSession;
+    or_prover_commit(
+        first: &[u8], second: &[u8], session: OrSession, side: u32, nonce: &Places,
+        challenge: u32, response: &Places
+    ) -> OrAnswer;
+    or_prover_respond(
+        first: &[u8], second: &[u8], session: OrSession, challenge: u32, witness: &Places
+    ) -> OrAnswer;
+    or_prover_drop(session: OrSession) -> OrAnswer;
 
     mark(sheet: &[u8], file: &[u8], level: &[u8], text: &mut [u8; LONGEST_TEXT]) -> usize;
     reason(sheet: &[u8], file: &[u8], text: &mut [u8; LONGEST_REASON]) -> usize;

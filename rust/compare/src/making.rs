@@ -6,6 +6,9 @@ mod files;
 mod inputs;
 mod levels;
 mod marking;
+mod or_prover;
+mod or_rounds;
+mod pairs;
 mod patterns;
 mod phases;
 mod prover;
@@ -28,7 +31,7 @@ pub use reasons::reason_case;
 type Maker = fn(&mut Random) -> Box<dyn Case>;
 
 /// How often each maker is asked, among the sum of these.
-const SHARES: [(Maker, usize); 23] = [
+const SHARES: [(Maker, usize); 30] = [
     (sheets::load, 3),
     (sheets::entries, 2),
     (sheets::encode, 4),
@@ -38,11 +41,14 @@ const SHARES: [(Maker, usize); 23] = [
     (files::check, 2),
     (files::part, 2),
     (files::read, 2),
+    (files::same_commitment, 3),
     (files::empty, 1),
     (files::append, 4),
     (rounds::judge, 5),
     (rounds::simulate, 3),
     (rounds::extract, 6),
+    (or_rounds::judge, 7),
+    (or_rounds::extract, 6),
     (prover::commit, 3),
     (prover::respond, 7),
     (prover::give_up, 1),
@@ -50,6 +56,10 @@ const SHARES: [(Maker, usize); 23] = [
     (verifier::challenge, 3),
     (verifier::response, 5),
     (runs::run, 3),
+    (or_prover::commit, 4),
+    (or_prover::respond, 8),
+    (or_prover::give_up, 1),
+    (or_prover::run, 2),
     (marking::mark, 3),
     (reasons::reason, 7),
 ];
@@ -83,7 +93,7 @@ mod tests {
     #[test]
     fn every_call_is_made() {
         let mut met = [0; CALL_COUNT];
-        for number in 0..4000 {
+        for number in 0..6000 {
             for (call, _) in case(1, number).run(Judge).answers {
                 met[call as usize] += 1;
             }

@@ -2,8 +2,9 @@
 
 use crate::calls::Call;
 use crate::library::{
-    Computed, Counted, Fetched, Judgement, Loaded, Part, ProverAnswer, ProverSession,
-    VerifierAnswer, VerifierJudgement, VerifierSession, Written,
+    Compared, Computed, Counted, Fetched, Judgement, Loaded, OrAnswer, OrExtracted, OrJudgement,
+    OrSession, Part, ProverAnswer, ProverSession, VerifierAnswer, VerifierJudgement,
+    VerifierSession, Written,
 };
 
 /// What a call answers.
@@ -20,18 +21,31 @@ pub enum Answer {
     Checked(u32),
     Part(Part),
     Fetched(Fetched),
+    Compared(Compared),
     Judged(Judgement),
     Computed(Computed),
+    OrJudged(OrJudgement),
+    OrExtracted(OrExtracted),
     ProverNew(ProverSession),
     Prover(ProverAnswer),
     VerifierNew(VerifierSession),
     Verifier(VerifierAnswer),
     VerifierJudged(VerifierJudgement),
+    OrProverNew(OrSession),
+    OrProver(OrAnswer),
     /// The answered length, and the text of that length in the lent bytes.
     Told {
         length: usize,
         text: String,
     },
+}
+
+/// What a round that is not refused comes to: accepted, or the side and the row
+/// in which it is rejected. A round of one sheet has side 0.
+#[derive(Clone, Copy, Debug, PartialEq, Eq)]
+pub enum Verdict {
+    Accepted,
+    Rejected { side: u32, row: u32 },
 }
 
 /// The answer of each call of a case, and the memory around and in the lent
@@ -52,25 +66,37 @@ impl Answer {
             Answer::Checked(number) => *number,
             Answer::Entries { refusal, .. } => *refusal,
             Answer::Fetched(fetched) => fetched.refusal,
+            Answer::Compared(compared) => compared.refusal,
             Answer::Judged(judgement) => judgement.refusal,
             Answer::Computed(computed) => computed.refusal,
+            Answer::OrJudged(judgement) => judgement.refusal,
+            Answer::OrExtracted(extracted) => extracted.refusal,
             Answer::Prover(answer) => answer.refusal,
             Answer::Verifier(answer) => answer.refusal,
             Answer::VerifierJudged(answer) => answer.verdict.refusal,
+            Answer::OrProver(answer) => answer.refusal,
             Answer::Told { text, .. } => refusal_in(text),
-            Answer::Part(_) | Answer::ProverNew(_) | Answer::VerifierNew(_) => 0,
+            Answer::Part(_)
+            | Answer::ProverNew(_)
+            | Answer::VerifierNew(_)
+            | Answer::OrProverNew(_) => 0,
         }
     }
 
     /// The verdict of an answer that has one and is not refused.
-    pub fn verdict(&self) -> Option<Judgement> {
-        let verdict = match self {
-            Answer::Judged(verdict) => *verdict,
-            Answer::VerifierJudged(answer) => answer.verdict,
+    pub fn verdict(&self) -> Option<Verdict> {
+        let (accepted, side, row) = match self {
+            Answer::Judged(verdict) => (verdict.accepted, 0, verdict.row),
+            Answer::VerifierJudged(answer) => (answer.verdict.accepted, 0, answer.verdict.row),
+            Answer::OrJudged(verdict) => (verdict.accepted, verdict.side, verdict.row),
             Answer::Told { text, .. } => return verdict_in(text),
             _ => return None,
         };
-        (verdict.refusal == 0).then_some(verdict)
+        let verdict = match accepted {
+            1 => Verdict::Accepted,
+            _ => Verdict::Rejected { side, row },
+        };
+        (self.refusal() == 0).then_some(verdict)
     }
 }
 
@@ -84,19 +110,16 @@ fn refusal_in(text: &str) -> u32 {
 }
 
 /// The verdict that a reason's line begins with, if it does.
-fn verdict_in(text: &str) -> Option<Judgement> {
+fn verdict_in(text: &str) -> Option<Verdict> {
     let mut words = text.split_whitespace();
-    let accepted = match words.next()? {
-        "accepted" => 1,
-        "rejected" => 0,
-        _ => return None,
-    };
-    let row = words.next().and_then(|row| row.parse().ok()).unwrap_or(0);
-    Some(Judgement {
-        accepted,
-        row,
-        refusal: 0,
-    })
+    match words.next()? {
+        "accepted" => Some(Verdict::Accepted),
+        "rejected" => {
+            let row = words.next().and_then(|row| row.parse().ok()).unwrap_or(0);
+            Some(Verdict::Rejected { side: 0, row })
+        }
+        _ => None,
+    }
 }
 
 impl Outcome {
@@ -134,10 +157,10 @@ mod tests {
 
     #[test]
     fn a_reasons_line_has_a_verdict_and_a_markers_text_has_none() {
-        let verdict = |text| verdict_in(text).map(|verdict| (verdict.accepted, verdict.row));
-        assert_eq!(verdict("accepted\n"), Some((1, 0)));
-        assert_eq!(verdict("rejected 7 4 2\n"), Some((0, 7)));
-        assert_eq!(verdict("refused 14 7\n"), None);
-        assert_eq!(verdict("rounds 1\n0 accepted\npass\n"), None);
+        assert_eq!(verdict_in("accepted\n"), Some(Verdict::Accepted));
+        let rejected = Verdict::Rejected { side: 0, row: 7 };
+        assert_eq!(verdict_in("rejected 7 4 2\n"), Some(rejected));
+        assert_eq!(verdict_in("refused 14 7\n"), None);
+        assert_eq!(verdict_in("rounds 1\n0 accepted\npass\n"), None);
     }
 }

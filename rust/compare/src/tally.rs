@@ -5,21 +5,19 @@ use std::fmt;
 
 use crate::calls::{Call, CALL_COUNT, LAST, ORDER};
 use crate::cases::Case;
-use crate::library::Judgement;
-use crate::outcome::Outcome;
+use crate::outcome::{Outcome, Verdict};
 use crate::shapes::{Seen, Shapes};
 
-/// The verdicts: accepted, and rejected in each of eight rows.
-const VERDICTS: [&str; 9] = [
-    "accepted", "row 0", "row 1", "row 2", "row 3", "row 4", "row 5", "row 6", "row 7",
-];
+/// How many verdicts there are: accepted, and rejected in each of eight rows of
+/// each of two sides.
+const VERDICTS: usize = 1 + 2 * 8;
 
 /// A count for each call with each number and with each verdict, and for each
 /// shape.
 #[derive(Default)]
 pub struct Tally {
     numbers: [[u64; LAST as usize + 1]; CALL_COUNT],
-    verdicts: [[u64; VERDICTS.len()]; CALL_COUNT],
+    verdicts: [[u64; VERDICTS]; CALL_COUNT],
     shapes: Shapes,
 }
 
@@ -28,19 +26,27 @@ fn columns() -> impl Iterator<Item = u32> {
     [0].into_iter().chain(ORDER)
 }
 
-/// Whether a sheet is refused with this number, or is not made: it is tested
-/// before a round file's.
+/// Whether a sheet, or two, are refused with this number, or one is not made: it
+/// is tested before a round file's.
 fn is_of_sheet(number: u32) -> bool {
     let mut earlier = ORDER.iter().take_while(|other| **other != 12);
     earlier.any(|other| *other == number)
 }
 
 /// The place of a verdict among all.
-fn place(verdict: Judgement) -> usize {
-    if verdict.accepted == 1 {
-        0
-    } else {
-        1 + verdict.row as usize
+fn place(verdict: Verdict) -> usize {
+    match verdict {
+        Verdict::Accepted => 0,
+        Verdict::Rejected { side, row } => 1 + 8 * side as usize + row as usize,
+    }
+}
+
+/// The name of the verdict at a place, of a call with so many sides.
+fn name(place: usize, sides: usize) -> String {
+    match (place, sides) {
+        (0, _) => "accepted".to_string(),
+        (_, 1) => format!("row {}", place - 1),
+        _ => format!("side {} row {}", (place - 1) / 8, (place - 1) % 8),
     }
 }
 
@@ -76,6 +82,13 @@ impl Tally {
         self.numbers[call as usize].iter().sum()
     }
 
+    /// The verdicts that a call can answer, and how often it did.
+    fn verdicts(&self, call: Call) -> impl Iterator<Item = (String, u64)> + '_ {
+        let (sides, met) = (call.sides(), self.verdicts[call as usize]);
+        let count = if sides == 0 { 0 } else { 1 + 8 * sides };
+        (0..count).map(move |place| (name(place, sides), met[place]))
+    }
+
     /// What a run lacks: numbers and verdicts that a call can give, and shapes,
     /// that were met fewer times, and numbers that it cannot give and that were
     /// met.
@@ -92,11 +105,10 @@ impl Tally {
                     lacks.push(format!("{name} gave {number}, which it cannot give"));
                 }
             }
-            for (verdict, met) in VERDICTS.iter().zip(self.verdicts[call as usize]) {
-                if call.judges() && met < fewest {
-                    lacks.push(format!("{name} gave {verdict} only {met} times"));
-                }
-            }
+            let few = self.verdicts(call).filter(|(_, met)| *met < fewest);
+            lacks.extend(
+                few.map(|(verdict, met)| format!("{name} gave {verdict} only {met} times")),
+            );
         }
         for (shape, columns) in self.shapes.rows() {
             let few = columns.into_iter().filter(|(_, met)| *met < fewest);
@@ -127,9 +139,9 @@ impl fmt::Display for Tally {
             }
             write!(out, "{:>8}", self.all(call))?;
         }
-        for call in Call::all().filter(|call| call.judges()) {
+        for call in Call::all().filter(|call| call.sides() > 0) {
             write!(out, "\n{:<20}", call.name())?;
-            for (verdict, met) in VERDICTS.iter().zip(self.verdicts[call as usize]) {
+            for (verdict, met) in self.verdicts(call) {
                 write!(out, "  {verdict} {met}")?;
             }
         }

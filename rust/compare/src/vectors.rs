@@ -8,6 +8,7 @@
 mod answers;
 mod bytes;
 mod inputs;
+mod or_answers;
 
 use std::fs;
 use std::io;
@@ -22,6 +23,7 @@ pub enum Line<'a> {
     /// A comment, or nothing.
     Comment,
     Sheet(Vec<u8>),
+    SecondSheet(Vec<u8>),
     File(Vec<u8>),
     PatternFile(Vec<u8>),
     /// A call, the text up to its arrow, and its inputs.
@@ -37,6 +39,7 @@ impl<'a> Line<'a> {
         let Some((words, _)) = line.split_once(" ->") else {
             return match line.split_once(' ') {
                 Some(("sheet", text)) => Ok(Line::Sheet(bytes::read(text)?)),
+                Some(("second_sheet", text)) => Ok(Line::SecondSheet(bytes::read(text)?)),
                 Some(("file", text)) => Ok(Line::File(bytes::read(text)?)),
                 Some(("pattern_file", text)) => Ok(Line::PatternFile(bytes::read(text)?)),
                 _ => Err("there is no arrow".to_string()),
@@ -49,10 +52,12 @@ impl<'a> Line<'a> {
     }
 }
 
-/// The sheet, the round file and the pattern file that calls are given.
+/// The sheet, the second sheet of the OR proof, the round file and the pattern
+/// file that calls are given.
 #[derive(Default)]
 pub struct Given {
     sheet: Vec<u8>,
+    second: Vec<u8>,
     file: Vec<u8>,
     patterns: Vec<u8>,
 }
@@ -63,6 +68,7 @@ impl Given {
         match Line::read(line)? {
             Line::Comment => {}
             Line::Sheet(sheet) => self.sheet = sheet,
+            Line::SecondSheet(sheet) => self.second = sheet,
             Line::File(file) => self.file = file,
             Line::PatternFile(patterns) => self.patterns = patterns,
             Line::Call(call, words, mut inputs) => {

@@ -1,14 +1,18 @@
-//! The extractor and the simulator, for a lecture. Two rounds on one nonce give the witness away, so nobody can make such
-//! rounds without knowing it; and rounds can be simulated without the witness, so a round tells Vic nothing about it.
+//! The extractor, the simulator and the OR proof, for a lecture. Two rounds on one nonce give the witness away, so nobody can
+//! make such rounds without knowing it; rounds can be simulated without the witness, so a round tells Vic nothing about it; and
+//! Peggy, who knows a witness of one of two sheets, simulates the other, so a round does not tell which of the two she knows.
 
 mod common;
 
 use common::page_a;
-use dimkhoros::{Instance, Places, Prover, ProverParts, Refusal, Round, places};
+use dimkhoros::{
+    Instance, OrProver, OrProverParts, OrRound, Pair, Pattern, Patterns, Places, Plan, Prover,
+    ProverParts, Refusal, Round, Side, places,
+};
 
 const WITNESS: Places = [7, 0, 0, 0, 0, 0, 0, 0];
 
-/// The order of page A's sheet, and so the count of nonces and of responses.
+/// The order of page A's sheet, and so the count of nonces and of responses. It is the challenge count too.
 const ORDER: usize = 11;
 
 /// The round of a committed session that answers this challenge.
@@ -70,8 +74,92 @@ fn show_simulator(instance: &Instance, challenge: u32) -> Result<(), Refusal> {
     Ok(())
 }
 
+/// Who knows a witness of one side, and what is drawn: that side's nonce, and a challenge and a response to simulate the other.
+struct Holder {
+    knows: &'static str,
+    side: Side,
+    witness: u32,
+    nonce: u32,
+    challenge: u32,
+    response: u32,
+}
+
+/// Two Peggys, who draw what leads to the same round where they are asked 4.
+const HOLDERS: [Holder; 2] = [
+    Holder { knows: "y = 2", side: Side::Second, witness: 2, nonce: 3, challenge: 6, response: 2 },
+    Holder { knows: "x = 7", side: Side::First, witness: 7, nonce: 4, challenge: 9, response: 31 },
+];
+
+/// A root sheet, y^11 = 18 modulo 35, with page A's challenge count. The witness is 2.
+fn roots() -> Result<Instance, Refusal> {
+    let plan = Plan {
+        pattern: Pattern::Root.number(),
+        modulus: 35,
+        order: 11,
+        challenges: 11,
+        values: &[],
+        statement: &[18],
+    };
+    Instance::from_pattern(&Patterns::shipped(), &plan)
+}
+
+/// A copy of a session answers this challenge and the round is shown.
+fn answer_either(
+    pair: &Pair,
+    peggy: &Holder,
+    parts: &OrProverParts,
+    challenge: u32,
+) -> Result<OrRound, Refusal> {
+    let copy = OrProver::from_parts(OrProverParts { ..*parts });
+    let (_, round) = copy.respond(pair, challenge, &places([peggy.witness]))?;
+    let verdict = pair.judge(&round)?;
+    let (c0, count) = (round.challenge0, ORDER as u32);
+    println!(
+        "asked {challenge}: t0 = {}, t1 = {}, c0 = {c0}, c1 = {}, r0 = {}, r1 = {}, {verdict}",
+        round.commitment0[0],
+        round.commitment1[0],
+        (challenge + count - c0) % count,
+        round.response0[0],
+        round.response1[0],
+    );
+    Ok(round)
+}
+
+/// Holders of either witness make the same round, and two rounds of one of them name the side.
+fn show_or_proof(pair: &Pair) -> Result<(), Refusal> {
+    println!(
+        "\nThe OR proof. Peggy knows x with 2^x = 13 modulo 23, or y with y^11 = 18 modulo 35."
+    );
+    let mut made = Vec::new();
+    for peggy in &HOLDERS {
+        println!("Peggy knows {} and simulates {}.", peggy.knows, peggy.side.other());
+        let (nonce, response) = (places([peggy.nonce]), places([peggy.response]));
+        let (session, _) =
+            OrProver::new().commit(pair, peggy.side, &nonce, peggy.challenge, &response)?;
+        let parts = session.into_parts();
+        let round = answer_either(pair, peggy, &parts, 4)?;
+        made.push((peggy, parts, round));
+    }
+    let verdict = if made[0].2 == made[1].2 {
+        "The rounds are the same, so none of them tells what she knows."
+    } else {
+        "The rounds differ."
+    };
+    println!("{verdict}");
+    for (peggy, parts, first) in &made {
+        println!("A copy of her who knows {} answers once more, which no box may do.", peggy.knows);
+        let second = answer_either(pair, peggy, parts, 7)?;
+        let witness = pair.extract(first, &second)?;
+        let (side, value) = (witness.side, witness.values[0]);
+        println!("the two rounds give away the witness of {side}: {value}");
+    }
+    Ok(())
+}
+
 fn main() -> Result<(), Refusal> {
     let instance = page_a()?;
     show_extractor(&instance)?;
-    show_simulator(&instance, 3)
+    show_simulator(&instance, 3)?;
+    let roots = roots()?;
+    show_or_proof(&Pair::new(&instance, &roots)?)
 }

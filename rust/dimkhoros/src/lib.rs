@@ -6,6 +6,8 @@
 mod instance;
 mod marker;
 mod no_response;
+mod or_prover;
+mod pair;
 mod pattern;
 mod patterns;
 mod places;
@@ -26,12 +28,14 @@ mod authors {}
 
 pub use dimkhoros_sys::{
     EMPTY_FILE, EXPONENT, Header, LONGEST_FILE, LONGEST_PATTERNS, LONGEST_REASON, LONGEST_SHEET,
-    LONGEST_TEXT, MOST_PATTERNS, MOST_ROUNDS, PLACES, Places, ROOT, Round, SHIPPED_PATTERNS,
-    version,
+    LONGEST_TEXT, MOST_PATTERNS, MOST_ROUNDS, OrRound, PLACES, Places, ROOT, Round,
+    SHIPPED_PATTERNS, version,
 };
 pub use instance::{Instance, Values};
 pub use marker::mark;
 pub use no_response::NoResponse;
+pub use or_prover::{OrProver, OrProverParts};
+pub use pair::{OrVerdict, OrWitness, Pair, Side};
 pub use pattern::{Pattern, Plan};
 pub use patterns::{Layout, Patterns};
 pub use places::places;
@@ -40,6 +44,6 @@ pub use reason::reason;
 pub use refusal::Refusal;
 pub use refused::Refused;
 pub use round_file::{RoundFile, RoundWriter};
-pub use stored::{Damaged, STORED_PROVER, STORED_VERIFIER};
+pub use stored::{Damaged, STORED_OR_PROVER, STORED_PROVER, STORED_VERIFIER};
 pub use verdict::Verdict;
 pub use verifier::{Verifier, VerifierParts, VerifierPhase};

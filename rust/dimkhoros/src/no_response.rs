@@ -4,7 +4,7 @@ use crate::{Prover, Refused};
 use core::error::Error;
 use core::fmt;
 
-/// Why [`Prover::respond_after`] handed out no response, with the session to go on with.
+/// Why [`Prover::respond_after`] or [`OrProver::respond_after`] handed out no response, with the session to go on with.
 ///
 /// ```
 /// use dimkhoros::{NoResponse, Prover, ProverPhase, Refusal, places};
@@ -19,26 +19,28 @@ use core::fmt;
 /// assert_eq!((session.phase(), error), (ProverPhase::Answered, "the disk is full"));
 /// # Ok::<(), Refusal>(())
 /// ```
+///
+/// [`OrProver::respond_after`]: crate::OrProver::respond_after
 #[derive(Debug)]
-pub enum NoResponse<E> {
+pub enum NoResponse<E, S = Prover> {
     /// The call was refused and nothing was stored. The session is as it was given.
-    Refused(Refused<Prover>),
+    Refused(Refused<S>),
     /// The session was not stored, and the response is gone.
     NotStored {
         /// The session as it is after the response: it answers no challenge.
-        session: Prover,
+        session: S,
         /// Why it was not stored.
         error: E,
     },
 }
 
-impl<E> From<Refused<Prover>> for NoResponse<E> {
-    fn from(refused: Refused<Prover>) -> NoResponse<E> {
+impl<E, S> From<Refused<S>> for NoResponse<E, S> {
+    fn from(refused: Refused<S>) -> NoResponse<E, S> {
         NoResponse::Refused(refused)
     }
 }
 
-impl<E: fmt::Display> fmt::Display for NoResponse<E> {
+impl<E: fmt::Display, S> fmt::Display for NoResponse<E, S> {
     fn fmt(&self, f: &mut fmt::Formatter<'_>) -> fmt::Result {
         match self {
             NoResponse::Refused(refused) => refused.fmt(f),
@@ -47,4 +49,4 @@ impl<E: fmt::Display> fmt::Display for NoResponse<E> {
     }
 }
 
-impl<E: fmt::Debug + fmt::Display> Error for NoResponse<E> {}
+impl<E: fmt::Debug + fmt::Display, S: fmt::Debug> Error for NoResponse<E, S> {}

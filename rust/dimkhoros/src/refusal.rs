@@ -6,8 +6,8 @@ use core::fmt;
 /// Makes the enum, with its sentences as the documentation, and the list of all out of one table.
 macro_rules! refusals {
     ($($number:literal, $name:ident, $sentence:literal;)*) => {
-        /// Why a call was refused. Where several refusals apply, the earliest in the order 23, 24, 1 to 12, 25, 13 to 22 is
-        /// given.
+        /// Why a call was refused. Where several refusals apply, the earliest in the order 23, 24, 1 to 11, 26, 12, 25, 13 to
+        /// 22 is given.
         ///
         /// ```
         /// use dimkhoros::{Instance, Refusal};
@@ -65,6 +65,7 @@ refusals! {
     23, PatternFile, "the bytes are no pattern file: the mark, version, count, rows, columns, number of values or length is wrong";
     24, PatternDigits, "a pattern has a digit above its number of values, or a value that no digit names";
     25, Level, "the level has to be one byte from 1 to 64";
+    26, CountsDiffer, "the two sheets have different challenge counts";
 }
 
 impl Refusal {

@@ -109,6 +109,29 @@ impl<'a> RoundFile<'a> {
         Ok(fetched.round)
     }
 
+    /// Whether the rounds of these two numbers, from 0, have the same commitment, byte for byte, or refusal 13. Two accepted
+    /// rounds with the same commitment and different challenges give the witness away.
+    ///
+    /// ```
+    /// # use dimkhoros::{Instance, Patterns, Plan, Refusal, RoundFile};
+    /// # let plan = Plan { pattern: 1, modulus: 23, order: 11, challenges: 11, values: &[2], statement: &[13] };
+    /// # let instance = Instance::from_pattern(&Patterns::shipped(), &plan)?;
+    /// // The rounds (9, 3, 4), (9, 1, 1) and (2, 3, 0).
+    /// let bytes = b"RND\x00\x01\x00\x03\0\0\0\x09\0\0\0\x03\0\0\0\x04\0\0\0\x09\0\0\0\x01\0\0\0\x01\0\0\0\x02\0\0\0\x03\0\0\0\0";
+    /// let file = RoundFile::open(&instance, bytes)?;
+    /// assert_eq!(file.same_commitment(0, 1), Ok(true));
+    /// assert_eq!(file.same_commitment(0, 2), Ok(false));
+    /// assert_eq!(file.same_commitment(3, 0), Err(Refusal::RoundNumber));
+    /// # Ok::<(), Refusal>(())
+    /// ```
+    pub fn same_commitment(&self, i: usize, j: usize) -> Result<bool, Refusal> {
+        // A number that does not fit the call becomes the largest, and no file has a round of that number.
+        let [i, j] = [i, j].map(|number| u32::try_from(number).unwrap_or(u32::MAX));
+        let compared = sys::same_commitment(self.instance.bytes(), self.bytes, i, j);
+        Refusal::check(compared.refusal)?;
+        Ok(compared.same == 1)
+    }
+
     /// All rounds of the file, in order.
     ///
     /// ```

@@ -17,6 +17,13 @@ pub const STORED_PROVER: usize = 79;
 /// ```
 pub const STORED_VERIFIER: usize = 51;
 
+/// How many bytes a stored session of Peggy's of the OR proof has.
+///
+/// ```
+/// assert_eq!(dimkhoros::STORED_OR_PROVER, 3 + 2 + 2 + 4 * (4 * 8 + 1 + 1 + 1) + 4);
+/// ```
+pub const STORED_OR_PROVER: usize = 151;
+
 /// The bytes are no stored session: they are of another length, mark, version or state, or the check value is another.
 ///
 /// ```

@@ -10,9 +10,9 @@
 
 use crate::exports::*;
 use crate::{
-    Computed, Counted, ENTRIES, Fetched, Header, Judgement, LONGEST_REASON, LONGEST_TEXT, Loaded,
-    Part, Places, ProverAnswer, ProverSession, Round, VerifierAnswer, VerifierJudgement,
-    VerifierSession, Written,
+    Compared, Computed, Counted, ENTRIES, Fetched, Header, Judgement, LONGEST_REASON, LONGEST_TEXT,
+    Loaded, OrAnswer, OrExtracted, OrJudgement, OrRound, OrSession, Part, Places, ProverAnswer,
+    ProverSession, Round, VerifierAnswer, VerifierJudgement, VerifierSession, Written,
 };
 
 /// The version of the archive that is linked, 10000 * major + 100 * minor + patch.
@@ -121,6 +121,14 @@ pub fn read(sheet: &[u8], file: &[u8], number: usize) -> Fetched {
     unsafe { dimkhoros_read(sheet.as_ptr(), sheet.len(), file.as_ptr(), file.len(), number) }
 }
 
+/// Answers whether the rounds of these two numbers in a file have the same commitment.
+#[inline]
+pub fn same_commitment(sheet: &[u8], file: &[u8], i: u32, j: u32) -> Compared {
+    let (pointer, length) = (sheet.as_ptr(), sheet.len());
+    // SAFETY: the slices are given by their pointers and lengths.
+    unsafe { dimkhoros_same_commitment(pointer, length, file.as_ptr(), file.len(), i, j) }
+}
+
 /// Writes a file without rounds to the start of a buffer.
 #[inline]
 pub fn empty(buffer: &mut [u8]) -> Written {
@@ -155,6 +163,22 @@ pub fn simulate(sheet: &[u8], challenge: u32, response: &Places) -> Computed {
 pub fn extract(sheet: &[u8], first: &Round, second: &Round) -> Computed {
     // SAFETY: the slice is given by its pointer and length.
     unsafe { dimkhoros_extract(sheet.as_ptr(), sheet.len(), *first, *second) }
+}
+
+/// Answers the verdict on a round of the OR proof of two sheets.
+#[inline]
+pub fn or_judge(first: &[u8], second: &[u8], round: &OrRound) -> OrJudgement {
+    let (pointer, length) = (first.as_ptr(), first.len());
+    // SAFETY: the slices are given by their pointers and lengths.
+    unsafe { dimkhoros_or_judge(pointer, length, second.as_ptr(), second.len(), *round) }
+}
+
+/// Answers the witness of one of two sheets that two accepted rounds of the OR proof give away, and its side.
+#[inline]
+pub fn or_extract(first: &[u8], second: &[u8], a: &OrRound, b: &OrRound) -> OrExtracted {
+    let (pointer, length) = (first.as_ptr(), first.len());
+    // SAFETY: the slices are given by their pointers and lengths.
+    unsafe { dimkhoros_or_extract(pointer, length, second.as_ptr(), second.len(), *a, *b) }
 }
 
 /// Writes the marker's text on a sheet, a round file and a level file to the start of `text`, and answers its length.
@@ -256,4 +280,70 @@ pub fn verifier_response(
     let (pointer, length) = (sheet.as_ptr(), sheet.len());
     // SAFETY: the slice is given by its pointer and length, and `response` has 8 numbers.
     unsafe { dimkhoros_verifier_response(pointer, length, session, response.as_ptr()) }
+}
+
+/// A new session of Peggy's of the OR proof, with zeros.
+#[inline]
+pub fn or_prover_new() -> OrSession {
+    // SAFETY: the call takes nothing.
+    unsafe { dimkhoros_or_prover_new() }
+}
+
+/// Commits Peggy's new session of the OR proof: to a nonce of the side that she knows, 0, or 1 for any other number, and to a
+/// simulated challenge and response of the other. Answers both commitments.
+#[inline]
+pub fn or_prover_commit(
+    first: &[u8],
+    second: &[u8],
+    session: OrSession,
+    side: u32,
+    nonce: &Places,
+    challenge: u32,
+    response: &Places,
+) -> OrAnswer {
+    // SAFETY: the slices are given by their pointers and lengths; `nonce` and `response` have 8 numbers each.
+    unsafe {
+        dimkhoros_or_prover_commit(
+            first.as_ptr(),
+            first.len(),
+            second.as_ptr(),
+            second.len(),
+            session,
+            side,
+            nonce.as_ptr(),
+            challenge,
+            response.as_ptr(),
+        )
+    }
+}
+
+/// Answers both responses of Peggy's committed session of the OR proof to a challenge, and side 0's challenge, by a witness of
+/// the side that the session holds.
+#[inline]
+pub fn or_prover_respond(
+    first: &[u8],
+    second: &[u8],
+    session: OrSession,
+    challenge: u32,
+    witness: &Places,
+) -> OrAnswer {
+    // SAFETY: the slices are given by their pointers and lengths, and `witness` has 8 numbers.
+    unsafe {
+        dimkhoros_or_prover_respond(
+            first.as_ptr(),
+            first.len(),
+            second.as_ptr(),
+            second.len(),
+            session,
+            challenge,
+            witness.as_ptr(),
+        )
+    }
+}
+
+/// Gives up a session of Peggy's of the OR proof.
+#[inline]
+pub fn or_prover_drop(session: OrSession) -> OrAnswer {
+    // SAFETY: the call takes a struct of numbers alone.
+    unsafe { dimkhoros_or_prover_drop(session) }
 }

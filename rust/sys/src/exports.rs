@@ -1,8 +1,9 @@
 //! The exports of the archive, as include/dimkhoros.h declares them.
 
 use crate::{
-    Computed, Counted, Fetched, Header, Judgement, Loaded, Part, ProverAnswer, ProverSession,
-    Round, VerifierAnswer, VerifierJudgement, VerifierSession, Written,
+    Compared, Computed, Counted, Fetched, Header, Judgement, Loaded, OrAnswer, OrExtracted,
+    OrJudgement, OrRound, OrSession, Part, ProverAnswer, ProverSession, Round, VerifierAnswer,
+    VerifierJudgement, VerifierSession, Written,
 };
 
 unsafe extern "C" {
@@ -68,6 +69,15 @@ unsafe extern "C" {
         number: usize,
     ) -> Fetched;
 
+    pub fn dimkhoros_same_commitment(
+        sheet: *const u8,
+        sheet_length: usize,
+        file: *const u8,
+        file_length: usize,
+        i: u32,
+        j: u32,
+    ) -> Compared;
+
     pub fn dimkhoros_empty(buffer: *mut u8, buffer_length: usize) -> Written;
 
     pub fn dimkhoros_append(
@@ -94,6 +104,23 @@ unsafe extern "C" {
         first: Round,
         second: Round,
     ) -> Computed;
+
+    pub fn dimkhoros_or_judge(
+        first: *const u8,
+        first_length: usize,
+        second: *const u8,
+        second_length: usize,
+        round: OrRound,
+    ) -> OrJudgement;
+
+    pub fn dimkhoros_or_extract(
+        first: *const u8,
+        first_length: usize,
+        second: *const u8,
+        second_length: usize,
+        a: OrRound,
+        b: OrRound,
+    ) -> OrExtracted;
 
     pub fn dimkhoros_mark(
         sheet: *const u8,
@@ -154,4 +181,30 @@ unsafe extern "C" {
         session: VerifierSession,
         response: *const u32,
     ) -> VerifierJudgement;
+
+    pub fn dimkhoros_or_prover_new() -> OrSession;
+
+    pub fn dimkhoros_or_prover_commit(
+        first: *const u8,
+        first_length: usize,
+        second: *const u8,
+        second_length: usize,
+        session: OrSession,
+        side: u32,
+        nonce: *const u32,
+        challenge: u32,
+        response: *const u32,
+    ) -> OrAnswer;
+
+    pub fn dimkhoros_or_prover_respond(
+        first: *const u8,
+        first_length: usize,
+        second: *const u8,
+        second_length: usize,
+        session: OrSession,
+        challenge: u32,
+        witness: *const u32,
+    ) -> OrAnswer;
+
+    pub fn dimkhoros_or_prover_drop(session: OrSession) -> OrAnswer;
 }

@@ -1,6 +1,6 @@
-//! The numbers of the states of both sessions. Any other number is a state that allows no call.
+//! The numbers of the states of sessions. Any other number is a state that allows no call.
 
-/// The states of Peggy's session.
+/// The states of Peggy's session, and of her session of the OR proof.
 pub mod prover {
     /// Nothing has happened.
     pub const NEW: u32 = 0;

@@ -12,7 +12,7 @@ pub const PLACES: usize = 8;
 ///
 /// A sheet of s rows and n columns uses the first s places for commitments and statements and the first n for the others.
 /// The places behind them are not read where a call takes them, and are 0 where a call answers them. A session keeps what
-/// it holds in all eight, and the commitment that a prover's holds is tested in all eight (by refusal 21).
+/// it holds in all eight, and the commitments that a prover's hold are tested in all eight (by refusal 21).
 ///
 /// ```
 /// # use dimkhoros_sys::{PLACES, Places};

@@ -97,6 +97,16 @@ pub struct Part {
     pub length: usize,
 }
 
+/// Whether two rounds of a file have the same commitment.
+#[derive(Clone, Copy, Debug, Default, PartialEq, Eq, Hash)]
+#[repr(C)]
+pub struct Compared {
+    /// 1 if they have, else 0.
+    pub same: u32,
+    /// The refusal.
+    pub refusal: u32,
+}
+
 /// A simulated commitment or an extracted witness.
 #[derive(Clone, Copy, Debug, Default, PartialEq, Eq, Hash)]
 #[repr(C)]
@@ -115,6 +125,56 @@ pub struct Judgement {
     pub accepted: u32,
     /// Of a rejected round, the first row, from 0, in which they differ.
     pub row: u32,
+    /// The refusal.
+    pub refusal: u32,
+}
+
+/// One run of the OR proof. Side 1 has the challenge (c - c0) mod K.
+///
+/// ```
+/// # use dimkhoros_sys::OrRound;
+/// let round = OrRound { challenge: 2, challenge0: 4, ..OrRound::default() };
+/// assert_eq!(round.commitment1, [0; 8]);
+/// ```
+#[derive(Clone, Copy, Debug, Default, PartialEq, Eq, Hash)]
+#[repr(C)]
+pub struct OrRound {
+    /// Side 0's commitment.
+    pub commitment0: Places,
+    /// Side 1's commitment.
+    pub commitment1: Places,
+    /// Side 0's response.
+    pub response0: Places,
+    /// Side 1's response.
+    pub response1: Places,
+    /// The challenge c.
+    pub challenge: u32,
+    /// Side 0's challenge c0.
+    pub challenge0: u32,
+}
+
+/// A verdict on a round of the OR proof. It is accepted only where `accepted` is 1: a refused round has 0 there too.
+#[derive(Clone, Copy, Debug, Default, PartialEq, Eq, Hash)]
+#[repr(C)]
+pub struct OrJudgement {
+    /// 1 if both sides are accepted, else 0.
+    pub accepted: u32,
+    /// Of a rejected round, the first side, 0 or 1, that is rejected.
+    pub side: u32,
+    /// And the first row, from 0, in which that side's two values differ.
+    pub row: u32,
+    /// The refusal.
+    pub refusal: u32,
+}
+
+/// An extracted witness of one of two sheets.
+#[derive(Clone, Copy, Debug, Default, PartialEq, Eq, Hash)]
+#[repr(C)]
+pub struct OrExtracted {
+    /// The witness.
+    pub values: Places,
+    /// The side that it is a witness of, 0 or 1.
+    pub side: u32,
     /// The refusal.
     pub refusal: u32,
 }
@@ -176,4 +236,43 @@ pub struct VerifierJudgement {
     pub verdict: Judgement,
     /// The session to go on with.
     pub session: VerifierSession,
+}
+
+/// Peggy's session of the OR proof.
+///
+/// A copy of it is as good as the first, as with [`ProverSession`]. The side and the simulated values tell which of the two
+/// witnesses she holds.
+#[derive(Clone, Copy, Debug, Default, PartialEq, Eq, Hash)]
+#[repr(C)]
+pub struct OrSession {
+    /// The nonce of the side whose witness she knows, zeros where none is held.
+    pub nonce: Places,
+    /// The other side's response, which is simulated.
+    pub response: Places,
+    /// Side 0's commitment.
+    pub commitment0: Places,
+    /// Side 1's commitment.
+    pub commitment1: Places,
+    /// The other side's challenge, which is simulated.
+    pub challenge: u32,
+    /// The side whose witness she knows, 0 or 1.
+    pub side: u32,
+    /// The state, a number of [`phases::prover`](crate::phases::prover) or any other.
+    pub phase: u32,
+}
+
+/// What a call on Peggy's session of the OR proof answers.
+#[derive(Clone, Copy, Debug, Default, PartialEq, Eq, Hash)]
+#[repr(C)]
+pub struct OrAnswer {
+    /// The session to go on with.
+    pub session: OrSession,
+    /// Side 0's commitment or response.
+    pub values0: Places,
+    /// Side 1's commitment or response.
+    pub values1: Places,
+    /// c0 beside the responses, 0 beside the commitments.
+    pub challenge0: u32,
+    /// The refusal.
+    pub refusal: u32,
 }

@@ -1,4 +1,4 @@
-//! The calls that read a round file.
+//! The calls that read a round file, and the one that compares two of its rounds.
 
 use std::fmt;
 
@@ -26,6 +26,14 @@ pub struct FileCase {
     pub sheet: Vec<u8>,
     pub file: Vec<u8>,
     pub number: usize,
+}
+
+/// A call that compares the commitments of two rounds of a file.
+#[derive(Debug)]
+pub struct SameCase {
+    pub sheet: Vec<u8>,
+    pub file: Vec<u8>,
+    pub numbers: [u32; 2],
 }
 
 impl FileCase {
@@ -74,5 +82,27 @@ impl fmt::Display for FileCase {
             write!(out, "\n    number {:#x}", self.number)?;
         }
         Ok(())
+    }
+}
+
+impl Case for SameCase {
+    fn run(&self, library: Library) -> Outcome {
+        let [i, j] = self.numbers;
+        let compared = library.same_commitment(&self.sheet, &self.file, i, j);
+        Outcome::of(Call::SameCommitment, Answer::Compared(compared))
+    }
+
+    fn header(&self) -> Option<Header> {
+        sheets::header(&self.sheet)
+    }
+}
+
+impl fmt::Display for SameCase {
+    fn fmt(&self, out: &mut fmt::Formatter) -> fmt::Result {
+        let [i, j] = self.numbers;
+        writeln!(out, "{}", Call::SameCommitment.name())?;
+        writeln!(out, "    sheet {}", hex(&self.sheet))?;
+        writeln!(out, "    file {}", hex(&self.file))?;
+        write!(out, "    numbers {i:#x} {j:#x}")
     }
 }

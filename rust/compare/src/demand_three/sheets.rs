@@ -1,4 +1,4 @@
-//! The small sheets on which demand 3 is tried.
+//! Small sheets, and those on which demand 3 is tried.
 
 use crate::library::{Header, Places};
 use crate::sheets::Sheet;
@@ -32,12 +32,12 @@ fn sheet(kind: u32, numbers: [u32; 3], columns: usize, table: &[u32], statement:
 }
 
 /// A sheet of kind 1, with its table row by row.
-fn exponent(numbers: [u32; 3], columns: usize, table: &[u32], statement: &[u32]) -> Sheet {
+pub fn exponent(numbers: [u32; 3], columns: usize, table: &[u32], statement: &[u32]) -> Sheet {
     sheet(1, numbers, columns, table, statement)
 }
 
 /// A sheet of kind 2.
-fn root(numbers: [u32; 3], statement: &[u32]) -> Sheet {
+pub fn root(numbers: [u32; 3], statement: &[u32]) -> Sheet {
     sheet(2, numbers, statement.len(), &[], statement)
 }
 

@@ -1,8 +1,8 @@
-//! Faults of the calls that read a round file.
+//! Faults of the calls that read a round file and compare its rounds.
 
 use crate::faults::Fault;
 use crate::library::Library::Judge;
-use crate::library::{Counted, Fetched, Part};
+use crate::library::{Compared, Counted, Fetched, Part};
 use crate::sheets::record_length;
 
 pub fn count(fault: Fault, sheet: &[u8], file: &[u8]) -> Counted {
@@ -77,4 +77,69 @@ pub fn read(fault: Fault, sheet: &[u8], file: &[u8], number: usize) -> Fetched {
         right.round.commitment[header.rows as usize] = right.round.challenge;
     }
     right
+}
+
+pub fn same_commitment(fault: Fault, sheet: &[u8], file: &[u8], i: u32, j: u32) -> Compared {
+    let right = Judge.same_commitment(sheet, file, i, j);
+    match right.refusal {
+        0 => compared(fault, sheet, file, [i, j], right),
+        _ => not_compared(fault, sheet, file, [i, j], right),
+    }
+}
+
+/// Comparing two rounds that can be read.
+fn compared(
+    fault: Fault,
+    sheet: &[u8],
+    file: &[u8],
+    numbers: [u32; 2],
+    mut right: Compared,
+) -> Compared {
+    let header = Judge.load(sheet).header;
+    let (rows, columns) = (header.rows as usize, header.columns as usize);
+    let parts = numbers.map(|number| Judge.part(sheet, file, number as usize).offset);
+    let bytes = match fault {
+        Fault::SameColumns => 4 * columns,
+        Fault::SameFirstWord => 4,
+        Fault::SameLastByte => 4 * rows - 1,
+        Fault::SameChallenge => 4 * rows + 4,
+        Fault::SameItself if numbers[0] == numbers[1] => {
+            right.same = 0;
+            return right;
+        }
+        Fault::SameTested => {
+            let read = numbers.map(|number| Judge.read(sheet, file, number as usize).round);
+            let refused = |round| Judge.judge(sheet, round).refusal == 14;
+            let refusal = if read.iter().any(refused) { 14 } else { 0 };
+            return Compared {
+                refusal,
+                same: if refusal == 0 { right.same } else { 0 },
+            };
+        }
+        _ => return right,
+    };
+    let [one, other] = parts.map(|offset| &file[offset..offset + bytes]);
+    right.same = u32::from(one == other);
+    right
+}
+
+/// Comparing where the sheet, the file or a number is refused.
+fn not_compared(
+    fault: Fault,
+    sheet: &[u8],
+    file: &[u8],
+    [i, j]: [u32; 2],
+    right: Compared,
+) -> Compared {
+    let count = Judge.count(sheet, file).count;
+    let refused = |refusal| Compared { refusal, same: 0 };
+    match (fault, right.refusal) {
+        (Fault::SameFirstNumber, 13) if i < count => Compared::default(),
+        (Fault::SameSecondNumber, 13) if j < count => Compared::default(),
+        (Fault::SameNumberCut, 13) => Judge.same_commitment(sheet, file, i & 0xffff, j & 0xffff),
+        (Fault::SameNumberFirst, 12) if i.max(j) >= 65_536 => refused(13),
+        (Fault::SameFileFirst, 2..=11) if file.len() < 7 => refused(12),
+        (Fault::SameOneRefused, 13) => Compared { same: 1, ..right },
+        _ => right,
+    }
 }

@@ -77,7 +77,12 @@ fn pair(random: &mut Random, instance: &Instance) -> [Round; 2] {
 }
 
 /// An accepted round with the commitment of this nonce.
-fn with_nonce(random: &mut Random, instance: &Instance, nonce: &Places, challenge: u32) -> Round {
+pub fn with_nonce(
+    random: &mut Random,
+    instance: &Instance,
+    nonce: &Places,
+    challenge: u32,
+) -> Round {
     let witness = instance.witness.unwrap_or_default();
     let mut response = instance.response(nonce, challenge, &witness);
     if random.once_in(3) {

@@ -4,16 +4,17 @@
 
 use super::bytes;
 use super::inputs::{Inputs, States, PROVER_STATES, UNREAD, VERIFIER_STATES};
+use super::or_answers;
 use super::Given;
 use crate::calls::Call;
 use crate::library::{
-    Computed, Counted, Fetched, Judgement, Library, Loaded, Plan, ProverAnswer, ProverSession,
-    VerifierSession, Written, LONGEST_REASON, LONGEST_TEXT,
+    Compared, Computed, Counted, Fetched, Judgement, Library, Loaded, Plan, ProverAnswer,
+    ProverSession, VerifierSession, Written, LONGEST_REASON, LONGEST_TEXT,
 };
 
 /// A refusal, or the answer of a call that is carried out. `clean` says that a
 /// refused call has left all as it was and has zeros beside its number.
-fn told(refusal: u32, clean: bool, answer: impl FnOnce() -> String) -> String {
+pub fn told(refusal: u32, clean: bool, answer: impl FnOnce() -> String) -> String {
     match (refusal, clean) {
         (0, _) => answer(),
         (number, true) => format!("refused {number}"),
@@ -23,7 +24,7 @@ fn told(refusal: u32, clean: bool, answer: impl FnOnce() -> String) -> String {
 
 /// The values of these places that are in use, and those behind them up to the
 /// last that is not 0.
-fn list(places: &[u32], used: usize) -> String {
+pub fn list(places: &[u32], used: usize) -> String {
     let last = places.iter().rposition(|value| *value != 0);
     let shown = used.max(last.map_or(1, |last| last + 1)).min(places.len());
     let words: Vec<String> = places[..shown].iter().map(u32::to_string).collect();
@@ -31,7 +32,7 @@ fn list(places: &[u32], used: usize) -> String {
 }
 
 /// The name of a state, or its number where it has none.
-fn state(states: States, number: u32) -> String {
+pub fn state(states: States, number: u32) -> String {
     let named = states.iter().find(|(_, of)| *of == number);
     named.map_or(number.to_string(), |(name, _)| name.to_string())
 }
@@ -66,15 +67,16 @@ fn written(answer: Written, before: &[u8], after: &[u8]) -> String {
     )
 }
 
+/// The rows s and the columns n of a sheet, as its bytes have them.
+pub fn sizes(sheet: &[u8]) -> (usize, usize) {
+    let byte = |place: usize| sheet.get(place).map_or(0, |byte| usize::from(*byte).min(8));
+    (byte(18), byte(19))
+}
+
 impl Given {
-    /// The rows s and the columns n of the sheet, as its bytes have them.
+    /// The rows and the columns of the sheet.
     fn sizes(&self) -> (usize, usize) {
-        let byte = |place: usize| {
-            self.sheet
-                .get(place)
-                .map_or(0, |byte| usize::from(*byte).min(8))
-        };
-        (byte(18), byte(19))
+        sizes(&self.sheet)
     }
 
     /// What the library answers to a call.
@@ -91,6 +93,7 @@ impl Given {
             Call::Count | Call::Check | Call::Part | Call::Read => {
                 self.reader(library, call, inputs)
             }
+            Call::SameCommitment => self.same_commitment(library, inputs),
             Call::Patterns | Call::Empty | Call::Append => self.file_writer(library, call, inputs),
             Call::Judge | Call::Simulate | Call::Extract => self.round(library, call, inputs),
             Call::ProverNew => Ok(prover(&library.prover_new())),
@@ -100,6 +103,11 @@ impl Given {
             Call::VerifierNew => Ok(verifier(&library.verifier_new())),
             Call::VerifierCommitment | Call::VerifierChallenge | Call::VerifierResponse => {
                 self.verifier_step(library, call, inputs)
+            }
+            Call::OrJudge | Call::OrExtract => self.or_round(library, call, inputs),
+            Call::OrProverNew => Ok(or_answers::session(&library.or_prover_new())),
+            Call::OrProverCommit | Call::OrProverRespond | Call::OrProverDrop => {
+                self.or_prover_step(library, call, inputs)
             }
             Call::Mark => Ok(self.mark(library, &inputs.bytes("level")?)),
             Call::Reason => Ok(self.reason(library)),
@@ -169,6 +177,12 @@ impl Given {
             let (t, r) = (list(&round.commitment, s), list(&round.response, n));
             format!("t={t} c={} r={r}", round.challenge)
         }))
+    }
+
+    fn same_commitment(&self, library: Library, inputs: &mut Inputs) -> Result<String, String> {
+        let (i, j) = (inputs.number("i")?, inputs.number("j")?);
+        let Compared { same, refusal } = library.same_commitment(&self.sheet, &self.file, i, j);
+        Ok(told(refusal, same == 0, || format!("same={same}")))
     }
 
     /// Both writers of sheets.

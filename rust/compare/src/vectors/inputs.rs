@@ -5,7 +5,7 @@ use std::str::FromStr;
 
 use super::bytes;
 use crate::library::phases::{prover, verifier};
-use crate::library::{Header, Places, ProverSession, Round, VerifierSession};
+use crate::library::{Header, OrRound, OrSession, Places, ProverSession, Round, VerifierSession};
 
 /// What stands in places that no call may read.
 pub const UNREAD: u32 = 99;
@@ -114,6 +114,19 @@ impl<'a> Inputs<'a> {
         })
     }
 
+    /// The round of t0, t1, c, c0, r0 and r1, or of t0_2 and so on.
+    pub fn or_round(&mut self, behind: &str) -> Result<OrRound, String> {
+        let name = |name: &str| format!("{name}{behind}");
+        Ok(OrRound {
+            commitment0: self.brought(&name("t0"))?,
+            commitment1: self.brought(&name("t1"))?,
+            response0: self.brought(&name("r0"))?,
+            response1: self.brought(&name("r1"))?,
+            challenge: self.number(&name("c"))?,
+            challenge0: self.number(&name("c0"))?,
+        })
+    }
+
     /// A state by name, or any number.
     fn state(&mut self, states: States) -> Result<u32, String> {
         let value = self.value("state")?;
@@ -128,6 +141,18 @@ impl<'a> Inputs<'a> {
             phase: self.state(PROVER_STATES)?,
             nonce: self.places("nonce", 0)?,
             commitment: self.places("commitment", 0)?,
+        })
+    }
+
+    pub fn or_prover(&mut self) -> Result<OrSession, String> {
+        Ok(OrSession {
+            nonce: self.places("nonce", 0)?,
+            response: self.places("response", 0)?,
+            commitment0: self.places("commitment0", 0)?,
+            commitment1: self.places("commitment1", 0)?,
+            challenge: self.number("challenge")?,
+            side: self.number("side")?,
+            phase: self.state(PROVER_STATES)?,
         })
     }
 

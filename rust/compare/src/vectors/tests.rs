@@ -181,7 +181,7 @@ fn stored_bytes() -> Vec<Vec<u8>> {
         .lines()
         .filter(|line| !line.starts_with('#'))
         .flat_map(|line| {
-            let given = ["sheet ", "file ", "pattern_file "]
+            let given = ["sheet ", "second_sheet ", "file ", "pattern_file "]
                 .iter()
                 .find_map(|word| line.strip_prefix(word));
             let written = line

@@ -27,44 +27,61 @@ static int read_line(void) {
     return length;
 }
 
-/* Whether the first bytes of `bytes` are taken for a session of Peggy's, or else of Vic's. */
-static int is_taken(int peggys, size_t length) {
-    DimkhorosProverSession peggy, other_peggy;
-    DimkhorosVerifierSession vic, other_vic;
-    memset(&peggy, 0xEE, sizeof peggy);
-    memset(&vic, 0xEE, sizeof vic);
-    other_peggy = peggy;
-    other_vic = vic;
-    int taken = peggys ? dimkhoros_prover_restore(bytes, length, &peggy) : dimkhoros_verifier_restore(bytes, length, &vic);
-    int changed = memcmp(&peggy, &other_peggy, sizeof peggy) != 0 || memcmp(&vic, &other_vic, sizeof vic) != 0;
-    if (!taken && changed) {
+/* Whose session it is: Peggy's, Vic's, or Peggy's of the OR proof. */
+typedef enum { PEGGY, VIC, EITHER } Whose;
+
+typedef union {
+    DimkhorosProverSession peggy;
+    DimkhorosVerifierSession vic;
+    DimkhorosOrSession either;
+} Session;
+
+/* Reads the session that these bytes hold, if they hold one of this kind. */
+static int restore(Whose whose, const uint8_t *stored, size_t length, Session *session) {
+    switch (whose) {
+    case PEGGY:
+        return dimkhoros_prover_restore(stored, length, &session->peggy);
+    case VIC:
+        return dimkhoros_verifier_restore(stored, length, &session->vic);
+    default:
+        return dimkhoros_or_prover_restore(stored, length, &session->either);
+    }
+}
+
+/* Whether the first bytes of `bytes` are taken for a session of this kind. */
+static int is_taken(Whose whose, size_t length) {
+    Session session, other;
+    memset(&session, 0xEE, sizeof session);
+    other = session;
+    int taken = restore(whose, bytes, length, &session);
+    if (!taken && memcmp(&session, &other, sizeof session) != 0) {
         printf("a refused call changed the session\n");
     }
     return taken;
 }
 
 /* Tries every damaged form of the session in the first bytes of `bytes`. */
-static void damage(int peggys, size_t length) {
+static void damage(Whose whose, size_t length) {
     int tried = 0, taken = 0;
     for (size_t place = 0; place < length; place++) {
         uint8_t right = bytes[place];
         for (int step = 1; step < 256; step++) {
             bytes[place] = (uint8_t)(right + step);
-            taken += is_taken(peggys, length);
+            taken += is_taken(whose, length);
             tried++;
         }
         bytes[place] = right;
-        taken += is_taken(peggys, place);
+        taken += is_taken(whose, place);
         tried++;
     }
     for (int byte = 0; byte < 256; byte++) {
         bytes[length] = (uint8_t)byte;
-        taken += is_taken(peggys, length + 1);
+        taken += is_taken(whose, length + 1);
         tried++;
     }
     memset(bytes + length, 0, MOST - length);
     for (size_t longer = length + 1; longer <= MOST; longer++) {
-        taken += is_taken(peggys, longer);
+        taken += is_taken(whose, longer);
         tried++;
     }
     printf("damaged %d taken %d\n", tried, taken);
@@ -92,7 +109,7 @@ static void show_peggy(const DimkhorosProverSession *peggy) {
     print_values(&peggy->phase, 1);
     dimkhoros_prover_store(peggy, stored);
     print_bytes(stored, DIMKHOROS_STORED_PROVER);
-    damage(1, DIMKHOROS_STORED_PROVER);
+    damage(PEGGY, DIMKHOROS_STORED_PROVER);
 }
 
 static void show_vic(const DimkhorosVerifierSession *vic) {
@@ -103,22 +120,41 @@ static void show_vic(const DimkhorosVerifierSession *vic) {
     print_values(&vic->phase, 1);
     dimkhoros_verifier_store(vic, stored);
     print_bytes(stored, DIMKHOROS_STORED_VERIFIER);
-    damage(0, DIMKHOROS_STORED_VERIFIER);
+    damage(VIC, DIMKHOROS_STORED_VERIFIER);
+}
+
+static void show_either(const DimkhorosOrSession *either) {
+    uint8_t stored[DIMKHOROS_STORED_OR_PROVER];
+    printf("either");
+    print_values(either->nonce, 8);
+    print_values(either->response, 8);
+    print_values(either->commitment0, 8);
+    print_values(either->commitment1, 8);
+    print_values(&either->challenge, 1);
+    print_values(&either->side, 1);
+    print_values(&either->phase, 1);
+    dimkhoros_or_prover_store(either, stored);
+    print_bytes(stored, DIMKHOROS_STORED_OR_PROVER);
+    damage(EITHER, DIMKHOROS_STORED_OR_PROVER);
 }
 
 int main(void) {
-    DimkhorosProverSession peggy;
-    DimkhorosVerifierSession vic;
+    Session peggy, vic, either;
     for (int length = read_line(); length >= 0; length = read_line()) {
-        int peggys = dimkhoros_prover_restore(length == 0 ? NULL : bytes, (size_t)length, &peggy);
-        int vics = dimkhoros_verifier_restore(length == 0 ? NULL : bytes, (size_t)length, &vic);
+        const uint8_t *stored = length == 0 ? NULL : bytes;
+        int peggys = restore(PEGGY, stored, (size_t)length, &peggy);
+        int vics = restore(VIC, stored, (size_t)length, &vic);
+        int eithers = restore(EITHER, stored, (size_t)length, &either);
         if (peggys) {
-            show_peggy(&peggy);
+            show_peggy(&peggy.peggy);
         }
         if (vics) {
-            show_vic(&vic);
+            show_vic(&vic.vic);
         }
-        if (!peggys && !vics) {
+        if (eithers) {
+            show_either(&either.either);
+        }
+        if (!peggys && !vics && !eithers) {
             printf("refused\n");
         }
     }

@@ -7,6 +7,8 @@ mod cc;
 mod examples;
 mod levels;
 mod marks;
+mod or_rounds;
+mod or_sessions;
 mod pages;
 mod patterns;
 mod readme;

@@ -1,7 +1,7 @@
 //! Each refusal is given under its number.
 
 use crate::pages::{SCHNORR, made, page_a, round};
-use dimkhoros::{Instance, Patterns, Plan, Prover, Refusal, RoundFile, RoundWriter, places};
+use dimkhoros::{Instance, Pair, Patterns, Plan, Prover, Refusal, RoundFile, RoundWriter, places};
 
 /// What page A's sheet is refused with once a byte of it is changed.
 fn changed(place: usize, byte: u8) -> Refusal {
@@ -22,6 +22,13 @@ fn wrong_witness() -> Refusal {
     peggy.respond(&page_a(), 3, &places([8])).unwrap_err().refusal
 }
 
+/// What page A's sheet is refused with beside one of another challenge count.
+fn other_count() -> Refusal {
+    let other = made(&Plan { challenges: 5, ..SCHNORR }).unwrap();
+    Pair::new(&page_a(), &other).unwrap_err()
+}
+
+/// 25 is a number of the marker's text alone, and no call answers it.
 #[test]
 fn every_number_is_given() {
     let a = page_a();
@@ -52,8 +59,10 @@ fn every_number_is_given() {
         RoundWriter::start(&a, &mut [0; 6]).unwrap_err(),
         Patterns::load(b"PAT\x00\x01\x00").unwrap_err(),
         Patterns::load(b"PAT\x00\x01\x01\x01\x01\x01\x00").unwrap_err(),
+        Refusal::Level,
+        other_count(),
     ];
-    assert_eq!(Refusal::from_number(given.len() as u32 + 2), None);
+    assert_eq!(Refusal::from_number(given.len() as u32 + 1), None);
     for (number, refusal) in (1..).zip(given) {
         assert_eq!(refusal.number(), number, "{refusal}");
         assert_eq!(Refusal::from_number(number), Some(refusal));

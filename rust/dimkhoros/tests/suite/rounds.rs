@@ -55,6 +55,32 @@ fn a_part_lies_in_the_callers_own_file() {
 }
 
 #[test]
+fn commitments_are_compared_byte_for_byte() {
+    let instance = made(&PLANS[4]).unwrap();
+    let first = Round { commitment: places([12, 9]), challenge: 1, response: places([2, 1, 0]) };
+    let second = Round { challenge: 2, response: places([0, 0, 7]), ..first };
+    let last_byte = Round { commitment: places([12, 8]), ..first };
+    let high_byte = Round { commitment: places([12, 9 + (1 << 24)]), ..first };
+    let mut buffer = [0; 200];
+    let mut writer = RoundWriter::start(&instance, &mut buffer).unwrap();
+    for round in [first, second, last_byte, high_byte] {
+        writer.append(&round).unwrap();
+    }
+    let file = writer.file();
+    for i in 0..4 {
+        for j in 0..4 {
+            let same = file.read(i).unwrap().commitment == file.read(j).unwrap().commitment;
+            assert_eq!(file.same_commitment(i, j), Ok(same));
+            assert_eq!(same, i == j || i + j == 1);
+        }
+        for beyond in [4, 65536, 1 << 32, usize::MAX] {
+            assert_eq!(file.same_commitment(i, beyond), Err(Refusal::RoundNumber));
+            assert_eq!(file.same_commitment(beyond, i), Err(Refusal::RoundNumber));
+        }
+    }
+}
+
+#[test]
 fn only_the_count_and_the_record_are_written() {
     let a = page_a();
     let mut buffer = [0xee; 40];

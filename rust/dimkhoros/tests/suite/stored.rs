@@ -4,8 +4,9 @@ use crate::cc;
 use crate::pages::page_a;
 
 use dimkhoros::{
-    Damaged, Places, Prover, ProverParts, ProverPhase, STORED_PROVER, STORED_VERIFIER, Verifier,
-    VerifierParts, VerifierPhase, places,
+    Damaged, OrProver, OrProverParts, Pair, Places, Prover, ProverParts, ProverPhase,
+    STORED_OR_PROVER, STORED_PROVER, STORED_VERIFIER, Side, Verifier, VerifierParts, VerifierPhase,
+    places,
 };
 use std::fmt::Write;
 
@@ -24,6 +25,18 @@ fn vic(phase: u32, start: u32) -> VerifierParts {
     VerifierParts { phase: VerifierPhase::from_number(phase), commitment, challenge }
 }
 
+/// Peggy's session of the OR proof.
+fn either(phase: u32, start: u32) -> OrProverParts {
+    OrProverParts {
+        phase: ProverPhase::from_number(phase),
+        side: Side::from_number(start % 2),
+        nonce: eight(start),
+        challenge: eight(7 * start)[0],
+        response: eight(9 * start),
+        commitments: [eight(3 * start), eight(5 * start)],
+    }
+}
+
 /// The states of a session with zeros, and with numbers that use all their bits.
 fn cases() -> impl Iterator<Item = (u32, u32)> {
     (0..4).flat_map(|phase| [(phase, 0), (phase, phase + 1)])
@@ -35,6 +48,10 @@ fn stored_peggy(phase: u32, start: u32) -> [u8; STORED_PROVER] {
 
 fn stored_vic(phase: u32, start: u32) -> [u8; STORED_VERIFIER] {
     Verifier::from_parts(vic(phase, start)).to_stored()
+}
+
+fn stored_either(phase: u32, start: u32) -> [u8; STORED_OR_PROVER] {
+    OrProver::from_parts(either(phase, start)).to_stored()
 }
 
 fn hex(bytes: &[u8]) -> String {
@@ -87,6 +104,16 @@ fn the_bytes_are_those_of_the_header() {
     let vic = Verifier::new().take_commitment(&page_a(), &dimkhoros::places([9])).unwrap();
     let vic = vic.take_challenge(&page_a(), 3).unwrap();
     assert_eq!(hex(&vic.to_stored()), asked);
+    // She knows side 1 of page A beside itself, and simulates side 0 with the challenge 3 and the response 6.
+    let [nonce, response, simulated] = ["00000005", "00000006", "0000000d"].map(places);
+    let values = [nonce, response, simulated, commitment].concat();
+    let either =
+        format!("4f5250{}{}{values}{}{}{phase}78850757", "0001", "0097", "00000003", "00000001");
+    let first = page_a();
+    let pair = Pair::new(&first, &first).unwrap();
+    let [nonce, response] = [5, 6].map(|value| dimkhoros::places([value]));
+    let (peggy, _) = OrProver::new().commit(&pair, Side::Second, &nonce, 3, &response).unwrap();
+    assert_eq!(hex(&peggy.to_stored()), either);
 }
 
 #[test]
@@ -103,6 +130,15 @@ fn c_and_rust_write_the_same_bytes_and_read_each_other() {
         writeln!(input, "{stored}").unwrap();
         writeln!(expected, "vic{} {challenge} {phase}", spaced(&commitment)).unwrap();
         writeln!(expected, "{stored}\ndamaged {} taken 0", damaged_forms(STORED_VERIFIER)).unwrap();
+        let stored = hex(&stored_either(phase, start));
+        let OrProverParts { side, nonce, challenge, response, commitments, .. } =
+            either(phase, start);
+        let values = [nonce, response, commitments[0], commitments[1]].concat();
+        let side = side.number();
+        writeln!(input, "{stored}").unwrap();
+        writeln!(expected, "either{} {challenge} {side} {phase}", spaced(&values)).unwrap();
+        writeln!(expected, "{stored}\ndamaged {} taken 0", damaged_forms(STORED_OR_PROVER))
+            .unwrap();
     }
     let printed = cc::run_on("stored.c", &input);
     assert_eq!(printed, expected);
@@ -113,6 +149,8 @@ fn c_and_rust_write_the_same_bytes_and_read_each_other() {
         assert!(read.into_parts() == peggy(phase, start));
         let read = Verifier::from_stored(&stored_by_c.next().unwrap()).unwrap();
         assert_eq!(read.into_parts(), vic(phase, start));
+        let read = OrProver::from_stored(&stored_by_c.next().unwrap()).unwrap();
+        assert!(read.into_parts() == either(phase, start));
     }
 }
 
@@ -141,23 +179,28 @@ fn no_damaged_session_is_taken() {
         let stored = stored_vic(phase, start);
         assert_eq!(Verifier::from_stored(&stored).unwrap().into_parts(), vic(phase, start));
         assert!(damaged(&stored).iter().all(|bytes| Verifier::from_stored(bytes).is_err()));
+        let stored = stored_either(phase, start);
+        assert!(OrProver::from_stored(&stored).unwrap().into_parts() == either(phase, start));
+        assert!(damaged(&stored).iter().all(|bytes| OrProver::from_stored(bytes).is_err()));
     }
 }
 
-/// Bytes that no session is stored as: zeros of every length, the other's session, and every byte of mark, version, length and
-/// state changed to every other value under a check value that is right.
+/// Bytes that no session is stored as: zeros of every length, and every byte of mark, version, length and state, and of the side
+/// in the OR proof, changed to every other value under a check value that is right.
 fn others() -> Vec<Vec<u8>> {
     let mut others: Vec<Vec<u8>> = (0..=200).map(|length| vec![0; length]).collect();
-    for stored in [&stored_peggy(1, 2)[..], &stored_vic(2, 3)] {
+    for stored in [&stored_peggy(1, 2)[..], &stored_vic(2, 3), &stored_either(1, 4)] {
         let before = &stored[..stored.len() - 4];
         assert_eq!(checked(before.to_vec()), stored);
-        let state = before.len() - 4..before.len();
+        let side = stored.len() == STORED_OR_PROVER;
+        let state = before.len() - if side { 8 } else { 4 }..before.len();
         for place in (0..7).chain(state) {
             for value in 0..=255 {
                 let mut bytes = before.to_vec();
                 bytes[place] = value;
-                let last = place + 1 == bytes.len();
-                if value != before[place] && !(last && value < 4) {
+                let last = place + 1 == bytes.len() && value < 4;
+                let of_side = side && place + 5 == bytes.len() && value < 2;
+                if value != before[place] && !last && !of_side {
                     others.push(checked(bytes));
                 }
             }
@@ -172,12 +215,20 @@ fn right_check_values_do_not_make_a_session() {
     for bytes in &others {
         assert_eq!(Prover::from_stored(bytes).unwrap_err(), Damaged);
         assert_eq!(Verifier::from_stored(bytes).unwrap_err(), Damaged);
+        assert_eq!(OrProver::from_stored(bytes).unwrap_err(), Damaged);
     }
     let input = others.iter().fold(String::new(), |text, bytes| text + &hex(bytes) + "\n");
     assert_eq!(cc::run_on("stored.c", &input), "refused\n".repeat(others.len()));
-    let sessions = (stored_peggy(1, 2), stored_vic(2, 3));
-    assert_eq!(Verifier::from_stored(&sessions.0).unwrap_err(), Damaged);
-    assert_eq!(Prover::from_stored(&sessions.1).unwrap_err(), Damaged);
+    let (peggy, vic, either) = (stored_peggy(1, 2), stored_vic(2, 3), stored_either(1, 4));
+    for bytes in [&peggy[..], &either] {
+        assert_eq!(Verifier::from_stored(bytes).unwrap_err(), Damaged);
+    }
+    for bytes in [&vic[..], &either] {
+        assert_eq!(Prover::from_stored(bytes).unwrap_err(), Damaged);
+    }
+    for bytes in [&peggy[..], &vic] {
+        assert_eq!(OrProver::from_stored(bytes).unwrap_err(), Damaged);
+    }
 }
 
 #[test]

@@ -19,6 +19,8 @@ size_t look(const uint8_t *sheet, size_t length, uint8_t *bytes, uint32_t *eight
     DimkhorosProverSession peggy = {{0}, {0}, DIMKHOROS_PROVER_NEW};
     DimkhorosVerifierSession vic = {{0}, 0, DIMKHOROS_VERIFIER_WAITING};
     DimkhorosJudgement verdict = {0, 0, 0};
+    DimkhorosOrRound two = {{9}, {33}, {4}, {6}, 3, 2};
+    DimkhorosOrSession either = {{0}, {0}, {0}, {0}, 0, 0, DIMKHOROS_PROVER_NEW};
 
     LOOK(dimkhoros_load(sheet, length), .refusal);
     LOOK(dimkhoros_entries(sheet, length, table), );
@@ -42,10 +44,19 @@ size_t look(const uint8_t *sheet, size_t length, uint8_t *bytes, uint32_t *eight
     LOOK(dimkhoros_simulate(sheet, length, 3, eight), .refusal);
     LOOK(dimkhoros_extract(sheet, length, round, round), .refusal);
 
+    LOOK(dimkhoros_or_prover_new(), .phase);
+    LOOK(dimkhoros_or_commit(sheet, length, sheet, length, &either, 0, eight, 3, eight, eight, table), );
+    LOOK(dimkhoros_or_respond(sheet, length, sheet, length, &either, 3, eight, &two), );
+    LOOK(dimkhoros_or_drop(&either), );
+    LOOK(dimkhoros_or_prover_restore(bytes, length, &either), != 0);
+    LOOK(dimkhoros_or_judge(sheet, length, sheet, length, two), .refusal);
+    LOOK(dimkhoros_or_extract(sheet, length, sheet, length, two, two), .refusal);
+
     LOOK(dimkhoros_count(sheet, length, bytes, length), .refusal);
     LOOK(dimkhoros_check(sheet, length, bytes, length, 0), );
     LOOK(dimkhoros_part(sheet, length, bytes, length, 0), .length);
     LOOK(dimkhoros_read(sheet, length, bytes, length, 0), .refusal);
+    LOOK(dimkhoros_same_commitment(sheet, length, bytes, length, 0, 1), .refusal);
     LOOK(dimkhoros_empty(bytes, length), .refusal);
     LOOK(dimkhoros_append(sheet, length, bytes, length, length, round), .refusal);
     LOOK(dimkhoros_mark(sheet, length, bytes, length, bytes, length, bytes), );
@@ -57,10 +68,14 @@ size_t look(const uint8_t *sheet, size_t length, uint8_t *bytes, uint32_t *eight
     LOOK(dimkhoros_verifier_commitment(sheet, length, vic, eight), .refusal);
     LOOK(dimkhoros_verifier_challenge(sheet, length, vic, 3), .refusal);
     LOOK(dimkhoros_verifier_response(sheet, length, vic, eight), .verdict.refusal);
+    LOOK(dimkhoros_or_prover_commit(sheet, length, sheet, length, either, 0, eight, 3, eight), .refusal);
+    LOOK(dimkhoros_or_prover_respond(sheet, length, sheet, length, either, 3, eight), .refusal);
+    LOOK(dimkhoros_or_prover_drop(either), .refusal);
 
     /* The calls whose answer need not be looked at. */
     dimkhoros_prover_store(&peggy, bytes);
     dimkhoros_verifier_store(&vic, bytes);
+    dimkhoros_or_prover_store(&either, bytes);
     dimkhoros_sentence(DIMKHOROS_REFUSED_SESSION);
     dimkhoros_version();
     return seen + verdict.accepted;

@@ -115,10 +115,49 @@ static void print_verifier_judgement(DimkhorosVerifierJudgement a) {
     printf(" }\n");
 }
 
+static void print_compared(DimkhorosCompared a) {
+    printf("Compared { same: %u, refusal: %u }\n", a.same, a.refusal);
+}
+
+static void print_or_judgement(DimkhorosOrJudgement a) {
+    printf("OrJudgement { accepted: %u, side: %u, row: %u, refusal: %u }\n", a.accepted, a.side, a.row, a.refusal);
+}
+
+static void print_or_extracted(DimkhorosOrExtracted a) {
+    printf("OrExtracted { values: ");
+    print_places(a.values);
+    printf(", side: %u, refusal: %u }\n", a.side, a.refusal);
+}
+
+static void print_or_session(DimkhorosOrSession a) {
+    printf("OrSession { nonce: ");
+    print_places(a.nonce);
+    printf(", response: ");
+    print_places(a.response);
+    printf(", commitment0: ");
+    print_places(a.commitment0);
+    printf(", commitment1: ");
+    print_places(a.commitment1);
+    printf(", challenge: %u, side: %u, phase: %u }", a.challenge, a.side, a.phase);
+}
+
+static void print_or_answer(DimkhorosOrAnswer a) {
+    printf("OrAnswer { session: ");
+    print_or_session(a.session);
+    printf(", values0: ");
+    print_places(a.values0);
+    printf(", values1: ");
+    print_places(a.values1);
+    printf(", challenge0: %u, refusal: %u }\n", a.challenge0, a.refusal);
+}
+
 /* --- What is called --- */
 
 /* A sheet of 8 rows and 8 columns with 2 on the diagonal and 1 elsewhere: row i's image is 2 to the i-th coordinate. */
 static uint8_t wide[DIMKHOROS_LONGEST_SHEET];
+
+/* A root sheet of 8 rows. */
+static uint8_t roots[52];
 
 /* The shipped pattern file. */
 static uint8_t shipped[DIMKHOROS_SHIPPED_PATTERNS];
@@ -128,6 +167,11 @@ static const uint32_t statement[8] = {2, 4, 8, 16, 9, 18, 13, 3};
 static const uint32_t nonce[8] = {0, 3, 6, 9, 1, 4, 7, 10};
 static const uint32_t commitment[8] = {1, 8, 18, 6, 2, 16, 13, 12};
 static const uint32_t response[8] = {1, 5, 9, 2, 6, 10, 3, 7};
+
+static const uint32_t root_witness[8] = {2, 3, 4, 5, 6, 8, 9, 10};
+static const uint32_t root_statement[8] = {30, 38, 53, 26, 62, 50, 58, 10};
+static const uint32_t root_nonce[8] = {12, 13, 15, 16, 17, 18, 19, 20};
+static const uint32_t root_response[8] = {23, 24, 25, 26, 27, 29, 30, 31};
 
 /* Eight numbers that rise from one. */
 static void rise(uint32_t places[8], uint32_t first) {
@@ -149,6 +193,42 @@ static DimkhorosRound honest_round(uint32_t challenge, const uint32_t r[8]) {
     memcpy(round.commitment, commitment, sizeof commitment);
     round.challenge = challenge;
     memcpy(round.response, r, 8 * sizeof r[0]);
+    return round;
+}
+
+static DimkhorosOrRound rising_or_round(uint32_t first) {
+    DimkhorosOrRound round;
+    rise(round.commitment0, first);
+    rise(round.commitment1, first + 8);
+    rise(round.response0, first + 16);
+    rise(round.response1, first + 24);
+    round.challenge = first + 32;
+    round.challenge0 = first + 33;
+    return round;
+}
+
+/* Peggy's session of the OR proof, committed with the witness of this side. */
+static DimkhorosOrAnswer or_committed(uint32_t side) {
+    return dimkhoros_or_prover_commit(wide, sizeof wide, roots, sizeof roots, dimkhoros_or_prover_new(), side,
+                                      side == 0 ? nonce : root_nonce, 3, side == 0 ? root_response : response);
+}
+
+/* What it answers to a challenge. */
+static DimkhorosOrAnswer or_answered(uint32_t side, uint32_t challenge) {
+    return dimkhoros_or_prover_respond(wide, sizeof wide, roots, sizeof roots, or_committed(side).session, challenge,
+                                       side == 0 ? witness : root_witness);
+}
+
+/* The whole round. */
+static DimkhorosOrRound or_round(uint32_t side, uint32_t challenge) {
+    DimkhorosOrAnswer answer = or_answered(side, challenge);
+    DimkhorosOrRound round;
+    memcpy(round.commitment0, answer.session.commitment0, sizeof round.commitment0);
+    memcpy(round.commitment1, answer.session.commitment1, sizeof round.commitment1);
+    memcpy(round.response0, answer.values0, sizeof round.response0);
+    memcpy(round.response1, answer.values1, sizeof round.response1);
+    round.challenge = challenge;
+    round.challenge0 = answer.challenge0;
     return round;
 }
 
@@ -181,6 +261,11 @@ static void sheets(void) {
     print_written(
         dimkhoros_from_pattern(shipped, sizeof shipped, 0, 35, 5, 5, NULL, 0, z, 1, product, sizeof product));
     print_written(dimkhoros_from_pattern(file, sizeof file, 0, 35, 5, 5, NULL, 0, z, 1, product, sizeof product));
+
+    const DimkhorosHeader of_roots = {2, 77, 13, 5, 8, 8};
+    if (dimkhoros_encode(of_roots, entries, root_statement, roots, sizeof roots).length != sizeof roots) {
+        printf("the root sheet is refused\n");
+    }
 }
 
 static void files(void) {
@@ -198,6 +283,9 @@ static void files(void) {
     print_fetched(dimkhoros_read(wide, sizeof wide, buffer, 143, 2));
     printf("%u\n", dimkhoros_check(wide, sizeof wide, buffer, 143, 1));
     printf("%u\n", dimkhoros_check(wide, sizeof wide, buffer, 143, (size_t)-1));
+    print_compared(dimkhoros_same_commitment(wide, sizeof wide, buffer, 143, 1, 1));
+    print_compared(dimkhoros_same_commitment(wide, sizeof wide, buffer, 143, 0, 1));
+    print_compared(dimkhoros_same_commitment(wide, sizeof wide, buffer, 143, 0, UINT32_MAX));
 }
 
 static void rounds(void) {
@@ -251,6 +339,46 @@ static void verifiers(void) {
     print_verifier_answer(dimkhoros_verifier_commitment(wide, sizeof wide, odd, commitment));
     print_verifier_answer(dimkhoros_verifier_challenge(wide, sizeof wide, odd, 1));
     print_verifier_judgement(dimkhoros_verifier_response(wide, sizeof wide, odd, response));
+}
+
+static void or_rounds(void) {
+    print_or_judgement(dimkhoros_or_judge(wide, sizeof wide, roots, sizeof roots, or_round(0, 1)));
+    print_or_judgement(dimkhoros_or_judge(roots, sizeof roots, wide, sizeof wide, rising_or_round(1)));
+    DimkhorosOrRound wrong[4];
+    for (int i = 0; i < 4; i++) {
+        wrong[i] = or_round(0, 1);
+    }
+    wrong[0].response0[5] = 2;
+    wrong[1].response1[6] = 1;
+    wrong[2].challenge0 = 5;
+    wrong[3].commitment1[7] = 7;
+    for (int i = 0; i < 4; i++) {
+        print_or_judgement(dimkhoros_or_judge(wide, sizeof wide, roots, sizeof roots, wrong[i]));
+    }
+    print_or_extracted(dimkhoros_or_extract(wide, sizeof wide, roots, sizeof roots, or_round(0, 1), or_round(0, 3)));
+    print_or_extracted(dimkhoros_or_extract(wide, sizeof wide, roots, sizeof roots, or_round(1, 1), or_round(1, 3)));
+    print_or_extracted(dimkhoros_or_extract(wide, sizeof wide, roots, sizeof roots, or_round(1, 1), or_round(0, 3)));
+}
+
+static void or_provers(void) {
+    print_or_session(dimkhoros_or_prover_new());
+    printf("\n");
+    print_or_answer(or_committed(0));
+    print_or_answer(or_committed(UINT32_MAX));
+    print_or_answer(or_answered(0, 1));
+    print_or_answer(or_answered(1, 2));
+    print_or_answer(dimkhoros_or_prover_drop(or_committed(1).session));
+    DimkhorosOrSession odd;
+    rise(odd.nonce, 401);
+    rise(odd.response, 409);
+    rise(odd.commitment0, 501);
+    rise(odd.commitment1, 509);
+    odd.challenge = 517;
+    odd.side = 518;
+    odd.phase = 77;
+    print_or_answer(dimkhoros_or_prover_commit(wide, sizeof wide, roots, sizeof roots, odd, 0, nonce, 1, root_response));
+    print_or_answer(dimkhoros_or_prover_respond(wide, sizeof wide, roots, sizeof roots, odd, 1, root_witness));
+    print_or_answer(dimkhoros_or_prover_drop(odd));
 }
 
 /* The length of the marker's text on three files, the text, and two bytes behind it, which stay. */
@@ -318,6 +446,8 @@ static void empty_slices(void) {
     printf("%u\n", dimkhoros_check(wide, sizeof wide, NULL, 0, 0));
     print_part(dimkhoros_part(wide, sizeof wide, NULL, 0, 0));
     print_fetched(dimkhoros_read(wide, sizeof wide, NULL, 0, 0));
+    print_compared(dimkhoros_same_commitment(NULL, 0, NULL, 0, 0, 0));
+    print_compared(dimkhoros_same_commitment(wide, sizeof wide, NULL, 0, 0, 0));
     print_written(dimkhoros_empty(NULL, 0));
     print_written(dimkhoros_append(wide, sizeof wide, NULL, 0, 0, rising_round(1)));
     print_written(dimkhoros_append(wide, sizeof wide, NULL, 0, 7, rising_round(1)));
@@ -329,6 +459,10 @@ static void empty_slices(void) {
     print_verifier_answer(dimkhoros_verifier_commitment(NULL, 0, dimkhoros_verifier_new(), commitment));
     print_verifier_answer(dimkhoros_verifier_challenge(NULL, 0, dimkhoros_verifier_new(), 1));
     print_verifier_judgement(dimkhoros_verifier_response(NULL, 0, dimkhoros_verifier_new(), response));
+    print_or_judgement(dimkhoros_or_judge(NULL, 0, NULL, 0, rising_or_round(1)));
+    print_or_extracted(dimkhoros_or_extract(wide, sizeof wide, NULL, 0, rising_or_round(1), rising_or_round(2)));
+    print_or_answer(dimkhoros_or_prover_commit(NULL, 0, wide, sizeof wide, dimkhoros_or_prover_new(), 0, nonce, 1, response));
+    print_or_answer(dimkhoros_or_prover_respond(NULL, 0, NULL, 0, dimkhoros_or_prover_new(), 1, witness));
 }
 
 int main(void) {
@@ -337,6 +471,8 @@ int main(void) {
     rounds();
     provers();
     verifiers();
+    or_rounds();
+    or_provers();
     marks();
     reasons();
     empty_slices();

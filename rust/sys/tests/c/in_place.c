@@ -1,21 +1,10 @@
 /*
- * Makes each call on a session in place and in its pure form on the same inputs. Both have to answer the same number. Where it
- * is 0, session and values have to be those of the pure form; else session, array and verdict have to keep every byte. No
- * byte beside them may change. Prints the numbers that each call answered.
+ * Makes each call on Peggy's and on Vic's session in place and in its pure form, and compares both. Prints the numbers that each
+ * call answered.
  */
-#include "dimkhoros.h"
-#include <stdio.h>
-#include <stdlib.h>
-#include <string.h>
-
-#define COUNT(array) (sizeof(array) / sizeof(array)[0])
+#include "in_place.h"
 
 /* --- What is tried --- */
-
-typedef struct {
-    uint8_t bytes[DIMKHOROS_LONGEST_SHEET];
-    size_t length;
-} Sheet;
 
 /* A Schnorr sheet, a product sheet of two rows and three columns, a root sheet, and one that is refused with 2. */
 static Sheet sheets[4];
@@ -29,36 +18,15 @@ static const uint32_t challenges[] = {0, 3, 4, 5, 10, 11, UINT32_MAX};
 
 static const uint32_t phases[] = {0, 1, 2, 3, 4, UINT32_MAX};
 
-static void make(Sheet *sheet, uint32_t pattern, uint32_t m, uint32_t l, const uint32_t *values, size_t count,
-                 const uint32_t *z, size_t rows) {
-    uint8_t patterns[DIMKHOROS_SHIPPED_PATTERNS];
-    DimkhorosWritten file = dimkhoros_patterns(patterns, sizeof patterns);
-    DimkhorosWritten made = dimkhoros_from_pattern(patterns, file.length, pattern, m, l, 5, values, count, z, rows,
-                                                   sheet->bytes, sizeof sheet->bytes);
-    if (file.refusal != 0 || made.refusal != 0) {
-        exit(1);
-    }
-    sheet->length = made.length;
-}
-
 static void make_sheets(void) {
     const uint32_t values[3] = {2, 3, 3};
     const uint32_t schnorr[1] = {13};
     const uint32_t product[2] = {12, 9};
     const uint32_t root[1] = {32};
-    make(&sheets[0], DIMKHOROS_PATTERN_SCHNORR, 23, 11, values, 1, schnorr, 1);
-    make(&sheets[1], DIMKHOROS_PATTERN_PRODUCT, 23, 11, values, 3, product, 2);
-    make(&sheets[2], DIMKHOROS_PATTERN_ROOT, 35, 5, NULL, 0, root, 1);
+    make(&sheets[0], DIMKHOROS_PATTERN_SCHNORR, 23, 11, 5, values, 1, schnorr, 1);
+    make(&sheets[1], DIMKHOROS_PATTERN_PRODUCT, 23, 11, 5, values, 3, product, 2);
+    make(&sheets[2], DIMKHOROS_PATTERN_ROOT, 35, 5, 5, NULL, 0, root, 1);
 }
-
-/* --- How two outcomes are compared --- */
-
-/* Which numbers a call answered, and by how many comparisons. */
-typedef struct {
-    const char *name;
-    int answered[23];
-    int accepted, rejected;
-} Seen;
 
 static Seen commits = {"commit", {0}, 0, 0};
 static Seen responds = {"respond", {0}, 0, 0};
@@ -66,56 +34,6 @@ static Seen drops = {"drop", {0}, 0, 0};
 static Seen commitments = {"take_commitment", {0}, 0, 0};
 static Seen asks = {"take_challenge", {0}, 0, 0};
 static Seen responses = {"take_response", {0}, 0, 0};
-
-static void require(int holds, const Seen *seen, const char *what) {
-    if (!holds) {
-        printf("%s: %s\n", seen->name, what);
-        exit(1);
-    }
-}
-
-/* A lent thing between two runs of bytes that have to stay. */
-typedef struct {
-    uint8_t before[16];
-    union {
-        DimkhorosProverSession peggy;
-        DimkhorosVerifierSession vic;
-        DimkhorosJudgement verdict;
-        uint32_t values[8];
-    } lent;
-    uint8_t behind[16];
-} Lent;
-
-/* A lent thing with this byte everywhere. */
-static Lent filled(int byte) {
-    Lent lent;
-    memset(&lent, byte, sizeof lent);
-    return lent;
-}
-
-/* Compares a lent thing after a call with what it was before, and its first bytes with what the pure form answers. */
-static void compare(const Lent *after, Lent expected, const void *answer, size_t length, uint32_t refusal, const Seen *seen) {
-    if (refusal == 0) {
-        memcpy(&expected.lent, answer, length);
-    }
-    require(memcmp(after, &expected, sizeof expected) == 0, seen, "a byte differs");
-}
-
-/* Counts a number that both forms answered. */
-static void count(Seen *seen, uint32_t in_place, uint32_t pure) {
-    require(in_place == pure && pure < COUNT(seen->answered), seen, "the numbers differ");
-    seen->answered[pure]++;
-}
-
-static void print(const Seen *seen) {
-    printf("%s", seen->name);
-    for (size_t number = 0; number < COUNT(seen->answered); number++) {
-        if (seen->answered[number] > 0) {
-            printf(" %zu", number);
-        }
-    }
-    printf("%s%s\n", seen->accepted ? " accepted" : "", seen->rejected ? " rejected" : "");
-}
 
 /* --- Peggy's calls --- */
 

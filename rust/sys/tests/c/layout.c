@@ -36,6 +36,9 @@ static void print_sheets_and_rounds(void) {
 }
 
 static void print_answers_and_sessions(void) {
+    STRUCT(DimkhorosCompared);
+    FIELD(DimkhorosCompared, same);
+    FIELD(DimkhorosCompared, refusal);
     STRUCT(DimkhorosComputed);
     FIELD(DimkhorosComputed, values);
     FIELD(DimkhorosComputed, refusal);
@@ -63,8 +66,42 @@ static void print_answers_and_sessions(void) {
     FIELD(DimkhorosVerifierJudgement, session);
 }
 
+static void print_or_proof(void) {
+    STRUCT(DimkhorosOrRound);
+    FIELD(DimkhorosOrRound, commitment0);
+    FIELD(DimkhorosOrRound, commitment1);
+    FIELD(DimkhorosOrRound, response0);
+    FIELD(DimkhorosOrRound, response1);
+    FIELD(DimkhorosOrRound, challenge);
+    FIELD(DimkhorosOrRound, challenge0);
+    STRUCT(DimkhorosOrJudgement);
+    FIELD(DimkhorosOrJudgement, accepted);
+    FIELD(DimkhorosOrJudgement, side);
+    FIELD(DimkhorosOrJudgement, row);
+    FIELD(DimkhorosOrJudgement, refusal);
+    STRUCT(DimkhorosOrExtracted);
+    FIELD(DimkhorosOrExtracted, values);
+    FIELD(DimkhorosOrExtracted, side);
+    FIELD(DimkhorosOrExtracted, refusal);
+    STRUCT(DimkhorosOrSession);
+    FIELD(DimkhorosOrSession, nonce);
+    FIELD(DimkhorosOrSession, response);
+    FIELD(DimkhorosOrSession, commitment0);
+    FIELD(DimkhorosOrSession, commitment1);
+    FIELD(DimkhorosOrSession, challenge);
+    FIELD(DimkhorosOrSession, side);
+    FIELD(DimkhorosOrSession, phase);
+    STRUCT(DimkhorosOrAnswer);
+    FIELD(DimkhorosOrAnswer, session);
+    FIELD(DimkhorosOrAnswer, values0);
+    FIELD(DimkhorosOrAnswer, values1);
+    FIELD(DimkhorosOrAnswer, challenge0);
+    FIELD(DimkhorosOrAnswer, refusal);
+}
+
 int main(void) {
     print_sheets_and_rounds();
     print_answers_and_sessions();
+    print_or_proof();
     return 0;
 }

@@ -15,6 +15,15 @@ const RESPONSE: Places = [1, 5, 9, 2, 6, 10, 3, 7];
 /// The header of a sheet of 8 rows and 8 columns.
 const WIDE: Header = Header { kind: 1, modulus: 23, order: 11, challenges: 5, rows: 8, columns: 8 };
 
+const ROOT_WITNESS: Places = [2, 3, 4, 5, 6, 8, 9, 10];
+const ROOT_STATEMENT: Places = [30, 38, 53, 26, 62, 50, 58, 10];
+const ROOT_NONCE: Places = [12, 13, 15, 16, 17, 18, 19, 20];
+const ROOT_RESPONSE: Places = [23, 24, 25, 26, 27, 29, 30, 31];
+
+/// The header of a root sheet of 8 rows.
+const ROOTS: Header =
+    Header { kind: 2, modulus: 77, order: 13, challenges: 5, rows: 8, columns: 8 };
+
 /// Entries with 2 on the diagonal and 1 elsewhere: row i's image is 2 to the i-th coordinate.
 fn diagonal() -> [u32; ENTRIES] {
     core::array::from_fn(|place| if place % 9 == 0 { 2 } else { 1 })
@@ -24,6 +33,13 @@ fn diagonal() -> [u32; ENTRIES] {
 fn wide() -> [u8; LONGEST_SHEET] {
     let mut sheet = [0; LONGEST_SHEET];
     assert_eq!(encode(WIDE, &diagonal(), &STATEMENT, &mut sheet).length, LONGEST_SHEET);
+    sheet
+}
+
+/// The root sheet.
+fn roots() -> [u8; 52] {
+    let mut sheet = [0; 52];
+    assert_eq!(encode(ROOTS, &[0; ENTRIES], &ROOT_STATEMENT, &mut sheet).length, 52);
     sheet
 }
 
@@ -38,6 +54,42 @@ fn rising_round(first: u32) -> Round {
 
 fn honest_round(challenge: u32, response: Places) -> Round {
     Round { commitment: COMMITMENT, challenge, response }
+}
+
+/// Peggy's session of the OR proof, committed with the witness of this side.
+fn or_committed(side: u32) -> OrAnswer {
+    let (nonce, response) = if side == 0 { (NONCE, ROOT_RESPONSE) } else { (ROOT_NONCE, RESPONSE) };
+    or_prover_commit(&wide(), &roots(), or_prover_new(), side, &nonce, 3, &response)
+}
+
+/// What it answers to a challenge.
+fn or_answered(side: u32, challenge: u32) -> OrAnswer {
+    let witness = if side == 0 { &WITNESS } else { &ROOT_WITNESS };
+    or_prover_respond(&wide(), &roots(), or_committed(side).session, challenge, witness)
+}
+
+/// The whole round.
+fn or_round(side: u32, challenge: u32) -> OrRound {
+    let OrAnswer { session, values0, values1, challenge0, .. } = or_answered(side, challenge);
+    OrRound {
+        commitment0: session.commitment0,
+        commitment1: session.commitment1,
+        response0: values0,
+        response1: values1,
+        challenge,
+        challenge0,
+    }
+}
+
+fn rising_or_round(first: u32) -> OrRound {
+    OrRound {
+        commitment0: rise(first),
+        commitment1: rise(first + 8),
+        response0: rise(first + 16),
+        response1: rise(first + 24),
+        challenge: first + 32,
+        challenge0: first + 33,
+    }
 }
 
 /// Adds a line for each value.
@@ -98,6 +150,9 @@ fn files(text: &mut String) {
         read(&wide, &buffer[..143], 2),
         check(&wide, &buffer[..143], 1),
         check(&wide, &buffer[..143], usize::MAX),
+        same_commitment(&wide, &buffer[..143], 1, 1),
+        same_commitment(&wide, &buffer[..143], 0, 1),
+        same_commitment(&wide, &buffer[..143], 0, u32::MAX),
     );
 }
 
@@ -151,6 +206,48 @@ fn verifiers(text: &mut String) {
         verifier_commitment(&wide, odd(), &COMMITMENT),
         verifier_challenge(&wide, odd(), 1),
         verifier_response(&wide, odd(), &RESPONSE),
+    );
+}
+
+fn or_rounds(text: &mut String) {
+    let (wide, roots) = (wide(), roots());
+    let mut wrong = [or_round(0, 1); 4];
+    wrong[0].response0[5] = 2;
+    wrong[1].response1[6] = 1;
+    wrong[2].challenge0 = 5;
+    wrong[3].commitment1[7] = 7;
+    print!(text: or_judge(&wide, &roots, &or_round(0, 1)), or_judge(&roots, &wide, &rising_or_round(1)));
+    for round in wrong {
+        print!(text: or_judge(&wide, &roots, &round));
+    }
+    print!(text:
+        or_extract(&wide, &roots, &or_round(0, 1), &or_round(0, 3)),
+        or_extract(&wide, &roots, &or_round(1, 1), &or_round(1, 3)),
+        or_extract(&wide, &roots, &or_round(1, 1), &or_round(0, 3)),
+    );
+}
+
+fn or_provers(text: &mut String) {
+    let (wide, roots) = (wide(), roots());
+    let odd = || OrSession {
+        nonce: rise(401),
+        response: rise(409),
+        commitment0: rise(501),
+        commitment1: rise(509),
+        challenge: 517,
+        side: 518,
+        phase: 77,
+    };
+    print!(text:
+        or_prover_new(),
+        or_committed(0),
+        or_committed(u32::MAX),
+        or_answered(0, 1),
+        or_answered(1, 2),
+        or_prover_drop(or_committed(1).session),
+        or_prover_commit(&wide, &roots, odd(), 0, &NONCE, 1, &ROOT_RESPONSE),
+        or_prover_respond(&wide, &roots, odd(), 1, &ROOT_WITNESS),
+        or_prover_drop(odd()),
     );
 }
 
@@ -214,6 +311,8 @@ fn empty_slices(text: &mut String) {
         check(&wide, &[], 0),
         part(&wide, &[], 0),
         read(&wide, &[], 0),
+        same_commitment(&[], &[], 0, 0),
+        same_commitment(&wide, &[], 0, 0),
         empty(&mut []),
         append(&wide, &mut [], 0, &rising_round(1)),
         append(&wide, &mut [], 7, &rising_round(1)),
@@ -225,6 +324,10 @@ fn empty_slices(text: &mut String) {
         verifier_commitment(&[], verifier_new(), &COMMITMENT),
         verifier_challenge(&[], verifier_new(), 1),
         verifier_response(&[], verifier_new(), &RESPONSE),
+        or_judge(&[], &[], &rising_or_round(1)),
+        or_extract(&wide, &[], &rising_or_round(1), &rising_or_round(2)),
+        or_prover_commit(&[], &wide, or_prover_new(), 0, &NONCE, 1, &RESPONSE),
+        or_prover_respond(&[], &[], or_prover_new(), 1, &WITNESS),
     );
 }
 
@@ -238,6 +341,8 @@ fn fields_cross_from_rust() {
     rounds(&mut text);
     provers(&mut text);
     verifiers(&mut text);
+    or_rounds(&mut text);
+    or_provers(&mut text);
     marks(&mut text);
     reasons(&mut text);
     empty_slices(&mut text);

@@ -33,6 +33,7 @@ fn every_struct_is_laid_out_as_in_c() {
     describe!(text, Counted { count, refusal });
     describe!(text, Fetched { round, refusal });
     describe!(text, Part { offset, length });
+    describe!(text, Compared { same, refusal });
     describe!(text, Computed { values, refusal });
     describe!(text, Judgement { accepted, row, refusal });
     describe!(text, ProverSession { nonce, commitment, phase });
@@ -40,5 +41,16 @@ fn every_struct_is_laid_out_as_in_c() {
     describe!(text, VerifierSession { commitment, challenge, phase });
     describe!(text, VerifierAnswer { session, refusal });
     describe!(text, VerifierJudgement { verdict, session });
+    describe!(
+        text,
+        OrRound { commitment0, commitment1, response0, response1, challenge, challenge0 }
+    );
+    describe!(text, OrJudgement { accepted, side, row, refusal });
+    describe!(text, OrExtracted { values, side, refusal });
+    describe!(
+        text,
+        OrSession { nonce, response, commitment0, commitment1, challenge, side, phase }
+    );
+    describe!(text, OrAnswer { session, values0, values1, challenge0, refusal });
     assert_eq!(text, cc::run("layout.c"));
 }
