@@ -484,12 +484,12 @@ DimkhorosComputed dimkhoros_extract(const uint8_t *sheet, size_t sheet_length, D
 
 /*
  * "I know a witness of one of the two." There are two sheets with one K, and so two sides, 0 and 1; else they may differ in
- * everything. Peggy knows a witness of one side. Of the other she chooses the challenge and the response before she commits, and
- * simulates its commitment. When she then hears c, her own side answers what is left of it: c0 + c1 is c modulo K. Holders of
- * either witness make the same rounds, so that a round does not tell which of the two is known: this is proved.
+ * everything. Peggy knows a witness of one side. Of the other she chooses the challenge and the response before she commits,
+ * and simulates its commitment. When she then hears c, her own side answers what is left of it: c0 + c1 is c modulo K. Holders
+ * of either witness make the same rounds, so that a round does not tell which of the two is known: this is proved.
  *
- * Each of 2 to 11 is asked of both sheets before the next number, and then 26 is given where their challenge counts differ. What
- * belongs to a side is tested by its own sheet.
+ * Each of 2 to 11 is asked of both sheets before the next number, and then 26 is given where their challenge counts differ.
+ * What belongs to a side is tested by its own sheet.
  */
 
 /* A new session: DIMKHOROS_PROVER_NEW, with zeros. */
@@ -511,8 +511,8 @@ static inline uint32_t dimkhoros_or_commit(const uint8_t *first, size_t first_le
 
 /*
  * Answers a challenge by a witness of the side that the session holds: sets `round` to the whole round, with the held
- * commitments, and sets nonce, side, simulated challenge and simulated response to zeros. Leads to Answered. Refuses 2 to 11, 26,
- * 15 to 17 and 21; a committed session that is refused stays committed and can still answer.
+ * commitments, and sets nonce, side, simulated challenge and simulated response to zeros. Leads to Answered. Refuses 2 to 11,
+ * 26, 15 to 17 and 21; a committed session that is refused stays committed and can still answer.
  */
 DIMKHOROS_CHECKED
 static inline uint32_t dimkhoros_or_respond(const uint8_t *first, size_t first_length, const uint8_t *second,

@@ -8,6 +8,7 @@ mod levels;
 mod marking;
 mod or_prover;
 mod or_rounds;
+mod or_runs;
 mod pairs;
 mod patterns;
 mod phases;
@@ -59,7 +60,7 @@ const SHARES: [(Maker, usize); 30] = [
     (or_prover::commit, 4),
     (or_prover::respond, 8),
     (or_prover::give_up, 1),
-    (or_prover::run, 2),
+    (or_runs::run, 2),
     (marking::mark, 3),
     (reasons::reason, 7),
 ];

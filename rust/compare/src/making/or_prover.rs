@@ -1,5 +1,5 @@
-//! Cases of the calls on Peggy's session of the OR proof: with sessions made by
-//! hand, and runs from new ones on.
+//! Cases of the calls on Peggy's session of the OR proof, with sessions made by
+//! hand.
 
 use crate::arithmetic::multiply;
 use crate::calls::Call;
@@ -15,7 +15,7 @@ use crate::random::Random;
 
 /// What a session holds, but for its state, and what its commitments are made of.
 #[derive(Clone, Copy)]
-struct Held {
+pub struct Held {
     side: u32,
     nonce: Places,
     challenge: u32,
@@ -23,7 +23,7 @@ struct Held {
 }
 
 /// The places of the side that is known and of the other, every side but 0 being 1.
-fn places(side: u32) -> (usize, usize) {
+pub fn places(side: u32) -> (usize, usize) {
     match side {
         0 => (0, 1),
         _ => (1, 0),
@@ -32,7 +32,7 @@ fn places(side: u32) -> (usize, usize) {
 
 impl Held {
     /// Any choice of this side.
-    fn any(random: &mut Random, pair: &Pair, side: u32) -> Held {
+    pub fn any(random: &mut Random, pair: &Pair, side: u32) -> Held {
         let (own, other) = places(side);
         Held {
             side,
@@ -75,7 +75,7 @@ impl Held {
     }
 
     /// The call that commits to these, with another number for side 1 now and then.
-    fn commit(mut self, random: &mut Random, pair: &Pair) -> OrStep {
+    pub fn commit(mut self, random: &mut Random, pair: &Pair) -> OrStep {
         self.fill(random, pair);
         if self.side == 1 && random.once_in(4) {
             self.side = beyond_one(random);
@@ -100,7 +100,7 @@ fn beyond_one(random: &mut Random) -> u32 {
 
 /// Makers of the sheets for a Peggy who knows this side: the witness of the other
 /// is mostly not known, and there may be none.
-fn sheets(side: u32) -> [Sheets; 2] {
+pub fn sheets(side: u32) -> [Sheets; 2] {
     let (own, _) = places(side);
     let mut sheets: [Sheets; 2] = [Instance::of_group; 2];
     sheets[own] = Instance::known;
@@ -277,79 +277,6 @@ fn spoil_commitments(random: &mut Random, pair: &Pair, session: &mut OrSession) 
         }
         _ => change_rows(random, instance, commitment),
     }
-}
-
-/// A case of a run, honest or with some changes.
-pub fn run(random: &mut Random) -> Box<dyn Case> {
-    let side = random.between(0, 1);
-    let inputs = PairInputs::of_call(random, Call::OrProverRespond, sheets(side));
-    let pair = &inputs.pair;
-    let mut steps = honest(random, pair, side);
-    if !random.once_in(3) {
-        for _ in 0..random.between(1, 3) {
-            change(random, pair, side, &mut steps);
-        }
-    }
-    let sheets = if random.once_in(10) {
-        inputs.bytes(random)
-    } else {
-        pair.instances
-            .each_ref()
-            .map(|instance| instance.sheet.bytes())
-    };
-    Box::new(OrSessionCase {
-        sheets,
-        made: None,
-        steps,
-    })
-}
-
-/// The two calls of an honest run.
-fn honest(random: &mut Random, pair: &Pair, side: u32) -> Vec<OrStep> {
-    let instance = &pair.instances[places(side).0];
-    let mut witness = instance.witness.unwrap_or_default();
-    fill_unread(random, &mut witness, instance.columns());
-    let challenge = instance.challenge(random);
-    let commit = Held::any(random, pair, side).commit(random, pair);
-    vec![commit, OrStep::Respond { challenge, witness }]
-}
-
-/// Changes the calls: one twice, one left out, both in the other order, a drop
-/// between them, or one with another value that a right one may follow.
-fn change(random: &mut Random, pair: &Pair, side: u32, steps: &mut Vec<OrStep>) {
-    let place = random.below(steps.len());
-    let Some(step) = steps.get(place).copied() else {
-        return;
-    };
-    match random.below(6) {
-        0 => steps.insert(place, step),
-        1 => {
-            steps.remove(place);
-        }
-        2 => steps.reverse(),
-        3 => steps.insert(place, OrStep::Drop),
-        4 => steps.push(step),
-        _ => steps.insert(
-            place,
-            changed(random, &pair.instances[places(side).0], step),
-        ),
-    }
-}
-
-/// The call with another value, which is mostly a wrong one.
-fn changed(random: &mut Random, instance: &Instance, mut step: OrStep) -> OrStep {
-    match &mut step {
-        OrStep::Commit { nonce: slots, .. } | OrStep::Respond { witness: slots, .. }
-            if random.once_in(2) =>
-        {
-            spoil_slots(random, instance, slots);
-        }
-        OrStep::Commit { challenge, .. } | OrStep::Respond { challenge, .. } => {
-            *challenge = wrong_challenge(random, instance);
-        }
-        OrStep::Drop => {}
-    }
-    step
 }
 
 #[cfg(test)]
