@@ -4,6 +4,7 @@ use Rattle.disjunctions.specs.OneOfTwo.{OrProof}
 use Rattle.formats.specs.SameCommitment.{WordsCompare}
 use Rattle.patterns.specs.PatternCalls.{PatternCalls}
 use Rattle.reasons.specs.ReasonsTrue.{ReasonsTrue}
+use Rattle.runs.specs.ConvertsFiles.{ConvertsFiles}
 
 pub record Cards : Type 0 where
   -- 1: the line on a sheet, a file or its round 0 tells the first value that breaks the first rule that is broken, or the first
@@ -18,3 +19,6 @@ pub record Cards : Type 0 where
   -- 5: comparing the commitments of two rounds of a file answers 1 exactly where all 4s commitment bytes agree, and so where the
   -- commitments that are read do
   pub words : WordsCompare
+  -- 7: a round file that converts is put into the lent buffer in the other version, reads there as it did and converts back to its
+  -- own bytes
+  pub sixteen-bits : ConvertsFiles

@@ -3,11 +3,12 @@
 -- Assumes nothing.
 use Prim.Native.Nat.{ℕ, _^_, _<_, _≤_}
 use mathlib.Core.Path.{_≡_}
+use mathlib.Core.Logic.{_⊎_}
 use mathlib.Core.List.{List, map}
 use lib.ListN.{length, take}
 use Rattle.types.specs.declared.Round.{Round}
 use Rattle.lists.specs.Member.{Member}
-use Rattle.encoding.specs.Bytes.{AllBytes}
+use Rattle.encoding.specs.Bytes.{AllBytes, numberAt}
 use Rattle.sigma.specs.Instance.{Instance}
 use Rattle.sigma.specs.Reads.{paddedRound}
 use Rattle.formats.specs.Append.{append, emptyFile}
@@ -16,7 +17,7 @@ use Rattle.formats.specs.Load.{loadRefusal, loaded}
 use Rattle.formats.specs.Meaning.{readInstance}
 use Rattle.formats.specs.Outcome.{Puts}
 use Rattle.formats.specs.RoundCalls.{countRounds}
-use Rattle.formats.specs.RoundFile.{recordStart, widthOf}
+use Rattle.formats.specs.RoundFile.{recordStart}
 use Rattle.formats.specs.Rounds.{Grows, Words, appendEach, roundsRead}
 use Rattle.formats.specs.Sheet.{headerOf}
 use Rattle.formats.specs.Write.{Writing}
@@ -42,16 +43,18 @@ pub record ReadsBack : Type 0 where
   -- a sheet that loads is written back as the same bytes from what loading gives
   pub sheet-again : (sheet buffer : List ℕ) → AllBytes sheet → loadRefusal sheet ≡ 0 → length sheet ≤ length buffer
       → Puts sheet buffer (encode (loaded sheet) buffer)
-  -- rounds of 32-bit values, appended one by one to an empty file, are counted and read back as what is stored of them
-  pub appended : (sheet buffer : List ℕ) → loadRefusal sheet ≡ 0 → (rounds : List Round) → length rounds ≤ 512
-      → recordStart (widthOf 1) (headerOf sheet) (length rounds) ≤ length buffer
-      → ((round : Round) → Member round rounds → Words (widthOf 1) (headerOf sheet) round)
-      → (w : Writing) → w ≡ appendEach sheet (emptyFile buffer) rounds
-      → (countRounds sheet (front w) ≡ record { refusal = 0; count = length rounds })
+  -- rounds of 32-bit values, and in version 2 of 16-bit challenges, appended one by one to an empty file of a version, are of that
+  -- version, counted and read back as what is stored of them
+  pub appended : (version width : ℕ) → ((version ≡ 1) × (width ≡ 4)) ⊎ ((version ≡ 2) × (width ≡ 2))
+      → (sheet buffer : List ℕ) → loadRefusal sheet ≡ 0 → (rounds : List Round) → length rounds ≤ 512
+      → recordStart width (headerOf sheet) (length rounds) ≤ length buffer
+      → ((round : Round) → Member round rounds → Words width (headerOf sheet) round)
+      → (w : Writing) → w ≡ appendEach sheet (emptyFile version buffer) rounds
+      → (numberAt 2 (front w) 3 ≡ version) × (countRounds sheet (front w) ≡ record { refusal = 0; count = length rounds })
       × (roundsRead sheet (front w) ≡ map (paddedRound (headerOf sheet)) rounds)
   -- a round appended to any round file is the file's last
   pub grown : (sheet buffer : List ℕ) (used : ℕ) (round : Round) → append sheet buffer used round .answer .refusal ≡ 0
       → Grows sheet (take used buffer) round (front (append sheet buffer used round))
-  -- a round file that reads is written back as the same bytes from what the read call gives
+  -- a round file that reads is written back as the same bytes, in its version, from what the read call gives
   pub file-again : (sheet file buffer : List ℕ) → AllBytes file → countRounds sheet file .refusal ≡ 0 → length file ≤ length buffer
-      → Puts file buffer (appendEach sheet (emptyFile buffer) (roundsRead sheet file))
+      → Puts file buffer (appendEach sheet (emptyFile (numberAt 2 file 3) buffer) (roundsRead sheet file))

@@ -3,6 +3,7 @@
 use Prim.Native.Nat.{ℕ, _<_, _≤_}
 use mathlib.Core.Path.{_≡_}
 use mathlib.Core.Bool.{cond}
+use mathlib.Core.Logic.{_⊎_}
 use mathlib.Core.List.{List}
 use lib.ListN.{length, take}
 use Rattle.types.specs.declared.Header.{Header}
@@ -20,10 +21,14 @@ pub record Loads (s : List ℕ) : Type 0 where
   pub valid : Valid (instanceOf s)
   pub exact : length s ≡ sheetLength (headerOf s)
 
+-- a version of round files
+abbrev pub IsVersion : ℕ → Type 0
+IsVersion version = (version ≡ 1) ⊎ (version ≡ 2)
+
 -- 12 does not apply to the round file
 pub record IsRoundFile (h : Header) (f : List ℕ) : Type 0 where
   pub mark : take 3 f ≡ roundMark
-  pub version : fileVersion f ≡ 1
+  pub version : IsVersion (fileVersion f)
   pub few : countField f ≤ 512
   pub exact : length f ≡ recordStart (challengeWidth f) h (countField f)
 

@@ -46,12 +46,12 @@ brokenInSheet s o =
     (¬ Element (headerOf s) (numberAt 4 s o)))) ∷ []
 
 -- the rules that the value at offset o of a round file breaks: mark, version or count; a count of no rounds; and in round 0,
--- whose record begins at 7, a commitment value, the challenge (of 4 bytes), and a response slot
+-- whose record begins at 7, a commitment value, the challenge, of two bytes in version 2 and else of four, and a response slot
 abbrev pub brokenInFile : List ℕ → List ℕ → ℕ → List Condition
 brokenInFile s f o =
     (12 if
     ((7 ≤ length f) ×
-    (((o ≡ 0) × Differ 3 f (ascii "RND")) ⊎ ((o ≡ 3) × (numberAt 2 f 3 ≢ 1)) ⊎ ((o ≡ 5) × (512 < numberAt 2 f 5))))) ∷
+    (((o ≡ 0) × Differ 3 f (ascii "RND")) ⊎ ((o ≡ 3) × (¬ ((numberAt 2 f 3 ≡ 1) ⊎ (numberAt 2 f 3 ≡ 2)))) ⊎ ((o ≡ 5) × (512 < numberAt 2 f 5))))) ∷
     (13 if ((o ≡ 5) × (numberAt 2 f 5 ≡ 0))) ∷
     (14 if ((i : ℕ) × (i < numberAt 1 s 18) × (o ≡ 7 + 4 * i) × (¬ Element (headerOf s) (numberAt 4 f o)))) ∷
     (15 if ((o ≡ 7 + 4 * numberAt 1 s 18) × (numberAt 4 s 14 ≤ numberAt (challengeWidth f) f o))) ∷
@@ -71,7 +71,7 @@ pub record FirstBreak (s f : List ℕ) (n o : ℕ) : Type 0 where
 -- mark, version and count of a round file are right
 pub record RightStart (f : List ℕ) : Type 0 where
   pub mark : Agree 3 f (ascii "RND")
-  pub version : numberAt 2 f 3 ≡ 1
+  pub version : (numberAt 2 f 3 ≡ 1) ⊎ (numberAt 2 f 3 ≡ 2)
   pub count : numberAt 2 f 5 ≤ 512
 
 -- the rules that a file's length l breaks: a header that is too short, or, all else being right, a length that does not fit
