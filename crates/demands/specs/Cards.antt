@@ -1,4 +1,5 @@
--- What the cards of 02 ask beyond 01, a field for each card. Card 3, which changes the marker, stands in Demand1 and MarksFiles.
+-- What the cards of 02 ask beyond 01, a field for each card. Card 3, which changes the marker, stands in Demand1 and MarksFiles,
+-- and what card 7 changes of 01's calls on round files in Demand1, Layout, Writers, ReadsBack and ReasonsTrue.
 -- Assumes nothing.
 use Rattle.disjunctions.specs.OneOfTwo.{OrProof}
 use Rattle.formats.specs.SameCommitment.{WordsCompare}
@@ -19,6 +20,6 @@ pub record Cards : Type 0 where
   -- 5: comparing the commitments of two rounds of a file answers 1 exactly where all 4s commitment bytes agree, and so where the
   -- commitments that are read do
   pub words : WordsCompare
-  -- 7: a round file that converts is put into the lent buffer in the other version, reads there as it did and converts back to its
+  -- 7, beside the calls of 01: a round file that converts is put into the lent buffer in the other version, reads there as it did and converts back to its
   -- own bytes
   pub sixteen-bits : ConvertsFiles

@@ -1,9 +1,9 @@
 -- Demand 2's half on files (00): sheets and round files that the calls write read back as the same values, and a file that
--- reads is written back as the same bytes. What a call wrote is the buffer's front of the length that it answered.
+-- reads is written back as the same bytes, in each version of round files (02, card 7). What a call wrote is the buffer's front of
+-- the length that it answered.
 -- Assumes nothing.
 use Prim.Native.Nat.{ℕ, _^_, _<_, _≤_}
 use mathlib.Core.Path.{_≡_}
-use mathlib.Core.Logic.{_⊎_}
 use mathlib.Core.List.{List, map}
 use lib.ListN.{length, take}
 use Rattle.types.specs.declared.Round.{Round}
@@ -14,18 +14,14 @@ use Rattle.sigma.specs.Reads.{paddedRound}
 use Rattle.formats.specs.Append.{append, emptyFile}
 use Rattle.formats.specs.Encode.{encode}
 use Rattle.formats.specs.Load.{loadRefusal, loaded}
-use Rattle.formats.specs.Meaning.{readInstance}
-use Rattle.formats.specs.Outcome.{Puts}
+use Rattle.formats.specs.Meaning.{HasWidth, readInstance}
+use Rattle.formats.specs.Outcome.{Puts, front}
 use Rattle.formats.specs.RoundCalls.{countRounds}
 use Rattle.formats.specs.RoundFile.{recordStart}
 use Rattle.formats.specs.Rounds.{Grows, Words, appendEach, roundsRead}
 use Rattle.formats.specs.Sheet.{headerOf}
 use Rattle.formats.specs.Write.{Writing}
 use Rattle.patterns.specs.Maker.{asked, makeFrom}
-
--- the bytes that a call has put at the front of a lent buffer
-abbrev pub front : Writing → List ℕ
-front w = take (w .answer .length) (w .buffer)
 
 -- a sheet loads, and loading gives these values
 abbrev pub LoadsAs : List ℕ → Instance → Type 0
@@ -45,8 +41,7 @@ pub record ReadsBack : Type 0 where
       → Puts sheet buffer (encode (loaded sheet) buffer)
   -- rounds of 32-bit values, and in version 2 of 16-bit challenges, appended one by one to an empty file of a version, are of that
   -- version, counted and read back as what is stored of them
-  pub appended : (version width : ℕ) → ((version ≡ 1) × (width ≡ 4)) ⊎ ((version ≡ 2) × (width ≡ 2))
-      → (sheet buffer : List ℕ) → loadRefusal sheet ≡ 0 → (rounds : List Round) → length rounds ≤ 512
+  pub appended : (version width : ℕ) → HasWidth version width → (sheet buffer : List ℕ) → loadRefusal sheet ≡ 0 → (rounds : List Round) → length rounds ≤ 512
       → recordStart width (headerOf sheet) (length rounds) ≤ length buffer
       → ((round : Round) → Member round rounds → Words width (headerOf sheet) round)
       → (w : Writing) → w ≡ appendEach sheet (emptyFile version buffer) rounds

@@ -9,7 +9,7 @@ use Rattle.runs.specs.ConvertsFiles.{ConvertRefusals}
 use Rattle.runs.specs.Demand1.{Demand1}
 
 pub record Refusals : Type 0 where
-  -- the calls of 01, but for the sheet maker
+  -- the calls of 01, but for the sheet maker, with cards 3 and 7
   pub calls : Demand1
   -- card 2: the sheet maker, which takes a pattern file, and the call that writes the shipped one
   pub patterns : PatternRefusals

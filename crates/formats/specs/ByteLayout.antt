@@ -2,7 +2,7 @@
 -- Assumes nothing.
 use Prim.Native.Nat.{ℕ, _+_, _*_, _^_, _<_, _≤_}
 use mathlib.Core.Path.{_≡_}
-use mathlib.Core.Logic.{_≢_, _⊎_}
+use mathlib.Core.Logic.{_≢_}
 use mathlib.Core.List.{List, [], _∷_}
 use lib.ListN.{length, getD, take, drop, replicate}
 use Rattle.types.specs.declared.Header.{Header}
@@ -10,6 +10,7 @@ use Rattle.types.specs.declared.Round.{Round}
 use Rattle.encoding.specs.Bytes.{numberAt}
 use Rattle.sigma.specs.Instance.{Instance}
 use Rattle.formats.specs.Load.{load, loadRefusal, loaded}
+use Rattle.formats.specs.Meaning.{HasWidth, recordSize}
 use Rattle.formats.specs.RoundCalls.{countRounds, fetchRound, partOfRound}
 use Rattle.formats.specs.RoundFile.{challengeWidth}
 use Rattle.formats.specs.Sheet.{headerOf, instanceOf, versionOf}
@@ -65,20 +66,16 @@ pub record LoadedLayout (sheet : List ℕ) : Type 0 where
   pub root : headerOf sheet .kind ≢ 1 → length sheet ≡ 20 + 4 * headerOf sheet .rows
   pub values : loaded sheet ≡ instanceOf sheet
 
--- the bytes of a record whose challenge has so many: t, c, r in 4(s + n) and those
-abbrev pub recordSize : ℕ → Header → ℕ
-recordSize width h = 4 * (h .rows + h .columns) + width
-
 -- a round as it stands in a file from byte `at` on
 pub record RoundAt (width : ℕ) (h : Header) (file : List ℕ) (at : ℕ) (round : Round) : Type 0 where
   pub commitment : WordsAt file at (h .rows) (round .commitment)
   pub challenge : round .challenge ≡ numberAt width file (at + 4 * h .rows)
   pub response : WordsAt file (at + 4 * h .rows + width) (h .columns) (round .response)
 
--- a round file that reads for a sheet; its challenges have four bytes in version 1 and two in version 2
+-- a round file that reads for a sheet, and whose challenges have so many bytes
 pub record FileLayout (width : ℕ) (sheet file : List ℕ) : Type 0 where
   pub mark : take 3 file ≡ 0x52 ∷ 0x4E ∷ 0x44 ∷ []
-  pub version : ((numberAt 2 file 3 ≡ 1) × (width ≡ 4)) ⊎ ((numberAt 2 file 3 ≡ 2) × (width ≡ 2))
+  pub version : HasWidth (numberAt 2 file 3) width
   pub count : countRounds sheet file .count ≡ numberAt 2 file 5
   pub size : length file ≡ 7 + numberAt 2 file 5 * recordSize width (headerOf sheet)
   pub rounds : (k : ℕ) → k < numberAt 2 file 5
@@ -94,4 +91,6 @@ pub record Layout : Type 0 where
   -- whether a sheet loads is what the loader's number says
   pub number : (sheet : List ℕ) → load sheet .refusal ≡ loadRefusal sheet
   pub loading : (sheet : List ℕ) → loadRefusal sheet ≡ 0 → LoadedLayout sheet
+  -- the width of a file's challenges is that of its version
+  pub widths : (file : List ℕ) (width : ℕ) → HasWidth (numberAt 2 file 3) width → challengeWidth file ≡ width
   pub files : (sheet file : List ℕ) → countRounds sheet file .refusal ≡ 0 → FileLayout (challengeWidth file) sheet file

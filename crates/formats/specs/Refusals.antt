@@ -12,11 +12,11 @@ use Rattle.rules.specs.Condition.{Condition, _if_}
 use Rattle.sigma.specs.Instance.{Instance}
 use Rattle.sigma.specs.Reads.{Differ}
 use Rattle.sigma.specs.Refusals.{headerConditions, elementConditions}
+use Rattle.formats.specs.Meaning.{IsVersion}
 use Rattle.formats.specs.RoundFile.{
   challengeWidth,
   countField,
   fileVersion,
-  noRounds,
   recordLength,
   recordStart,
   roundMark,
@@ -27,7 +27,7 @@ use Rattle.formats.specs.Sheet.{headerOf, instanceOf, sheetLength, sheet
 -- the file has under 7 bytes, another mark, a version other than 1 and 2, a count above 512 or a length that does not fit
 abbrev pub Refusal12 : Header → List ℕ → Type 0
 Refusal12 h f =
-    (length f < 7) ⊎ Differ 3 f roundMark ⊎ (¬ ((fileVersion f ≡ 1) ⊎ (fileVersion f ≡ 2))) ⊎ (512 < countField f) ⊎
+    (length f < 7) ⊎ Differ 3 f roundMark ⊎ (¬ IsVersion (fileVersion f)) ⊎ (512 < countField f) ⊎
     (length f ≢ recordStart (challengeWidth f) h (countField f))
 
 -- loading a sheet; 2 is for under 20 bytes or another mark, and 9 for a length that is not exactly what the header gives
@@ -50,10 +50,9 @@ fileConditions h f = (12 if Refusal12 h f) ∷ []
 abbrev pub roundConditions : Header → List ℕ → ℕ → List Condition
 roundConditions h f k = (12 if Refusal12 h f) ∷ (13 if (countField f ≤ k)) ∷ []
 
--- the empty file; 12 is for a version other than 1 and 2
+-- the empty file, of seven bytes; 12 is for a version other than 1 and 2
 abbrev pub emptyConditions : ℕ → List ℕ → List Condition
-emptyConditions version buffer =
-    (12 if (¬ ((version ≡ 1) ⊎ (version ≡ 2)))) ∷ (22 if (length buffer < length (noRounds version))) ∷ []
+emptyConditions version buffer = (12 if (¬ IsVersion version)) ∷ (22 if (length buffer < 7)) ∷ []
 
 -- the record writer; 12 is for more bytes in use than the buffer has, no file in those bytes, or 512 rounds already, and 15 for a
 -- challenge above 65,535 where the bytes in use are of version 2

@@ -1,5 +1,5 @@
 -- What the calls that write leave in a lent buffer where they are not refused: which bytes, and no other byte (01, "The
--- patterns" and "A round").
+-- patterns" and "A round"; 02, card 7).
 -- Assumes nothing.
 use Prim.Native.Nat.{ℕ}
 use mathlib.Core.Path.{_≡_}

@@ -1,37 +1,22 @@
 -- The converter of round files (02, card 7): when it is refused, and that it turns each version into the other and loses nothing.
 -- Assumes nothing.
-use Prim.Native.Nat.{ℕ, _+_, _*_, _<_, _≤_}
+use Prim.Native.Nat.{ℕ, _<_, _≤_}
 use mathlib.Core.Path.{_≡_}
 use mathlib.Core.Logic.{_⊎_, _≢_}
 use mathlib.Core.List.{List, [], _∷_}
-use lib.ListN.{length, take}
+use lib.ListN.{length}
 use Rattle.encoding.specs.Bytes.{AllBytes, numberAt}
-use Rattle.formats.specs.Convert.{convert, convertConditions, converted}
-use Rattle.formats.specs.Outcome.{Keeps, Puts}
-use Rattle.formats.specs.RoundCalls.{checkRound, countRounds, fetchRound}
+use Rattle.formats.specs.Convert.{convert, convertConditions}
+use Rattle.formats.specs.Outcome.{Keeps, Puts, front}
+use Rattle.formats.specs.RoundCalls.{countRounds, fetchRound}
 use Rattle.formats.specs.Sheet.{headerOf}
 use Rattle.runs.specs.Demand1.{RefusesOn}
 use Rattle.runs.specs.Marker.{markerText, verdictOn}
 
--- what the converter has put at the front of the lent buffer
-abbrev pub convertedFile : List ℕ → List ℕ → List ℕ → List ℕ
-convertedFile sheet f buffer = take (convert sheet f buffer .answer .length) (convert sheet f buffer .buffer)
-
--- the length of a file of so many rounds whose records have 4(s + n) bytes and those of a challenge
-abbrev pub fileSize : List ℕ → ℕ → ℕ → ℕ
-fileSize sheet count width = 7 + count * (4 * (headerOf sheet .rows + headerOf sheet .columns) + width)
-
--- the file g is of the other version than the file f, and has its length
-abbrev pub OtherVersion : List ℕ → List ℕ → List ℕ → Type 0
-OtherVersion sheet f g =
-    ((numberAt 2 f 3 ≡ 1) × (numberAt 2 g 3 ≡ 2) × (length g ≡ fileSize sheet (numberAt 2 f 5) 2)) ⊎
-    ((numberAt 2 f 3 ≡ 2) × (numberAt 2 g 3 ≡ 1) × (length g ≡ fileSize sheet (numberAt 2 f 5) 4))
-
--- two files of a sheet read alike: their counts, what check and read give for each round number, the verdicts on the rounds,
+-- two files of a sheet read alike: their counts, what the read call gives for each round number, the verdicts on the rounds,
 -- refused ones too, and the marker's text at every level
 pub record ReadsAlike (sheet f g : List ℕ) : Type 0 where
   pub count : countRounds sheet g ≡ countRounds sheet f
-  pub checks : (k : ℕ) → checkRound sheet g k ≡ checkRound sheet f k
   pub values : (k : ℕ) → fetchRound sheet g k ≡ fetchRound sheet f k
   pub verdicts : (k : ℕ) → verdictOn sheet g k ≡ verdictOn sheet f k
   pub marker : (level : List ℕ) → markerText sheet g level ≡ markerText sheet f level
@@ -50,15 +35,16 @@ pub record ConvertRefusals : Type 0 where
 
 -- and what it leaves of a file that converts
 pub record ConvertsFiles : Type 0 where
-  -- the file's rounds in the other version stand at the buffer's start, and no byte behind them is changed
+  -- the result stands at the buffer's start, and no byte behind it is changed
   pub put : (sheet f buffer : List ℕ) → convert sheet f buffer .answer .refusal ≡ 0
-      → Puts (converted (headerOf sheet) f) buffer (convert sheet f buffer)
-  -- the version is the other one
+      → Puts (front (convert sheet f buffer)) buffer (convert sheet f buffer)
+  -- its version is the other one
   pub version : (sheet f buffer : List ℕ) → convert sheet f buffer .answer .refusal ≡ 0
-      → OtherVersion sheet f (convertedFile sheet f buffer)
-  -- the result reads as the original does
+      → ((numberAt 2 f 3 ≡ 1) × (numberAt 2 (front (convert sheet f buffer)) 3 ≡ 2))
+      ⊎ ((numberAt 2 f 3 ≡ 2) × (numberAt 2 (front (convert sheet f buffer)) 3 ≡ 1))
+  -- it reads as the original does
   pub same : (sheet f buffer : List ℕ) → AllBytes f → convert sheet f buffer .answer .refusal ≡ 0
-      → ReadsAlike sheet f (convertedFile sheet f buffer)
+      → ReadsAlike sheet f (front (convert sheet f buffer))
   -- and converts to the original, byte by byte
   pub again : (sheet f buffer other : List ℕ) → AllBytes f → convert sheet f buffer .answer .refusal ≡ 0
-      → length f ≤ length other → Puts f other (convert sheet (convertedFile sheet f buffer) other)
+      → length f ≤ length other → Puts f other (convert sheet (front (convert sheet f buffer)) other)
