@@ -1,9 +1,11 @@
--- What the cards of 02 ask beyond 01, a field for each card. Card 3, which changes the marker, stands in Demand1 and MarksFiles.
+-- What the cards of 02 ask beyond 01, a field for each card. Card 3, which changes the marker, stands in Demand1 and MarksFiles,
+-- and what card 7 changes of 01's calls on round files in Demand1, Layout, Writers, ReadsBack and ReasonsTrue.
 -- Assumes nothing.
 use Rattle.disjunctions.specs.OneOfTwo.{OrProof}
 use Rattle.formats.specs.SameCommitment.{WordsCompare}
 use Rattle.patterns.specs.PatternCalls.{PatternCalls}
 use Rattle.reasons.specs.ReasonsTrue.{ReasonsTrue}
+use Rattle.runs.specs.ConvertsFiles.{ConvertsFiles}
 
 pub record Cards : Type 0 where
   -- 1: the line on a sheet, a file or its round 0 tells the first value that breaks the first rule that is broken, or the first
@@ -18,3 +20,6 @@ pub record Cards : Type 0 where
   -- 5: comparing the commitments of two rounds of a file answers 1 exactly where all 4s commitment bytes agree, and so where the
   -- commitments that are read do
   pub words : WordsCompare
+  -- 7, beside the calls of 01: a round file that converts is put into the lent buffer in the other version, reads there as it did and converts back to its
+  -- own bytes
+  pub sixteen-bits : ConvertsFiles
