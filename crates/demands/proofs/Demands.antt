@@ -9,6 +9,7 @@ use Rattle.formats.proofs.Writers.{writers}
 use Rattle.patterns.proofs.Meaning.{patterns-mean}
 use Rattle.patterns.proofs.PatternCalls.{pattern-calls, pattern-refusals}
 use Rattle.reasons.proofs.ReasonsTrue.{reasons-true}
+use Rattle.runs.proofs.ConvertsFiles.{convert-refusals, converts-files}
 use Rattle.runs.proofs.Demand1.{demand1}
 use Rattle.runs.proofs.Demand3.{demand3}
 use Rattle.runs.proofs.MainProtocol.{main-protocol}
@@ -27,6 +28,7 @@ demands = record {
     patterns = pattern-refusals;
     one-of-two = or-refusals;
     words = words-refusals;
+    sixteen-bits = convert-refusals;
   };
   sessions = sessions;
   main-protocol = main-protocol;
@@ -47,5 +49,6 @@ demands = record {
     patterns = pattern-calls;
     one-of-two = or-proof;
     words = words-compare;
+    sixteen-bits = converts-files;
   };
 }

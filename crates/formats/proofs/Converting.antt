@@ -76,7 +76,7 @@ module _ (version : ℕ) where
   other-known = ⊎-elim (λ x. inr (x .1)) (λ x. inl (x .1)) other-version
 
   -- it is 2 exactly for version 1
-  other-two : (otherVersion version ≡ 2) ↔ (version ≡ 1)
+  pub other-two : (otherVersion version ≡ 2) ↔ (version ≡ 1)
   other-two = elim other-version [
     | inl (one, two) ↦ (λ e. one, λ e. two)
     | inr (other, one) ↦ (λ e. absurd (omega arith), λ e. absurd (other e))
