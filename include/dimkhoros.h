@@ -40,8 +40,9 @@
  * session keeps what it holds in all eight, and the commitments that Peggy's hold are tested in all eight (by 21).
  *
  * Refusals. A call answers a number, or a struct with a field `refusal`: 0, or the number of what was refused. Where several
- * apply it is the earliest in the order 23, 24, 1 to 11, 26, 12, 25, 13 to 22. A refused call changes no session, array or
- * buffer, and has 0 in every other field of its answer. Compilers warn of a call whose answer is thrown away.
+ * apply it is the earliest in the order 23, 24, 1 to 9, 27, 10, 11, 26, 12, 25, 13 to 16, 28, 17 to 22. A refused call changes
+ * no session, array or buffer, and has 0 in every other field of its answer. Compilers warn of a call whose answer is thrown
+ * away.
  *
  * Random numbers are the caller's: nonces, challenges and simulated responses are handed in. A nonce has to be drawn at
  * random from all coordinates for each session, or the responses give the witness away.
@@ -74,6 +75,8 @@ extern "C" {
 /* Sizes. */
 #define DIMKHOROS_PLACES 8              /* numbers in a commitment, statement, witness, nonce or response */
 #define DIMKHOROS_ENTRIES 64            /* numbers in a table: row i, column j, both from 0, stands at 8 * i + j */
+#define DIMKHOROS_MOST_PLAYERS 8        /* players of the largest team */
+#define DIMKHOROS_PARTS 64              /* numbers that a team brings: value i of player p, both from 0, stands at 8 * p + i */
 #define DIMKHOROS_LONGEST_SHEET 308     /* bytes of the longest sheet */
 #define DIMKHOROS_SHIPPED_PATTERNS 34   /* bytes of the pattern file that dimkhoros_patterns writes */
 #define DIMKHOROS_MOST_PATTERNS 32      /* patterns in the fullest pattern file */
@@ -113,7 +116,10 @@ extern "C" {
 #define DIMKHOROS_VERIFIER_ASKED 2   /* a commitment and the challenge given on it are held */
 #define DIMKHOROS_VERIFIER_JUDGED 3  /* a response was judged */
 
-/* Every refusal by its number, with its name and what it says. 23 and 24 are tested before 1, 26 behind 11 and 25 behind 12. */
+/*
+ * Every refusal by its number, with its name and what it says. 23 and 24 are tested before 1, 27 behind 9, 26 behind 11, 25
+ * behind 12 and 28 behind 16.
+ */
 #define DIMKHOROS_REFUSALS(REFUSAL)                                                                               \
     REFUSAL(1, PATTERN, "the pattern file has no pattern of this number, or it takes another count of values")    \
     REFUSAL(2, SHEET_MARK, "the sheet is shorter than a header or does not begin with HOM")                       \
@@ -126,7 +132,7 @@ extern "C" {
                            " the order or exponent")                                                              \
     REFUSAL(9, SHEET_LENGTH, "the sheet is longer or shorter than its header says")                               \
     REFUSAL(10, ENTRY, "a table entry or public value lies outside the group")                                    \
-    REFUSAL(11, STATEMENT, "a statement value lies outside the group")                                            \
+    REFUSAL(11, STATEMENT, "a value of the statement or of a player's image lies outside the group")              \
     REFUSAL(12, FILE, "the bytes are no round file of this sheet, or the file is full")                           \
     REFUSAL(13, ROUND_NUMBER, "the file has no round of this number")                                             \
     REFUSAL(14, COMMITMENT, "a commitment value lies outside the group")                                          \
@@ -142,7 +148,9 @@ extern "C" {
                               " values or length is wrong")                                                       \
     REFUSAL(24, PATTERN_DIGITS, "a pattern has a digit above its number of values, or a value that no digit names") \
     REFUSAL(25, LEVEL, "the level has to be one byte from 1 to 64")                                               \
-    REFUSAL(26, COUNTS_DIFFER, "the two sheets have different challenge counts")
+    REFUSAL(26, COUNTS_DIFFER, "the two sheets have different challenge counts")                                  \
+    REFUSAL(27, TEAM, "the team has to have 2 to 8 players")                                                      \
+    REFUSAL(28, IMAGES, "the images of the team's players do not multiply to the statement")
 
 /* The refusals by name: DIMKHOROS_REFUSED_PATTERN is 1, and so on through the list. */
 enum {
@@ -220,7 +228,7 @@ typedef struct {
     uint32_t refusal;
 } DimkhorosCompared;
 
-/* A simulated commitment or an extracted witness. */
+/* A simulated commitment, an extracted witness, or a commitment or response of a team. */
 typedef struct {
     uint32_t values[DIMKHOROS_PLACES];
     uint32_t refusal;
@@ -535,6 +543,38 @@ DimkhorosOrJudgement dimkhoros_or_judge(const uint8_t *first, size_t first_lengt
 DIMKHOROS_CHECKED
 DimkhorosOrExtracted dimkhoros_or_extract(const uint8_t *first, size_t first_length, const uint8_t *second,
                                           size_t second_length, DimkhorosOrRound a, DimkhorosOrRound b);
+
+/* --- Peggy as a team --- */
+
+/*
+ * Two to eight players each hold a part of a witness. A part's image is public, and the images multiply to the statement. Each
+ * player has a session of Peggy's on the sheet with the player's own image as its statement, and all hear the same challenge. A
+ * combiner makes one round of theirs, which Vic judges by the sheet itself: it is the round that a single Peggy sends for the
+ * joined witness and the joined nonce. Where all players' rounds are accepted so is the whole, and where exactly one is rejected
+ * so is the whole. This is proved. Joined means, column by column, added modulo q (exponent sheets) or multiplied modulo m (root
+ * sheets).
+ *
+ * The players' values stand one player behind the other, value i of player p at 8 * p + i. Those of players from `count` on are
+ * not read, nor are the places behind a player's s or n values.
+ *
+ * 27 is given behind 9, before an entry of the sheet is looked at; 11 is for the statement and for the images; and 28 is given
+ * last, where the images do not multiply to the statement.
+ */
+
+/*
+ * Answers the players' commitments multiplied modulo m, row by row: the commitment of the whole. Refuses 2 to 9, 27, 10, 11, 14
+ * and 28.
+ */
+DIMKHOROS_CHECKED
+DimkhorosComputed dimkhoros_team_commitment(const uint8_t *sheet, size_t sheet_length, uint32_t count,
+                                            const uint32_t images[DIMKHOROS_PARTS],
+                                            const uint32_t commitments[DIMKHOROS_PARTS]);
+
+/* Answers the players' responses joined, column by column: the response of the whole. Refuses 2 to 9, 27, 10, 11, 16 and 28. */
+DIMKHOROS_CHECKED
+DimkhorosComputed dimkhoros_team_response(const uint8_t *sheet, size_t sheet_length, uint32_t count,
+                                          const uint32_t images[DIMKHOROS_PARTS],
+                                          const uint32_t responses[DIMKHOROS_PARTS]);
 
 /* --- Round files --- */
 

@@ -13,6 +13,7 @@ mod prover;
 mod reasons;
 mod rounds;
 mod sheets;
+mod teams;
 mod verifier;
 mod writers;
 
@@ -29,6 +30,9 @@ pub use prover::{prover_commit, prover_drop, prover_new, prover_respond};
 pub use reasons::reason;
 pub use rounds::{judge, simulate};
 pub use sheets::{entries, load};
+#[cfg(test)]
+pub use teams::product;
+pub use teams::{team_commitment, team_response};
 pub use verifier::{verifier_challenge, verifier_commitment, verifier_new, verifier_response};
 pub use writers::{append, empty, encode};
 

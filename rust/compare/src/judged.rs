@@ -2,6 +2,7 @@
 
 mod or_proof;
 mod sessions;
+mod teams;
 mod values;
 
 use judge::pattern_file;
@@ -19,6 +20,7 @@ use values::{computed, judgement, loaded, round, written};
 pub use or_proof::{
     or_extract, or_judge, or_prover_commit, or_prover_drop, or_prover_new, or_prover_respond,
 };
+pub use teams::{team_commitment, team_response};
 
 pub fn load(sheet: &[u8]) -> Loaded {
     loaded(judge::load(sheet))

@@ -5,9 +5,9 @@ use crate::{judged, proved};
 
 pub use dimkhoros_sys::{
     phases, Compared, Computed, Counted, Fetched, Header, Judgement, Loaded, OrAnswer, OrExtracted,
-    OrJudgement, OrRound, OrSession, Part, Places, ProverAnswer, ProverSession, Round,
+    OrJudgement, OrRound, OrSession, Part, Parts, Places, ProverAnswer, ProverSession, Round,
     VerifierAnswer, VerifierJudgement, VerifierSession, Written, LONGEST_FILE, LONGEST_REASON,
-    LONGEST_SHEET, LONGEST_TEXT, MOST_ROUNDS, SHIPPED_PATTERNS,
+    LONGEST_SHEET, LONGEST_TEXT, MOST_PLAYERS, MOST_ROUNDS, PARTS, PLACES, SHIPPED_PATTERNS,
 };
 
 /// The numbers that the sheet maker takes. The pattern number 0 is that of root
@@ -87,6 +87,9 @@ calls! {
 
     or_judge(first: &[u8], second: &[u8], round: &OrRound) -> OrJudgement;
     or_extract(first: &[u8], second: &[u8], a: &OrRound, b: &OrRound) -> OrExtracted;
+
+    team_commitment(sheet: &[u8], count: u32, images: &Parts, commitments: &Parts) -> Computed;
+    team_response(sheet: &[u8], count: u32, images: &Parts, responses: &Parts) -> Computed;
 
     prover_new() -> ProverSession;
     prover_commit(sheet: &[u8], session: ProverSession, nonce: &Places) -> ProverAnswer;

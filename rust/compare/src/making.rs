@@ -17,6 +17,7 @@ mod reasons;
 mod rounds;
 mod runs;
 mod sheets;
+mod teams;
 mod verifier;
 
 use std::iter::repeat_n;
@@ -32,7 +33,7 @@ pub use reasons::reason_case;
 type Maker = fn(&mut Random) -> Box<dyn Case>;
 
 /// How often each maker is asked, among the sum of these.
-const SHARES: [(Maker, usize); 30] = [
+const SHARES: [(Maker, usize); 32] = [
     (sheets::load, 3),
     (sheets::entries, 2),
     (sheets::encode, 4),
@@ -50,6 +51,8 @@ const SHARES: [(Maker, usize); 30] = [
     (rounds::extract, 6),
     (or_rounds::judge, 7),
     (or_rounds::extract, 6),
+    (teams::commitment, 5),
+    (teams::response, 5),
     (prover::commit, 3),
     (prover::respond, 7),
     (prover::give_up, 1),

@@ -14,11 +14,20 @@ const VERDICTS: usize = 1 + 2 * 8;
 
 /// A count for each call with each number and with each verdict, and for each
 /// shape.
-#[derive(Default)]
 pub struct Tally {
     numbers: [[u64; LAST as usize + 1]; CALL_COUNT],
     verdicts: [[u64; VERDICTS]; CALL_COUNT],
     shapes: Shapes,
+}
+
+impl Default for Tally {
+    fn default() -> Tally {
+        Tally {
+            numbers: [[0; LAST as usize + 1]; CALL_COUNT],
+            verdicts: [[0; VERDICTS]; CALL_COUNT],
+            shapes: Shapes::default(),
+        }
+    }
 }
 
 /// 0, which stands for no refusal, and the numbers in their order.
@@ -26,8 +35,8 @@ fn columns() -> impl Iterator<Item = u32> {
     [0].into_iter().chain(ORDER)
 }
 
-/// Whether a sheet, or two, are refused with this number, or one is not made: it
-/// is tested before a round file's.
+/// Whether a sheet, two or a team are refused with this number, or a sheet is not
+/// made: it is tested before a round file's.
 fn is_of_sheet(number: u32) -> bool {
     let mut earlier = ORDER.iter().take_while(|other| **other != 12);
     earlier.any(|other| *other == number)

@@ -18,6 +18,7 @@ mod refusal;
 mod refused;
 mod round_file;
 mod stored;
+mod team;
 mod verdict;
 mod verifier;
 
@@ -28,7 +29,7 @@ mod authors {}
 
 pub use dimkhoros_sys::{
     EMPTY_FILE, EXPONENT, Header, LONGEST_FILE, LONGEST_PATTERNS, LONGEST_REASON, LONGEST_SHEET,
-    LONGEST_TEXT, MOST_PATTERNS, MOST_ROUNDS, OrRound, PLACES, Places, ROOT, Round,
+    LONGEST_TEXT, MOST_PATTERNS, MOST_PLAYERS, MOST_ROUNDS, OrRound, PLACES, Places, ROOT, Round,
     SHIPPED_PATTERNS, version,
 };
 pub use instance::{Instance, Values};
@@ -45,5 +46,6 @@ pub use refusal::Refusal;
 pub use refused::Refused;
 pub use round_file::{RoundFile, RoundWriter};
 pub use stored::{Damaged, STORED_OR_PROVER, STORED_PROVER, STORED_VERIFIER};
+pub use team::Team;
 pub use verdict::Verdict;
 pub use verifier::{Verifier, VerifierParts, VerifierPhase};

@@ -122,6 +122,22 @@ unsafe extern "C" {
         b: OrRound,
     ) -> OrExtracted;
 
+    pub fn dimkhoros_team_commitment(
+        sheet: *const u8,
+        sheet_length: usize,
+        count: u32,
+        images: *const u32,
+        commitments: *const u32,
+    ) -> Computed;
+
+    pub fn dimkhoros_team_response(
+        sheet: *const u8,
+        sheet_length: usize,
+        count: u32,
+        images: *const u32,
+        responses: *const u32,
+    ) -> Computed;
+
     pub fn dimkhoros_mark(
         sheet: *const u8,
         sheet_length: usize,

@@ -29,6 +29,33 @@ pub type Places = [u32; PLACES];
 /// ```
 pub const ENTRIES: usize = 64;
 
+/// How many players the largest team has.
+///
+/// ```
+/// # use dimkhoros_sys::MOST_PLAYERS;
+/// assert_eq!(MOST_PLAYERS, 8);
+/// ```
+pub const MOST_PLAYERS: usize = 8;
+
+/// How many numbers a team brings: value i of player p, both from 0, stands at 8 p + i.
+///
+/// ```
+/// # use dimkhoros_sys::{MOST_PLAYERS, PARTS, PLACES};
+/// assert_eq!(PARTS, MOST_PLAYERS * PLACES);
+/// ```
+pub const PARTS: usize = 64;
+
+/// What the players of a team bring: their images, commitments or responses, one player behind the other.
+///
+/// The values of players beyond the count are not read, nor are the places behind a player's s or n values.
+///
+/// ```
+/// # use dimkhoros_sys::{PARTS, Parts};
+/// let mut images: Parts = [0; PARTS];
+/// images[8] = 13; // the second player's value of row 0
+/// ```
+pub type Parts = [u32; PARTS];
+
 /// How many bytes the longest sheet has.
 ///
 /// ```

@@ -105,6 +105,7 @@ impl Given {
                 self.verifier_step(library, call, inputs)
             }
             Call::OrJudge | Call::OrExtract => self.or_round(library, call, inputs),
+            Call::TeamCommitment | Call::TeamResponse => self.team(library, call, inputs),
             Call::OrProverNew => Ok(or_answers::session(&library.or_prover_new())),
             Call::OrProverCommit | Call::OrProverRespond | Call::OrProverDrop => {
                 self.or_prover_step(library, call, inputs)
@@ -195,7 +196,7 @@ impl Given {
         let before = inputs.bytes("buffer")?;
         let mut after = before.clone();
         let answer = if call == Call::Encode {
-            let (header, entries) = (inputs.header()?, inputs.entries()?);
+            let (header, entries) = (inputs.header()?, inputs.table("entries")?);
             library.encode(header, &entries, &inputs.brought("z")?, &mut after)
         } else {
             let plan = Plan {

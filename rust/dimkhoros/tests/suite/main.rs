@@ -21,4 +21,5 @@ mod sessions;
 mod sheets;
 mod stored;
 mod storing;
+mod teams;
 mod words;

@@ -52,6 +52,9 @@ size_t look(const uint8_t *sheet, size_t length, uint8_t *bytes, uint32_t *eight
     LOOK(dimkhoros_or_judge(sheet, length, sheet, length, two), .refusal);
     LOOK(dimkhoros_or_extract(sheet, length, sheet, length, two, two), .refusal);
 
+    LOOK(dimkhoros_team_commitment(sheet, length, 2, table, table), .refusal);
+    LOOK(dimkhoros_team_response(sheet, length, 2, table, table), .refusal);
+
     LOOK(dimkhoros_count(sheet, length, bytes, length), .refusal);
     LOOK(dimkhoros_check(sheet, length, bytes, length, 0), );
     LOOK(dimkhoros_part(sheet, length, bytes, length, 0), .length);

@@ -12,6 +12,9 @@ const NONCE: Places = [0, 3, 6, 9, 1, 4, 7, 10];
 const COMMITMENT: Places = [1, 8, 18, 6, 2, 16, 13, 12];
 const RESPONSE: Places = [1, 5, 9, 2, 6, 10, 3, 7];
 
+/// What the commitment and this multiply to is the statement.
+const REST: Places = [2, 12, 3, 18, 16, 4, 1, 6];
+
 /// The header of a sheet of 8 rows and 8 columns.
 const WIDE: Header = Header { kind: 1, modulus: 23, order: 11, challenges: 5, rows: 8, columns: 8 };
 
@@ -90,6 +93,14 @@ fn rising_or_round(first: u32) -> OrRound {
         challenge: first + 32,
         challenge0: first + 33,
     }
+}
+
+/// What two players bring, and numbers behind it that are not read.
+fn parts(first: Places, second: Places) -> Parts {
+    let mut parts = core::array::from_fn(|i| 1001 + i as u32);
+    parts[..PLACES].copy_from_slice(&first);
+    parts[PLACES..2 * PLACES].copy_from_slice(&second);
+    parts
 }
 
 /// Adds a line for each value.
@@ -251,6 +262,27 @@ fn or_provers(text: &mut String) {
     );
 }
 
+fn teams(text: &mut String) {
+    let (wide, roots) = (wide(), roots());
+    let images = parts(COMMITMENT, REST);
+    let root_images = parts(ROOT_STATEMENT, [1; 8]);
+    let commitments = parts(STATEMENT, COMMITMENT);
+    let responses = parts(NONCE, RESPONSE);
+    let root_responses = parts(ROOT_NONCE, ROOT_RESPONSE);
+    print!(text:
+        team_commitment(&wide, 2, &images, &commitments),
+        team_response(&wide, 2, &images, &responses),
+        team_commitment(&roots, 2, &root_images, &root_responses),
+        team_response(&roots, 2, &root_images, &root_responses),
+        team_commitment(&wide, 1, &images, &commitments),
+        team_response(&wide, u32::MAX, &images, &responses),
+        team_commitment(&wide, 3, &images, &commitments),
+        team_response(&wide, 2, &commitments, &responses),
+        team_commitment(&wide, 2, &commitments, &responses),
+        team_response(&wide, 2, &commitments, &commitments),
+    );
+}
+
 /// The length of the marker's text on three files, the text, and two bytes behind it, which stay.
 fn mark_over(sheet: &[u8], file: &[u8], level: &[u8]) -> String {
     let mut text = [238; LONGEST_TEXT];
@@ -328,6 +360,8 @@ fn empty_slices(text: &mut String) {
         or_extract(&wide, &[], &rising_or_round(1), &rising_or_round(2)),
         or_prover_commit(&[], &wide, or_prover_new(), 0, &NONCE, 1, &RESPONSE),
         or_prover_respond(&[], &[], or_prover_new(), 1, &WITNESS),
+        team_commitment(&[], 2, &[1; PARTS], &[1; PARTS]),
+        team_response(&[], 2, &[1; PARTS], &[1; PARTS]),
     );
 }
 
@@ -343,6 +377,7 @@ fn fields_cross_from_rust() {
     verifiers(&mut text);
     or_rounds(&mut text);
     or_provers(&mut text);
+    teams(&mut text);
     marks(&mut text);
     reasons(&mut text);
     empty_slices(&mut text);
