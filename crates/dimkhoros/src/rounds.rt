@@ -7,6 +7,7 @@ use types::Round;
 use types::Written;
 ghost use mathlib.Core.Path.{_≡_};
 ghost use Rattle.formats.specs.Append.{append, emptyFile};
+ghost use Rattle.formats.specs.Convert.{convert};
 ghost use Rattle.formats.specs.RoundCalls.{checkRound, countRounds, fetchRound, locateRound};
 ghost use Rattle.formats.specs.SameCommitment.{sameCommitment};
 
@@ -79,4 +80,14 @@ pub extern "C" fn dimkhoros_append(
     ensures bytes { λ _. ⌜ now (buffer .exit) ≡ append (now (sheet .entry)) (now (buffer .entry)) used round .buffer ⌝ }
 {
     round_writer::append(sheet, buffer, used, round)
+}
+
+// Puts the rounds of a file in the other version at the start of buffer and answers the length of that file. No byte behind it is
+// changed. Where it is refused, with 2 to 12, 15 or 22, buffer keeps its bytes.
+#[no_mangle]
+pub extern "C" fn dimkhoros_convert(sheet: &[u8], file: &[u8], buffer: &mut [u8]) -> Written
+    ensures answer { λ r. ⌜ r ≡ convert (now (sheet .entry)) (now (file .entry)) (now (buffer .entry)) .answer ⌝ }
+    ensures bytes { λ _. ⌜ now (buffer .exit) ≡ convert (now (sheet .entry)) (now (file .entry)) (now (buffer .entry)) .buffer ⌝ }
+{
+    converter::convert(sheet, file, buffer)
 }
