@@ -14,6 +14,7 @@ mod reasons;
 mod rounds;
 mod sheets;
 mod verifier;
+mod versions;
 mod writers;
 
 pub use extracting::extract;
@@ -30,6 +31,7 @@ pub use reasons::reason;
 pub use rounds::{judge, simulate};
 pub use sheets::{entries, load};
 pub use verifier::{verifier_challenge, verifier_commitment, verifier_new, verifier_response};
+pub use versions::convert;
 pub use writers::{append, empty, encode};
 
 #[cfg(test)]
