@@ -56,18 +56,18 @@ pub extern "C" fn dimkhoros_same_commitment(
     round_words::same_commitment(sheet, file, first, second)
 }
 
-// Puts the file of no rounds at the start of buffer and answers its length. No byte behind it is changed, and a buffer that
-// is shorter, 22, keeps its bytes.
+// Puts the file of no rounds in a version at the start of buffer and answers its length. No byte behind it is changed. A
+// version other than 1 and 2 gets 12, a buffer that is shorter 22, and buffer keeps its bytes.
 #[no_mangle]
-pub extern "C" fn dimkhoros_empty(buffer: &mut [u8]) -> Written
-    ensures answer { λ r. ⌜ r ≡ emptyFile (now (buffer .entry)) .answer ⌝ }
-    ensures bytes { λ _. ⌜ now (buffer .exit) ≡ emptyFile (now (buffer .entry)) .buffer ⌝ }
+pub extern "C" fn dimkhoros_empty(version: u32, buffer: &mut [u8]) -> Written
+    ensures answer { λ r. ⌜ r ≡ emptyFile version (now (buffer .entry)) .answer ⌝ }
+    ensures bytes { λ _. ⌜ now (buffer .exit) ≡ emptyFile version (now (buffer .entry)) .buffer ⌝ }
 {
-    round_writer::empty(buffer)
+    round_writer::empty(version, buffer)
 }
 
-// Writes round straight behind the first used bytes of buffer, which are a round file, raises its count by one and answers
-// the count of bytes in use. Where it is refused, with 2 to 12 or 22, buffer keeps its bytes.
+// Writes round straight behind the first used bytes of buffer, which are a round file, in their version, raises its count by
+// one and answers the count of bytes in use. Where it is refused, with 2 to 12, 15 or 22, buffer keeps its bytes.
 #[no_mangle]
 pub extern "C" fn dimkhoros_append(
     sheet: &[u8],

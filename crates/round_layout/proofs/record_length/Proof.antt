@@ -1,9 +1,9 @@
--- `round_file::layout::record_length` meets its contract: at most eight rows and eight columns, and a challenge between them.
+-- `round_layout::record_length` meets its contract: at most eight rows and eight columns, and a challenge between them.
 -- Assumes nothing.
 use native.Mathlib.Omega.{arith}
-use Rattle.formats.specs.RoundFile.{recordLength, widthOf}
-use Rattle.round_file.proofs.layout.record_length.Statement.{statement}
-use Rattle.round_file.proofs.layout.record_length.Tie as tie
+use Rattle.formats.specs.RoundFile.{recordLength}
+use Rattle.round_layout.proofs.record_length.Statement.{statement}
+use Rattle.round_layout.proofs.record_length.Tie as tie
 
 cast-result : tie.Need-cast-result
 cast-result c = omega arith
@@ -24,7 +24,7 @@ add-result-2 : tie.Need-add-result-2
 add-result-2 c = omega arith
 
 returns : tie.Need-returns
-unfolding recordLength widthOf
+unfolding recordLength
 returns c = omega arith
 
 pub record-length-spec : {M : Type 1} → statement M

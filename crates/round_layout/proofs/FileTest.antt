@@ -12,10 +12,11 @@ use Rattle.rules.specs.Rule.{lowest}
 use Rattle.rules.specs.Says.{Says}
 use Rattle.rules.proofs.Lowest.{clear-lowest, stop}
 use Rattle.sigma.proofs.Comparison.{differ-false}
-use Rattle.formats.specs.Meaning.{IsRoundFile}
+use Rattle.formats.specs.Meaning.{IsRoundFile, IsVersion}
 use Rattle.formats.specs.RoundCalls.{fileRules}
-use Rattle.formats.specs.RoundFile.{roundMark}
-use Rattle.formats.proofs.Files.{file-passes, length-roundMark}
+use Rattle.formats.specs.RoundFile.{challengeWidth, countField, fileVersion, recordStart, roundMark, unknownVersion}
+use Rattle.formats.proofs.Files.{file-passes, length-roundMark, version-passes}
+use Rattle.formats.proofs.Growing.{file-long}
 use Rattle.formats.proofs.Loads.{begins}
 use Rattle.instance.proofs.ShapeNumber.{mark-differs}
 
@@ -46,6 +47,10 @@ module _ (h : Header) (f : List ℕ) where
   unfolding fileRules
   file-clear tested e = file-passes h f .0 (clear-lowest (fileRules h f) tt (sym tested ∙ e) .0)
 
+  -- and has the seven bytes before the records
+  pub seven-bytes : {n : ℕ} → n ≡ lowest (fileRules h f) → n ≡ 0 → 7 ≤ length f
+  seven-bytes tested e = file-long (file-clear tested e)
+
   module _ {marked : Bool} (tested : marked ≡ hasMark f roundMark) (long : 3 ≤ length f) where
     -- a file that fails the test of the mark is refused
     pub unmarked-refused : not marked ≡ true → 12 ≡ lowest (fileRules h f)
@@ -56,3 +61,18 @@ module _ (h : Header) (f : List ℕ) where
     -- a file that passes it begins with the mark
     pub mark-found : not marked ≡ false → take 3 f ≡ roundMark
     mark-found e = says-mark f roundMark length-roundMark long .sound (sym tested ∙ not-false marked e)
+
+  module _ {version : ℕ} {unknown : Bool} (is-version : version ≡ fileVersion f) (tested : unknown ≡ unknownVersion version) where
+    -- a file of an unknown version is refused
+    pub version-refused : unknown ≡ true → 12 ≡ lowest (fileRules h f)
+    version-refused e =
+        file-refused (λ r. false≢true (sym (version-passes (fileVersion f) .1 (r .version)) ∙ rw (← is-version, ← tested) e))
+
+    -- a file of any other has a version that is known
+    pub version-found : unknown ≡ false → IsVersion (fileVersion f)
+    version-found e = version-passes (fileVersion f) .0 (rw (← is-version, ← tested) e)
+
+  -- where the records of a file end that has as many as its count field says
+  pub end-found : {width count end : ℕ} → width ≡ challengeWidth f → count ≡ countField f → end ≡ recordStart width h count
+      → end ≡ recordStart (challengeWidth f) h (countField f)
+  end-found is-width is-count is-end = rw (← is-width, ← is-count) is-end
