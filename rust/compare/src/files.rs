@@ -133,7 +133,7 @@ pub fn damaged(random: &mut Random, header: &Header) -> Vec<u8> {
 /// Puts a version other than 1 and 2 into bytes 3 and 4.
 pub fn spoil_version(random: &mut Random, bytes: &mut [u8]) {
     let any = random.between(3, 0xffff) as u16;
-    let version = random.pick(&[0, 3, 0x0100, 0x0101, 0x0102, 0x0200, 0xffff, any]);
+    let version = random.pick(&[0, 3, 3, 3, 0x0100, 0x0101, 0x0102, 0xffff, any]);
     bytes[3..5].copy_from_slice(&version.to_be_bytes());
 }
 
