@@ -83,7 +83,8 @@ extern "C" {
 #define DIMKHOROS_LONGEST_PATTERNS 2150 /* bytes of the longest pattern file */
 #define DIMKHOROS_EMPTY_FILE 7          /* bytes of a round file without rounds */
 #define DIMKHOROS_MOST_ROUNDS 512       /* rounds in the fullest round file */
-#define DIMKHOROS_LONGEST_FILE 34823    /* bytes of the longest round file */
+#define DIMKHOROS_LONGEST_FILE 34823    /* bytes of the longest round file, which has version 1 */
+#define DIMKHOROS_LONGEST_FILE_2 33799  /* bytes of the longest round file of version 2 */
 #define DIMKHOROS_LONGEST_TEXT 7696     /* bytes that hold every text of the marker */
 #define DIMKHOROS_LONGEST_REASON 48     /* bytes that hold every line of the reason */
 #define DIMKHOROS_STORED_PROVER 79      /* bytes of a stored session of Peggy's */
@@ -133,10 +134,12 @@ extern "C" {
     REFUSAL(9, SHEET_LENGTH, "the sheet is longer or shorter than its header says")                               \
     REFUSAL(10, ENTRY, "a table entry or public value lies outside the group")                                    \
     REFUSAL(11, STATEMENT, "a value of the statement or of a player's image lies outside the group")              \
-    REFUSAL(12, FILE, "the bytes are no round file of this sheet, or the file is full")                           \
+    REFUSAL(12, FILE, "the bytes are no round file of this sheet, the file is full, or the version asked for is"  \
+                      " another than 1 and 2")                                                                    \
     REFUSAL(13, ROUND_NUMBER, "the file has no round of this number")                                             \
     REFUSAL(14, COMMITMENT, "a commitment value lies outside the group")                                          \
-    REFUSAL(15, CHALLENGE, "the challenge has to be below the sheet's challenge count")                           \
+    REFUSAL(15, CHALLENGE, "the challenge has to be below the sheet's challenge count, or 65535 at most where it" \
+                           " is written to a round file of version 2")                                            \
     REFUSAL(16, COORDINATE, "a value of the witness, nonce or response lies outside the domain")                  \
     REFUSAL(17, WITNESS, "the table does not carry the witness to the statement")                                 \
     REFUSAL(18, COMMITMENTS_DIFFER, "the two rounds have different commitments")                                  \
@@ -578,6 +581,11 @@ DimkhorosComputed dimkhoros_team_response(const uint8_t *sheet, size_t sheet_len
 
 /* --- Round files --- */
 
+/*
+ * A round file has version 1 or 2. In version 2 a challenge is stored in two bytes, and a round has 4 * (s + n) + 2; in version
+ * 1 it has four, and a round 4 * (s + n + 1). All calls take files of both. docs/FORMATS.md has the bytes.
+ */
+
 /* Answers how many rounds a file has, 0 to 512. Refuses 2 to 12. */
 DIMKHOROS_CHECKED
 DimkhorosCounted dimkhoros_count(const uint8_t *sheet, size_t sheet_length, const uint8_t *file, size_t file_length);
@@ -608,19 +616,33 @@ DIMKHOROS_CHECKED
 DimkhorosCompared dimkhoros_same_commitment(const uint8_t *sheet, size_t sheet_length, const uint8_t *file,
                                             size_t file_length, size_t i, size_t j);
 
-/* Writes a file without rounds to the start of `buffer` and answers its length, 7. Refuses 22. */
+/*
+ * Writes a file of this version without rounds to the start of `buffer` and answers its length, 7. No byte behind it is
+ * changed. Refuses 12, for any version but 1 and 2, and 22.
+ */
 DIMKHOROS_CHECKED
-DimkhorosWritten dimkhoros_empty(uint8_t *buffer, size_t buffer_length);
+DimkhorosWritten dimkhoros_empty(uint32_t version, uint8_t *buffer, size_t buffer_length);
 
 /*
- * Adds a round to the file in the first `used` bytes of `buffer`, without testing its values, and answers how many bytes are
- * then in use. The round is written straight behind these bytes, the file's count rises by one, and no other byte is
- * changed. Refuses 2 to 12 and 22: 12 where the bytes in use are no file of this sheet, are more than the buffer has or
- * hold 512 rounds, and 22 where the buffer has no room for the round.
+ * Adds a round to the file in the first `used` bytes of `buffer`, in that file's version, and answers how many bytes are then in
+ * use. The round is written straight behind these bytes, the file's count rises by one, and no other byte is changed. Its
+ * values are not tested, but for a challenge that version 2 cannot hold. Refuses 2 to 12, 15 and 22: 12 where the bytes in use
+ * are no file of this sheet, are more than the buffer has or hold 512 rounds, 15 where they have version 2 and the challenge is
+ * above 65535, and 22 where the buffer has no room for the round.
  */
 DIMKHOROS_CHECKED
 DimkhorosWritten dimkhoros_append(const uint8_t *sheet, size_t sheet_length, uint8_t *buffer, size_t buffer_length,
                                   size_t used, DimkhorosRound round);
+
+/*
+ * Writes the rounds of a file in its other version, 2 for 1 and 1 for 2, to the start of `buffer` and answers how many bytes
+ * these are: the file's without or with two for each round. No byte behind them is changed. The rounds keep their order and all
+ * their values, so that every verdict stays the same, and converting the result gives the file again. Refuses 2 to 12, 15 and
+ * 22: 15 where any round of a file of version 1 has a challenge above 65535. One of K to 65535 is converted like the others.
+ */
+DIMKHOROS_CHECKED
+DimkhorosWritten dimkhoros_convert(const uint8_t *sheet, size_t sheet_length, const uint8_t *file, size_t file_length,
+                                   uint8_t *buffer, size_t buffer_length);
 
 /* --- The marker and the reason --- */
 

@@ -15,6 +15,7 @@ mod rounds;
 mod sheets;
 mod teams;
 mod verifier;
+mod versions;
 mod writers;
 
 pub use extracting::extract;
@@ -34,6 +35,7 @@ pub use sheets::{entries, load};
 pub use teams::product;
 pub use teams::{team_commitment, team_response};
 pub use verifier::{verifier_challenge, verifier_commitment, verifier_new, verifier_response};
+pub use versions::convert;
 pub use writers::{append, empty, encode};
 
 #[cfg(test)]

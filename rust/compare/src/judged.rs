@@ -111,13 +111,17 @@ pub fn same_commitment(sheet: &[u8], file: &[u8], i: usize, j: usize) -> Compare
     }
 }
 
-pub fn empty(buffer: &mut [u8]) -> Written {
-    written(judge::empty(buffer))
+pub fn empty(version: u32, buffer: &mut [u8]) -> Written {
+    written(judge::empty(version.into(), buffer))
 }
 
 pub fn append(sheet: &[u8], buffer: &mut [u8], used: usize, added: &Round) -> Written {
     let appended = judge::append(sheet, buffer, used as u64, &round(added));
     written(appended.map(|length| length as usize))
+}
+
+pub fn convert(sheet: &[u8], file: &[u8], buffer: &mut [u8]) -> Written {
+    written(judge::convert(sheet, file, buffer))
 }
 
 pub fn judge(sheet: &[u8], judged: &Round) -> Judgement {

@@ -2,6 +2,7 @@
 //! fault or several, or that are anything.
 
 mod brought;
+mod file_writers;
 mod files;
 mod inputs;
 mod levels;
@@ -33,7 +34,7 @@ pub use reasons::reason_case;
 type Maker = fn(&mut Random) -> Box<dyn Case>;
 
 /// How often each maker is asked, among the sum of these.
-const SHARES: [(Maker, usize); 32] = [
+const SHARES: [(Maker, usize); 33] = [
     (sheets::load, 3),
     (sheets::entries, 2),
     (sheets::encode, 4),
@@ -44,8 +45,9 @@ const SHARES: [(Maker, usize); 32] = [
     (files::part, 2),
     (files::read, 2),
     (files::same_commitment, 3),
-    (files::empty, 1),
-    (files::append, 4),
+    (file_writers::empty, 1),
+    (file_writers::append, 4),
+    (file_writers::convert, 4),
     (rounds::judge, 5),
     (rounds::simulate, 3),
     (rounds::extract, 6),

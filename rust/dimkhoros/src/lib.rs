@@ -28,9 +28,9 @@ mod verifier;
 mod authors {}
 
 pub use dimkhoros_sys::{
-    EMPTY_FILE, EXPONENT, Header, LONGEST_FILE, LONGEST_PATTERNS, LONGEST_REASON, LONGEST_SHEET,
-    LONGEST_TEXT, MOST_PATTERNS, MOST_PLAYERS, MOST_ROUNDS, OrRound, PLACES, Places, ROOT, Round,
-    SHIPPED_PATTERNS, version,
+    EMPTY_FILE, EXPONENT, Header, LONGEST_FILE, LONGEST_FILE_2, LONGEST_PATTERNS, LONGEST_REASON,
+    LONGEST_SHEET, LONGEST_TEXT, MOST_PATTERNS, MOST_PLAYERS, MOST_ROUNDS, OrRound, PLACES, Places,
+    ROOT, Round, SHIPPED_PATTERNS, version,
 };
 pub use instance::{Instance, Values};
 pub use marker::mark;

@@ -51,10 +51,10 @@ refusals! {
     9, SheetLength, "the sheet is longer or shorter than its header says";
     10, Entry, "a table entry or public value lies outside the group";
     11, Statement, "a value of the statement or of a player's image lies outside the group";
-    12, File, "the bytes are no round file of this sheet, or the file is full";
+    12, File, "the bytes are no round file of this sheet, the file is full, or the version asked for is another than 1 and 2";
     13, RoundNumber, "the file has no round of this number";
     14, Commitment, "a commitment value lies outside the group";
-    15, Challenge, "the challenge has to be below the sheet's challenge count";
+    15, Challenge, "the challenge has to be below the sheet's challenge count, or 65535 at most where it is written to a round file of version 2";
     16, Coordinate, "a value of the witness, nonce or response lies outside the domain";
     17, Witness, "the table does not carry the witness to the statement";
     18, CommitmentsDiffer, "the two rounds have different commitments";

@@ -31,7 +31,7 @@ pub use pattern::make;
 pub use pattern_file::Written;
 pub use protocol::{extract, judge, simulate, Round, Verdict};
 pub use reason::reason;
-pub use round_file::{append, check, count, empty, part, read, same_commitment};
+pub use round_file::{append, check, convert, count, empty, part, read, same_commitment};
 pub use sessions::{
     commit, drop_session, respond, take_challenge, take_commitment, take_response, Prover,
     ProverPhase, Verifier, VerifierPhase,

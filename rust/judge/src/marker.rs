@@ -1,7 +1,7 @@
 //! The marker's text.
 
 use crate::protocol::{tested_verdict, Verdict};
-use crate::round_file::{file_count, file_round};
+use crate::round_file::{file_header, file_round};
 use crate::sheet::load;
 
 /// The level w of a level file, or 25 when it is not one byte from 1 to 64.
@@ -43,8 +43,8 @@ pub fn marker(sheet: &[u8], file: &[u8], level: &[u8]) -> String {
         Ok(sheet) => sheet,
         Err(number) => return format!("sheet {number}\n"),
     };
-    let count = match file_count(&sheet, file) {
-        Ok(count) => count,
+    let count = match file_header(&sheet, file) {
+        Ok(header) => header.count,
         Err(number) => return format!("file {number}\n"),
     };
     // Decision: a refused level is "the one line", so no round is shown, also

@@ -2,7 +2,7 @@
 
 use crate::bytes::number;
 use crate::protocol::{sides, tested_verdict, Round, Verdict};
-use crate::round_file::{self, file_count, file_round};
+use crate::round_file::{self, file_header, file_round, named_version, Version};
 use crate::sheet::{self, header, load, Sheet};
 
 /// The place of the first value that breaks a rule.
@@ -25,9 +25,10 @@ pub fn reason(sheet: &[u8], file: &[u8]) -> String {
         Ok(loaded) => loaded,
         Err(number) => return refused(number, sheet_place(number, sheet)),
     };
-    if let Err(number) = file_count(&loaded, file) {
-        return refused(number, file_place(file));
-    }
+    let version = match file_header(&loaded, file) {
+        Ok(header) => header.version,
+        Err(number) => return refused(number, file_place(file)),
+    };
     let round = match file_round(&loaded, file, 0) {
         Ok(round) => round,
         // Only 13 is left here. The card gives it the count's offset.
@@ -37,7 +38,8 @@ pub fn reason(sheet: &[u8], file: &[u8]) -> String {
         Ok(Verdict::Accepted) => String::from("accepted\n"),
         Ok(Verdict::Rejected(row)) => rejected(&loaded, &round, row),
         Ok(Verdict::Refused(number)) | Err(number) => {
-            refused(number, Place::Offset(round_offset(number, &loaded, &round)))
+            let offset = round_offset(number, &loaded, version, &round);
+            refused(number, Place::Offset(offset))
         }
     }
 }
@@ -99,7 +101,7 @@ fn file_place(file: &[u8]) -> Place {
         Place::Length(file.len())
     } else if !file.starts_with(round_file::MARK) {
         Place::Offset(0)
-    } else if number(file, 3, 2) != 1 {
+    } else if named_version(file).is_none() {
         Place::Offset(3)
     } else if number(file, 5, 2) > round_file::MOST_ROUNDS {
         Place::Offset(5)
@@ -108,18 +110,22 @@ fn file_place(file: &[u8]) -> Place {
     }
 }
 
-/// The offset in the file of the first value of round 0 that breaks the rule
-/// with this number, 14 to 16.
-fn round_offset(number: u32, sheet: &Sheet, round: &Round) -> usize {
+/// The offset in a file of this version of the first value of round 0 that
+/// breaks the rule with this number, 14 to 16.
+fn round_offset(number: u32, sheet: &Sheet, version: Version, round: &Round) -> usize {
     let (element, slot) = (
         |v: &&u32| sheet.is_group_element(**v),
         |v: &&u32| sheet.is_domain_slot(**v),
     );
-    // The values of a record are t, c and r, of 4 bytes each.
-    let before = match number {
-        14 => round.commitment.iter().take_while(element).count(),
-        15 => sheet.s(),
-        _ => sheet.s() + 1 + round.response.iter().take_while(slot).count(),
-    };
-    round_file::HEADER + 4 * before
+    // The values of a record are t, c and r. Those of t and r have 4 bytes
+    // each, and the version says how many c has.
+    let challenge = round_file::HEADER + 4 * sheet.s();
+    match number {
+        14 => round_file::HEADER + 4 * round.commitment.iter().take_while(element).count(),
+        15 => challenge,
+        _ => {
+            let before = round.response.iter().take_while(slot).count();
+            challenge + version.challenge_length() + 4 * before
+        }
+    }
 }

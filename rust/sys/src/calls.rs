@@ -130,11 +130,11 @@ pub fn same_commitment(sheet: &[u8], file: &[u8], i: usize, j: usize) -> Compare
     unsafe { dimkhoros_same_commitment(pointer, length, file.as_ptr(), file.len(), i, j) }
 }
 
-/// Writes a file without rounds to the start of a buffer.
+/// Writes a file of this version, 1 or 2, without rounds to the start of a buffer.
 #[inline]
-pub fn empty(buffer: &mut [u8]) -> Written {
+pub fn empty(version: u32, buffer: &mut [u8]) -> Written {
     // SAFETY: the slice is given by its pointer and length.
-    unsafe { dimkhoros_empty(buffer.as_mut_ptr(), buffer.len()) }
+    unsafe { dimkhoros_empty(version, buffer.as_mut_ptr(), buffer.len()) }
 }
 
 /// Adds a round to the file in the first `used` bytes of a buffer.
@@ -143,6 +143,22 @@ pub fn append(sheet: &[u8], buffer: &mut [u8], used: usize, round: &Round) -> Wr
     let (pointer, length) = (buffer.as_mut_ptr(), buffer.len());
     // SAFETY: the slices are given by their pointers and lengths. `used` may be any number.
     unsafe { dimkhoros_append(sheet.as_ptr(), sheet.len(), pointer, length, used, *round) }
+}
+
+/// Writes the rounds of a file in its other version to the start of a buffer.
+#[inline]
+pub fn convert(sheet: &[u8], file: &[u8], buffer: &mut [u8]) -> Written {
+    // SAFETY: the slices are given by their pointers and lengths.
+    unsafe {
+        dimkhoros_convert(
+            sheet.as_ptr(),
+            sheet.len(),
+            file.as_ptr(),
+            file.len(),
+            buffer.as_mut_ptr(),
+            buffer.len(),
+        )
+    }
 }
 
 /// Answers Vic's verdict on a round.

@@ -78,7 +78,7 @@ unsafe extern "C" {
         j: usize,
     ) -> Compared;
 
-    pub fn dimkhoros_empty(buffer: *mut u8, buffer_length: usize) -> Written;
+    pub fn dimkhoros_empty(version: u32, buffer: *mut u8, buffer_length: usize) -> Written;
 
     pub fn dimkhoros_append(
         sheet: *const u8,
@@ -87,6 +87,15 @@ unsafe extern "C" {
         buffer_length: usize,
         used: usize,
         round: Round,
+    ) -> Written;
+
+    pub fn dimkhoros_convert(
+        sheet: *const u8,
+        sheet_length: usize,
+        file: *const u8,
+        file_length: usize,
+        buffer: *mut u8,
+        buffer_length: usize,
     ) -> Written;
 
     pub fn dimkhoros_judge(sheet: *const u8, sheet_length: usize, round: Round) -> Judgement;

@@ -105,13 +105,21 @@ pub const EMPTY_FILE: usize = 7;
 /// ```
 pub const MOST_ROUNDS: usize = 512;
 
-/// How many bytes the longest round file has.
+/// How many bytes the longest round file has. Its version is 1, so that these bytes hold a file of either version.
 ///
 /// ```
 /// # use dimkhoros_sys::{EMPTY_FILE, LONGEST_FILE, MOST_ROUNDS, PLACES};
 /// assert_eq!(LONGEST_FILE, EMPTY_FILE + MOST_ROUNDS * 4 * (PLACES + 1 + PLACES));
 /// ```
 pub const LONGEST_FILE: usize = 34_823;
+
+/// How many bytes the longest round file of version 2 has.
+///
+/// ```
+/// # use dimkhoros_sys::{EMPTY_FILE, LONGEST_FILE_2, MOST_ROUNDS, PLACES};
+/// assert_eq!(LONGEST_FILE_2, EMPTY_FILE + MOST_ROUNDS * (4 * (PLACES + PLACES) + 2));
+/// ```
+pub const LONGEST_FILE_2: usize = 33_799;
 
 /// How many bytes are lent to the marker's text. They hold 512 lines of the longest, and so every text; the longest text has
 /// 7,586.

@@ -1,6 +1,7 @@
 //! Faults of the marker.
 
 use crate::faults::Fault;
+use crate::files::version;
 use crate::library::Library::Judge;
 use crate::library::LONGEST_TEXT;
 use crate::sheets::header;
@@ -12,7 +13,10 @@ pub fn mark(
     level: &[u8],
     text: &mut [u8; LONGEST_TEXT],
 ) -> usize {
-    let right = judged(sheet, file, level);
+    let mut right = judged(sheet, file, level);
+    if fault == Fault::MarkVersionOne && version(file) == 2 && right.starts_with("rounds") {
+        right = String::from("file 12\n");
+    }
     let marked = if right.starts_with("rounds") {
         let challenges = header(sheet).map_or(0, |header| header.challenges);
         marked(fault, &right, challenges, level[0])

@@ -94,7 +94,9 @@ impl Given {
                 self.reader(library, call, inputs)
             }
             Call::SameCommitment => self.same_commitment(library, inputs),
-            Call::Patterns | Call::Empty | Call::Append => self.file_writer(library, call, inputs),
+            Call::Patterns | Call::Empty | Call::Append | Call::Convert => {
+                self.file_writer(library, call, inputs)
+            }
             Call::Judge | Call::Simulate | Call::Extract => self.round(library, call, inputs),
             Call::ProverNew => Ok(prover(&library.prover_new())),
             Call::ProverCommit | Call::ProverRespond | Call::ProverDrop => {
@@ -221,7 +223,8 @@ impl Given {
         let mut after = before.clone();
         let answer = match call {
             Call::Patterns => library.patterns(&mut after),
-            Call::Empty => library.empty(&mut after),
+            Call::Empty => library.empty(inputs.number("version")?, &mut after),
+            Call::Convert => library.convert(&self.sheet, &self.file, &mut after),
             _ => {
                 let (used, round) = (inputs.number("used")?, inputs.round("")?);
                 library.append(&self.sheet, &mut after, used, &round)

@@ -58,7 +58,7 @@ fn every_number_is_given() {
         a.extract(&first, &first).unwrap_err(),
         a.extract(&first, &round(9, 1, 2)).unwrap_err(),
         Prover::new().respond(&a, 3, &places([7])).unwrap_err().refusal,
-        RoundWriter::start(&a, &mut [0; 6]).unwrap_err(),
+        RoundWriter::start(&a, 1, &mut [0; 6]).unwrap_err(),
         Patterns::load(b"PAT\x00\x01\x00").unwrap_err(),
         Patterns::load(b"PAT\x00\x01\x01\x01\x01\x01\x00").unwrap_err(),
         Refusal::Level,

@@ -1,4 +1,5 @@
-//! Round files: refusals 12, 13 and 22, and files written and read back.
+//! Round files of version 1: refusals 12, 13 and 22, and files written and
+//! read back.
 
 use judge::*;
 
@@ -69,11 +70,11 @@ fn rounds_are_read_untested_and_parts_lie_in_the_file() {
 fn an_empty_file_is_made() {
     for length in 0..7 {
         let mut buffer = vec![0xAA; length];
-        assert_eq!(empty(&mut buffer), Err(22));
+        assert_eq!(empty(1, &mut buffer), Err(22));
         assert_eq!(buffer, vec![0xAA; length]);
     }
     let mut buffer = [0xAA; 9];
-    assert_eq!(empty(&mut buffer), Ok(7));
+    assert_eq!(empty(1, &mut buffer), Ok(7));
     assert_eq!(buffer[..7], file(0, &[]));
     assert_eq!(buffer[7..], [0xAA; 2]);
 }
@@ -82,7 +83,7 @@ fn an_empty_file_is_made() {
 fn records_are_added_behind_the_bytes_in_use() {
     let sheet = wide();
     let mut buffer = [0xAA; 60];
-    let mut used = empty(&mut buffer).unwrap() as u64;
+    let mut used = empty(1, &mut buffer).unwrap() as u64;
     for number in 0..2_u32 {
         let next = Round {
             commitment: eight_with(&[u32::MAX, number], 77),
@@ -145,7 +146,7 @@ fn a_file_takes_512_rounds_and_no_more() {
     let sheet = page_a();
     let next = round(&[9], 3, &[4]);
     let mut buffer = vec![0xAA; 7 + 12 * 513];
-    let mut used = empty(&mut buffer).unwrap() as u64;
+    let mut used = empty(1, &mut buffer).unwrap() as u64;
     for _ in 0..512 {
         used = append(&sheet, &mut buffer, used, &next).unwrap();
     }
@@ -166,7 +167,7 @@ fn a_file_that_reads_is_written_back_as_the_same_bytes() {
         let words: Vec<u32> = (0..6 * rounds).map(|_| shifts.word()).collect();
         let bytes = file(rounds, &words);
         let mut buffer = vec![0xAA; bytes.len()];
-        let mut used = empty(&mut buffer).unwrap() as u64;
+        let mut used = empty(1, &mut buffer).unwrap() as u64;
         for number in 0..count(&sheet, &bytes).unwrap() {
             let next = read(&sheet, &bytes, u64::from(number)).unwrap();
             used = append(&sheet, &mut buffer, used, &next).unwrap();

@@ -1,6 +1,7 @@
 //! The tests of the judge, by topic.
 
 mod commitments;
+mod converting;
 mod demand_three;
 mod files;
 mod levels;
@@ -17,6 +18,7 @@ mod random_or;
 mod random_patterns;
 mod random_reasons;
 mod random_teams;
+mod random_versions;
 mod reasons;
 mod reasons_in_order;
 mod refused_or_rounds;
@@ -29,4 +31,5 @@ mod sessions;
 mod shipped_patterns;
 mod teams;
 mod tools;
+mod versions;
 mod writing;

@@ -130,8 +130,12 @@ fn random_runs_extract_a_witness() {
 
 /// Random bytes: none, a few, or a sheet or file with some bytes changed.
 pub fn bytes(shifts: &mut Shifts) -> Vec<u8> {
-    let mut bytes = match shifts.below(6) {
+    let mut bytes = match shifts.below(7) {
         0 => Vec::new(),
+        6 => {
+            let [t, c, r] = [shifts.edge(), shifts.edge() >> 16, shifts.edge()];
+            narrow(shifts.below(3) as u16, (1, 1), &[t, c, r, r, c, t])
+        }
         1 => (0..shifts.below(90)).map(|_| shifts.word() as u8).collect(),
         2 => file(shifts.below(4) as u16, &shifts.edges()[..6]),
         3 => page_g(),
@@ -221,7 +225,10 @@ fn try_file_writers(shifts: &mut Shifts, sheet: &[u8], before: &[u8], long: u64,
         shifts.below(before.len() as u64 + 2)
     };
     try_writer(before, |buffer| append(sheet, buffer, used, round).is_err());
-    try_writer(before, |buffer| empty(buffer).is_err());
+    try_writer(before, |buffer| empty(long, buffer).is_err());
+    try_writer(before, |buffer| empty(long % 4, buffer).is_err());
+    let file = bytes(shifts);
+    try_writer(before, |buffer| convert(sheet, &file, buffer).is_err());
 }
 
 fn try_sheet_writers(shifts: &mut Shifts, before: &[u8], long: u64) {

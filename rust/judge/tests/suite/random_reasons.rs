@@ -85,28 +85,35 @@ fn slow_sheet(bytes: &[u8]) -> Result<Sheet, String> {
 }
 
 /// The words of round 0, or the line that refuses the file or the round.
+///
+/// A challenge has four bytes in version 1 and two in version 2.
 fn slow_round(sheet: &Sheet, file: &[u8]) -> Result<Vec<u32>, String> {
     if file.len() < 7 {
         return Err(format!("refused 12 length {}\n", file.len()));
     }
     field(file, 12, 0, 3, &[0x52_4E_44])?;
-    field(file, 12, 3, 2, &[1])?;
+    let version = field(file, 12, 3, 2, &[1, 2])?;
     let count = field(file, 12, 5, 2, &(0..=512).collect::<Vec<u64>>())?;
     let (s, n) = (sheet.rows as usize, sheet.columns as usize);
-    if file.len() as u64 != 7 + count * 4 * (s as u64 + n as u64 + 1) {
+    let mut sizes = vec![4; s + 1 + n];
+    sizes[s] = if version == 1 { 4 } else { 2 };
+    if file.len() != 7 + count as usize * sizes.iter().sum::<usize>() {
         return Err(format!("refused 12 length {}\n", file.len()));
     }
     field(file, 13, 5, 2, &(1..=512).collect::<Vec<u64>>())?;
-    let words = words(&file[..7 + 4 * (s + 1 + n)], 7);
-    for (place, value) in words.iter().enumerate() {
+    let (mut words, mut at) = (Vec::new(), 7);
+    for (place, size) in sizes.into_iter().enumerate() {
+        let value = stored(&file[at..at + size]) as u32;
         let (rule, good) = match place {
-            _ if place < s => (14, slow_element(sheet, *value)),
-            _ if place == s => (15, *value < sheet.challenges),
-            _ => (16, slots(sheet).contains(value)),
+            _ if place < s => (14, slow_element(sheet, value)),
+            _ if place == s => (15, value < sheet.challenges),
+            _ => (16, slots(sheet).contains(&value)),
         };
         if !good {
-            return Err(format!("refused {rule} {}\n", 7 + 4 * place));
+            return Err(format!("refused {rule} {at}\n"));
         }
+        words.push(value);
+        at += size;
     }
     Ok(words)
 }
@@ -127,7 +134,8 @@ fn slow_line(sheet: &[u8], file: &[u8]) -> Result<String, String> {
     Ok(format!("rejected {row} {left} {right}\n"))
 }
 
-/// A file of up to three rounds. Round 0 is accepted, or has one t anew.
+/// A file of either version, of up to three rounds. Each is accepted, or has
+/// one t anew.
 fn rounds(shifts: &mut Shifts, bytes: &[u8], sheet: &Sheet) -> Vec<u8> {
     let count = shifts.below(8).min(3);
     let mut words = Vec::new();
@@ -143,7 +151,11 @@ fn rounds(shifts: &mut Shifts, bytes: &[u8], sheet: &Sheet) -> Vec<u8> {
         words.push(c);
         words.extend(&r[..sheet.columns as usize]);
     }
-    file(count as u16, &words)
+    let size = (sheet.rows as usize, sheet.columns as usize);
+    match shifts.below(2) {
+        0 => file(count as u16, &words),
+        _ => narrow(count as u16, size, &words),
+    }
 }
 
 /// Makes one byte wrong that keeps the numbers of a header small, or changes
@@ -200,17 +212,21 @@ fn random_files_follow_the_slow_rules() {
         let line = reason(&sheet, &file);
         let expected = slow_line(&sheet, &file);
         assert_eq!(line, expected.unwrap_or_else(|line| line));
-        seen.insert((loaded.kind, form(&line)));
+        let version = file.get(4).copied().unwrap_or(0);
+        seen.insert((loaded.kind, form(&line), version));
     }
-    // Every refusal with each form it has, and both verdicts, in both kinds.
-    // Kind 2 has no entries, so no 10, unless its kind was made 1.
+    // Every refusal with each form it has, and both verdicts, in both kinds
+    // and both versions. Kind 2 has no entries, so no 10, unless its kind was
+    // made 1.
     let forms = "accepted,rejected,refused 2,refused 2 length,refused 3,refused 4,refused 5,\
                  refused 6,refused 7,refused 8,refused 9 length,refused 11,refused 12,\
                  refused 12 length,refused 13,refused 14,refused 15,refused 16";
-    for kind in [1, 2] {
+    for (kind, version) in [(1, 1), (1, 2), (2, 1), (2, 2)] {
         for form in forms.split(',') {
-            assert!(seen.contains(&(kind, form.to_string())), "{kind} {form}");
+            let wanted = (kind, form.to_string(), version);
+            assert!(seen.contains(&wanted), "{wanted:?}");
         }
+        let entries = (1, String::from("refused 10"), version);
+        assert!(seen.contains(&entries));
     }
-    assert!(seen.contains(&(1, String::from("refused 10"))));
 }

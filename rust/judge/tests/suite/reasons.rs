@@ -240,7 +240,9 @@ fn refusals_12_and_13_show_the_value_in_the_file() {
     }
     assert_eq!(line(3, 1), "refused 12 3\n");
     assert_eq!(line(4, 0), "refused 12 3\n");
-    assert_eq!(line(4, 2), "refused 12 3\n");
+    assert_eq!(line(4, 3), "refused 12 3\n");
+    // In version 2 the one record is two bytes too long.
+    assert_eq!(line(4, 2), "refused 12 length 19\n");
     assert_eq!(line(5, 3), "refused 12 5\n");
     assert_eq!(line(6, 2), "refused 12 length 19\n");
     assert_eq!(line(6, 0), "refused 12 length 19\n");

@@ -52,7 +52,7 @@ fn a_sheet_with_many_faults() {
 fn a_file_with_many_faults() {
     // Two rows and two columns of kind 1 with the witness (1, 2).
     let sheet = exponent(23, 11, 11, &[&[2, 3], &[3, 2]], &[18, 12]).bytes();
-    let mut bytes = b"RNX\x00\x02\x02\x01".to_vec();
+    let mut bytes = b"RNX\x00\x03\x02\x01".to_vec();
     let words: [u32; 5] = [5, 5, 11, 11, 11];
     let step = |bytes: &mut Vec<u8>, line: &str, place: usize, value: u8| {
         assert_eq!(reason(&sheet, bytes), line);

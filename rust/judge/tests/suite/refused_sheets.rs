@@ -66,6 +66,7 @@ fn every_call_with_a_sheet_refuses_it_first() {
         assert!(part(&sheet, &[], 9).is_empty());
         assert_eq!(read(&sheet, &[], 9), Err(number));
         assert_eq!(append(&sheet, &mut [], 9, &bad), Err(number));
+        assert_eq!(convert(&sheet, &[], &mut []), Err(number));
         assert_eq!(judge(&sheet, &bad), Verdict::Refused(number));
         assert_eq!(simulate(&sheet, 99, &[99; 8]), Err(number));
         assert_eq!(extract(&sheet, &bad, &bad), Err(number));

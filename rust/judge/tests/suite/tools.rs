@@ -74,12 +74,26 @@ pub fn page_g() -> Vec<u8> {
     root(35, 5, 5, &[32]).bytes()
 }
 
-/// A round file with this count field and these words.
+/// A round file of version 1 with this count field and these words.
 pub fn file(count: u16, words: &[u32]) -> Vec<u8> {
     let mut bytes = b"RND\x00\x01".to_vec();
     bytes.extend(count.to_be_bytes());
     for word in words {
         bytes.extend(word.to_be_bytes());
+    }
+    bytes
+}
+
+/// A round file of version 2 with this count field, for s rows and n columns.
+/// The words are those of version 1, and each challenge has its low half only.
+pub fn narrow(count: u16, (s, n): (usize, usize), words: &[u32]) -> Vec<u8> {
+    let mut bytes = b"RND\x00\x02".to_vec();
+    bytes.extend(count.to_be_bytes());
+    for (place, word) in words.iter().enumerate() {
+        let stored = word.to_be_bytes();
+        let is_challenge = place % (s + 1 + n) == s;
+        assert!(!is_challenge || *word <= 65_535);
+        bytes.extend(if is_challenge { &stored[2..] } else { &stored });
     }
     bytes
 }

@@ -60,8 +60,9 @@ size_t look(const uint8_t *sheet, size_t length, uint8_t *bytes, uint32_t *eight
     LOOK(dimkhoros_part(sheet, length, bytes, length, 0), .length);
     LOOK(dimkhoros_read(sheet, length, bytes, length, 0), .refusal);
     LOOK(dimkhoros_same_commitment(sheet, length, bytes, length, 0, 1), .refusal);
-    LOOK(dimkhoros_empty(bytes, length), .refusal);
+    LOOK(dimkhoros_empty(1, bytes, length), .refusal);
     LOOK(dimkhoros_append(sheet, length, bytes, length, length, round), .refusal);
+    LOOK(dimkhoros_convert(sheet, length, sheet, length, bytes, length), .refusal);
     LOOK(dimkhoros_mark(sheet, length, bytes, length, bytes, length, bytes), );
     LOOK(dimkhoros_reason(sheet, length, bytes, length, bytes), );
 

@@ -274,7 +274,7 @@ static void sheets(void) {
 
 static void files(void) {
     uint8_t buffer[200];
-    print_written(dimkhoros_empty(buffer, sizeof buffer));
+    print_written(dimkhoros_empty(1, buffer, sizeof buffer));
     print_written(dimkhoros_append(wide, sizeof wide, buffer, sizeof buffer, 7, rising_round(101)));
     print_written(dimkhoros_append(wide, sizeof wide, buffer, sizeof buffer, 75, rising_round(201)));
     print_written(dimkhoros_append(wide, sizeof wide, buffer, sizeof buffer, 143, rising_round(301)));
@@ -290,6 +290,21 @@ static void files(void) {
     print_compared(dimkhoros_same_commitment(wide, sizeof wide, buffer, 143, 1, 1));
     print_compared(dimkhoros_same_commitment(wide, sizeof wide, buffer, 143, 0, 1));
     print_compared(dimkhoros_same_commitment(wide, sizeof wide, buffer, 143, 0, SIZE_MAX));
+
+    uint8_t narrow[141];
+    memset(narrow, 238, sizeof narrow);
+    DimkhorosRound wider = rising_round(1);
+    print_written(dimkhoros_empty(65538, narrow, sizeof narrow));
+    print_written(dimkhoros_convert(wide, sizeof wide, buffer, 143, narrow, 138));
+    print_written(dimkhoros_convert(wide, sizeof wide, buffer, 143, narrow, sizeof narrow));
+    print_bytes(narrow, sizeof narrow);
+    print_fetched(dimkhoros_read(wide, sizeof wide, narrow, 139, 1));
+    wider.challenge = 65536;
+    print_written(dimkhoros_append(wide, sizeof wide, narrow, sizeof narrow, 139, wider));
+    wider.challenge = 65535;
+    print_written(dimkhoros_append(wide, sizeof wide, narrow, sizeof narrow, 139, wider));
+    print_written(dimkhoros_convert(wide, sizeof wide, narrow, 139, buffer, sizeof buffer));
+    print_fetched(dimkhoros_read(wide, sizeof wide, buffer, 143, 1));
 }
 
 static void rounds(void) {
@@ -424,7 +439,7 @@ static void print_mark(const uint8_t *sheet, size_t sheet_length, const uint8_t 
 static void marks(void) {
     const uint8_t levels[2] = {2, 3};
     uint8_t file[200];
-    size_t used = dimkhoros_empty(file, sizeof file).length;
+    size_t used = dimkhoros_empty(1, file, sizeof file).length;
     used = dimkhoros_append(wide, sizeof wide, file, sizeof file, used, honest_round(1, response)).length;
     print_mark(wide, sizeof wide, file, used, levels, 1);
     print_mark(wide, sizeof wide, file, used, levels + 1, 1);
@@ -448,7 +463,7 @@ static void reasons(void) {
     uint32_t wrong[8];
     memcpy(wrong, response, sizeof wrong);
     wrong[5] = 0;
-    size_t used = dimkhoros_empty(file, sizeof file).length;
+    size_t used = dimkhoros_empty(1, file, sizeof file).length;
     used = dimkhoros_append(wide, sizeof wide, file, sizeof file, used, honest_round(1, wrong)).length;
     print_reason(wide, sizeof wide, file, used);
     print_reason(wide, sizeof wide, file, used - 1);
@@ -478,9 +493,13 @@ static void empty_slices(void) {
     print_fetched(dimkhoros_read(wide, sizeof wide, NULL, 0, 0));
     print_compared(dimkhoros_same_commitment(NULL, 0, NULL, 0, 0, 0));
     print_compared(dimkhoros_same_commitment(wide, sizeof wide, NULL, 0, 0, 0));
-    print_written(dimkhoros_empty(NULL, 0));
+    print_written(dimkhoros_empty(1, NULL, 0));
+    print_written(dimkhoros_empty(0, NULL, 0));
     print_written(dimkhoros_append(wide, sizeof wide, NULL, 0, 0, rising_round(1)));
     print_written(dimkhoros_append(wide, sizeof wide, NULL, 0, 7, rising_round(1)));
+    print_written(dimkhoros_convert(NULL, 0, NULL, 0, NULL, 0));
+    print_written(dimkhoros_convert(wide, sizeof wide, NULL, 0, NULL, 0));
+    print_written(dimkhoros_convert(wide, sizeof wide, (const uint8_t *)"RND\0\1\0", 7, NULL, 0));
     print_judgement(dimkhoros_judge(NULL, 0, rising_round(1)));
     print_computed(dimkhoros_simulate(NULL, 0, 0, response));
     print_computed(dimkhoros_extract(NULL, 0, rising_round(1), rising_round(2)));

@@ -148,7 +148,7 @@ fn files(text: &mut String) {
     let wide = wide();
     let mut buffer = [0; 200];
     print!(text:
-        empty(&mut buffer),
+        empty(1, &mut buffer),
         append(&wide, &mut buffer, 7, &rising_round(101)),
         append(&wide, &mut buffer, 75, &rising_round(201)),
         append(&wide, &mut buffer, 143, &rising_round(301)),
@@ -164,6 +164,18 @@ fn files(text: &mut String) {
         same_commitment(&wide, &buffer[..143], 1, 1),
         same_commitment(&wide, &buffer[..143], 0, 1),
         same_commitment(&wide, &buffer[..143], 0, usize::MAX),
+    );
+    let mut narrow = [238; 141];
+    print!(text:
+        empty(65_538, &mut narrow),
+        convert(&wide, &buffer[..143], &mut narrow[..138]),
+        convert(&wide, &buffer[..143], &mut narrow),
+        narrow,
+        read(&wide, &narrow[..139], 1),
+        append(&wide, &mut narrow, 139, &Round { challenge: 65_536, ..rising_round(1) }),
+        append(&wide, &mut narrow, 139, &Round { challenge: 65_535, ..rising_round(1) }),
+        convert(&wide, &narrow[..139], &mut buffer),
+        read(&wide, &buffer[..143], 1),
     );
 }
 
@@ -295,7 +307,7 @@ fn mark_over(sheet: &[u8], file: &[u8], level: &[u8]) -> String {
 fn marks(text: &mut String) {
     let wide = wide();
     let mut file = [0; 200];
-    empty(&mut file);
+    empty(1, &mut file);
     let used = append(&wide, &mut file, 7, &honest_round(1, RESPONSE)).length;
     for level in [&[2][..], &[3], &[2, 3], &[]] {
         text.push_str(&mark_over(&wide, &file[..used], level));
@@ -318,7 +330,7 @@ fn reasons(text: &mut String) {
     let mut file = [0; 200];
     let mut wrong = RESPONSE;
     wrong[5] = 0;
-    empty(&mut file);
+    empty(1, &mut file);
     let used = append(&wide, &mut file, 7, &honest_round(1, wrong)).length;
     text.push_str(&reason_over(&wide, &file[..used]));
     text.push_str(&reason_over(&wide, &file[..used - 1]));
@@ -345,9 +357,13 @@ fn empty_slices(text: &mut String) {
         read(&wide, &[], 0),
         same_commitment(&[], &[], 0, 0),
         same_commitment(&wide, &[], 0, 0),
-        empty(&mut []),
+        empty(1, &mut []),
+        empty(0, &mut []),
         append(&wide, &mut [], 0, &rising_round(1)),
         append(&wide, &mut [], 7, &rising_round(1)),
+        convert(&[], &[], &mut []),
+        convert(&wide, &[], &mut []),
+        convert(&wide, b"RND\0\x01\0\0", &mut []),
         judge(&[], &rising_round(1)),
         simulate(&[], 0, &RESPONSE),
         extract(&[], &rising_round(1), &rising_round(2)),

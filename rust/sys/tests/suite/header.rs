@@ -9,7 +9,7 @@ use std::fmt::Write;
 use std::fs;
 
 /// The constants of this crate, under their names in C and in the order of the C program.
-const CONSTANTS: [(&str, usize); 23] = [
+const CONSTANTS: [(&str, usize); 24] = [
     ("PLACES", PLACES),
     ("ENTRIES", ENTRIES),
     ("MOST_PLAYERS", MOST_PLAYERS),
@@ -21,6 +21,7 @@ const CONSTANTS: [(&str, usize); 23] = [
     ("EMPTY_FILE", EMPTY_FILE),
     ("MOST_ROUNDS", MOST_ROUNDS),
     ("LONGEST_FILE", LONGEST_FILE),
+    ("LONGEST_FILE_2", LONGEST_FILE_2),
     ("LONGEST_TEXT", LONGEST_TEXT),
     ("LONGEST_REASON", LONGEST_REASON),
     ("EXPONENT", EXPONENT as usize),
