@@ -128,7 +128,7 @@ fn compared(
         Fault::SameLastByte => 4 * rows - 1,
         Fault::SameChallenge => 4 * rows + width(version(file)),
         Fault::SameWide => {
-            let at = |number: u32| 7 + number as usize * record_length(&header, 1);
+            let at = |number: usize| 7 + number * record_length(&header, 1);
             let [one, other] = numbers.map(|number| file.get(at(number)..at(number) + 4 * rows));
             right.same = u32::from(one == other);
             return right;
