@@ -83,6 +83,14 @@ module _ (inst : Instance) (round : Round) where
         λ (more, same). fails-first (row ∷ more) (subst (FailsExactly inst round) same all),
       )
 
+  -- they are their first row and others
+  pub fails-split : (rows : List ℕ) → FailsExactly inst round rows
+      → (row : ℕ) × (others : List ℕ) × (rows ≡ row ∷ others) × FailsFirst inst round row × FailsExactly inst round (row ∷ others)
+  fails-split rows all =
+      let first = fails-first rows all in
+      let (others, same) = fails-begin rows all _ .0 first in
+      (_, others, same, first, subst (FailsExactly inst round) same all)
+
 -- rounds of as many rows, which hold alike, fail in the same rows
 pub fails-alike : (inst inst′ : Instance) (round round′ : Round) → inst .header .rows ≡ inst′ .header .rows
     → ((i : ℕ) → i < inst .header .rows → RowHolds inst round i ↔ RowHolds inst′ round′ i)
