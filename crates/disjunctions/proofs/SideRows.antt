@@ -2,31 +2,27 @@
 -- which it fails.
 -- Assumes nothing.
 use Prim.Native.Nat.{ℕ}
-use mathlib.Core.Path.{_≡_, refl, sym, ap, subst, _∙_}
-use mathlib.Core.Logic.{_↔_, _≢_, _⊎_, inl, inr, ⊎-elim}
+use mathlib.Core.Path.{_≡_, sym, ap, subst, _∙_}
+use mathlib.Core.Logic.{_↔_, _≢_}
 use mathlib.Core.List.{List, [], _∷_, _++_, flatten, head-eq-of-cons-eq, map, tail-eq-of-cons-eq}
 use native.Mathlib.Omega.{arith}
 use Rattle.types.specs.declared.Round.{Round}
-use Rattle.types.specs.declared.Verdict.{Verdict}
-use Rattle.types.specs.declared.Verdict.the-variants.{Accepted, Rejected, Refused}
 use Rattle.disjunctions.specs.declared.OrRound.{OrRound}
 use Rattle.disjunctions.specs.declared.OrVerdict.{OrVerdict}
-use Rattle.disjunctions.specs.declared.OrVerdict.the-variants.{OrAccepted, OrRejected, OrRefused}
-use Rattle.formats.specs.Load.{loadRefusal}
+use Rattle.disjunctions.specs.declared.OrVerdict.the-variants.{OrAccepted, OrRejected}
 use Rattle.formats.specs.Sheet.{instanceOf}
-use Rattle.runs.specs.Calls.{judgeRound}
 use Rattle.runs.specs.Knowledge.{Accepts}
 use Rattle.runs.proofs.Protocol.{sheet-accepted, sheet-rejected}
 use Rattle.numbers.specs.Bits.{bit}
 use Rattle.lists.specs.Choices.{selected}
 use Rattle.sigma.specs.Answer.{rowsOf}
-use Rattle.sigma.specs.Meaning.{FailsExactly, FailsFirst}
+use Rattle.sigma.specs.Meaning.{FailsFirst}
 use Rattle.sigma.proofs.Fails.{fails-begin, fails-split}
 use Rattle.disjunctions.specs.Judge.{judgeOr}
 use Rattle.disjunctions.specs.Knowledge.{AcceptsOr, Pair}
 use Rattle.disjunctions.specs.OneOfTwo.{orNumber, orOutcome, sideRows}
 use Rattle.disjunctions.specs.Round.{firstRound, secondRound}
-use Rattle.disjunctions.proofs.Judged.{Ways, both, earlier, later, or-accepted, or-ways}
+use Rattle.disjunctions.proofs.Judged.{both, earlier, later, or-accepted, or-ways}
 
 -- the values of an outcome
 abbrev valuesOf : OrVerdict → List ℕ

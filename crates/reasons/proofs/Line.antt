@@ -6,7 +6,6 @@ use mathlib.Core.List.{List, _++_, append-assoc, flatten, map}
 use native.Mathlib.Decide.{decLt}
 use native.Mathlib.Omega.{arith}
 use lib.ListN.{getD, length, length-append}
-use Rattle.types.specs.declared.Round.{Round}
 use Rattle.types.specs.declared.Verdict.{Verdict}
 use Rattle.types.specs.declared.Verdict.the-variants.{Accepted, Rejected, Refused}
 use Rattle.numbers.specs.Bits.{bit}

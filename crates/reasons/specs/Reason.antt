@@ -3,7 +3,7 @@
 -- Assumes nothing.
 use Prim.Native.Nat.{ℕ, _+_, _*_}
 use mathlib.Core.Bool.{not, cond, _||_}
-use mathlib.Core.List.{List, [], _∷_, _++_, flatten, map}
+use mathlib.Core.List.{List, _++_, flatten, map}
 use lib.Dec.{eqb, ltb}
 use lib.ListN.{getD, length}
 use Rattle.types.specs.declared.Header.{Header}

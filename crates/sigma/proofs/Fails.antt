@@ -1,7 +1,7 @@
 -- The rows in which a round fails: as bits of a mask and as its rows, of which the first is 01's row; and rounds whose rows hold alike
 -- fail alike.
 -- Assumes nothing.
-use Prim.Native.Nat.{ℕ, _*_, _%_, _^_, _<_, _≤_}
+use Prim.Native.Nat.{ℕ, _^_, _<_, _≤_}
 use mathlib.Core.Path.{_≡_, refl, sym, ap, subst, _∙_}
 use mathlib.Core.Bool.{true, false≢true}
 use mathlib.Core.Logic.{_↔_}

@@ -1,12 +1,14 @@
 -- The rows of a mask: its bits below 8, rising, and one mask below 256 for each list of rows.
 -- Assumes nothing.
-use Prim.Native.Nat.{ℕ, _/_, _%_, _^_, _<_}
+use Prim.Native.Nat.{ℕ, zero, suc, _/_, _%_, _^_, _<_}
 use mathlib.Core.Path.{_≡_, subst, sym}
 use mathlib.Core.Bool.{true}
-use mathlib.Core.List.{List}
+use native.Mathlib.Omega.{arith}
+use lib.ListN.{length}
 use mathlib.Core.Logic.{_↔_, Iff·rfl, Iff·and, Iff·trans}
 use Rattle.numbers.specs.Bits.{bit}
 use Rattle.numbers.proofs.Bits.{bit-digit, same-bits}
+use Rattle.lists.specs.Choices.{selected}
 use Rattle.lists.specs.Member.{Member, Rising}
 use Rattle.lists.proofs.Choices.{selected-member}
 use Rattle.lists.proofs.Rising.{selected-rising}
@@ -25,6 +27,12 @@ rows-digit mask i = Iff·trans (rows-bit mask i) (Iff·and Iff·rfl (bit-digit m
 pub rows-rising : (mask : ℕ) → Rising (rowsOf mask)
 unfolding rowsOf
 rows-rising mask = selected-rising 8 (bit mask)
+
+-- a mask that has one is not 0
+pub rows-some : (mask : ℕ) → 0 < length (rowsOf mask) → 0 < mask
+unfolding rowsOf selected bit
+rows-some zero some = some
+rows-some (suc mask) some = omega arith
 
 -- masks of eight bits with the same rows are equal
 pub rows-injective : (a b : ℕ) → a < 2 ^ 8 → b < 2 ^ 8 → rowsOf a ≡ rowsOf b → a ≡ b
