@@ -1,13 +1,13 @@
 -- The arithmetic and the numerals that the other statements are made of, by what they mean.
 -- Assumes nothing.
-use Prim.Native.Nat.{ℕ, suc, _*_, _%_, _^_, _<_, _≤_}
+use Prim.Native.Nat.{ℕ, suc, _+_, _*_, _%_, _^_, _<_, _≤_}
 use mathlib.Core.Path.{_≡_}
 use mathlib.Core.Logic.{_≢_}
 use mathlib.Core.List.{List}
 use lib.ListN.{getD}
 use Rattle.encoding.specs.Text.{AllDigits, decimal, fromDigits}
 use Rattle.numbers.specs.Gcd.{IsGcd, gcd}
-use Rattle.numbers.specs.Product.{product}
+use Rattle.numbers.specs.Product.{product, sum}
 use Rattle.sigma.specs.Image.{rowImage}
 use Rattle.sigma.specs.Instance.{Table, entry}
 
@@ -17,7 +17,9 @@ pub record Arithmetic : Type 0 where
       → rowImage table x i ≡ product (table .header .columns) (λ j. entry table i j ^ getD x j 0) % table .header .modulus
   pub root-image : (table : Table) (x : List ℕ) (i : ℕ) → table .header .kind ≢ 1
       → rowImage table x i ≡ getD x i 0 ^ table .header .order % table .header .modulus
-  -- a product over the indices below n
+  -- a sum and a product over the indices below n
+  pub no-term : (f : ℕ → ℕ) → sum 0 f ≡ 0
+  pub one-term-more : (n : ℕ) (f : ℕ → ℕ) → sum (suc n) f ≡ sum n f + f n
   pub no-factor : (f : ℕ → ℕ) → product 0 f ≡ 1
   pub one-factor-more : (n : ℕ) (f : ℕ → ℕ) → product (suc n) f ≡ product n f * f n
   -- gcd is the greatest common divisor

@@ -5,6 +5,7 @@
 use Rattle.disjunctions.specs.OneOfTwo.{OrRefusals}
 use Rattle.formats.specs.SameCommitment.{WordsRefusals}
 use Rattle.patterns.specs.PatternCalls.{PatternRefusals}
+use Rattle.products.specs.TeamWorks.{TeamRefusals}
 use Rattle.runs.specs.ConvertsFiles.{ConvertRefusals}
 use Rattle.runs.specs.Demand1.{Demand1}
 
@@ -17,5 +18,7 @@ pub record Refusals : Type 0 where
   pub one-of-two : OrRefusals
   -- card 5: comparing the commitments of two rounds of a file
   pub words : WordsRefusals
+  -- card 6: the combiner's calls
+  pub team : TeamRefusals
   -- card 7: converting a round file
   pub sixteen-bits : ConvertRefusals

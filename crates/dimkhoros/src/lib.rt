@@ -8,5 +8,6 @@ mod or_proving; // or_proving.rt: the calls on Peggy's session of the OR proof
 mod proving; // proving.rt: the calls on Peggy's session
 mod rounds; // rounds.rt: the calls on round files
 mod sheets; // sheets.rt: the calls on sheets
+mod team; // team.rt: the calls of a team's combiner
 mod verifying; // verifying.rt: the calls on Vic's session
 mod version; // version.rt: the library's version

@@ -65,7 +65,7 @@ use Rattle.formats.proofs.Part.{part-given}
 -- ---- arrays of eight places
 
 -- at most eight values in eight places
-length-padded : {A : Type 0} (d : A) (xs : List A) → length xs ≤ 8 → length (pad8 d xs) ≡ 8
+pub length-padded : {A : Type 0} (d : A) (xs : List A) → length xs ≤ 8 → length (pad8 d xs) ≡ 8
 unfolding pad8
 length-padded d xs few =
     length-append xs _ ∙ ap (λ (n : ℕ). length xs + n) (length-replicate (8 - length xs) d) ∙ omega arith

@@ -20,6 +20,7 @@ use Rattle.formats.specs.Append.{appendRules, emptyRules}
 use Rattle.formats.specs.Encode.{encodeRules}
 use Rattle.formats.specs.Load.{badLength, shapeRules, loadRules}
 use Rattle.formats.specs.Refusals.{
+  shapeConditions,
   loadConditions,
   encodeConditions,
   fileConditions,
@@ -42,16 +43,22 @@ use Rattle.formats.proofs.Tests.{
 }
 use Rattle.formats.proofs.Writing.{length-noRounds}
 
--- 2 to 11 of loading a sheet
-pub load-tests : (s : List ℕ) → Tests (loadRules s) (loadConditions s)
-unfolding loadRules shapeRules headerRules
-load-tests s =
+-- 2 to 9 of a sheet's shape
+pub shape-tests : (s : List ℕ) → Tests (shapeRules s) (shapeConditions s)
+unfolding shapeRules
+shape-tests s =
     let h = headerOf s in
     let rest =
-    tests-append (headerRules h) ((9 when badLength s) ∷ elementRules (instanceOf s)) (headerConditions h)
-    ((9 if (length s ≢ sheetLength h)) ∷ elementConditions (instanceOf s))
-    (header-tests h) (refl, says-badLength s, element-tests (instanceOf s)) in
+    tests-append (headerRules h) ((9 when badLength s) ∷ []) (headerConditions h) ((9 if (length s ≢ sheetLength h)) ∷ [])
+    (header-tests h) (refl, says-badLength s, tt) in
     (refl, says-badStart s, (refl, says-not (says-equal (versionOf s) 1), rest))
+
+-- 2 to 11 of loading a sheet
+pub load-tests : (s : List ℕ) → Tests (loadRules s) (loadConditions s)
+unfolding loadRules
+load-tests s =
+    tests-append (shapeRules s) (elementRules (instanceOf s)) (shapeConditions s) (elementConditions (instanceOf s)) (shape-tests s)
+    (element-tests (instanceOf s))
 
 -- 4 to 8, 10, 11 and 22 of the second writer
 pub encode-tests : (i : Instance) (buffer : List ℕ) → Tests (encodeRules i buffer) (encodeConditions i buffer)

@@ -30,12 +30,16 @@ Refusal12 h f =
     (length f < 7) ⊎ Differ 3 f roundMark ⊎ (¬ IsVersion (fileVersion f)) ⊎ (512 < countField f) ⊎
     (length f ≢ recordStart (challengeWidth f) h (countField f))
 
--- loading a sheet; 2 is for under 20 bytes or another mark, and 9 for a length that is not exactly what the header gives
-abbrev pub loadConditions : List ℕ → List Condition
-loadConditions s =
+-- a sheet's shape; 2 is for under 20 bytes or another mark, and 9 for a length that is not exactly what the header gives
+abbrev pub shapeConditions : List ℕ → List Condition
+shapeConditions s =
     (2 if ((length s < 20) ⊎ Differ 3 s sheetMark)) ∷
     (3 if (versionOf s ≢ 1)) ∷
-    (headerConditions (headerOf s) ++ (9 if (length s ≢ sheetLength (headerOf s))) ∷ elementConditions (instanceOf s))
+    (headerConditions (headerOf s) ++ (9 if (length s ≢ sheetLength (headerOf s))) ∷ [])
+
+-- loading a sheet
+abbrev pub loadConditions : List ℕ → List Condition
+loadConditions s = shapeConditions s ++ elementConditions (instanceOf s)
 
 -- the second writer; 22 is for a buffer that is shorter than the result
 abbrev pub encodeConditions : Instance → List ℕ → List Condition

@@ -5,6 +5,8 @@ mod loading; // loading.rt: the calls
 mod shape; // shape.rt: the mark, the fixed fields and the length
 
 pub use elements::element_refusal;
+pub use elements::read_entries;
+pub use elements::read_statement;
 pub use loading::entries;
 pub use loading::load;
 pub use loading::loaded_entries;
@@ -13,4 +15,5 @@ pub use shape::MARK;
 pub use shape::entry_count;
 pub use shape::header;
 pub use shape::header_refusal;
+pub use shape::shape_refusal;
 pub use shape::sheet_length;

@@ -1,13 +1,30 @@
--- Laws of products over an index.
+-- Laws of sums and products over an index.
 -- Assumes nothing.
 use mathlib.Core.Path.{_≡_, refl, _∙_, ap, ap₂}
-use Prim.Native.Nat.{ℕ, zero, suc, _*_, _^_, _<_}
+use Prim.Native.Nat.{ℕ, zero, suc, _+_, _*_, _^_, _<_}
 use native.Mathlib.Nat.{mul-one, mul-mul-mul-comm}
 use native.Mathlib.Omega.{arith}
 use Rattle.numbers.specs.Congruence.{Cong}
-use Rattle.numbers.specs.Product.{product}
+use Rattle.numbers.specs.Product.{product, sum}
 use Rattle.numbers.proofs.Congruence.{cong-refl, cong-mul}
 use Rattle.numbers.proofs.Powers.{mul-pow, one-pow}
+
+-- the sum of no terms
+pub sum-zero : (f : ℕ → ℕ) → sum 0 f ≡ 0
+unfolding sum
+sum-zero f = refl
+
+-- the sum of one more term
+pub sum-suc : (n : ℕ) (f : ℕ → ℕ) → sum (suc n) f ≡ sum n f + f n
+unfolding sum
+sum-suc n f = refl
+
+-- terms that are equal below n have equal sums
+pub sum-agree : (n : ℕ) (f g : ℕ → ℕ) → ((j : ℕ) → j < n → f j ≡ g j) → sum n f ≡ sum n g
+unfolding sum
+sum-agree zero f g same = refl
+sum-agree (suc n) f g same =
+    ap₂ (λ (x y : ℕ). x + y) (sum-agree n f g (λ j h. same j (omega arith))) (same n (omega arith))
 
 -- the product of no factors
 pub product-zero : (f : ℕ → ℕ) → product 0 f ≡ 1

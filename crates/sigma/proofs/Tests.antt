@@ -23,7 +23,7 @@ use Rattle.sigma.specs.Admission.{firstDivisor, badKind, badModulus, bad
 use Rattle.sigma.specs.Image.{rowImage, image}
 use Rattle.sigma.specs.Round.{badCommitment, badChallenge, badCoordinates, badWitness}
 use Rattle.sigma.specs.Answer.{isAccepted}
-use Rattle.sigma.specs.Refusals.{Refusal5, Refusal6, Refusal8, Refusal11}
+use Rattle.sigma.specs.Refusals.{Refusal5, Refusal6, Refusal8, Refusal10, Refusal11}
 use Rattle.sigma.specs.Refusals.{SomeNonElement, Refusal14, Refusal15, Refusal16}
 use Rattle.sigma.proofs.Calculus.{says-any, says-divides}
 use Rattle.sigma.proofs.Comparison.{says-differ}
@@ -126,10 +126,7 @@ says-badCount h =
 -- ---- the entries and the statement (10 and 11)
 
 -- 10: in kind 1 some entry is no group element
-pub says-badEntries : (i : Instance)
-    → Says (badEntries i)
-    ((i .header .kind ≡ 1) × ((r : ℕ) × (c : ℕ) × (r < i .header .rows) × (c < i .header .columns) ×
-    (¬ Element (i .header) (entry (tableOf i) r c))))
+pub says-badEntries : (i : Instance) → Says (badEntries i) (Refusal10 i)
 unfolding badEntries
 says-badEntries i =
     says-and (says-exponent (i .header))

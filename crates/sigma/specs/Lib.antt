@@ -16,3 +16,4 @@ pub mod Simulator
 pub mod Extractor
 pub mod Knowledge
 pub mod Listed
+pub mod Joined

@@ -32,6 +32,12 @@ Refusal8 h =
 abbrev pub SomeNonElement : Header → ℕ → List ℕ → Type 0
 SomeNonElement h n vs = (i : ℕ) × (i < n) × (¬ Element h (getD vs i 0))
 
+-- some entry is no group element; only kind 1 has entries
+abbrev pub Refusal10 : Instance → Type 0
+Refusal10 inst =
+    (inst .header .kind ≡ 1) × ((i : ℕ) × (j : ℕ) × (i < inst .header .rows) × (j < inst .header .columns) ×
+    (¬ Element (inst .header) (entry (tableOf inst) i j)))
+
 -- some statement value is no group element
 abbrev pub Refusal11 : Instance → Type 0
 Refusal11 inst = SomeNonElement (inst .header) (inst .header .rows) (inst .statement)
@@ -57,12 +63,9 @@ headerConditions h =
     (7 if ((h .rows < 1) ⊎ (8 < h .rows) ⊎ (h .columns < 1) ⊎ (8 < h .columns) ⊎ ((h .kind ≡ 2) × (h .rows ≢ h .columns)))) ∷
     (8 if Refusal8 h) ∷ []
 
--- the entries, which only kind 1 has, and the statement
+-- the entries and the statement
 abbrev pub elementConditions : Instance → List Condition
-elementConditions inst =
-    (10 if ((inst .header .kind ≡ 1) × ((i : ℕ) × (j : ℕ) × (i < inst .header .rows) × (j < inst .header .columns) ×
-    (¬ Element (inst .header) (entry (tableOf inst) i j))))) ∷
-    (11 if Refusal11 inst) ∷ []
+elementConditions inst = (10 if Refusal10 inst) ∷ (11 if Refusal11 inst) ∷ []
 
 -- judging a round
 abbrev pub judgeConditions : Instance → Round → List Condition

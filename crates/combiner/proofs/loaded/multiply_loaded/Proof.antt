@@ -1,0 +1,34 @@
+-- `combiner::loaded::multiply_loaded` meets its contract: a number above 0 stands beside zeros, else the products are the answer.
+-- Assumes nothing.
+use mathlib.Core.Path.{_∙_}
+use native.Mathlib.Omega.{arith}
+use Rattle.products.specs.Team.{commitmentsRules}
+use Rattle.combiner.proofs.TeamNumber.{number-answer, rules-few, values-answer}
+use Rattle.combiner.proofs.loaded.multiply_loaded.Statement.{statement}
+use Rattle.combiner.proofs.loaded.multiply_loaded.Tie as tie
+
+commitments-refusal-requires : tie.Need-commitments-refusal-requires
+commitments-refusal-requires c κs = omega arith
+
+refused-requires : tie.Need-refused-requires
+refused-requires c κs = omega arith
+
+returns : tie.Need-returns
+returns c = c .refused .ensures ∙ number-answer (c .before .before .commitments-refusal .ensures) _ (c .before .if1 .taken)
+
+multiply-all-requires : tie.Need-multiply-all-requires
+unfolding commitmentsRules
+multiply-all-requires c κs = omega (arith, rules-few _ _ _ _ tt (c .before .commitments-refusal .ensures) (c .if1 .left))
+
+returns-2 : tie.Need-returns-2
+returns-2 c = values-answer (c .before .before .commitments-refusal .ensures) _ (c .before .if1 .left) (c .multiply-all .ensures)
+
+pub multiply-loaded-spec : {M : Type 1} → statement M
+multiply-loaded-spec =
+    tie.close
+    (tie.spec
+    commitments-refusal-requires
+    refused-requires
+    returns
+    multiply-all-requires
+    returns-2)

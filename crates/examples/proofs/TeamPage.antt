@@ -1,0 +1,124 @@
+-- The worked teams hold, computed.
+-- Assumes nothing.
+use mathlib.Core.Path.{refl}
+use mathlib.Core.List.{flatten}
+use Rattle.encoding.specs.Bytes.{numberAt, bytesOf, bytesOfEach}
+use Rattle.encoding.specs.Text.{ascii}
+use Rattle.examples.specs.Corners.{changed, rootBytes}
+use Rattle.examples.specs.Pages.{array}
+use Rattle.examples.specs.Sheets.{fourBytes, sheetBytes, smallSheet, schnorrSheet}
+use Rattle.examples.specs.TeamPage.{
+  pairBytes,
+  brought,
+  each,
+  combining,
+  teamRun,
+  teamNumbers,
+  multiplying,
+  joining,
+  twoRows,
+  TeamPage,
+}
+use Rattle.formats.specs.Encode.{headerBytes, storedEntries, sheetOf}
+use Rattle.formats.specs.Load.{badStart, badLength, shapeRules, loadRules}
+use Rattle.formats.specs.Sheet.{
+  sheetMark,
+  versionOf,
+  headerOf,
+  entryCount,
+  sheetLength,
+  zeros64,
+  entriesOf,
+  statementOf,
+  instanceOf,
+}
+use Rattle.lists.specs.Choices.{selected}
+use Rattle.lists.specs.Places.{itemsAt, tabulate, places, pad8, zeros8, eightByEight}
+use Rattle.numbers.specs.Bits.{bit, maskBelow}
+use Rattle.numbers.specs.Gcd.{euclid, gcd}
+use Rattle.numbers.specs.Product.{product, sum}
+use Rattle.numbers.specs.Search.{find, any}
+use Rattle.products.specs.Team.{
+  multiplyAll,
+  joinAll,
+  badTeam,
+  badImages,
+  badProduct,
+  teamRules,
+  commitmentsRules,
+  responsesRules,
+  multiplyCommitments,
+  joinResponses,
+}
+use Rattle.rules.specs.Answer.{unlessRefused}
+use Rattle.rules.specs.Rule.{lowest}
+use Rattle.runs.specs.Calls.{judgeRound}
+use Rattle.runs.specs.Knowledge.{honestRound}
+use Rattle.runs.specs.Prover.{
+  proverState,
+  proverIn,
+  newProver,
+  proverStep,
+  commitRules,
+  commitAfter,
+  unfitProver,
+  respondRules,
+  respondAfter,
+  commit,
+  respond,
+}
+use Rattle.sigma.specs.Admission.{
+  firstDivisor,
+  badKind,
+  badModulus,
+  badOrder,
+  badSize,
+  badCount,
+  badEntries,
+  badStatement,
+  headerRules,
+  elementRules,
+}
+use Rattle.sigma.specs.Answer.{rowsOf, outcome, judged, eightPlaces, computed}
+use Rattle.sigma.specs.Comparison.{firstDifference, differ, differences, compareSides}
+use Rattle.sigma.specs.Element.{isElement, someNonElement, isCoordinate, someNonCoordinate}
+use Rattle.sigma.specs.Image.{rowImage, image}
+use Rattle.sigma.specs.Instance.{isExponent, entry, statementAt}
+use Rattle.sigma.specs.Judge.{judgeRules, judgeAfter}
+use Rattle.sigma.specs.Round.{
+  responseCoordinate,
+  response,
+  expectedImage,
+  verdict,
+  badCommitment,
+  badChallenge,
+  badCoordinates,
+  badWitness,
+}
+
+pub team-page : TeamPage
+unfolding euclid gcd product sum find any itemsAt tabulate places pad8 zeros8 eightByEight unlessRefused lowest numberAt
+    bytesOf bytesOfEach ascii firstDivisor badKind badModulus badOrder badSize badCount badEntries badStatement
+    headerRules elementRules rowsOf selected bit maskBelow outcome judged eightPlaces computed firstDifference differ
+    differences compareSides isElement someNonElement isCoordinate someNonCoordinate rowImage image isExponent entry
+    judgeRules judgeAfter responseCoordinate response expectedImage verdict badCommitment badChallenge badCoordinates
+    badWitness headerBytes storedEntries sheetOf badStart badLength shapeRules loadRules statementAt sheetMark versionOf
+    headerOf entryCount sheetLength zeros64 entriesOf statementOf instanceOf judgeRound proverState proverIn newProver
+    proverStep commitRules commitAfter unfitProver respondRules respondAfter commit respond honestRound array fourBytes
+    sheetBytes smallSheet schnorrSheet flatten changed rootBytes multiplyAll joinAll badTeam badImages badProduct
+    teamRules commitmentsRules responsesRules multiplyCommitments joinResponses brought each combining pairBytes teamRun
+    teamNumbers multiplying joining twoRows
+team-page = record {
+  A = refl;
+  E = refl;
+  G = refl;
+  eight = refl;
+  wrong = refl;
+  refusal27 = (refl, refl);
+  refusal9 = (refl, refl);
+  refusal10 = (refl, refl);
+  refusal11 = (refl, refl);
+  refusal14 = (refl, refl);
+  refusal16 = (refl, refl);
+  refusal28 = (refl, refl);
+}

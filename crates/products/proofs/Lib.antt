@@ -1,0 +1,8 @@
+-- Laws of a prover that is split over a team.
+pub mod Combined
+pub mod TeamRefusals
+pub mod TeamAnswers
+pub mod PlayerSheets
+pub mod Whole
+pub mod Single
+pub mod TeamWorks

@@ -1,0 +1,5 @@
+-- A prover that is split over a team.
+pub mod Team
+pub mod Refusals
+pub mod Players
+pub mod TeamWorks
