@@ -74,7 +74,7 @@ unfolding maskBelow sum
 mask-suc n p = refl
 
 -- tests that agree below n have one mask
-mask-agree : (n : ℕ) (p q : ℕ → Bool) → ((i : ℕ) → i < n → p i ≡ q i) → maskBelow n p ≡ maskBelow n q
+pub mask-agree : (n : ℕ) (p q : ℕ → Bool) → ((i : ℕ) → i < n → p i ≡ q i) → maskBelow n p ≡ maskBelow n q
 unfolding maskBelow
 mask-agree n p q same = sum-agree n _ _ (λ i h. ap (λ (b : Bool). cond b (2 ^ i) 0) (same i h))
 
