@@ -1,20 +1,24 @@
 -- The three numbers of each verdict, and that they tell it: no two verdicts that calls give have the same.
 -- Assumes nothing.
-use Prim.Native.Nat.{ℕ, _<_}
+use Prim.Native.Nat.{ℕ, _^_, _<_}
 use mathlib.Core.Path.{_≡_, refl, sym, ap}
 use mathlib.Core.Logic.{_↔_, _≢_}
 use mathlib.Core.List.{List}
 use native.Mathlib.Omega.{arith}
+use lib.Pow.{pow-pos}
 use Rattle.types.specs.declared.Round.{Round}
 use Rattle.types.specs.declared.Verdict.{Verdict}
 use Rattle.types.specs.declared.Verdict.the-variants.{Accepted, Rejected, Refused}
 use Rattle.types.specs.declared.Verifier.{Verifier}
-use Rattle.sigma.specs.Answer.{judged}
+use Rattle.formats.specs.Load.{loadRefusal}
+use Rattle.formats.specs.Sheet.{instanceOf}
+use Rattle.sigma.specs.Answer.{outcome, judged}
 use Rattle.sigma.specs.Judge.{judgeAfter}
 use Rattle.sigma.proofs.Answer.{judged-refused}
 use Rattle.sigma.proofs.Verdict.{verdict-not-refused}
 use Rattle.runs.specs.Calls.{judgeRound}
 use Rattle.runs.specs.Verifier.{takeResponse, takeResponseAfter}
+use Rattle.runs.proofs.Protocol.{protocol}
 use Rattle.crossing.specs.Verdicts.{judgement}
 use Rattle.crossing.specs.declared.Judgement.{Judgement}
 
@@ -33,7 +37,14 @@ pub judgement-refused : (number : ℕ) → judgement (Refused number) ≡ record
 unfolding judgement
 judgement-refused number = refl
 
--- so a round is accepted exactly where that number is 1
+-- the number is that of the verdict's outcome
+pub judgement-number : (v : Verdict) → judgement v .refusal ≡ outcome v .number
+unfolding judgement outcome
+judgement-number Accepted = refl
+judgement-number (Rejected mask) = refl
+judgement-number (Refused number) = refl
+
+-- a round is accepted exactly where accepted is 1
 pub accepted-told : (v : Verdict) → (judgement v .accepted ≡ 1) ↔ (v ≡ Accepted)
 unfolding judgement
 accepted-told v = (accepted v, ap (λ (v : Verdict). judgement v .accepted))
@@ -76,7 +87,14 @@ pub response-not-zero : (sheet : List ℕ) (v : Verifier) (r : List ℕ) → tak
 unfolding takeResponse takeResponseAfter
 response-not-zero sheet v r = judged-not-zero _ _ (verdict-not-refused _ _ _ _)
 
--- no bit of a sheet's rows that it does not have is set
+-- no bit is set of a row that the sheet does not have
 pub judgement-inside : (sheet : List ℕ) → loadRefusal sheet ≡ 0 → (round : Round)
     → judgement (judgeRound sheet round) .rows < 2 ^ instanceOf sheet .header .rows
-judgement-inside sheet loads round = ?a
+unfolding judgement outcome
+judgement-inside sheet loads round = inside (judgeRound sheet round) refl
+  where
+    inside : (v : Verdict) → judgeRound sheet round ≡ v → judgement v .rows < 2 ^ instanceOf sheet .header .rows
+    inside Accepted e = pow-pos _
+    inside (Rejected mask) e =
+        protocol sheet loads .verdicts round (ap (λ (v : Verdict). outcome v .number) e) .rejected mask .0 e .1
+    inside (Refused number) e = pow-pos _
