@@ -1,2 +1,3 @@
 -- Laws that the proofs of the functions cite, by topic.
 pub mod TwoSides
+pub mod Masks

@@ -1,4 +1,4 @@
--- The search for the first place at which two sides differ, and the verdict on them by it.
+-- The search for the first place at which two sides differ.
 -- Assumes nothing.
 use mathlib.Core.Path.{_≡_, sym, ap, _∙_}
 use mathlib.Core.Bool.{not}
@@ -8,11 +8,10 @@ use Prim.Native.Nat.{ℕ, _+_, _-_, _≤_, _<_}
 use native.Mathlib.Omega.{arith}
 use lib.Dec.{eqb}
 use lib.ListN.{getD}
-use borrow.Author.Tests.{eq-eqb, ne-eqb, lt-ltb, le-ltb}
-use Rattle.types.specs.declared.Verdict.the-variants.{Accepted, Rejected}
+use borrow.Author.Tests.{eq-eqb, ne-eqb}
 use Rattle.numbers.specs.Search.{find}
 use Rattle.numbers.proofs.Search.{find-to-start, find-to-end, find-to-here, find-to-on}
-use Rattle.sigma.specs.Comparison.{firstDifference, differ, compareSides}
+use Rattle.sigma.specs.Comparison.{firstDifference}
 
 module _ (n : ℕ) (xs ys : List ℕ) where
   -- the search that has come to i gives what the whole search gives
@@ -35,13 +34,3 @@ module _ (n : ℕ) (xs ys : List ℕ) where
   -- and so does the last place
   pub differ-none : (i : ℕ) → n ≤ i → Agreed i → i ≡ firstDifference n xs ys
   differ-none i past (within, kept) = sym (find-to-end _ i n past) ∙ kept
-
-  -- a first difference before n rejects
-  pub compare-row : {row : ℕ} → row ≡ firstDifference n xs ys → row < n → Rejected row ≡ compareSides n xs ys
-  unfolding compareSides differ
-  compare-row is-row before = rw (sym is-row, lt-ltb _ n before)
-
-  -- and no difference before n accepts
-  pub compare-none : {row : ℕ} → row ≡ firstDifference n xs ys → n ≤ row → Accepted ≡ compareSides n xs ys
-  unfolding compareSides differ
-  compare-none is-row past = rw (sym is-row, le-ltb _ n past)

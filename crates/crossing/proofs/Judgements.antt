@@ -1,65 +1,76 @@
 -- The three numbers of each verdict, and that they tell it: no two verdicts that calls give have the same.
 -- Assumes nothing.
-use Prim.Native.Nat.{ℕ, _<_}
+use Prim.Native.Nat.{ℕ, _^_, _<_}
 use mathlib.Core.Path.{_≡_, refl, sym, ap}
 use mathlib.Core.Logic.{_↔_, _≢_}
 use mathlib.Core.List.{List}
 use native.Mathlib.Omega.{arith}
+use lib.Pow.{pow-pos}
 use Rattle.types.specs.declared.Round.{Round}
 use Rattle.types.specs.declared.Verdict.{Verdict}
 use Rattle.types.specs.declared.Verdict.the-variants.{Accepted, Rejected, Refused}
 use Rattle.types.specs.declared.Verifier.{Verifier}
+use Rattle.formats.specs.Load.{loadRefusal}
+use Rattle.formats.specs.Sheet.{instanceOf}
 use Rattle.sigma.specs.Answer.{outcome, judged}
 use Rattle.sigma.specs.Judge.{judgeAfter}
 use Rattle.sigma.proofs.Answer.{judged-refused}
 use Rattle.sigma.proofs.Verdict.{verdict-not-refused}
 use Rattle.runs.specs.Calls.{judgeRound}
 use Rattle.runs.specs.Verifier.{takeResponse, takeResponseAfter}
+use Rattle.runs.proofs.Protocol.{protocol}
 use Rattle.crossing.specs.Verdicts.{judgement}
 use Rattle.crossing.specs.declared.Judgement.{Judgement}
 
 -- an accepted round has 1 for accepted
-pub judgement-accepted : judgement Accepted ≡ record { refusal = 0; accepted = 1; row = 0 }
-unfolding judgement outcome
+pub judgement-accepted : judgement Accepted ≡ record { refusal = 0; accepted = 1; rows = 0 }
+unfolding judgement
 judgement-accepted = refl
 
--- a rejected round has its row
-pub judgement-rejected : (row : ℕ) → judgement (Rejected row) ≡ record { refusal = 0; accepted = 0; row = row }
-unfolding judgement outcome
-judgement-rejected row = refl
+-- a rejected round has the mask of its rows
+pub judgement-rejected : (mask : ℕ) → judgement (Rejected mask) ≡ record { refusal = 0; accepted = 0; rows = mask }
+unfolding judgement
+judgement-rejected mask = refl
 
 -- a refused round has its number
-pub judgement-refused : (number : ℕ) → judgement (Refused number) ≡ record { refusal = number; accepted = 0; row = 0 }
-unfolding judgement outcome
+pub judgement-refused : (number : ℕ) → judgement (Refused number) ≡ record { refusal = number; accepted = 0; rows = 0 }
+unfolding judgement
 judgement-refused number = refl
 
--- so a round is accepted exactly where that number is 1
-pub accepted-told : (v : Verdict) → (judgement v .accepted ≡ 1) ↔ (v ≡ Accepted)
+-- the number is that of the verdict's outcome
+pub judgement-number : (v : Verdict) → judgement v .refusal ≡ outcome v .number
 unfolding judgement outcome
+judgement-number Accepted = refl
+judgement-number (Rejected mask) = refl
+judgement-number (Refused number) = refl
+
+-- a round is accepted exactly where accepted is 1
+pub accepted-told : (v : Verdict) → (judgement v .accepted ≡ 1) ↔ (v ≡ Accepted)
+unfolding judgement
 accepted-told v = (accepted v, ap (λ (v : Verdict). judgement v .accepted))
   where
     accepted : (v : Verdict) → judgement v .accepted ≡ 1 → v ≡ Accepted
     accepted Accepted e = refl
-    accepted (Rejected row) e = absurd (omega arith)
+    accepted (Rejected mask) e = absurd (omega arith)
     accepted (Refused number) e = absurd (omega arith)
 
 -- two verdicts with the same three numbers are the same, if neither is a refusal with 0
 pub judgement-injective : (v w : Verdict) → v ≢ Refused 0 → w ≢ Refused 0 → judgement v ≡ judgement w → v ≡ w
-unfolding judgement outcome
+unfolding judgement
 judgement-injective v w some some′ e =
     compare v w some some′ (ap (λ (j : Judgement). j .refusal) e) (ap (λ (j : Judgement). j .accepted) e)
-    (ap (λ (j : Judgement). j .row) e)
+    (ap (λ (j : Judgement). j .rows) e)
   where
     compare : (v w : Verdict) → v ≢ Refused 0 → w ≢ Refused 0 → judgement v .refusal ≡ judgement w .refusal
-        → judgement v .accepted ≡ judgement w .accepted → judgement v .row ≡ judgement w .row → v ≡ w
+        → judgement v .accepted ≡ judgement w .accepted → judgement v .rows ≡ judgement w .rows → v ≡ w
     compare Accepted Accepted s t a b c = refl
-    compare Accepted (Rejected row) s t a b c = absurd (omega arith)
+    compare Accepted (Rejected mask) s t a b c = absurd (omega arith)
     compare Accepted (Refused n) s t a b c = absurd (omega arith)
-    compare (Rejected row) Accepted s t a b c = absurd (omega arith)
-    compare (Rejected row) (Rejected row′) s t a b c = let same : row ≡ row′ = omega arith in ap Rejected same
-    compare (Rejected row) (Refused n) s t a b c = absurd (t (ap Refused (sym a)))
+    compare (Rejected mask) Accepted s t a b c = absurd (omega arith)
+    compare (Rejected mask) (Rejected mask′) s t a b c = ap Rejected c
+    compare (Rejected mask) (Refused n) s t a b c = absurd (t (ap Refused (sym a)))
     compare (Refused n) Accepted s t a b c = absurd (omega arith)
-    compare (Refused n) (Rejected row) s t a b c = absurd (s (ap Refused a))
+    compare (Refused n) (Rejected mask) s t a b c = absurd (s (ap Refused a))
     compare (Refused n) (Refused n′) s t a b c = ap Refused a
 
 -- no call refuses with 0
@@ -75,3 +86,15 @@ judge-not-zero sheet round = judged-not-zero _ _ (verdict-not-refused _ _ _ _)
 pub response-not-zero : (sheet : List ℕ) (v : Verifier) (r : List ℕ) → takeResponse sheet v r .verdict ≢ Refused 0
 unfolding takeResponse takeResponseAfter
 response-not-zero sheet v r = judged-not-zero _ _ (verdict-not-refused _ _ _ _)
+
+-- no bit is set of a row that the sheet does not have
+pub judgement-inside : (sheet : List ℕ) → loadRefusal sheet ≡ 0 → (round : Round)
+    → judgement (judgeRound sheet round) .rows < 2 ^ instanceOf sheet .header .rows
+unfolding judgement outcome
+judgement-inside sheet loads round = inside (judgeRound sheet round) refl
+  where
+    inside : (v : Verdict) → judgeRound sheet round ≡ v → judgement v .rows < 2 ^ instanceOf sheet .header .rows
+    inside Accepted e = pow-pos _
+    inside (Rejected mask) e =
+        protocol sheet loads .verdicts round (ap (λ (v : Verdict). outcome v .number) e) .rejected mask .0 e .1
+    inside (Refused number) e = pow-pos _

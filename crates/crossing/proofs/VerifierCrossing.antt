@@ -19,6 +19,7 @@ use Rattle.crossing.specs.OfFour.{ofFour}
 use Rattle.crossing.specs.Verdicts.{judgement}
 use Rattle.crossing.specs.Verifiers.{verifierPhase, verifierOf, verifierSession, verifierAnswer, verifierJudgement}
 use Rattle.crossing.specs.declared.VerifierSession.{VerifierSession}
+use Rattle.crossing.proofs.Judgements.{judgement-number}
 use Rattle.crossing.proofs.HandedBack.{handed-back, handed-on-after}
 use Rattle.crossing.proofs.Phases.{ofFour-beyond, ofFour-number}
 
@@ -51,10 +52,10 @@ in-and-out s few = rw (state-of-phase (s .phase) few)
 
 -- the number in an answer is that of the call
 pub answered-refusal : (call : VerifierCall) (s : VerifierSession) → answeredRefusal call s ≡ callVerifier call (verifierOf s) .refusal
-unfolding answeredRefusal callVerifier verifierAnswer verifierJudgement judgement
+unfolding answeredRefusal callVerifier verifierAnswer verifierJudgement
 answered-refusal (Commitment sheet t) s = refl
 answered-refusal (Challenge sheet c) s = refl
-answered-refusal (Response sheet r) s = refl
+answered-refusal (Response sheet r) s = judgement-number _
 
 -- the session in an answer is that after the call, or the one that was handed in
 answered-session : (call : VerifierCall) (s : VerifierSession) → answeredSession call s

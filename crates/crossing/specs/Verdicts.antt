@@ -1,15 +1,11 @@
 -- What judging answers, as three numbers.
 -- Assumes nothing.
-use lib.ListN.{getD}
 use Rattle.types.specs.declared.Verdict.{Verdict}
-use Rattle.sigma.specs.Answer.{outcome}
+use Rattle.types.specs.declared.Verdict.the-variants.{Accepted, Rejected, Refused}
 use Rattle.crossing.specs.declared.Judgement.{Judgement}
 
--- the number of a verdict's outcome and its two values, 0 where there is none
+-- 1 for accepted, 0 and the mask of the differing rows for rejected, and the number of a refusal
 unfoldable pub judgement : Verdict → Judgement
-judgement v =
-    record {
-      refusal = outcome v .number;
-      accepted = getD (outcome v .values) 0 0;
-      row = getD (outcome v .values) 1 0;
-    }
+judgement Accepted = record { accepted = 1; rows = 0; refusal = 0 }
+judgement (Rejected mask) = record { accepted = 0; rows = mask; refusal = 0 }
+judgement (Refused number) = record { accepted = 0; rows = 0; refusal = number }

@@ -15,11 +15,12 @@ pub use verifiers::verifier_judgement;
 pub use verifiers::verifier_of;
 pub use verifiers::verifier_session;
 
-// A verdict: accepted is 1, rejected is 0 with the first differing row, and refused is the number beside zeros.
+// A verdict: accepted is 1, rejected is 0 with the mask of the rows that differ, bit i for row i, and refused is the number beside
+// zeros.
 #[repr(C)]
 pub struct Judgement {
     pub accepted: u32,
-    pub row: u32,
+    pub rows: u32,
     pub refusal: u32,
 }
 

@@ -11,17 +11,17 @@ pub fn judgement_of(verdict: Verdict) -> Judgement
     match verdict {
         Verdict::Accepted => Judgement {
             accepted: 1,
-            row: 0,
+            rows: 0,
             refusal: 0,
         },
-        Verdict::Rejected(row) => Judgement {
+        Verdict::Rejected(rows) => Judgement {
             accepted: 0,
-            row,
+            rows,
             refusal: 0,
         },
         Verdict::Refused(number) => Judgement {
             accepted: 0,
-            row: 0,
+            rows: 0,
             refusal: number,
         },
     }

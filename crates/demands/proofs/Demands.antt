@@ -3,6 +3,7 @@
 use Rattle.disjunctions.proofs.OneOfTwo.{or-proof}
 use Rattle.disjunctions.proofs.OrRefusals.{or-refusals}
 use Rattle.examples.proofs.Pages.{worked-examples}
+use Rattle.examples.proofs.RowsPage.{rows-page}
 use Rattle.examples.proofs.TeamPage.{team-page}
 use Rattle.formats.proofs.ByteLayout.{layout}
 use Rattle.formats.proofs.SameCommitment.{words-compare, words-refusals}
@@ -20,6 +21,7 @@ use Rattle.runs.proofs.Protocol.{protocol}
 use Rattle.runs.proofs.Sessions.{sessions}
 use Rattle.sigma.proofs.Answer.{verdict-outcomes}
 use Rattle.demands.specs.Demands.{Demands}
+use Rattle.demands.proofs.AllRows.{all-rows}
 use Rattle.demands.proofs.Arithmetic.{arithmetic}
 use Rattle.demands.proofs.MarksFiles.{marks-files}
 use Rattle.demands.proofs.ReadsBack.{reads-back}
@@ -49,6 +51,7 @@ demands = record {
   corners = worked-examples .1;
   or-page = worked-examples .2;
   team-page = team-page;
+  rows-page = rows-page;
   cards = record {
     reason = reasons-true;
     patterns = pattern-calls;
@@ -56,5 +59,6 @@ demands = record {
     words = words-compare;
     team = team-works;
     sixteen-bits = converts-files;
+    rows = all-rows;
   };
 }

@@ -2,4 +2,5 @@
 pub mod Arithmetic
 pub mod ReadsBack
 pub mod MarksFiles
+pub mod AllRows
 pub mod Demands

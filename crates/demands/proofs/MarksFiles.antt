@@ -4,27 +4,32 @@ use Prim.Native.Nat.{ℕ}
 use mathlib.Core.Path.{_≡_, refl, ap, sym, _∙_}
 use mathlib.Core.Logic.{_⊎_, inl, inr}
 use mathlib.Core.Bool.{Bool, true, false, false≢true}
-use mathlib.Core.List.{List, _++_, append-assoc, flatten}
+use mathlib.Core.List.{List, _∷_, _++_, append-assoc, flatten}
 use Rattle.types.specs.declared.Verdict.{Verdict}
 use Rattle.types.specs.declared.Verdict.the-variants.{Accepted, Rejected, Refused}
 use Rattle.lists.specs.Places.{tabulate}
 use Rattle.lists.proofs.Places.{tabulate-agree}
 use Rattle.encoding.specs.Text.{ascii, digits, decimal}
-use Rattle.formats.specs.RoundCalls.{countRounds}
+use Rattle.formats.specs.Load.{loadRefusal}
+use Rattle.formats.specs.RoundCalls.{countRounds, fetchRound}
 use Rattle.formats.specs.RoundFile.{countField}
-use Rattle.formats.specs.Sheet.{headerOf}
+use Rattle.formats.specs.Sheet.{headerOf, instanceOf}
+use Rattle.sigma.specs.Answer.{rowsOf}
+use Rattle.sigma.specs.Meaning.{FailsExactly, FailsFirst}
+use Rattle.sigma.proofs.Fails.{fails-split}
 use Rattle.runs.specs.Level.{badLevel, levelOf}
-use Rattle.runs.specs.Marker.{newline, wordLine, verdictText, verdictLine, resultLine, verdictOn, roundLine, failsAt, markerText}
+use Rattle.runs.specs.Marker.{newline, wordLine, rowWord, verdictText, verdictLine, resultLine, verdictOn, roundLine, failsAt, markerText}
 use Rattle.runs.proofs.Level.{level-passes, says-badLevel}
 use Rattle.runs.proofs.Marker.{empty-fails, passes-at, result-line, round-lines, round-refusal}
 use Rattle.runs.proofs.MarkerRefusal.{file-line, level-line, sheet-line}
-use Rattle.demands.specs.MarksFiles.{printed, textEnding, Passes, MarksFiles}
+use Rattle.runs.proofs.Protocol.{sheet-rejected}
+use Rattle.demands.specs.MarksFiles.{rejectedRows, printed, textEnding, Passes, MarksFiles}
 
 -- the line of a round
 line-printed : (k : ℕ) (verdict : Verdict) → verdictLine k verdict ≡ printed k verdict
-unfolding verdictLine verdictText printed newline ascii
+unfolding verdictLine rowWord verdictText printed newline ascii
 line-printed k Accepted = simp append-assoc
-line-printed k (Rejected row) = simp append-assoc
+line-printed k (Rejected mask) = simp append-assoc
 line-printed k (Refused number) = simp append-assoc
 
 -- the lines of all rounds behind the count, with a last line
@@ -51,6 +56,18 @@ ends sheet f level e good true fails = inr (
   round-lines sheet f level e good ∙ result-line sheet f (levelOf level) (countField f) true fails ∙ lines-printed sheet f _,
 )
 
+-- the rows of a rejected round's line
+rejected-rows : (sheet f : List ℕ) → loadRefusal sheet ≡ 0 → (k mask : ℕ) → verdictOn sheet f k ≡ Rejected mask
+    → (row : ℕ) × (others : List ℕ) × FailsFirst (instanceOf sheet) (fetchRound sheet f k .round) row
+    × FailsExactly (instanceOf sheet) (fetchRound sheet f k .round) (row ∷ others)
+    × (printed k (verdictOn sheet f k) ≡ rejectedRows k (row ∷ others))
+unfolding verdictOn printed
+rejected-rows sheet f loaded k mask e =
+    let round = fetchRound sheet f k .round in
+    let all = sheet-rejected sheet loaded round mask .0 e .1 .0 in
+    let (row, others, whole, first, exactly) = fails-split (instanceOf sheet) round (rowsOf mask) all in
+    (row, others, first, exactly, ap (printed k) e ∙ ap (rejectedRows k) whole)
+
 pub marks-files : MarksFiles
 unfolding verdictOn wordLine newline ascii decimal digits countField
 marks-files = record {
@@ -60,5 +77,6 @@ marks-files = record {
   refused-level = λ sheet f level e refused. level-line sheet f level e (says-badLevel level .complete refused);
   ending = λ sheet f level e is-level. ends sheet f level e (level-passes level .1 is-level) _ refl;
   empty-fails = λ sheet f level e is-level z. empty-fails sheet f level e (level-passes level .1 is-level) z;
+  rejected = rejected-rows;
   round-refusals = round-refusal;
 }

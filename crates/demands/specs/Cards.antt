@@ -1,5 +1,6 @@
 -- What the cards of 02 ask beyond 01, a field for each card. Card 3, which changes the marker, stands in Demand1 and MarksFiles,
--- and what card 7 changes of 01's calls on round files in Demand1, Layout, Writers, ReadsBack and ReasonsTrue.
+-- and what card 7 changes of 01's calls on round files in Demand1, Layout, Writers, ReadsBack and ReasonsTrue. How card 8's rows are
+-- printed stands in MarksFiles and ReasonsTrue.
 -- Assumes nothing.
 use Rattle.disjunctions.specs.OneOfTwo.{OrProof}
 use Rattle.formats.specs.SameCommitment.{WordsCompare}
@@ -7,10 +8,11 @@ use Rattle.patterns.specs.PatternCalls.{PatternCalls}
 use Rattle.products.specs.TeamWorks.{TeamWorks}
 use Rattle.reasons.specs.ReasonsTrue.{ReasonsTrue}
 use Rattle.runs.specs.ConvertsFiles.{ConvertsFiles}
+use Rattle.demands.specs.AllRows.{AllRows}
 
 pub record Cards : Type 0 where
-  -- 1: the line on a sheet, a file or its round 0 tells the first value that breaks the first rule that is broken, or the first
-  -- row whose two sides differ
+  -- 1: the line on a sheet, a file or its round 0 tells the first value that breaks the first rule that is broken, or the
+  -- rows whose two sides differ
   pub reason : ReasonsTrue
   -- 2: which bytes are a pattern file and which pattern a number gives, what the sheet maker writes and what that means, and that
   -- the shipped file gives 01's sheets
@@ -22,8 +24,11 @@ pub record Cards : Type 0 where
   -- commitments that are read do
   pub words : WordsCompare
   -- 6: what the combiner of a team answers is the round that a single Peggy with the joined witness and the joined nonce sends; where
-  -- all parts are accepted under their own images so is the whole, and where exactly one is rejected it is rejected
+  -- all parts are accepted under their own images so is the whole, and where exactly one is rejected it is rejected with the same rows
   pub team : TeamWorks
   -- 7, beside the calls of 01: a round file that converts is put into the lent buffer in the other version, reads there as it did
   -- and converts back to its own bytes
   pub sixteen-bits : ConvertsFiles
+  -- 8: a verdict that rejects carries exactly the rows whose two sides differ, in a session or out of one, and on both sides of the OR
+  -- proof
+  pub rows : AllRows

@@ -7,6 +7,7 @@ use mathlib.Core.List.{List}
 use Rattle.examples.specs.Corners.{EveryCorner}
 use Rattle.examples.specs.OrPage.{OrPage}
 use Rattle.examples.specs.Pages.{EveryPage}
+use Rattle.examples.specs.RowsPage.{RowsPage}
 use Rattle.examples.specs.TeamPage.{TeamPage}
 use Rattle.formats.specs.ByteLayout.{Layout}
 use Rattle.formats.specs.Load.{loadRefusal}
@@ -58,5 +59,7 @@ pub record Demands : Type 0 where
   pub or-page : OrPage
   -- worked teams
   pub team-page : TeamPage
+  -- worked rows that differ
+  pub rows-page : RowsPage
   -- what the cards of 02 ask
   pub cards : Cards

@@ -1,4 +1,4 @@
--- Demand 2's verdicts on whole files (00; 01, "The marker's lines"; 02, card 3): the marker's text names the file's own count,
+-- Demand 2's verdicts on whole files (00; 01, "The marker's lines"; 02, cards 3 and 8): the marker's text names the file's own count,
 -- has a line for each round with what judging answers on the round as it reads, and ends in `pass` exactly where every round is
 -- accepted and K to the count of rounds is at least 2^w. A sheet, file or level that is refused gives one line with its number.
 -- The words, the numbers and the places of K, w and the count stand here as they are.
@@ -6,7 +6,7 @@
 use Prim.Native.Nat.{ℕ, _^_, _<_, _≤_}
 use mathlib.Core.Path.{_≡_}
 use mathlib.Core.Logic.{_⊎_, _≢_}
-use mathlib.Core.List.{List, [], _∷_, _++_, flatten}
+use mathlib.Core.List.{List, [], _∷_, _++_, flatten, map}
 use lib.ListN.{getD, length}
 use Rattle.types.specs.declared.Verdict.{Verdict}
 use Rattle.types.specs.declared.Verdict.the-variants.{Accepted, Rejected, Refused}
@@ -16,13 +16,20 @@ use Rattle.encoding.specs.Bytes.{numberAt}
 use Rattle.encoding.specs.Text.{ascii, decimal}
 use Rattle.formats.specs.Load.{loadRefusal}
 use Rattle.formats.specs.RoundCalls.{countRounds, fetchRound}
+use Rattle.formats.specs.Sheet.{instanceOf}
+use Rattle.sigma.specs.Answer.{rowsOf}
+use Rattle.sigma.specs.Meaning.{FailsExactly, FailsFirst}
 use Rattle.runs.specs.Calls.{judgeRound}
 use Rattle.runs.specs.Marker.{markerText, verdictOn}
 
--- the line of round k: its number and its verdict, with the first differing row or the refusal
+-- the line of a rejected round k: its number and the rows
+abbrev pub rejectedRows : ℕ → List ℕ → List ℕ
+rejectedRows k rows = decimal k ++ ascii " rejected" ++ flatten (map (λ row. ascii " " ++ decimal row) rows) ++ ascii "\n"
+
+-- the line of round k: its number and its verdict, with the differing rows or the refusal
 unfoldable pub printed : ℕ → Verdict → List ℕ
 printed k Accepted = decimal k ++ ascii " accepted\n"
-printed k (Rejected row) = decimal k ++ ascii " rejected " ++ decimal row ++ ascii "\n"
+printed k (Rejected mask) = rejectedRows k (rowsOf mask)
 printed k (Refused number) = decimal k ++ ascii " refused " ++ decimal number ++ ascii "\n"
 
 -- the text of a file that reads: its own count, a line for each of its rounds, and a last line
@@ -61,6 +68,12 @@ pub record MarksFiles : Type 0 where
   -- so a file of no rounds fails at every level
   pub empty-fails : (sheet f level : List ℕ) → countRounds sheet f .refusal ≡ 0 → IsLevel level → numberAt 2 f 5 ≡ 0
       → markerText sheet f level ≡ ascii "rounds 0\nfail\n"
+  -- of a sheet that loads, the line of a rejected round has exactly the rows whose two sides differ, rising, and 01's row is the
+  -- first of them
+  pub rejected : (sheet f : List ℕ) → loadRefusal sheet ≡ 0 → (k mask : ℕ) → verdictOn sheet f k ≡ Rejected mask
+      → (row : ℕ) × (others : List ℕ) × FailsFirst (instanceOf sheet) (fetchRound sheet f k .round) row
+      × FailsExactly (instanceOf sheet) (fetchRound sheet f k .round) (row ∷ others)
+      × (printed k (verdictOn sheet f k) ≡ rejectedRows k (row ∷ others))
   -- of a sheet that loads, a round is refused with 14, 15 or 16
   pub round-refusals : (sheet f : List ℕ) → loadRefusal sheet ≡ 0 → (k number : ℕ) → verdictOn sheet f k ≡ Refused number
       → Member number (14 ∷ 15 ∷ 16 ∷ [])

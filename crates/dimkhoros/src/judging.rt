@@ -7,8 +7,8 @@ ghost use mathlib.Core.Path.{_≡_};
 ghost use Rattle.runs.specs.Calls.{judgeRound, simulateCommitment, extractWitness};
 ghost use Rattle.crossing.specs.Verdicts.{judgement};
 
-// The verdict on a round: accepted, rejected with the first row whose two sides differ, or refused with 2 to 11 for the sheet
-// or 14 to 16 for the round.
+// The verdict on a round: accepted, rejected with all rows whose two sides differ, or refused with 2 to 11 for the sheet or 14 to
+// 16 for the round.
 #[no_mangle]
 pub extern "C" fn dimkhoros_judge(sheet: &[u8], round: Round) -> Judgement
     ensures { λ r. ⌜ r ≡ judgement (judgeRound (now (sheet .entry)) round) ⌝ }

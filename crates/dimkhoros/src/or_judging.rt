@@ -8,8 +8,8 @@ ghost use Rattle.disjunctions.specs.Extractor.{extractOr};
 ghost use Rattle.disjunctions.specs.Judge.{judgeOr};
 ghost use Rattle.or_crossing.specs.Verdicts.{orJudgement};
 
-// The verdict on a round of two sheets: accepted, rejected with the first side that is and its first row whose two sides differ,
-// or refused with 2 to 11 of either sheet, 26 for different challenge counts, or 14 to 16 for the round.
+// The verdict on a round of two sheets: accepted, rejected with all rows of both whose two sides differ, none for one that is
+// accepted, or refused with 2 to 11 of either sheet, 26 for different challenge counts, or 14 to 16 for the round.
 #[no_mangle]
 pub extern "C" fn dimkhoros_or_judge(first: &[u8], second: &[u8], round: OrRound) -> OrJudgement
     ensures { λ r. ⌜ r ≡ orJudgement (judgeOr (now (first .entry)) (now (second .entry)) round) ⌝ }

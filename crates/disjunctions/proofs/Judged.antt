@@ -2,7 +2,7 @@
 -- Assumes nothing.
 use Prim.Native.Nat.{ℕ, _<_}
 use mathlib.Core.Path.{_≡_, refl, sym, ap, ap₂, subst, _∙_}
-use mathlib.Core.Logic.{_↔_, _≢_}
+use mathlib.Core.Logic.{_↔_, _≢_, _⊎_, inl, inr}
 use mathlib.Core.Bool.{Bool, true, false, not, _&&_}
 use mathlib.Core.List.{List, [], _∷_, _++_}
 use native.Mathlib.Omega.{arith}
@@ -48,63 +48,82 @@ use Rattle.disjunctions.specs.Judge.{
   judgeOrAfter,
   judgeOrRules,
   pairRules,
-  secondVerdict,
   verdictOr,
 }
 use Rattle.disjunctions.specs.Knowledge.{AcceptsOr, Pair}
-use Rattle.disjunctions.specs.OneOfTwo.{orNumber, orOutcome}
+use Rattle.disjunctions.specs.OneOfTwo.{SideMask, orNumber, orOutcome}
 use Rattle.disjunctions.specs.Round.{firstRound, otherChallenge, readOr, secondRound}
 use Rattle.disjunctions.proofs.Challenges.{other-less}
 use Rattle.disjunctions.proofs.OrRefusals.{load-numbers, or-number, verdict-or-number}
 
 -- ---- verdicts combined
 
--- the side and the row of a verdict, with other numbers where there is none
-orSide : OrVerdict → ℕ
-orSide OrAccepted = 2
-orSide (OrRejected side row) = side
-orSide (OrRefused number) = 3
+-- which of the three a verdict is, and its masks, 0 where there are none
+tag : OrVerdict → ℕ
+tag OrAccepted = 0
+tag (OrRejected mask0 mask1) = 1
+tag (OrRefused number) = 2
 
-orRow : OrVerdict → ℕ
-orRow OrAccepted = 0
-orRow (OrRejected side row) = row
-orRow (OrRefused number) = 0
+mask-first : OrVerdict → ℕ
+mask-first OrAccepted = 0
+mask-first (OrRejected mask0 mask1) = mask0
+mask-first (OrRefused number) = 0
+
+mask-second : OrVerdict → ℕ
+mask-second OrAccepted = 0
+mask-second (OrRejected mask0 mask1) = mask1
+mask-second (OrRefused number) = 0
+
+-- rejected verdicts that are equal have the same masks
+pub same-masks : (a b c d : ℕ) → OrRejected a b ≡ OrRejected c d → (a ≡ c) × (b ≡ d)
+unfolding mask-first mask-second
+same-masks a b c d e = (ap mask-first e, ap mask-second e)
+
+-- two of the three are never equal
+apart : (v w : OrVerdict) → tag v ≢ tag w → v ≢ w
+apart v w different same = different (ap tag same)
 
 -- both are accepted exactly where each is
 combined-both : (v w : Verdict) → (combined v w ≡ OrAccepted) ↔ ((v ≡ Accepted) × (w ≡ Accepted))
-unfolding combined secondVerdict orSide
+unfolding combined tag
 combined-both v w = (from v w, λ (a, b). rw (a, b))
   where
     from : (v w : Verdict) → combined v w ≡ OrAccepted → (v ≡ Accepted) × (w ≡ Accepted)
     from Accepted Accepted e = (refl, refl)
-    from Accepted (Rejected row) e = let z : _≡_ {A = ℕ} 1 2 = ap orSide e in absurd (omega arith)
-    from Accepted (Refused number) e = let z : _≡_ {A = ℕ} 3 2 = ap orSide e in absurd (omega arith)
-    from (Rejected row) w e = let z : _≡_ {A = ℕ} 0 2 = ap orSide e in absurd (omega arith)
-    from (Refused number) w e = let z : _≡_ {A = ℕ} 3 2 = ap orSide e in absurd (omega arith)
+    from Accepted (Rejected mask) e = absurd (apart _ _ (λ z. omega arith) e)
+    from Accepted (Refused number) e = absurd (apart _ _ (λ z. omega arith) e)
+    from (Rejected mask) Accepted e = absurd (apart _ _ (λ z. omega arith) e)
+    from (Rejected mask) (Rejected mask′) e = absurd (apart _ _ (λ z. omega arith) e)
+    from (Rejected mask) (Refused number) e = absurd (apart _ _ (λ z. omega arith) e)
+    from (Refused number) w e = absurd (apart _ _ (λ z. omega arith) e)
 
--- side 0 is named exactly where it is rejected
-combined-first : (v w : Verdict) (row : ℕ) → (combined v w ≡ OrRejected 0 row) ↔ (v ≡ Rejected row)
-unfolding combined secondVerdict orSide orRow
-combined-first v w row = (from v w, λ a. rw a)
-  where
-    from : (v w : Verdict) → combined v w ≡ OrRejected 0 row → v ≡ Rejected row
-    from Accepted Accepted e = let z : _≡_ {A = ℕ} 2 0 = ap orSide e in absurd (omega arith)
-    from Accepted (Rejected k) e = let z : _≡_ {A = ℕ} 1 0 = ap orSide e in absurd (omega arith)
-    from Accepted (Refused number) e = let z : _≡_ {A = ℕ} 3 0 = ap orSide e in absurd (omega arith)
-    from (Rejected k) w e = ap Rejected (ap orRow e)
-    from (Refused number) w e = let z : _≡_ {A = ℕ} 3 0 = ap orSide e in absurd (omega arith)
+-- the mask of a verdict on one side
+abbrev MaskOf : Verdict → ℕ → Type 0
+MaskOf v mask = ((v ≡ Accepted) × (mask ≡ 0)) ⊎ (v ≡ Rejected mask)
 
--- side 1 exactly where side 0 is accepted and it is rejected
-combined-second : (v w : Verdict) (row : ℕ) → (combined v w ≡ OrRejected 1 row) ↔ ((v ≡ Accepted) × (w ≡ Rejected row))
-unfolding combined secondVerdict orSide orRow
-combined-second v w row = (from v w, λ (a, b). rw (a, b))
+-- both are rejected with the masks of both exactly where not both are accepted
+combined-rejected : (v w : Verdict) (mask0 mask1 : ℕ)
+    → (combined v w ≡ OrRejected mask0 mask1) ↔ (MaskOf v mask0 × MaskOf w mask1 × (combined v w ≢ OrAccepted))
+unfolding combined tag mask-first mask-second
+combined-rejected v w mask0 mask1 = (from v w, to)
   where
-    from : (v w : Verdict) → combined v w ≡ OrRejected 1 row → (v ≡ Accepted) × (w ≡ Rejected row)
-    from Accepted Accepted e = let z : _≡_ {A = ℕ} 2 1 = ap orSide e in absurd (omega arith)
-    from Accepted (Rejected k) e = (refl, ap Rejected (ap orRow e))
-    from Accepted (Refused number) e = let z : _≡_ {A = ℕ} 3 1 = ap orSide e in absurd (omega arith)
-    from (Rejected k) w e = let z : _≡_ {A = ℕ} 0 1 = ap orSide e in absurd (omega arith)
-    from (Refused number) w e = let z : _≡_ {A = ℕ} 3 1 = ap orSide e in absurd (omega arith)
+    from : (v w : Verdict) → combined v w ≡ OrRejected mask0 mask1 → MaskOf v mask0 × MaskOf w mask1 × (combined v w ≢ OrAccepted)
+    from Accepted Accepted e = absurd (apart _ _ (λ z. omega arith) e)
+    from Accepted (Rejected mask) e =
+        (inl (refl, sym (ap mask-first e)), inr (ap Rejected (ap mask-second e)), apart _ _ (λ z. omega arith))
+    from Accepted (Refused number) e = absurd (apart _ _ (λ z. omega arith) e)
+    from (Rejected mask) Accepted e =
+        (inr (ap Rejected (ap mask-first e)), inl (refl, sym (ap mask-second e)), apart _ _ (λ z. omega arith))
+    from (Rejected mask) (Rejected mask′) e =
+        (inr (ap Rejected (ap mask-first e)), inr (ap Rejected (ap mask-second e)), apart _ _ (λ z. omega arith))
+    from (Rejected mask) (Refused number) e = absurd (apart _ _ (λ z. omega arith) e)
+    from (Refused number) w e = absurd (apart _ _ (λ z. omega arith) e)
+
+    to : MaskOf v mask0 × MaskOf w mask1 × (combined v w ≢ OrAccepted) → combined v w ≡ OrRejected mask0 mask1
+    to (inl (a, none), inl (b, none′), other) = absurd (other (ap₂ combined a b))
+    to (inl (a, none), inr b, other) = ap₂ combined a b ∙ ap (λ (x : ℕ). OrRejected x mask1) (sym none)
+    to (inr a, inl (b, none), other) = ap₂ combined a b ∙ ap (OrRejected mask0) (sym none)
+    to (inr a, inr b, other) = ap₂ combined a b
 
 -- an accepted verdict is no refusal
 accepted-number : orNumber OrAccepted ≡ 0
@@ -112,6 +131,15 @@ unfolding orNumber orOutcome
 accepted-number = refl
 
 -- ---- two sheets that load with one K
+
+-- a round that is not refused is accepted, or rejected with rows of side 1 alone, or with rows of side 0
+pub data Ways (s s′ : List ℕ) (round : OrRound) : Type 0 where
+  both : Accepts s (firstRound round) → AcceptsOr s s′ round → Ways s s′ round
+  later : (mask : ℕ) → Accepts s (firstRound round)
+      → judgeRound s′ (secondRound (instanceOf s .header .challenges) round) ≡ Rejected mask → judgeOr s s′ round ≡ OrRejected 0 mask
+      → Ways s s′ round
+  earlier : (mask mask′ : ℕ) → judgeRound s (firstRound round) ≡ Rejected mask → judgeOr s s′ round ≡ OrRejected mask mask′
+      → Ways s s′ round
 
 module _ (s s′ : List ℕ) (pair : Pair s s′) where
   -- the values of both sheets, and K
@@ -258,13 +286,31 @@ module _ (s s′ : List ℕ) (pair : Pair s s′) where
           both-judged (round-clear .1 (small, fits, fits′)) ∙ combined-both _ _ .1 (first, second),
     )
 
-    -- side 0 is named exactly where its round is rejected
-    pub or-rejected-first : (row : ℕ) → orNumber (judgeOr s s′ round) ≡ 0
-        → (judgeOr s s′ round ≡ OrRejected 0 row) ↔ (judgeRound s (firstRound round) ≡ Rejected row)
-    or-rejected-first row e = rw (not-refused e) (combined-first _ _ row)
+    -- a round that is not refused is rejected with the rows of both sides exactly where it is not accepted
+    pub or-rejected : (mask0 mask1 : ℕ) → orNumber (judgeOr s s′ round) ≡ 0
+        → (judgeOr s s′ round ≡ OrRejected mask0 mask1)
+        ↔ (SideMask s (firstRound round) mask0 × SideMask s′ (secondRound K round) mask1 × (¬ AcceptsOr s s′ round))
+    or-rejected mask0 mask1 e = rw (not-refused e) (combined-rejected _ _ mask0 mask1)
 
-    -- side 1 exactly where side 0's is accepted and its own is rejected
-    pub or-rejected-second : (row : ℕ) → orNumber (judgeOr s s′ round) ≡ 0
-        → (judgeOr s s′ round ≡ OrRejected 1 row)
-        ↔ (Accepts s (firstRound round) × (judgeRound s′ (secondRound K round) ≡ Rejected row))
-    or-rejected-second row e = rw (not-refused e) (combined-second _ _ row)
+    -- which of the three ways a round goes that is not refused
+    pub or-ways : orNumber (judgeOr s s′ round) ≡ 0 → Ways s s′ round
+    unfolding combined
+    or-ways e = go (judgeRound s (firstRound round)) (judgeRound s′ (secondRound K round)) refl refl
+      where
+        fits : Fits i (readRound (i .header) (firstRound round)) × Fits j (readRound (j .header) (secondRound K round))
+        fits = let (small, first, second) = round-clear .0 (clear-lowest _ (judge-or-positive round) (sym judge-or-number ∙ e)) in (first, second)
+
+        first-given : (n : ℕ) → judgeRound s (firstRound round) ≢ Refused n
+        first-given n a = verdict-not-refused i _ _ _ n (sym (first-judged (fits .0)) ∙ a)
+
+        second-given : (n : ℕ) → judgeRound s′ (secondRound K round) ≢ Refused n
+        second-given n b = verdict-not-refused j _ _ _ n (sym (second-judged (fits .1)) ∙ b)
+
+        go : (v w : Verdict) → judgeRound s (firstRound round) ≡ v → judgeRound s′ (secondRound K round) ≡ w → Ways s s′ round
+        go Accepted Accepted a b = both a (not-refused e ∙ ap₂ combined a b)
+        go Accepted (Rejected mask) a b = later mask a b (not-refused e ∙ ap₂ combined a b)
+        go Accepted (Refused n) a b = absurd (second-given n b)
+        go (Rejected mask) Accepted a b = earlier mask 0 a (not-refused e ∙ ap₂ combined a b)
+        go (Rejected mask) (Rejected mask′) a b = earlier mask mask′ a (not-refused e ∙ ap₂ combined a b)
+        go (Rejected mask) (Refused n) a b = absurd (second-given n b)
+        go (Refused n) w a b = absurd (first-given n a)

@@ -4,6 +4,7 @@ pub mod Tests
 pub mod SessionTests
 pub mod OrRefusals
 pub mod Judged
+pub mod SideRows
 pub mod Extracted
 pub mod Made
 pub mod Proved

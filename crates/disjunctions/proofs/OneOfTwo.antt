@@ -21,12 +21,13 @@ use Rattle.sigma.proofs.Lists.{all-choices-member}
 use Rattle.disjunctions.specs.Extractor.{extractOr, extractOrAfter}
 use Rattle.disjunctions.specs.Judge.{judgeOr, judgeOrAfter}
 use Rattle.disjunctions.specs.Knowledge.{AcceptsOr, IsOrChoice, OrChoice, Pair, allOrChoices, orRound, paddedOr}
-use Rattle.disjunctions.specs.OneOfTwo.{OneOfTwo, OrProof, orOutcome}
+use Rattle.disjunctions.specs.OneOfTwo.{OneOfTwo, OrProof, orOutcome, sideRows}
 use Rattle.disjunctions.specs.Prover.{other, own}
 use Rattle.disjunctions.specs.Round.{firstRound, otherChallenge, secondRound}
 use Rattle.disjunctions.proofs.Challenges.{other-less, other-sum}
 use Rattle.disjunctions.proofs.Extracted.{extracts-first, extracts-second}
-use Rattle.disjunctions.proofs.Judged.{or-accepted, or-rejected-first, or-rejected-second, some-challenge}
+use Rattle.disjunctions.proofs.Judged.{or-accepted, or-rejected, some-challenge}
+use Rattle.disjunctions.proofs.SideRows.{or-rejected-first, or-rejected-second}
 use Rattle.disjunctions.proofs.OrLists.{
   made-list-members,
   made-list-once,
@@ -107,6 +108,7 @@ one-of-two s s′ pair = record {
   challenges = λ c d below taken. (other-less _ c d (some-challenge s s′ pair), other-sum _ c d below taken);
   sides = λ round. (refl, refl);
   accepted = or-accepted s s′ pair;
+  rejected = or-rejected s s′ pair;
   rejected-first = or-rejected-first s s′ pair;
   rejected-second = or-rejected-second s s′ pair;
   extracts-first = extracts-first s s′ pair;
@@ -133,9 +135,9 @@ one-of-two s s′ pair = record {
 
 -- the card, but for its refusals
 pub or-proof : OrProof
-unfolding orOutcome
+unfolding orOutcome sideRows
 or-proof = record {
-  outcomes = record { accepted = refl; rejected = λ side row. refl; refused = λ number. refl };
+  outcomes = record { accepted = refl; rejected = λ mask0 mask1. refl; refused = λ number. refl };
   sessions = or-sessions;
   proof = one-of-two;
 }

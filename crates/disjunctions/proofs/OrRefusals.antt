@@ -35,7 +35,7 @@ use Rattle.sigma.specs.Valid.{Valid}
 use Rattle.sigma.proofs.Answer.{unlessRefused-positive}
 use Rattle.sigma.proofs.Verdict.{verdict-not-refused}
 use Rattle.disjunctions.specs.Extractor.{extractOr, extractOrAfter}
-use Rattle.disjunctions.specs.Judge.{combined, judgeOr, judgeOrAfter, pairRules, secondVerdict, verdictOr}
+use Rattle.disjunctions.specs.Judge.{combined, judgeOr, judgeOrAfter, pairRules, verdictOr}
 use Rattle.disjunctions.specs.OneOfTwo.{OrRefusals, OrUnmoved, orNumber, orOutcome}
 use Rattle.disjunctions.specs.Prover.{
   commitOr,
@@ -78,11 +78,13 @@ behind-pair s s′ rules conditions tests =
 
 -- verdicts on values are no refusals
 or-not-refused : (v w : Verdict) → ((k : ℕ) → v ≢ Refused k) → ((k : ℕ) → w ≢ Refused k) → orNumber (combined v w) ≡ 0
-unfolding orNumber orOutcome combined secondVerdict
+unfolding orNumber orOutcome combined
 or-not-refused Accepted Accepted f g = refl
-or-not-refused Accepted (Rejected row) f g = refl
+or-not-refused Accepted (Rejected mask) f g = refl
 or-not-refused Accepted (Refused number) f g = absurd (g number refl)
-or-not-refused (Rejected row) w f g = refl
+or-not-refused (Rejected mask) Accepted f g = refl
+or-not-refused (Rejected mask) (Rejected mask′) f g = refl
+or-not-refused (Rejected mask) (Refused number) f g = absurd (g number refl)
 or-not-refused (Refused number) w f g = absurd (f number refl)
 
 -- the number of a verdict behind a number

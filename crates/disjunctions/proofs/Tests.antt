@@ -29,7 +29,7 @@ use Rattle.sigma.specs.Valid.{Valid}
 use Rattle.sigma.proofs.Refusals.{commitment-read, commitments-read, coordinates-read, holds-read}
 use Rattle.sigma.proofs.Tests.{says-badChallenge}
 use Rattle.disjunctions.specs.Extractor.{extractOrRules, isOrAccepted}
-use Rattle.disjunctions.specs.Judge.{badChallenges, badCommitments, badResponses, combined, judgeOrRules, pairRules, secondVerdict, verdictOr}
+use Rattle.disjunctions.specs.Judge.{badChallenges, badCommitments, badResponses, combined, judgeOrRules, pairRules, verdictOr}
 use Rattle.disjunctions.specs.Refusals.{Or14, Or15, Or16, OrHolds, extractOrConditions, judgeOrConditions, pairConditions}
 use Rattle.disjunctions.specs.Round.{firstRound, readOr, secondRound}
 
@@ -83,11 +83,13 @@ module _ (i j : Instance) (a b : OrRound) where
 
 -- both sides together are accepted where each is
 pub combined-accepted : (v w : Verdict) → isOrAccepted (combined v w) ≡ (isAccepted v && isAccepted w)
-unfolding isOrAccepted combined secondVerdict isAccepted
+unfolding isOrAccepted combined isAccepted
 combined-accepted Accepted Accepted = refl
-combined-accepted Accepted (Rejected row) = refl
+combined-accepted Accepted (Rejected mask) = refl
 combined-accepted Accepted (Refused number) = refl
-combined-accepted (Rejected row) w = refl
+combined-accepted (Rejected mask) Accepted = refl
+combined-accepted (Rejected mask) (Rejected mask′) = refl
+combined-accepted (Rejected mask) (Refused number) = refl
 combined-accepted (Refused number) w = refl
 
 module _ {i j : Instance} (v : Valid i) (w : Valid j) where

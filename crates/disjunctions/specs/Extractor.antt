@@ -22,7 +22,7 @@ use Rattle.disjunctions.specs.Round.{firstRound, readOr, secondRound}
 -- whether a verdict is accepted
 unfoldable pub isOrAccepted : OrVerdict → Bool
 isOrAccepted OrAccepted = true
-isOrAccepted (OrRejected side row) = false
+isOrAccepted (OrRejected mask0 mask1) = false
 isOrAccepted (OrRefused number) = false
 
 -- the rules of two rounds as they are read, each asked of both sides of both rounds before the next

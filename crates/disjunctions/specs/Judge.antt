@@ -1,4 +1,4 @@
--- Judging a round of the OR proof (02, card 4; refusals 2 to 11 of either sheet, 26, then 14 to 16).
+-- Judging a round of the OR proof (02, cards 4 and 8; refusals 2 to 11 of either sheet, 26, then 14 to 16).
 -- Assumes nothing.
 use Prim.Native.Nat.{ℕ}
 use mathlib.Core.Bool.{Bool, not, _||_}
@@ -41,16 +41,14 @@ unfoldable pub judgeOrRules : Instance → Instance → OrRound → List Rule
 judgeOrRules i j round =
     (14 when badCommitments i j round) ∷ (15 when badChallenges i round) ∷ (16 when badResponses i j round) ∷ []
 
--- the verdict on the second side alone
-unfoldable pub secondVerdict : Verdict → OrVerdict
-secondVerdict Accepted = OrAccepted
-secondVerdict (Rejected row) = OrRejected 1 row
-secondVerdict (Refused number) = OrRefused number
-
--- the verdict on both: accepted where both sides are, else rejected with the first side that is not
+-- the verdict on both: accepted where both sides are, else rejected with the rows of both, none for a side that is accepted
 unfoldable pub combined : Verdict → Verdict → OrVerdict
-combined Accepted second = secondVerdict second
-combined (Rejected row) _ = OrRejected 0 row
+combined Accepted Accepted = OrAccepted
+combined Accepted (Rejected mask) = OrRejected 0 mask
+combined Accepted (Refused number) = OrRefused number
+combined (Rejected mask) Accepted = OrRejected mask 0
+combined (Rejected mask) (Rejected mask′) = OrRejected mask mask′
+combined (Rejected mask) (Refused number) = OrRefused number
 combined (Refused number) _ = OrRefused number
 
 -- the verdicts on both sides of a round as it is read, combined

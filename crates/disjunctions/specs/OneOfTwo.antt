@@ -1,12 +1,13 @@
--- What 02's fourth card asks: judging, extracting and proving "I know one of the two", for every two sheets that load with one K,
+-- What 02's fourth card asks, with all rows that differ (card 8): judging, extracting and proving "I know one of the two", for every two sheets that load with one K,
 -- and the refusals and the session for any bytes.
 -- Assumes nothing.
 use Prim.Native.Nat.{ℕ, suc, _+_, _%_, _<_, _≤_}
 use mathlib.Core.Path.{_≡_}
-use mathlib.Core.Logic.{_↔_, _≢_}
-use mathlib.Core.List.{List, [], _∷_, _++_, map}
+use mathlib.Core.Logic.{_↔_, _≢_, _⊎_}
+use mathlib.Core.List.{List, [], _∷_, _++_, flatten, map}
 use lib.ListN.{length, replicate}
 use Rattle.types.specs.declared.ProverPhase.the-variants.{Committed, New}
+use Rattle.types.specs.declared.Round.{Round}
 use Rattle.types.specs.declared.Verdict.the-variants.{Rejected}
 use Rattle.disjunctions.specs.declared.OrProver.{OrProver}
 use Rattle.disjunctions.specs.declared.OrRound.{OrRound}
@@ -24,8 +25,9 @@ use Rattle.runs.specs.Knowledge.{Accepts}
 use Rattle.runs.specs.OnSheet.{Below, readSlots}
 use Rattle.runs.specs.Prover.{commit, newProver, respond}
 use Rattle.runs.specs.Run.{Leads}
-use Rattle.sigma.specs.Answer.{Outcome}
+use Rattle.sigma.specs.Answer.{Outcome, rowsOf}
 use Rattle.sigma.specs.Knowledge.{Witness}
+use Rattle.sigma.specs.Meaning.{FailsFirst}
 use Rattle.sigma.specs.Reads.{roundOf}
 use Rattle.disjunctions.specs.Calls.{OrCall, OrEnded, OrMoves, Wiped, orAfter, orAnswered, orTrace}
 use Rattle.disjunctions.specs.Extractor.{extractOr}
@@ -53,10 +55,14 @@ use Rattle.disjunctions.specs.Refusals.{
 }
 use Rattle.disjunctions.specs.Round.{firstRound, otherChallenge, secondRound}
 
--- a verdict's outcome: 1 for accepted, 0 with the first side that is rejected and its first differing row
+-- the rows of a side's mask, each behind the side's number
+unfoldable pub sideRows : ℕ → ℕ → List ℕ
+sideRows side mask = flatten (map (λ row. side ∷ row ∷ []) (rowsOf mask))
+
+-- a verdict's outcome: 1 for accepted, 0 with the differing rows of both sides
 unfoldable pub orOutcome : OrVerdict → Outcome
 orOutcome OrAccepted = record { number = 0; values = 1 ∷ [] }
-orOutcome (OrRejected side row) = record { number = 0; values = 0 ∷ side ∷ row ∷ [] }
+orOutcome (OrRejected mask0 mask1) = record { number = 0; values = 0 ∷ sideRows 0 mask0 ++ sideRows 1 mask1 }
 orOutcome (OrRefused number) = record { number = number; values = [] }
 
 -- the number that a verdict is refused with, 0 for none
@@ -94,7 +100,11 @@ pub record OrRefusals : Type 0 where
 -- the outcomes of the three verdicts, in numbers
 pub record OrOutcomes : Type 0 where
   pub accepted : orOutcome OrAccepted ≡ record { number = 0; values = 1 ∷ [] }
-  pub rejected : (side row : ℕ) → orOutcome (OrRejected side row) ≡ record { number = 0; values = 0 ∷ side ∷ row ∷ [] }
+  pub rejected : (mask0 mask1 : ℕ) → orOutcome (OrRejected mask0 mask1)
+      ≡ record {
+        number = 0;
+        values = 0 ∷ flatten (map (λ row. 0 ∷ row ∷ []) (rowsOf mask0)) ++ flatten (map (λ row. 1 ∷ row ∷ []) (rowsOf mask1));
+      }
   pub refused : (number : ℕ) → orOutcome (OrRefused number) ≡ record { number = number; values = [] }
 
 -- the session, over any list of calls with any sheets
@@ -123,6 +133,10 @@ pub record OrSessions : Type 0 where
   -- one that is Answered or Dropped carries out no call and stays as it is
   pub ended : (calls : List OrCall) (p : OrProver) → OrEnded p → (orTrace calls p ≡ []) × (orAfter calls p ≡ p)
 
+-- the mask of a side is that of its rejected round, and 0 where the round is accepted
+abbrev pub SideMask : List ℕ → Round → ℕ → Type 0
+SideMask s round mask = (Accepts s round × (mask ≡ 0)) ⊎ (judgeRound s round ≡ Rejected mask)
+
 -- the proof, of two sheets that load with one K
 pub record OneOfTwo (s s′ : List ℕ) : Type 0 where
   -- c1 is the one challenge below K that gives c together with c0, modulo K
@@ -139,12 +153,18 @@ pub record OneOfTwo (s s′ : List ℕ) : Type 0 where
   pub accepted : (round : OrRound)
       → AcceptsOr s s′ round
       ↔ (Below s (round .challenge) × Accepts s (firstRound round) × Accepts s′ (secondRound (instanceOf s .header .challenges) round))
-  -- a round that is neither refused nor accepted is rejected with the first side that is, and that side's row
+  -- a round that is neither refused nor accepted is rejected with the rows of both sides
+  pub rejected : (round : OrRound) (mask0 mask1 : ℕ) → orNumber (judgeOr s s′ round) ≡ 0
+      → (judgeOr s s′ round ≡ OrRejected mask0 mask1)
+      ↔ (SideMask s (firstRound round) mask0 × SideMask s′ (secondRound (instanceOf s .header .challenges) round) mask1
+      × (¬ AcceptsOr s s′ round))
+  -- the first side that is rejected and the first row in which it fails come first
   pub rejected-first : (round : OrRound) (row : ℕ) → orNumber (judgeOr s s′ round) ≡ 0
-      → (judgeOr s s′ round ≡ OrRejected 0 row) ↔ (judgeRound s (firstRound round) ≡ Rejected row)
+      → ((others : List ℕ) × (orOutcome (judgeOr s s′ round) .values ≡ 0 ∷ 0 ∷ row ∷ others))
+      ↔ FailsFirst (instanceOf s) (firstRound round) row
   pub rejected-second : (round : OrRound) (row : ℕ) → orNumber (judgeOr s s′ round) ≡ 0
-      → (judgeOr s s′ round ≡ OrRejected 1 row)
-      ↔ (Accepts s (firstRound round) × (judgeRound s′ (secondRound (instanceOf s .header .challenges) round) ≡ Rejected row))
+      → ((others : List ℕ) × (orOutcome (judgeOr s s′ round) .values ≡ 0 ∷ 1 ∷ row ∷ others))
+      ↔ (Accepts s (firstRound round) × FailsFirst (instanceOf s′) (secondRound (instanceOf s .header .challenges) round) row)
   -- from two accepted rounds with the same commitments and different c: side 0's witness where the c0 differ, else side 1's
   pub extracts-first : (a b : OrRound) → AcceptedOrPair s s′ a b → a .challenge0 ≢ b .challenge0
       → ExtractsSide s s′ s 0 firstRound a b

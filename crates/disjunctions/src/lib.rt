@@ -13,8 +13,8 @@ pub struct OrRound {
     pub challenge0: u32,
 }
 
-// What judging a round answers: accepted, rejected with the first side that is and its first differing row, or refused with a
-// number.
+// What judging a round answers: accepted, rejected with the differing rows of both sides, bit i of a mask for row i and 0 for a side
+// that is accepted, or refused with a number.
 pub enum OrVerdict {
     OrAccepted,
     OrRejected(u32, u32),

@@ -5,11 +5,13 @@ use Prim.Native.Nat.{ℕ, _<_}
 use mathlib.Core.Path.{_≡_, refl, sym, ap, _∙_}
 use mathlib.Core.Logic.{inl}
 use mathlib.Core.List.{flatten}
+use Rattle.numbers.specs.Bits.{bit, maskBelow}
 use Rattle.numbers.specs.Gcd.{euclid, gcd}
 use Rattle.numbers.specs.Integer.{residue, quotient, power, bezoutRight, bezoutLeft}
 use Rattle.numbers.specs.Inverse.{inverse}
-use Rattle.numbers.specs.Product.{product}
+use Rattle.numbers.specs.Product.{product, sum}
 use Rattle.numbers.specs.Search.{find, any}
+use Rattle.lists.specs.Choices.{selected}
 use Rattle.lists.specs.Places.{eightByEight, itemsAt, tabulate, places, pad8, zeros8}
 use Rattle.rules.specs.Answer.{unlessRefused}
 use Rattle.rules.specs.Either.{eitherRules}
@@ -29,8 +31,8 @@ use Rattle.sigma.specs.Admission.{
   headerRules,
   elementRules,
 }
-use Rattle.sigma.specs.Answer.{outcome, isAccepted, judged, eightPlaces, computed}
-use Rattle.sigma.specs.Comparison.{firstDifference, differ, compareSides}
+use Rattle.sigma.specs.Answer.{rowsOf, outcome, isAccepted, judged, eightPlaces, computed}
+use Rattle.sigma.specs.Comparison.{firstDifference, differ, differences, compareSides}
 use Rattle.sigma.specs.Element.{isElement, someNonElement, isCoordinate, someNonCoordinate}
 use Rattle.sigma.specs.Extractor.{
   slotFormula,
@@ -122,6 +124,7 @@ use Rattle.runs.specs.Level.{badLevel, strongEnough}
 use Rattle.runs.specs.Marker.{
   newline,
   wordLine,
+  rowWord,
   verdictText,
   verdictLine,
   resultLine,
@@ -194,14 +197,13 @@ use Rattle.disjunctions.specs.Judge.{
   badChallenges,
   badResponses,
   judgeOrRules,
-  secondVerdict,
   combined,
   verdictOr,
   judgeOrAfter,
   judgeOr,
 }
 use Rattle.disjunctions.specs.Knowledge.{orRound}
-use Rattle.disjunctions.specs.OneOfTwo.{orOutcome}
+use Rattle.disjunctions.specs.OneOfTwo.{sideRows, orOutcome}
 use Rattle.disjunctions.specs.Prover.{
   own,
   other,
@@ -295,37 +297,38 @@ above-count number values statement high =
 
 -- the three tables hold
 pub worked-examples : EveryPage × EveryCorner × OrPage
-unfolding euclid gcd residue quotient power bezoutRight bezoutLeft inverse product find any itemsAt tabulate places
-    pad8 zeros8 eightByEight unlessRefused lowest numberAt bytesOf bytesOfEach ascii digits decimal firstDivisor badKind
+unfolding euclid gcd residue quotient power bezoutRight bezoutLeft inverse product find any itemsAt tabulate places pad8
+    zeros8 eightByEight unlessRefused lowest numberAt bytesOf bytesOfEach ascii digits decimal firstDivisor badKind
     badModulus badOrder badSize badCount badEntries badStatement headerRules elementRules outcome isAccepted judged
-    eightPlaces computed firstDifference differ compareSides isElement someNonElement isCoordinate someNonCoordinate
-    slotFormula formula extracted extractRules extractAfter rowImage image isExponent entry statementAt judgeRules
-    judgeAfter responseCoordinate response expectedImage verdict badCommitment badChallenge badCoordinates
-    badWitness simulated simulateRules simulateAfter headerBytes storedEntries sheetOf badStart badLength
-    shapeRules loadRules loadRefusal askedKind askedPattern asked badAsked madeRules makeRules makeFrom digit entryOf
-    patternEntries headerFor madeFor root patternMark patternVersion patternCount patternEnd patternStart patternFrom patternAt
-    badSizes badPatternFile misnamed badDigits patternBytes patternFile patterns shipped writeShipped shippedBytes onePattern
-    manyPatterns makingFrom askingRoot fileRules roundRules noRound countAfter checkAfter fetchAfter countRounds
-    fetchRound roundMark fileVersion countField widthOf challengeWidth recordLength recordStart roundAt badFile
-    sheetMark versionOf headerOf entryCount sheetLength zeros64 entriesOf statementOf instanceOf short written
-    writtenAtStart judgeRound simulateCommitment extractWitness newline wordLine verdictText verdictLine resultLine
-    verdictOn roundLine roundLines markerText proverState proverIn newProver proverStep commitRules commitAfter
-    unfitProver respondRules respondAfter commit respond verifierState verifierIn newVerifier verifierStep
-    unfitCommitment takeCommitmentRules takeCommitmentAfter takeChallengeRules takeChallengeAfter takeResponseRules
-    takeResponseAfter takeCommitment takeChallenge takeResponse honestRound exampleFile exampleText array smallRound
-    run bothWays judging fourBytes sheetBytes smallSheet schnorrSheet madeSheet okamotoSheet diffieHellmanSheet productSheet rootSheet
-    flatten onesSheet manyChallenges changed rootBytes making writingIn zerosFile noBytes counting appending
-    extracting simulating peggy committing responding dropping vic hearing asking telling noRounds badInUse
-    appendRules recordBytes appended appendAfter append emptyFile noHeader load loadEntries encodeRules encode
-    dropRules dropSession checkRound firstNonElement firstNonCoordinate sheetSpot fileSpot roundSpot spotOf firstVerdict
-    spotText rowText lineText reasonLine reasonText repeated reasonOn badLevel strongEnough failsAt markRules markRefusal
-    refusedWord marking lastLine eitherRules isOrAccepted extractOrRules extractedSide extractedOf extractedOr extractOrAfter
-    extractOr pairRules badCommitments badChallenges badResponses judgeOrRules secondVerdict combined verdictOr judgeOrAfter
-    judgeOr orRound orOutcome own other orProverIn wipedOr newOrProver orStep firstCommitment secondCommitment commitOrRules
-    commitOrAfter unfitOr respondOrRules respondOrAfter dropOrRules commitOr respondOr dropOr otherChallenge firstRound
-    secondRound readOr logarithmSheet smallOr judgingOr orRun bothWaysOr orJudging orExtracting orPeggy knowsFirst
-    orCommitting orResponding orNumbers fewerChallenges unknownVersion emptyRules wideChallenge otherVersion wideRecord converted
-    convertRules convertAfter convert roundsOf fileIn storing starting converting narrowFile
+    eightPlaces computed firstDifference differ differences compareSides rowsOf selected bit maskBelow sum isElement
+    someNonElement isCoordinate someNonCoordinate slotFormula formula extracted extractRules extractAfter rowImage image
+    isExponent entry statementAt judgeRules judgeAfter responseCoordinate response expectedImage verdict badCommitment
+    badChallenge badCoordinates badWitness simulated simulateRules simulateAfter headerBytes storedEntries sheetOf
+    badStart badLength shapeRules loadRules loadRefusal askedKind askedPattern asked badAsked madeRules makeRules
+    makeFrom digit entryOf patternEntries headerFor madeFor root patternMark patternVersion patternCount patternEnd
+    patternStart patternFrom patternAt badSizes badPatternFile misnamed badDigits patternBytes patternFile patterns
+    shipped writeShipped shippedBytes onePattern manyPatterns makingFrom askingRoot fileRules roundRules noRound
+    countAfter checkAfter fetchAfter countRounds fetchRound roundMark fileVersion countField widthOf challengeWidth
+    recordLength recordStart roundAt badFile sheetMark versionOf headerOf entryCount sheetLength zeros64 entriesOf
+    statementOf instanceOf short written writtenAtStart judgeRound simulateCommitment extractWitness newline wordLine
+    rowWord verdictText verdictLine resultLine verdictOn roundLine roundLines markerText proverState proverIn newProver
+    proverStep commitRules commitAfter unfitProver respondRules respondAfter commit respond verifierState verifierIn
+    newVerifier verifierStep unfitCommitment takeCommitmentRules takeCommitmentAfter takeChallengeRules
+    takeChallengeAfter takeResponseRules takeResponseAfter takeCommitment takeChallenge takeResponse honestRound
+    exampleFile exampleText array smallRound run bothWays judging fourBytes sheetBytes smallSheet schnorrSheet madeSheet
+    okamotoSheet diffieHellmanSheet productSheet rootSheet flatten onesSheet manyChallenges changed rootBytes making
+    writingIn zerosFile noBytes counting appending extracting simulating peggy committing responding dropping vic
+    hearing asking telling noRounds badInUse appendRules recordBytes appended appendAfter append emptyFile noHeader load
+    loadEntries encodeRules encode dropRules dropSession checkRound firstNonElement firstNonCoordinate sheetSpot
+    fileSpot roundSpot spotOf firstVerdict spotText rowText lineText reasonLine reasonText repeated reasonOn badLevel
+    strongEnough failsAt markRules markRefusal refusedWord marking lastLine eitherRules isOrAccepted extractOrRules
+    extractedSide extractedOf extractedOr extractOrAfter extractOr pairRules badCommitments badChallenges badResponses
+    judgeOrRules combined verdictOr judgeOrAfter judgeOr orRound sideRows orOutcome own other orProverIn wipedOr
+    newOrProver orStep firstCommitment secondCommitment commitOrRules commitOrAfter unfitOr respondOrRules
+    respondOrAfter dropOrRules commitOr respondOr dropOr otherChallenge firstRound secondRound readOr logarithmSheet
+    smallOr judgingOr orRun bothWaysOr orJudging orExtracting orPeggy knowsFirst orCommitting orResponding orNumbers
+    fewerChallenges unknownVersion emptyRules wideChallenge otherVersion wideRecord converted convertRules convertAfter
+    convert roundsOf fileIn storing starting converting narrowFile
 worked-examples = (
   record {
     A = refl;

@@ -32,7 +32,9 @@ use Rattle.formats.specs.Sheet.{
   statementOf,
   instanceOf,
 }
+use Rattle.lists.specs.Choices.{selected}
 use Rattle.lists.specs.Places.{itemsAt, tabulate, places, pad8, zeros8, eightByEight}
+use Rattle.numbers.specs.Bits.{bit, maskBelow}
 use Rattle.numbers.specs.Gcd.{euclid, gcd}
 use Rattle.numbers.specs.Product.{product, sum}
 use Rattle.numbers.specs.Search.{find, any}
@@ -77,8 +79,8 @@ use Rattle.sigma.specs.Admission.{
   headerRules,
   elementRules,
 }
-use Rattle.sigma.specs.Answer.{outcome, judged, eightPlaces, computed}
-use Rattle.sigma.specs.Comparison.{firstDifference, differ, compareSides}
+use Rattle.sigma.specs.Answer.{rowsOf, outcome, judged, eightPlaces, computed}
+use Rattle.sigma.specs.Comparison.{firstDifference, differ, differences, compareSides}
 use Rattle.sigma.specs.Element.{isElement, someNonElement, isCoordinate, someNonCoordinate}
 use Rattle.sigma.specs.Image.{rowImage, image}
 use Rattle.sigma.specs.Instance.{isExponent, entry, statementAt}
@@ -96,15 +98,16 @@ use Rattle.sigma.specs.Round.{
 
 pub team-page : TeamPage
 unfolding euclid gcd product sum find any itemsAt tabulate places pad8 zeros8 eightByEight unlessRefused lowest numberAt
-    bytesOf bytesOfEach ascii firstDivisor badKind badModulus badOrder badSize badCount badEntries badStatement headerRules
-    elementRules outcome judged eightPlaces computed firstDifference differ compareSides isElement someNonElement isCoordinate
-    someNonCoordinate rowImage image isExponent entry judgeRules judgeAfter responseCoordinate response expectedImage verdict
-    badCommitment badChallenge badCoordinates badWitness headerBytes storedEntries sheetOf badStart badLength shapeRules
-    loadRules statementAt sheetMark versionOf headerOf entryCount sheetLength zeros64 entriesOf statementOf instanceOf
-    judgeRound proverState proverIn newProver proverStep commitRules commitAfter unfitProver respondRules respondAfter commit
-    respond honestRound array fourBytes sheetBytes smallSheet schnorrSheet flatten changed rootBytes multiplyAll joinAll
-    badTeam badImages badProduct teamRules commitmentsRules responsesRules multiplyCommitments joinResponses brought each
-    combining pairBytes teamRun teamNumbers multiplying joining twoRows
+    bytesOf bytesOfEach ascii firstDivisor badKind badModulus badOrder badSize badCount badEntries badStatement
+    headerRules elementRules rowsOf selected bit maskBelow outcome judged eightPlaces computed firstDifference differ
+    differences compareSides isElement someNonElement isCoordinate someNonCoordinate rowImage image isExponent entry
+    judgeRules judgeAfter responseCoordinate response expectedImage verdict badCommitment badChallenge badCoordinates
+    badWitness headerBytes storedEntries sheetOf badStart badLength shapeRules loadRules statementAt sheetMark versionOf
+    headerOf entryCount sheetLength zeros64 entriesOf statementOf instanceOf judgeRound proverState proverIn newProver
+    proverStep commitRules commitAfter unfitProver respondRules respondAfter commit respond honestRound array fourBytes
+    sheetBytes smallSheet schnorrSheet flatten changed rootBytes multiplyAll joinAll badTeam badImages badProduct
+    teamRules commitmentsRules responsesRules multiplyCommitments joinResponses brought each combining pairBytes teamRun
+    teamNumbers multiplying joining twoRows
 team-page = record {
   A = refl;
   E = refl;

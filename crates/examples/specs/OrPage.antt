@@ -35,7 +35,7 @@ smallOr t t′ c c0 r r′ =
       challenge0 = c0;
     }
 
--- what a verdict says: its number, and 1, or 0 with side and row
+-- what a verdict says: its number, and 1, or 0 with each row that differs behind its side
 unfoldable pub judgingOr : List ℕ → List ℕ → OrRound → List ℕ
 judgingOr s s′ round = orOutcome (judgeOr s s′ round) .number ∷ orOutcome (judgeOr s s′ round) .values
 
@@ -110,7 +110,7 @@ pub record OrPage : Type 0 where
   -- where one side's response is wrong, and where both are
   pub rejected : map (judgingOr logarithmSheet rootBytes)
       (smallOr 9 23 1 3 5 4 ∷ smallOr 9 23 1 3 4 1 ∷ smallOr 9 23 1 3 5 1 ∷ [])
-      ≡ (0 ∷ 0 ∷ 0 ∷ 0 ∷ []) ∷ (0 ∷ 0 ∷ 1 ∷ 0 ∷ []) ∷ (0 ∷ 0 ∷ 0 ∷ 0 ∷ []) ∷ []
+      ≡ (0 ∷ 0 ∷ 0 ∷ 0 ∷ []) ∷ (0 ∷ 0 ∷ 1 ∷ 0 ∷ []) ∷ (0 ∷ 0 ∷ 0 ∷ 0 ∷ 1 ∷ 0 ∷ []) ∷ []
   -- 7 is found where the c0 differ, and 2 where only the c1 do; there c1 wraps in neither or in one round
   pub extracts-first : bothWaysOr (smallOr 9 23 1 3 4 4) (smallOr 9 23 2 4 0 4) ≡ 0 ∷ 0 ∷ 7 ∷ 0 ∷ 0 ∷ 7 ∷ []
   pub extracts-second : bothWaysOr (smallOr 9 33 1 3 4 24) (smallOr 9 33 2 3 4 13) ≡ 0 ∷ 1 ∷ 2 ∷ 0 ∷ 1 ∷ 2 ∷ []

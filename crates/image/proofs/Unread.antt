@@ -2,34 +2,46 @@
 -- count in a comparison.
 -- Assumes nothing.
 use mathlib.Core.Path.{_≡_, sym, ap, ap₂, _∙_}
-use mathlib.Core.Logic.{_≢_}
+use mathlib.Core.Bool.{cond, not}
 use mathlib.Core.List.{List}
 use Prim.Native.Nat.{ℕ, _+_, _*_, _%_, _^_, _≤_, _<_}
 use native.Mathlib.Omega.{arith}
+use lib.Dec.{eqb}
 use lib.ListN.{getD}
 use Rattle.types.specs.declared.Header.{Header}
 use Rattle.types.specs.declared.Verdict.{Verdict}
 use Rattle.types.specs.declared.Verdict.the-variants.{Accepted, Rejected}
 use Rattle.lists.specs.Places.{places, pad8}
 use Rattle.lists.proofs.Places.{getD-pad8, getD-places, getD-tabulate, tabulate-agree}
+use Rattle.numbers.proofs.Bits.{mask-agree}
 use Rattle.numbers.proofs.Search.{find-agree}
-use Rattle.sigma.specs.Comparison.{firstDifference, differ, compareSides}
+use Rattle.sigma.specs.Comparison.{firstDifference, differ, differences, compareSides}
 use Rattle.sigma.specs.Image.{rowImage, image}
 use Rattle.sigma.specs.Instance.{Instance, Table, tableOf, statementAt}
 use Rattle.sigma.specs.Round.{responseCoordinate, response, expectedImage, verdict}
 use Rattle.sigma.specs.Valid.{Valid, ValidTable}
 use Rattle.sigma.proofs.Unread.{rowImage-agree}
-use Rattle.comparison.proofs.TwoSides.{Agreed, agreed-on, differ-here, differ-none, compare-row, compare-none}
+use Rattle.comparison.proofs.Masks.{Marked, compare-mask, marked-all, marked-on}
 
--- zeros behind two lists do not change where they first differ
+-- zeros behind two lists do not change whether a place differs
+differs-pad8 : (xs ys : List ℕ) (i : ℕ)
+    → not (eqb (getD (pad8 0 xs) i 0) (getD (pad8 0 ys) i 0)) ≡ not (eqb (getD xs i 0) (getD ys i 0))
+differs-pad8 xs ys i = rw (getD-pad8 0 xs i, getD-pad8 0 ys i)
+
+-- nor where they first differ
 difference-pad8 : (n : ℕ) (xs ys : List ℕ) → firstDifference n (pad8 0 xs) (pad8 0 ys) ≡ firstDifference n xs ys
 unfolding firstDifference
-difference-pad8 n xs ys = find-agree _ _ 0 n (λ i h k. rw (getD-pad8 0 xs i, getD-pad8 0 ys i))
+difference-pad8 n xs ys = find-agree _ _ 0 n (λ i h k. differs-pad8 xs ys i)
+
+-- nor in which places they do
+differences-pad8 : (n : ℕ) (xs ys : List ℕ) → differences n (pad8 0 xs) (pad8 0 ys) ≡ differences n xs ys
+unfolding differences
+differences-pad8 n xs ys = mask-agree n _ _ (λ i h. differs-pad8 xs ys i)
 
 -- nor the verdict on them
 pub compare-pad8 : (n : ℕ) (xs ys : List ℕ) → compareSides n (pad8 0 xs) (pad8 0 ys) ≡ compareSides n xs ys
 unfolding compareSides differ
-compare-pad8 n xs ys = rw (difference-pad8 n xs ys)
+compare-pad8 n xs ys = rw (difference-pad8 n xs ys, differences-pad8 n xs ys)
 
 -- the image reads n places, of a valid table
 pub image-places : (table : Table) → ValidTable table → (x : List ℕ) → image table (places (table .header .columns) x) ≡ image table x
@@ -74,30 +86,22 @@ module _ (inst : Instance) where
   right-row t c i inside = getD-tabulate (inst .header .rows) _ i 0 inside
 
   module _ (t : List ℕ) (c : ℕ) (r : List ℕ) where
-    -- the comparison of the two sides that has come to row i
-    abbrev pub RowsAgree : ℕ → Type 0
-    RowsAgree i = Agreed (inst .header .rows) (image (tableOf inst) r) (expectedImage inst t c) i
+    -- the comparison of the two sides that has come to row i: the mask of the rows before it, and its bit
+    abbrev pub RowsMarked : ℕ → ℕ → ℕ → Type 0
+    RowsMarked = Marked (inst .header .rows) (image (tableOf inst) r) (expectedImage inst t c)
 
-    module _ (i : ℕ) {left right : ℕ} (inside : i < inst .header .rows) (is-left : left ≡ rowImage (tableOf inst) r i)
-        (is-right : right ≡ getD t i 0 * statementAt inst i ^ c % inst .header .modulus) where
-      -- a row whose two numbers agree leaves the comparison to the next one
-      pub rows-on : left ≡ right → RowsAgree i → RowsAgree (i + 1)
-      rows-on same =
-          agreed-on _ _ _ i inside (left-row r i inside ∙ sym is-left ∙ same ∙ is-right ∙ sym (right-row t c i inside))
+    -- one row more
+    pub rows-on : (i mask bit : ℕ) {left right next : ℕ} → i < inst .header .rows → left ≡ rowImage (tableOf inst) r i
+        → right ≡ getD t i 0 * statementAt inst i ^ c % inst .header .modulus → next ≡ mask + cond (not (eqb left right)) bit 0
+        → RowsMarked i mask bit → RowsMarked (i + 1) next (2 * bit)
+    rows-on i mask bit inside is-left is-right is-next =
+        marked-on _ _ _ i mask bit inside (is-left ∙ sym (left-row r i inside)) (is-right ∙ sym (right-row t c i inside)) is-next
 
-      -- a row whose two numbers differ is rejected
-      pub verdict-differs : Valid inst → left ≢ right → RowsAgree i
-          → Rejected i ≡ verdict inst (places (inst .header .rows) t) c (places (inst .header .columns) r)
-      unfolding verdict
-      verdict-differs v other agreed =
-          rw (image-places (tableOf inst) (v .table) r, expected-places t c)
-          (compare-row _ _ _ (differ-here _ _ _ i inside
-          (λ same. other (is-left ∙ sym (left-row r i inside) ∙ same ∙ right-row t c i inside ∙ sym is-right)) agreed) inside)
-
-    -- where no row is left the round is accepted
-    pub verdict-agrees : (i : ℕ) → inst .header .rows ≤ i → Valid inst → RowsAgree i
-        → Accepted ≡ verdict inst (places (inst .header .rows) t) c (places (inst .header .columns) r)
+    -- where no row is left the mask is the verdict
+    pub verdict-marked : Valid inst → (i mask bit : ℕ) {answer : Verdict} → inst .header .rows ≤ i → RowsMarked i mask bit
+        → answer ≡ cond (eqb mask 0) Accepted (Rejected mask)
+        → answer ≡ verdict inst (places (inst .header .rows) t) c (places (inst .header .columns) r)
     unfolding verdict
-    verdict-agrees i past v agreed =
-        rw (image-places (tableOf inst) (v .table) r, expected-places t c)
-        (compare-none _ _ _ (differ-none _ _ _ i past agreed) past)
+    verdict-marked v i mask bit past marked is-answer =
+        rw (is-answer, marked-all _ _ _ i mask bit past marked, image-places (tableOf inst) (v .table) r, expected-places t c)
+        (compare-mask _ _ _)

@@ -5,6 +5,8 @@ mod answer; // answer.rt: the answer of a refused call
 pub use answer::refused;
 use comparison::compare;
 use comparison::first_places;
+use comparison::marked;
+use comparison::verdict_of;
 use modular::mul_mod;
 use modular::pow_mod;
 use powers::mul_powers;
@@ -101,9 +103,9 @@ pub fn expected_image(h: Header, statement: [u32; 8], t: [u32; 8], c: u32) -> [u
     values
 }
 
-// The verdict on a commitment t, a challenge c and a response r: accepted where the two sides agree in every row, else
-// rejected with the first row in which they differ. Sides that are not computed side by side are compared row by row, as
-// numbers, which need not wait for a copy.
+// The verdict on a commitment t, a challenge c and a response r: accepted where the two sides agree in every row, else rejected
+// with all rows in which they differ. Sides that are not computed side by side are compared row by row, as numbers, which need
+// not wait for a copy.
 pub fn verdict(
     h: Header,
     entries: [[u32; 8]; 8],
@@ -123,17 +125,16 @@ pub fn verdict(
             rows,
         );
     }
-    let mut i: usize = 0;
-    while i < rows {
+    let mut mask = 0u32;
+    let mut bit = 1u32;
+    for i in 0..rows {
         let row = entries[i];
         let left = row_product(h, row, r, i);
         let right = mul_mod(t[i], pow_mod(statement[i], c, h.modulus), h.modulus);
-        if left != right {
-            return Verdict::Rejected(i as u32);
-        }
-        i += 1;
+        mask = marked(mask, bit, left, right);
+        bit = 2 * bit;
     }
-    Verdict::Accepted
+    verdict_of(mask)
 }
 
 // A slot of the response to c, of the nonce's slot k and the witness's slot x: k + c x mod q in kind 1, k x^c mod m in kind 2.

@@ -5,3 +5,5 @@ pub mod Rows
 pub mod Each
 pub mod Member
 pub mod Choices
+pub mod Rising
+pub mod Words

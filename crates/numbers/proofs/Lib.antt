@@ -7,6 +7,7 @@ pub mod Divisors
 pub mod Gcd
 pub mod Inverse
 pub mod Product
+pub mod Bits
 pub mod Integer
 pub mod Coprime
 pub mod Exponent

@@ -6,3 +6,4 @@ pub mod Congruence
 pub mod Inverse
 pub mod Integer
 pub mod Product
+pub mod Bits

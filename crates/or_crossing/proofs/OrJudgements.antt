@@ -13,65 +13,66 @@ use Rattle.sigma.proofs.Verdict.{verdict-not-refused}
 use Rattle.disjunctions.specs.declared.OrRound.{OrRound}
 use Rattle.disjunctions.specs.declared.OrVerdict.{OrVerdict}
 use Rattle.disjunctions.specs.declared.OrVerdict.the-variants.{OrAccepted, OrRejected, OrRefused}
-use Rattle.disjunctions.specs.Judge.{combined, judgeOr, judgeOrAfter, secondVerdict, verdictOr}
-use Rattle.disjunctions.specs.OneOfTwo.{orOutcome}
+use Rattle.disjunctions.specs.Judge.{combined, judgeOr, judgeOrAfter, verdictOr}
 use Rattle.or_crossing.specs.Verdicts.{orJudgement}
 use Rattle.or_crossing.specs.declared.OrJudgement.{OrJudgement}
 
 -- an accepted round has 1 for accepted
-pub or-judgement-accepted : orJudgement OrAccepted ≡ record { accepted = 1; side = 0; row = 0; refusal = 0 }
-unfolding orJudgement orOutcome
+pub or-judgement-accepted : orJudgement OrAccepted ≡ record { accepted = 1; rows0 = 0; rows1 = 0; refusal = 0 }
+unfolding orJudgement
 or-judgement-accepted = refl
 
--- a rejected round has its side and its row
-pub or-judgement-rejected : (side row : ℕ)
-    → orJudgement (OrRejected side row) ≡ record { accepted = 0; side = side; row = row; refusal = 0 }
-unfolding orJudgement orOutcome
-or-judgement-rejected side row = refl
+-- a rejected round has the masks of both sides' rows
+pub or-judgement-rejected : (mask0 mask1 : ℕ)
+    → orJudgement (OrRejected mask0 mask1) ≡ record { accepted = 0; rows0 = mask0; rows1 = mask1; refusal = 0 }
+unfolding orJudgement
+or-judgement-rejected mask0 mask1 = refl
 
 -- a refused round has its number
 pub or-judgement-refused : (number : ℕ)
-    → orJudgement (OrRefused number) ≡ record { accepted = 0; side = 0; row = 0; refusal = number }
-unfolding orJudgement orOutcome
+    → orJudgement (OrRefused number) ≡ record { accepted = 0; rows0 = 0; rows1 = 0; refusal = number }
+unfolding orJudgement
 or-judgement-refused number = refl
 
--- so a round is accepted exactly where that number is 1
+-- so a round is accepted exactly where accepted is 1
 pub or-accepted-told : (v : OrVerdict) → (orJudgement v .accepted ≡ 1) ↔ (v ≡ OrAccepted)
-unfolding orJudgement orOutcome
+unfolding orJudgement
 or-accepted-told v = (accepted v, ap (λ (v : OrVerdict). orJudgement v .accepted))
   where
     accepted : (v : OrVerdict) → orJudgement v .accepted ≡ 1 → v ≡ OrAccepted
     accepted OrAccepted e = refl
-    accepted (OrRejected side row) e = absurd (omega arith)
+    accepted (OrRejected mask0 mask1) e = absurd (omega arith)
     accepted (OrRefused number) e = absurd (omega arith)
 
 -- two verdicts with the same four numbers are the same, if neither is a refusal with 0
 pub or-judgement-injective : (v w : OrVerdict) → v ≢ OrRefused 0 → w ≢ OrRefused 0 → orJudgement v ≡ orJudgement w → v ≡ w
-unfolding orJudgement orOutcome
+unfolding orJudgement
 or-judgement-injective v w some some′ e =
     compare v w some some′ (ap (λ (j : OrJudgement). j .refusal) e) (ap (λ (j : OrJudgement). j .accepted) e)
-    (ap (λ (j : OrJudgement). j .side) e) (ap (λ (j : OrJudgement). j .row) e)
+    (ap (λ (j : OrJudgement). j .rows0) e) (ap (λ (j : OrJudgement). j .rows1) e)
   where
     compare : (v w : OrVerdict) → v ≢ OrRefused 0 → w ≢ OrRefused 0 → orJudgement v .refusal ≡ orJudgement w .refusal
-        → orJudgement v .accepted ≡ orJudgement w .accepted → orJudgement v .side ≡ orJudgement w .side
-        → orJudgement v .row ≡ orJudgement w .row → v ≡ w
+        → orJudgement v .accepted ≡ orJudgement w .accepted → orJudgement v .rows0 ≡ orJudgement w .rows0
+        → orJudgement v .rows1 ≡ orJudgement w .rows1 → v ≡ w
     compare OrAccepted OrAccepted s t a b c d = refl
-    compare OrAccepted (OrRejected side row) s t a b c d = absurd (omega arith)
+    compare OrAccepted (OrRejected mask0 mask1) s t a b c d = absurd (omega arith)
     compare OrAccepted (OrRefused n) s t a b c d = absurd (omega arith)
-    compare (OrRejected side row) OrAccepted s t a b c d = absurd (omega arith)
-    compare (OrRejected side row) (OrRejected side′ row′) s t a b c d = rw (c, d)
-    compare (OrRejected side row) (OrRefused n) s t a b c d = absurd (t (ap OrRefused (sym a)))
+    compare (OrRejected mask0 mask1) OrAccepted s t a b c d = absurd (omega arith)
+    compare (OrRejected mask0 mask1) (OrRejected mask0′ mask1′) s t a b c d = rw (c, d)
+    compare (OrRejected mask0 mask1) (OrRefused n) s t a b c d = absurd (t (ap OrRefused (sym a)))
     compare (OrRefused n) OrAccepted s t a b c d = absurd (omega arith)
-    compare (OrRefused n) (OrRejected side row) s t a b c d = absurd (s (ap OrRefused a))
+    compare (OrRefused n) (OrRejected mask0 mask1) s t a b c d = absurd (s (ap OrRefused a))
     compare (OrRefused n) (OrRefused n′) s t a b c d = ap OrRefused a
 
 -- verdicts on both sides that are no refusals give none
 combined-not-refused : (v w : Verdict) → ((k : ℕ) → v ≢ Refused k) → ((k : ℕ) → w ≢ Refused k) → (k : ℕ) → combined v w ≢ OrRefused k
-unfolding combined secondVerdict
+unfolding combined
 combined-not-refused Accepted Accepted f g k e = let z : _≡_ {A = ℕ} 0 1 = cc in omega arith
-combined-not-refused Accepted (Rejected row) f g k e = let z : _≡_ {A = ℕ} 0 1 = cc in omega arith
+combined-not-refused Accepted (Rejected mask) f g k e = let z : _≡_ {A = ℕ} 0 1 = cc in omega arith
 combined-not-refused Accepted (Refused number) f g k e = g number refl
-combined-not-refused (Rejected row) w f g k e = let z : _≡_ {A = ℕ} 0 1 = cc in omega arith
+combined-not-refused (Rejected mask) Accepted f g k e = let z : _≡_ {A = ℕ} 0 1 = cc in omega arith
+combined-not-refused (Rejected mask) (Rejected mask′) f g k e = let z : _≡_ {A = ℕ} 0 1 = cc in omega arith
+combined-not-refused (Rejected mask) (Refused number) f g k e = g number refl
 combined-not-refused (Refused number) w f g k e = f number refl
 
 -- the number of a refusal is not 0

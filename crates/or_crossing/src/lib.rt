@@ -8,13 +8,13 @@ pub use provers::or_prover_of;
 pub use provers::or_session_of;
 pub use verdicts::or_judgement_of;
 
-// A verdict: accepted is 1, rejected is 0 with the first side that is and its first differing row, and refused is the number
-// beside zeros.
+// A verdict: accepted is 1, rejected is 0 with the masks of both sides' rows that differ, bit i for row i, 0 for a side that is
+// accepted, and refused is the number beside zeros.
 #[repr(C)]
 pub struct OrJudgement {
     pub accepted: u32,
-    pub side: u32,
-    pub row: u32,
+    pub rows0: u32,
+    pub rows1: u32,
     pub refusal: u32,
 }
 

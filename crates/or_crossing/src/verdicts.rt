@@ -11,20 +11,20 @@ pub fn or_judgement_of(verdict: OrVerdict) -> OrJudgement
     match verdict {
         OrVerdict::OrAccepted => OrJudgement {
             accepted: 1,
-            side: 0,
-            row: 0,
+            rows0: 0,
+            rows1: 0,
             refusal: 0,
         },
-        OrVerdict::OrRejected(side, row) => OrJudgement {
+        OrVerdict::OrRejected(rows0, rows1) => OrJudgement {
             accepted: 0,
-            side,
-            row,
+            rows0,
+            rows1,
             refusal: 0,
         },
         OrVerdict::OrRefused(number) => OrJudgement {
             accepted: 0,
-            side: 0,
-            row: 0,
+            rows0: 0,
+            rows1: 0,
             refusal: number,
         },
     }

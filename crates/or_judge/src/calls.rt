@@ -8,8 +8,8 @@ use pairs::load_pair;
 ghost use mathlib.Core.Path.{_≡_};
 ghost use Rattle.disjunctions.specs.Judge.{judgeOr};
 
-// The verdict on a round of two sheets: accepted, rejected with the first side that is and its first row whose two sides differ,
-// or refused with 2 to 11 of either sheet, 26 for different challenge counts, or 14 to 16 for the round.
+// The verdict on a round of two sheets: accepted, rejected with all rows of both whose two sides differ, none for one that is
+// accepted, or refused with 2 to 11 of either sheet, 26 for different challenge counts, or 14 to 16 for the round.
 pub fn judge(first: &[u8], second: &[u8], round: OrRound) -> OrVerdict
     ensures { λ r. ⌜ r ≡ judgeOr (now (first .entry)) (now (second .entry)) round ⌝ }
 {

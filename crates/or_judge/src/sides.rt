@@ -7,28 +7,40 @@ use types::Loaded;
 use types::Verdict;
 ghost use mathlib.Core.Path.{_≡_};
 ghost use Prim.Native.Nat.{_<_};
-ghost use Rattle.disjunctions.specs.Judge.{combined, secondVerdict, verdictOr};
+ghost use Rattle.types.specs.declared.Verdict.the-variants.{Accepted, Rejected};
+ghost use Rattle.disjunctions.specs.Judge.{combined, verdictOr};
 ghost use Rattle.disjunctions.specs.Round.{readOr};
 ghost use Rattle.or_judge.specs.Values.{FitTogether, instanceFrom};
 
-// The verdict on the second side alone.
-fn second_verdict(second: Verdict) -> OrVerdict
-    ensures { λ r. ⌜ r ≡ secondVerdict second ⌝ }
+// The verdict where the first side is accepted: the second side's, with no row of the first.
+fn second_alone(second: Verdict) -> OrVerdict
+    ensures { λ r. ⌜ r ≡ combined Accepted second ⌝ }
 {
     match second {
         Verdict::Accepted => OrVerdict::OrAccepted,
-        Verdict::Rejected(row) => OrVerdict::OrRejected(1, row),
+        Verdict::Rejected(rows) => OrVerdict::OrRejected(0, rows),
         Verdict::Refused(number) => OrVerdict::OrRefused(number),
     }
 }
 
-// The verdict on both: accepted where both sides are, else rejected with the first side that is not.
+// The verdict where the first side is rejected: these rows, and those of the second side.
+fn with_second(rows: u32, second: Verdict) -> OrVerdict
+    ensures { λ r. ⌜ r ≡ combined (Rejected rows) second ⌝ }
+{
+    match second {
+        Verdict::Accepted => OrVerdict::OrRejected(rows, 0),
+        Verdict::Rejected(others) => OrVerdict::OrRejected(rows, others),
+        Verdict::Refused(number) => OrVerdict::OrRefused(number),
+    }
+}
+
+// The verdict on both: accepted where both sides are, else rejected with the rows of both.
 fn combined(first: Verdict, second: Verdict) -> OrVerdict
     ensures { λ r. ⌜ r ≡ combined first second ⌝ }
 {
     match first {
-        Verdict::Accepted => second_verdict(second),
-        Verdict::Rejected(row) => OrVerdict::OrRejected(0, row),
+        Verdict::Accepted => second_alone(second),
+        Verdict::Rejected(rows) => with_second(rows, second),
         Verdict::Refused(number) => OrVerdict::OrRefused(number),
     }
 }

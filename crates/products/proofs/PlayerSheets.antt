@@ -2,7 +2,7 @@
 -- is told of the sheet's own values.
 -- Assumes nothing.
 use Prim.Native.Nat.{ℕ, _+_, _*_, _%_, _^_, _<_}
-use mathlib.Core.Path.{_≡_, sym, ap, _∙_}
+use mathlib.Core.Path.{_≡_, refl, sym, ap, _∙_}
 use mathlib.Core.List.{List}
 use native.Mathlib.Omega.{arith}
 use lib.ListN.{getD}
@@ -22,10 +22,12 @@ use Rattle.formats.proofs.SheetWritten.{instanceOf-sheetOf}
 use Rattle.runs.specs.Calls.{judgeRound}
 use Rattle.runs.specs.OnSheet.{readValues}
 use Rattle.runs.proofs.Protocol.{sheet-accepted, sheet-rejected}
+use Rattle.sigma.specs.Answer.{rowsOf}
 use Rattle.sigma.specs.Instance.{Instance, statementAt}
 use Rattle.sigma.specs.Joined.{withStatement}
-use Rattle.sigma.specs.Meaning.{Elements, FailsFirst, Fits, Holds, RowHolds}
+use Rattle.sigma.specs.Meaning.{Elements, FailsExactly, Fits, Holds, RowHolds}
 use Rattle.sigma.specs.Valid.{Valid}
+use Rattle.sigma.proofs.Fails.{fails-alike}
 use Rattle.sigma.proofs.Joined.{withStatement-valid}
 
 -- a number of four bytes is below 2^32
@@ -90,17 +92,18 @@ module _ (sheet : List ℕ) (bytes : AllBytes sheet) (loaded : loadRefusal sheet
         let (fits, holds) = rw player-values at (sheet-accepted (sheetOf (withStatement inst z)) player-loads round .0 e) in
         (fits-own inst _ fits, λ i b. row-restated inst _ z round i (stored i b) (holds i b))
 
-    -- of one that it rejects the row is the first that fails for the image
-    pub player-rejected : (round : Round) (row : ℕ)
-        → judgeRound (sheetOf (withStatement (instanceOf sheet) z)) round ≡ Rejected row
-        → Fits (instanceOf sheet) round × FailsFirst (withStatement (instanceOf sheet) z) round row
-    player-rejected round row e =
+    -- of one that it rejects the rows are those that fail for the image
+    pub player-rejected : (round : Round) (mask : ℕ)
+        → judgeRound (sheetOf (withStatement (instanceOf sheet) z)) round ≡ Rejected mask
+        → Fits (instanceOf sheet) round
+        × (FailsExactly (withStatement (instanceOf sheet) z) round (rowsOf mask) × (mask < 2 ^ instanceOf sheet .header .rows))
+    player-rejected round mask e =
         let inst = instanceOf sheet in
-        let (fits, first) = rw player-values at (sheet-rejected (sheetOf (withStatement inst z)) player-loads round row .0 e) in (
+        let (fits, (all, inside)) = rw player-values at (sheet-rejected (sheetOf (withStatement inst z)) player-loads round mask .0 e) in (
           fits-own inst _ fits,
-          record {
-            inside = first .inside;
-            fails = λ holds. first .fails (row-restated inst z _ round row (sym (stored row (first .inside))) holds);
-            before = λ k b. row-restated inst _ z round k (stored k (omega (arith, first .inside))) (first .before k b);
-          },
+          (
+            fails-alike (withStatement inst (pad8 0 (readValues sheet z))) (withStatement inst z) round round refl
+                (λ i b. (row-restated inst _ z round i (stored i b), row-restated inst z _ round i (sym (stored i b)))) (rowsOf mask) all,
+            inside,
+          ),
         )

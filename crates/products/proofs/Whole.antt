@@ -1,7 +1,7 @@
 -- The round of what both calls answer: it fits where all parts do, it is accepted where all parts are, and where exactly one is
--- rejected it is rejected with that one's row.
+-- rejected it is rejected with that one's rows.
 -- Assumes nothing.
-use Prim.Native.Nat.{ℕ, _<_}
+use Prim.Native.Nat.{ℕ, _^_, _<_}
 use mathlib.Core.Path.{_≡_, refl, sym, ap, ap₂, _∙_, subst}
 use mathlib.Core.Logic.{_↔_, _≢_}
 use mathlib.Core.List.{List}
@@ -20,10 +20,14 @@ use Rattle.formats.proofs.Loads.{loads-valid}
 use Rattle.runs.specs.Calls.{judgeRound}
 use Rattle.runs.specs.Knowledge.{Accepts}
 use Rattle.runs.proofs.Protocol.{sheet-accepted, sheet-rejected}
-use Rattle.sigma.specs.Meaning.{Coordinates, FailsFirst, Fits, Holds, RowHolds}
+use Rattle.rules.proofs.Says.{says-equal}
+use Rattle.sigma.specs.Answer.{rowsOf}
+use Rattle.sigma.specs.Meaning.{Coordinates, FailsExactly, Fits, Holds, RowHolds}
 use Rattle.sigma.specs.Joined.{withStatement}
 use Rattle.sigma.specs.Reads.{roundOf}
 use Rattle.sigma.specs.Valid.{Valid}
+use Rattle.sigma.proofs.Calculus.{says-stable}
+use Rattle.sigma.proofs.Fails.{fails-alike}
 use Rattle.sigma.proofs.Unread.{judgeAfter-same}
 use Rattle.products.specs.Players.{BothRun, IsTeam, partRound, playerSheet, wholeRound}
 use Rattle.products.specs.Team.{joinAll, multiplyAll, part}
@@ -101,30 +105,31 @@ module _ (sheet : List ℕ) (loaded : loadRefusal sheet ≡ 0) (count : ℕ) (im
           λ i b. whole-row i b .0 (all-hold valid images ts rs c i b count (λ p d. fits p d .response) (λ p d. holds p d i b)),
         )
 
-    -- where one part first fails in a row and all others hold, it is rejected with that row
-    whole-rejected : (p row : ℕ) → p < count → FailsFirst (withStatement (instanceOf sheet) (part images p)) (partRound ts c rs p) row
+    -- where one part fails in some rows and all others hold, it is rejected with those rows
+    whole-rejected : (p mask : ℕ) → p < count
+        → FailsExactly (withStatement (instanceOf sheet) (part images p)) (partRound ts c rs p) (rowsOf mask)
+        → mask < 2 ^ instanceOf sheet .header .rows
         → ((o : ℕ) → o < count → o ≢ p → Holds (withStatement (instanceOf sheet) (part images o)) (partRound ts c rs o))
-        → judgeRound sheet (wholeRound sheet count images ts c rs) ≡ Rejected row
-    whole-rejected p row b first others =
+        → judgeRound sheet (wholeRound sheet count images ts c rs) ≡ Rejected mask
+    whole-rejected p mask b all small others =
         let slots : (q : ℕ) → q < count → Coordinates (instanceOf sheet) (part rs q) = λ q d. fits q d .response in
-        let earlier : (k : ℕ) (h : k < instanceOf sheet .header .rows) → k < row → (q : ℕ) → q < count
-        → PartHolds valid images ts rs c k h q =
-        λ k h low q d. elim (ℕ-discrete q p) [
-          | yes e ↦ subst (PartHolds valid images ts rs c k h) (sym e) (first .before k low)
-          | no apart ↦ others q d apart k h
+        let each : (k : ℕ) (h : k < instanceOf sheet .header .rows) → PartHolds valid images ts rs c k h p
+        → (q : ℕ) → q < count → PartHolds valid images ts rs c k h q =
+        λ k h holds q d. elim (ℕ-discrete q p) [
+          | yes e ↦ subst (PartHolds valid images ts rs c k h) (sym e) holds
+          | no other ↦ others q d other k h
         ] in
+        let row : (k : ℕ) (h : k < instanceOf sheet .header .rows)
+        → RowHolds (withStatement (instanceOf sheet) (part images p)) (partRound ts c rs p) k ↔ RowHolds (instanceOf sheet) whole k =
+        λ k h. (
+          λ holds. whole-row k h .0 (all-hold valid images ts rs c k h count slots (each k h holds)),
+          λ holds. says-stable (says-equal _ _) (λ fails.
+              one-fails valid images ts rs c k h count slots p b fails (λ o d other. others o d other k h) (whole-row k h .1 holds)),
+        ) in
         whole-judged
-        ∙ sheet-rejected sheet loaded whole row .1 (
+        ∙ sheet-rejected sheet loaded whole mask .1 (
           whole-fits,
-          record {
-            inside = first .inside;
-            fails = λ holds.
-                one-fails valid images ts rs c row (first .inside) count slots p b (first .fails)
-                (λ o d apart. others o d apart row (first .inside)) (whole-row row (first .inside) .1 holds);
-            before = λ k low.
-                let h : k < instanceOf sheet .header .rows = omega (arith, first .inside) in
-                whole-row k h .0 (all-hold valid images ts rs c k h count slots (earlier k h low));
-          },
+          (fails-alike (withStatement (instanceOf sheet) (part images p)) (instanceOf sheet) (partRound ts c rs p) whole refl row (rowsOf mask) all, small),
         )
 
 -- ---- the card's words
@@ -145,16 +150,16 @@ module _ (sheet : List ℕ) (bytes : AllBytes sheet) (loaded : loadRefusal sheet
         whole-accepted sheet loaded count images team ts rs c fits (λ p b. part-accepted p b (each p b) .1),
       )
 
-  -- where one is rejected and all others are accepted, the whole is rejected with that one's row
-  pub one-rejected : (p row : ℕ) → p < count → judgeRound (playerSheet sheet images p) (partRound ts c rs p) ≡ Rejected row
+  -- where one is rejected and all others are accepted, the whole is rejected with that one's rows
+  pub one-rejected : (p mask : ℕ) → p < count → judgeRound (playerSheet sheet images p) (partRound ts c rs p) ≡ Rejected mask
       → ((o : ℕ) → o < count → o ≢ p → Accepts (playerSheet sheet images o) (partRound ts c rs o))
-      → BothRun sheet count images ts rs × (judgeRound sheet (wholeRound sheet count images ts c rs) ≡ Rejected row)
-  one-rejected p row b rejected others =
-      let (fits, first) = player-rejected sheet bytes loaded (part images p) (team .elements p b) (partRound ts c rs p) row rejected in
+      → BothRun sheet count images ts rs × (judgeRound sheet (wholeRound sheet count images ts c rs) ≡ Rejected mask)
+  one-rejected p mask b rejected others =
+      let (fits, (rows, small)) = player-rejected sheet bytes loaded (part images p) (team .elements p b) (partRound ts c rs p) mask rejected in
       let all : (q : ℕ) → q < count → Fits (instanceOf sheet) (partRound ts c rs q) = λ q d. elim (ℕ-discrete q p) [
         | yes e ↦ subst (λ (o : ℕ). Fits (instanceOf sheet) (partRound ts c rs o)) (sym e) fits
         | no apart ↦ part-accepted q d (others q d apart) .0
       ] in (
         both-run sheet loaded count images team ts rs c all,
-        whole-rejected sheet loaded count images team ts rs c all p row b first (λ o d apart. part-accepted o d (others o d apart) .1),
+        whole-rejected sheet loaded count images team ts rs c all p mask b rows small (λ o d apart. part-accepted o d (others o d apart) .1),
       )

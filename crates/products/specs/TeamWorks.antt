@@ -95,12 +95,12 @@ pub record TeamOn (sheet : List ℕ) : Type 0 where
       → ((p : ℕ) → p < count → Accepts (playerSheet sheet images p) (partRound commitments c responses p))
       → BothRun sheet count images commitments responses
       × Accepts sheet (wholeRound sheet count images commitments c responses)
-  -- where exactly one is rejected and all others are accepted, the whole is rejected with that one's row
+  -- where exactly one is rejected and all others are accepted, the whole is rejected with that one's rows
   pub one-rejected : (count : ℕ) (images commitments responses : List (List ℕ)) (c : ℕ) → IsTeam sheet count images
-      → (p row : ℕ) → p < count → judgeRound (playerSheet sheet images p) (partRound commitments c responses p) ≡ Rejected row
+      → (p mask : ℕ) → p < count → judgeRound (playerSheet sheet images p) (partRound commitments c responses p) ≡ Rejected mask
       → ((o : ℕ) → o < count → o ≢ p → Accepts (playerSheet sheet images o) (partRound commitments c responses o))
       → BothRun sheet count images commitments responses
-      × (judgeRound sheet (wholeRound sheet count images commitments c responses) ≡ Rejected row)
+      × (judgeRound sheet (wholeRound sheet count images commitments c responses) ≡ Rejected mask)
 
 -- the card; that the sheet is of bytes is asked so that its numbers are below 2^32, as a player's sheet stores them
 pub record TeamWorks : Type 0 where

@@ -10,12 +10,11 @@ use types::Round;
 use types::Verdict;
 ghost use mathlib.Core.Path.{_≡_};
 ghost use Rattle.runs.specs.Calls.{judgeRound, simulateCommitment};
-ghost use Rattle.sigma.specs.Answer.{outcome};
 
-// The verdict on a round: accepted, rejected with the first row whose two sides differ, or refused with 2 to 11 for the sheet
-// or 14 to 16 for the round. Its outcome is 01's number and values.
+// The verdict on a round: accepted, rejected with all rows whose two sides differ, or refused with 2 to 11 for the sheet or 14 to
+// 16 for the round.
 pub fn judge(sheet: &[u8], round: Round) -> Verdict
-    ensures { λ r. ⌜ outcome r ≡ outcome (judgeRound (now (sheet .entry)) round) ⌝ }
+    ensures { λ r. ⌜ r ≡ judgeRound (now (sheet .entry)) round ⌝ }
 {
     let loaded = load(sheet);
     let refusal = loaded.refusal;

@@ -1,8 +1,8 @@
--- What is not refused: the line is `accepted` exactly where judging accepts round 0, and else it has the first differing row.
+-- What is not refused: the line is `accepted` exactly where judging accepts round 0, and else it has the differing rows.
 -- Assumes nothing.
 use Prim.Native.Nat.{ℕ}
 use mathlib.Core.Path.{_≡_, refl, sym, ap, _∙_}
-use mathlib.Core.List.{List}
+use mathlib.Core.List.{List, _++_, flatten, map}
 use mathlib.Core.Logic.{_↔_, _⊎_, inl, inr, ⊎-elim}
 use native.Mathlib.Decide.{decLt}
 use native.Mathlib.Omega.{arith}
@@ -13,9 +13,10 @@ use Rattle.types.specs.declared.Verdict.the-variants.{Accepted, Rejected, Refus
 use Rattle.encoding.specs.Text.{ascii}
 use Rattle.lists.specs.Places.{zeros8}
 use Rattle.lists.proofs.Places.{getD-zeros8}
-use Rattle.sigma.specs.Answer.{judged, outcome}
+use Rattle.sigma.specs.Answer.{judged, outcome, rowsOf}
 use Rattle.sigma.proofs.After.{judgeAfter-refused}
 use Rattle.sigma.proofs.Answer.{accepted-not-refused, judged-given, unlessRefused-positive}
+use Rattle.sigma.proofs.Fails.{fails-split}
 use Rattle.formats.specs.Load.{loadRefusal, loadRules}
 use Rattle.formats.specs.RoundCalls.{checkRound, fetchAfter, fetchRound, noRound}
 use Rattle.formats.specs.Sheet.{instanceOf}
@@ -25,7 +26,7 @@ use Rattle.runs.specs.Calls.{judgeRound}
 use Rattle.runs.proofs.Protocol.{sheet-accepted, verdicts}
 use Rattle.reasons.specs.declared.Spot.{Spot}
 use Rattle.reasons.specs.Reason.{firstVerdict, lineText, reasonLine, reasonNumber, reasonText}
-use Rattle.reasons.specs.ReasonsTrue.{RejectedLine, firstRound}
+use Rattle.reasons.specs.ReasonsTrue.{RejectedLine, firstRound, toldRow}
 use Rattle.reasons.proofs.Line.{checked-judged, checked-refused, text-accepted, text-rejected}
 
 -- no other verdict's line is `accepted`
@@ -33,7 +34,7 @@ accepted-line : (v : Verdict) (spot : ℕ → Spot) (left right : List ℕ) → 
     → v ≡ Accepted
 unfolding lineText ascii
 accepted-line Accepted spot left right same = refl
-accepted-line (Rejected row) spot left right same = absurd (omega (arith, ap (λ (l : List ℕ). getD l 0 0) same))
+accepted-line (Rejected mask) spot left right same = absurd (omega (arith, ap (λ (l : List ℕ). getD l 0 0) same))
 accepted-line (Refused n) spot left right same = absurd (omega (arith, ap (λ (l : List ℕ). getD l 0 0) same))
 
 -- where judging accepts a round, the sheet loads
@@ -53,7 +54,7 @@ module _ (s f : List ℕ) where
     | no passed ↦ omega arith
   ]
 
-  -- the line is then `accepted` or has the first differing row
+  -- the line is then `accepted` or has the differing rows
   pub line-judged : reasonNumber s f ≡ 0 → (reasonText s f ≡ ascii "accepted\n") ⊎ RejectedLine s f
   unfolding reasonNumber
   line-judged none =
@@ -62,7 +63,11 @@ module _ (s f : List ℕ) where
       let number = ap (λ (v : Verdict). outcome v .number) (sym same) ∙ none in
       let rows = verdicts s (loads s .1 (check-runs s f 0 .0 passed .0)) (firstRound s f) number in
       ⊎-elim (λ e. inl (text-accepted s f (same ∙ e)))
-      (λ (row, e). let first = rows .rejected row .0 e in inr (row, first, text-rejected s f row (same ∙ e) (first .inside)))
+      (λ (mask, e).
+      let (all, small) = rows .rejected mask .0 e in
+      let (row, others, whole, first, exactly) = fails-split (instanceOf s) (firstRound s f) (rowsOf mask) all in
+      let text = text-rejected s f mask (same ∙ e) (λ k m. all .exactly k .0 m .0) in
+      inr (row, others, first, exactly, text ∙ ap (λ (ks : List ℕ). ascii "rejected" ++ flatten (map (toldRow s f) ks) ++ ascii "\n") whole))
       (rows .decided)
 
   -- a round that judging accepts stands in a file that the check lets pass: else it is read as zeros, which are no elements

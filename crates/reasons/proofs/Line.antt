@@ -1,21 +1,24 @@
 -- The one line by its verdict: a refusal is told with its number, and what is not refused by the verdict on round 0.
 -- Assumes nothing.
-use Prim.Native.Nat.{ℕ, _<_}
+use Prim.Native.Nat.{ℕ, _<_, _≤_}
 use mathlib.Core.Path.{_≡_, refl, sym, ap, ap₂, _∙_}
-use mathlib.Core.List.{List, [], _++_, append-assoc, append-nil, flatten}
+use mathlib.Core.List.{List, _++_, append-assoc, flatten, map}
 use native.Mathlib.Decide.{decLt}
 use native.Mathlib.Omega.{arith}
-use lib.ListN.{getD, length}
-use Rattle.types.specs.declared.Round.{Round}
+use lib.ListN.{getD, length, length-append}
 use Rattle.types.specs.declared.Verdict.{Verdict}
 use Rattle.types.specs.declared.Verdict.the-variants.{Accepted, Rejected, Refused}
+use Rattle.numbers.specs.Bits.{bit}
 use Rattle.encoding.specs.Text.{ascii, decimal}
+use Rattle.encoding.proofs.Text.{decimal-length}
+use Rattle.lists.specs.Member.{Member}
 use Rattle.lists.specs.Places.{places}
+use Rattle.lists.proofs.Words.{words-agree, words-short}
 use Rattle.rules.specs.Condition.{Given}
 use Rattle.rules.specs.Rule.{Rule, lowest}
 use Rattle.rules.proofs.Condition.{given, tests-append}
 use Rattle.rules.proofs.Lowest.{clear-append, clear-lowest, lowest-earlier, lowest-later}
-use Rattle.sigma.specs.Answer.{judged, outcome}
+use Rattle.sigma.specs.Answer.{judged, outcome, rowsOf}
 use Rattle.sigma.specs.Image.{image}
 use Rattle.sigma.specs.Instance.{tableOf}
 use Rattle.sigma.specs.Judge.{judgeAfter, judgeRules}
@@ -37,7 +40,7 @@ use Rattle.reasons.specs.declared.Spot.{Spot}
 use Rattle.reasons.specs.declared.Spot.the-variants.{At, Length}
 use Rattle.reasons.specs.Reason.{firstVerdict, lineText, reasonLine, reasonNumber, reasonText, rowText, spotOf, spotText}
 use Rattle.reasons.specs.Lines.{refusedLine, rejectedLine}
-use Rattle.reasons.specs.ReasonsTrue.{firstRound, leftSide, reasonConditions, rightSide}
+use Rattle.reasons.specs.ReasonsTrue.{firstRound, reasonConditions, toldRow}
 use Rattle.reasons.proofs.Named.{spot}
 
 -- a verdict with a number above 0 is the refusal with that number
@@ -47,20 +50,29 @@ refused-verdict Accepted some = absurd (omega arith)
 refused-verdict (Rejected row) some = absurd (omega arith)
 refused-verdict (Refused n) some = refl
 
--- the pieces of two lines, put together in two ways
+-- the pieces of a line, put together in two ways
 length-words : (a b c d e g : List ℕ) → a ++ b ++ c ++ (d ++ e) ++ g ≡ a ++ b ++ (c ++ d) ++ e ++ g
 length-words a b c d e g = simp append-assoc
 
-row-words : (a b c d e g h i : List ℕ) → a ++ (b ++ c ++ d ++ e ++ g ++ h ++ []) ++ i ≡ (a ++ b) ++ c ++ d ++ e ++ g ++ h ++ i
-row-words a b c d e g h i = simp (append-assoc, append-nil)
-
 -- the line of a rejected round, by its parts
-pub rejected-line : (row : ℕ) (spots : ℕ → Spot) (left right : List ℕ)
-    → lineText (Rejected row) spots left right ≡ rejectedLine row (getD left row 0) (getD right row 0)
-unfolding lineText rowText flatten ascii
-rejected-line row spots left right =
-    row-words (ascii "rejected") (ascii " ") (decimal row) (ascii " ") (decimal (getD left row 0)) (ascii " ")
-    (decimal (getD right row 0)) (ascii "\n")
+pub rejected-line : (mask : ℕ) (spots : ℕ → Spot) (left right : List ℕ)
+    → lineText (Rejected mask) spots left right ≡ rejectedLine mask left right
+unfolding lineText
+rejected-line mask spots left right = refl
+
+-- it has 201 bytes at most: eight rows with two numbers of ten digits
+pub rejected-short : (mask : ℕ) (left right : List ℕ)
+    → ((row : ℕ) → row < 8 → (getD left row 0 < 4294967296) × (getD right row 0 < 4294967296))
+    → length (rejectedLine mask left right) ≤ 201
+unfolding ascii rowsOf rowText
+rejected-short mask left right small =
+    let rows = words-short (rowText left right) 24 8 (bit mask) (λ row few.
+    let (a, b) = small row few in
+    let one = decimal-length 0 row (omega arith) in
+    let two = decimal-length 9 (getD left row 0) (omega arith) in
+    let three = decimal-length 9 (getD right row 0) (omega arith) in
+    simp length-append (omega arith)) in
+    simp length-append (omega (arith, rows))
 
 module _ (s f : List ℕ) where
   -- ---- the number
@@ -149,10 +161,16 @@ module _ (s f : List ℕ) where
   text-accepted e = ap (lineOf (length s) (length f)) e
 
   -- a rejected one
-  pub text-rejected : (row : ℕ) → firstVerdict s f ≡ Rejected row → row < instanceOf s .header .rows
-      → reasonText s f ≡ rejectedLine row (leftSide s f row) (rightSide s f row)
-  unfolding reasonText reasonLine instanceOf
-  text-rejected row e inside =
-      let left = image-at (tableOf (instanceOf s)) (firstRound s f .response) row inside in
-      let right = expected-image-at (instanceOf s) (firstRound s f .commitment) (firstRound s f .challenge) row inside in
-      ap (lineOf (length s) (length f)) e ∙ rejected-line row (spot s f) _ _ ∙ ap₂ (rejectedLine row) left right
+  pub text-rejected : (mask : ℕ) → firstVerdict s f ≡ Rejected mask
+      → ((row : ℕ) → Member row (rowsOf mask) → row < instanceOf s .header .rows)
+      → reasonText s f ≡ ascii "rejected" ++ flatten (map (toldRow s f) (rowsOf mask)) ++ ascii "\n"
+  unfolding reasonText reasonLine rowText instanceOf
+  text-rejected mask e inside =
+      let left = image (tableOf (instanceOf s)) (firstRound s f .response) in
+      let right = expectedImage (instanceOf s) (firstRound s f .commitment) (firstRound s f .challenge) in
+      ap (lineOf (length s) (length f)) e ∙ rejected-line mask (spot s f) left right
+      ∙ ap (λ (rows : List ℕ). ascii "rejected" ++ rows ++ ascii "\n")
+      (words-agree (rowText left right) (toldRow s f) (rowsOf mask) (λ row m.
+      ap₂ (λ (a b : ℕ). ascii " " ++ decimal row ++ ascii " " ++ decimal a ++ ascii " " ++ decimal b)
+      (image-at (tableOf (instanceOf s)) (firstRound s f .response) row (inside row m))
+      (expected-image-at (instanceOf s) (firstRound s f .commitment) (firstRound s f .challenge) row (inside row m))))

@@ -1,9 +1,9 @@
--- The reason why a sheet, a round file or its round 0 is turned down, as the one line that is printed (02, card 1). The numbers
+-- The reason why a sheet, a round file or its round 0 is turned down, as the one line that is printed (02, cards 1 and 8). The numbers
 -- are found on the bytes at hand, and a length that is printed is handed in, since a file may be longer than what is kept of it.
 -- Assumes nothing.
 use Prim.Native.Nat.{ℕ, _+_, _*_}
 use mathlib.Core.Bool.{not, cond, _||_}
-use mathlib.Core.List.{List, [], _∷_, _++_, flatten, map}
+use mathlib.Core.List.{List, _++_, flatten, map}
 use lib.Dec.{eqb, ltb}
 use lib.ListN.{getD, length}
 use Rattle.types.specs.declared.Header.{Header}
@@ -19,7 +19,7 @@ use Rattle.rules.specs.Answer.{unlessRefused}
 use Rattle.formats.specs.RoundCalls.{checkRound, fetchRound}
 use Rattle.formats.specs.RoundFile.{challengeWidth, countField, fileVersion, roundMark, unknownVersion}
 use Rattle.formats.specs.Sheet.{entryCount, headerOf, instanceOf}
-use Rattle.sigma.specs.Answer.{outcome}
+use Rattle.sigma.specs.Answer.{outcome, rowsOf}
 use Rattle.sigma.specs.Comparison.{differ}
 use Rattle.sigma.specs.Element.{isCoordinate, isElement}
 use Rattle.sigma.specs.Image.{image}
@@ -95,7 +95,7 @@ rowText left right row =
 -- what the line says: the two sides of the round are [r] and t · z^c
 unfoldable pub lineText : Verdict → (ℕ → Spot) → List ℕ → List ℕ → List ℕ
 lineText Accepted spot left right = ascii "accepted\n"
-lineText (Rejected row) spot left right = ascii "rejected" ++ flatten (map (rowText left right) (row ∷ [])) ++ ascii "\n"
+lineText (Rejected mask) spot left right = ascii "rejected" ++ flatten (map (rowText left right) (rowsOf mask)) ++ ascii "\n"
 lineText (Refused number) spot left right = ascii "refused " ++ decimal number ++ ascii " " ++ spotText (spot number) ++ ascii "\n"
 
 -- the line on the bytes at hand of two files that have so many bytes in all

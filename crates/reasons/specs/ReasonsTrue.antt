@@ -1,11 +1,11 @@
--- The reason is true (02, card 1), for every sheet and every round file. It says what the one line is, in literal words, by what
+-- The reason is true (02, cards 1 and 8), for every sheet and every round file. It says what the one line is, in literal words, by what
 -- 01 says of the two files: which number from 2 on is the first whose condition holds, which value is the first that breaks
--- that rule, and what both sides of the first differing row are.
+-- that rule, and what both sides of the differing rows are.
 -- Assumes nothing.
 use Prim.Native.Nat.{ℕ, _*_, _%_, _^_, _<_, _≤_}
 use mathlib.Core.Path.{_≡_}
 use mathlib.Core.Logic.{_⊎_, _↔_}
-use mathlib.Core.List.{List, [], _∷_, _++_}
+use mathlib.Core.List.{List, [], _∷_, _++_, flatten, map}
 use lib.ListN.{getD, length, take}
 use Rattle.types.specs.declared.Round.{Round}
 use Rattle.types.specs.declared.Verdict.the-variants.{Accepted}
@@ -19,7 +19,7 @@ use Rattle.formats.specs.RoundCalls.{fetchRound}
 use Rattle.formats.specs.Sheet.{headerOf, instanceOf}
 use Rattle.sigma.specs.Image.{rowImage}
 use Rattle.sigma.specs.Instance.{statementAt, tableOf}
-use Rattle.sigma.specs.Meaning.{FailsFirst}
+use Rattle.sigma.specs.Meaning.{FailsExactly, FailsFirst}
 use Rattle.sigma.specs.Refusals.{judgeConditions}
 use Rattle.runs.specs.Calls.{judgeRound}
 use Rattle.reasons.specs.Breaks.{Breaks, FirstBreak, LengthBreaks}
@@ -55,12 +55,17 @@ abbrev pub rightSide : List ℕ → List ℕ → ℕ → ℕ
 rightSide s f row =
     getD (firstRound s f .commitment) row 0 * statementAt (instanceOf s) row ^ firstRound s f .challenge % headerOf s .modulus
 
--- the line on the first row whose two sides differ
+-- a row and its two sides, each with a space before it
+abbrev pub toldRow : List ℕ → List ℕ → ℕ → List ℕ
+toldRow s f row =
+    ascii " " ++ decimal row ++ ascii " " ++ decimal (leftSide s f row) ++ ascii " " ++ decimal (rightSide s f row)
+
+-- the line on exactly the rows whose two sides differ, rising; the first of them is 01's row
 abbrev pub RejectedLine : List ℕ → List ℕ → Type 0
 RejectedLine s f =
-    (row : ℕ) × FailsFirst (instanceOf s) (firstRound s f) row ×
-    (reasonText s f ≡ ascii "rejected " ++ decimal row ++ ascii " " ++ decimal (leftSide s f row) ++ ascii " " ++
-    decimal (rightSide s f row) ++ ascii "\n")
+    (row : ℕ) × (others : List ℕ) × FailsFirst (instanceOf s) (firstRound s f) row ×
+    FailsExactly (instanceOf s) (firstRound s f) (row ∷ others) ×
+    (reasonText s f ≡ ascii "rejected" ++ flatten (map (toldRow s f) (row ∷ others)) ++ ascii "\n")
 
 pub record ReasonsTrue : Type 0 where
   -- the number is that of the first condition that holds, from 2 on, and 0 where none does
@@ -73,7 +78,7 @@ pub record ReasonsTrue : Type 0 where
   pub refused : (s f : List ℕ) → 0 < reasonNumber s f → OffsetLine s f (reasonNumber s f) ⊎ LengthLine s f (reasonNumber s f)
   -- no rule is broken by a value and by a length, so a length is told exactly where one breaks the rule
   pub apart : (s f : List ℕ) (n o l : ℕ) → Breaks s f n o → ¬ LengthBreaks s f n l
-  -- where nothing is refused, the line is `accepted`, or it has the first differing row and both sides' values, that of [r] first
+  -- where nothing is refused, the line is `accepted`, or it has the differing rows, each with both sides' values, that of [r] first
   pub judged : (s f : List ℕ) → reasonNumber s f ≡ 0 → (reasonText s f ≡ ascii "accepted\n") ⊎ RejectedLine s f
   -- `accepted` is printed exactly where judging accepts round 0
   pub accepted : (s f : List ℕ) → (reasonText s f ≡ ascii "accepted\n") ↔ (judgeRound s (firstRound s f) ≡ Accepted)

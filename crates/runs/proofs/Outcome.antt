@@ -62,18 +62,18 @@ judged-number zero v u = ap (λ (w : Verdict). outcome w .number) (judged-zero v
   where
     given : (w : Verdict) → ((k : ℕ) → w ≢ Refused k) → outcome w .number ≡ 0
     given Accepted f = refl
-    given (Rejected row) f = refl
+    given (Rejected mask) f = refl
     given (Refused k) f = absurd (f k refl)
 judged-number (suc n) v u = rw (judged-positive (suc n) v (omega arith))
 
 -- a verdict whose outcome has the number 0 is accepted or rejected
 pub judged-decided : (n : ℕ) (v : Verdict) → ((k : ℕ) → v ≢ Refused k) → outcome (judged n v) .number ≡ 0
-    → (judged n v ≡ Accepted) ⊎ ((row : ℕ) × (judged n v ≡ Rejected row))
+    → (judged n v ≡ Accepted) ⊎ ((mask : ℕ) × (judged n v ≡ Rejected mask))
 judged-decided n v u e =
     let same : judged n v ≡ v = ap (λ (k : ℕ). judged k v) (sym (judged-number n v u) ∙ e) ∙ judged-zero v in
     rw same (decide v u)
   where
-    decide : (w : Verdict) → ((k : ℕ) → w ≢ Refused k) → (w ≡ Accepted) ⊎ ((row : ℕ) × (w ≡ Rejected row))
+    decide : (w : Verdict) → ((k : ℕ) → w ≢ Refused k) → (w ≡ Accepted) ⊎ ((mask : ℕ) × (w ≡ Rejected mask))
     decide Accepted f = inl refl
-    decide (Rejected row) f = inr (row, refl)
+    decide (Rejected mask) f = inr (mask, refl)
     decide (Refused k) f = absurd (f k refl)

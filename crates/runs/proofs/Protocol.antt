@@ -1,31 +1,33 @@
 -- Demand 2's protocol: for every sheet that loads, Peggy's commitments and responses and Vic's verdicts are those of the main
 -- protocol in section 5 of Maurer's paper, as 01 writes it down.
 -- Assumes nothing.
-use Prim.Native.Nat.{ℕ, zero, suc, _<_, _≤_}
-use mathlib.Core.Path.{_≡_, ap, _∙_}
+use Prim.Native.Nat.{ℕ, zero, suc, _^_, _<_, _≤_}
+use mathlib.Core.Path.{_≡_, refl, sym, ap, _∙_}
 use mathlib.Core.Logic.{_↔_, _≢_, _⊎_, ⊎-elim}
-use mathlib.Core.List.{List}
+use mathlib.Core.List.{List, _∷_, head-eq-of-cons-eq, tail-eq-of-cons-eq}
 use native.Mathlib.Omega.{arith}
 use lib.ListN.{length, getD, List·getD-eq-default}
 use Rattle.types.specs.declared.Prover.{Prover}
 use Rattle.types.specs.declared.ProverStep.{ProverStep}
 use Rattle.types.specs.declared.Round.{Round}
+use Rattle.types.specs.declared.Verdict.{Verdict}
 use Rattle.types.specs.declared.Verdict.the-variants.{Accepted, Rejected}
 use Rattle.lists.specs.Places.{pad8, places}
 use Rattle.lists.proofs.Places.{getD-places, getD-pad8, getD-zeros8}
 use Rattle.formats.specs.Load.{loadRules, loadRefusal}
 use Rattle.formats.specs.Sheet.{instanceOf}
 use Rattle.formats.proofs.Loads.{loads-valid}
-use Rattle.sigma.specs.Answer.{eightPlaces, outcome}
+use Rattle.sigma.specs.Answer.{eightPlaces, outcome, rowsOf}
 use Rattle.sigma.specs.Image.{rowImage}
 use Rattle.sigma.specs.Instance.{Instance, tableOf}
 use Rattle.sigma.specs.Judge.{judgeAfter}
-use Rattle.sigma.specs.Meaning.{Holds, FailsFirst, Fits}
+use Rattle.sigma.specs.Meaning.{Holds, FailsExactly, FailsFirst, Fits}
 use Rattle.sigma.specs.Round.{responseCoordinate}
-use Rattle.sigma.proofs.Answer.{unlessRefused-zero, unlessRefused-positive}
+use Rattle.sigma.proofs.Answer.{judged-zero, unlessRefused-zero, unlessRefused-positive}
 use Rattle.sigma.proofs.ByKind.{responseCoordinate-exponent, responseCoordinate-root}
-use Rattle.sigma.proofs.Calls.{valid-judge-accepted, valid-judge-rejected}
-use Rattle.sigma.proofs.Unread.{rowImage-agree}
+use Rattle.sigma.proofs.Calls.{judge-given, valid-judge-accepted, valid-judge-rejected}
+use Rattle.sigma.proofs.Fails.{fails-begin}
+use Rattle.sigma.proofs.Unread.{fits-same, rowImage-agree, same-round-of-read, same-round-sym}
 use Rattle.sigma.proofs.Values.{length-image, length-response, image-at, response-at}
 use Rattle.sigma.proofs.Verdict.{verdict-not-refused}
 use Rattle.runs.specs.Calls.{judgeRound}
@@ -33,7 +35,7 @@ use Rattle.runs.specs.Protocol.{JudgesByRows, Protocol}
 use Rattle.runs.specs.Prover.{proverStep, commitAfter, commit, respondAfter, respond}
 use Rattle.runs.proofs.JointRun.{sheet-joint-run}
 use Rattle.runs.proofs.Loaded.{judge-loaded}
-use Rattle.runs.proofs.Outcome.{judged-decided}
+use Rattle.runs.proofs.Outcome.{judged-decided, judged-number}
 use Rattle.runs.proofs.ProverSteps.{commitAfter-given, respondAfter-given}
 use Rattle.runs.proofs.Verdicts.{takeResponse-given}
 
@@ -42,6 +44,14 @@ pub eight-beyond : (n : ℕ) (xs : List ℕ) (i : ℕ) → length xs ≤ i → g
 unfolding eightPlaces
 eight-beyond zero xs i h = rw unlessRefused-zero (getD-pad8 0 xs i ∙ List·getD-eq-default xs 0 h)
 eight-beyond (suc n) xs i h = rw (unlessRefused-positive (pad8 0 xs) _ (suc n) (omega arith)) (getD-zeros8 i)
+
+-- the values of a verdict's outcome, which are not those of a rejected one where it is accepted
+abbrev values-of : Verdict → List ℕ
+values-of v = outcome v .values
+
+accepted-values : (others : List ℕ) → values-of Accepted ≢ 0 ∷ others
+unfolding outcome
+accepted-values others e = let z : _≡_ {A = ℕ} 1 0 = head-eq-of-cons-eq e in omega arith
 
 module _ (sheet : List ℕ) (loaded : loadRefusal sheet ≡ 0) where
   -- the sheet's values
@@ -80,15 +90,25 @@ module _ (sheet : List ℕ) (loaded : loadRefusal sheet ≡ 0) where
       → (judgeRound sheet round ≡ Accepted) ↔ (Fits (instanceOf sheet) round × Holds (instanceOf sheet) round)
   sheet-accepted round = rw (judge-loaded sheet loaded round) (valid-judge-accepted values round (loads-valid sheet loaded))
 
-  -- else, if it fits, it is rejected with the first row where the equation does not hold
-  pub sheet-rejected : (round : Round) (row : ℕ)
-      → (judgeRound sheet round ≡ Rejected row) ↔ (Fits (instanceOf sheet) round × FailsFirst (instanceOf sheet) round row)
-  sheet-rejected round row =
-      rw (judge-loaded sheet loaded round) (valid-judge-rejected values round (loads-valid sheet loaded) row)
+  -- else, if it fits, it is rejected with the rows where the equation does not hold
+  pub sheet-rejected : (round : Round) (mask : ℕ)
+      → (judgeRound sheet round ≡ Rejected mask)
+      ↔ (Fits (instanceOf sheet) round
+      × (FailsExactly (instanceOf sheet) round (rowsOf mask) × (mask < 2 ^ instanceOf sheet .header .rows)))
+  sheet-rejected round mask =
+      rw (judge-loaded sheet loaded round) (valid-judge-rejected values round (loads-valid sheet loaded) mask)
+
+  -- a round that fits is not refused
+  pub fits-judged : (round : Round) → Fits (instanceOf sheet) round → outcome (judgeRound sheet round) .number ≡ 0
+  fits-judged round fits =
+      let read = same-round-sym (same-round-of-read (values .header) round) in
+      let given = judge-given values round _ (verdict-not-refused values _ _ _) .1 (fits-same values read fits, refl) in
+      ap (λ (v : Verdict). outcome v .number) (judge-loaded sheet loaded round ∙ given ∙ sym (judged-zero _))
+      ∙ judged-number 0 _ (verdict-not-refused values _ _ _)
 
   -- a round that is not refused is accepted or rejected
   not-refused : (round : Round) → outcome (judgeRound sheet round) .number ≡ 0
-      → (judgeRound sheet round ≡ Accepted) ⊎ ((row : ℕ) × (judgeRound sheet round ≡ Rejected row))
+      → (judgeRound sheet round ≡ Accepted) ⊎ ((mask : ℕ) × (judgeRound sheet round ≡ Rejected mask))
   unfolding judgeRound judgeAfter
   not-refused round = judged-decided _ _ (verdict-not-refused (instanceOf sheet) _ _ _)
 
@@ -96,7 +116,24 @@ module _ (sheet : List ℕ) (loaded : loadRefusal sheet ≡ 0) where
   not-refused-fits : (round : Round) → outcome (judgeRound sheet round) .number ≡ 0 → Fits (instanceOf sheet) round
   not-refused-fits round passed =
       ⊎-elim (λ (e : judgeRound sheet round ≡ Accepted). sheet-accepted round .0 e .0)
-      (λ (found : (row : ℕ) × (judgeRound sheet round ≡ Rejected row)). sheet-rejected round (found .0) .0 (found .1) .0)
+      (λ (found : (mask : ℕ) × (judgeRound sheet round ≡ Rejected mask)). sheet-rejected round (found .0) .0 (found .1) .0)
+      (not-refused round passed)
+
+  -- what is named first is the first row that fails
+  first-named : (round : Round) → outcome (judgeRound sheet round) .number ≡ 0 → (row : ℕ) → FailsFirst (instanceOf sheet) round row
+      ↔ ((others : List ℕ) × (outcome (judgeRound sheet round) .values ≡ 0 ∷ row ∷ others))
+  unfolding outcome
+  first-named round passed row =
+      ⊎-elim (λ (e : judgeRound sheet round ≡ Accepted). (
+        λ first. absurd (first .fails (sheet-accepted round .0 e .1 row (first .inside))),
+        λ (others, same). absurd (accepted-values _ (sym (ap values-of e) ∙ same)),
+      ))
+      (λ (found : (mask : ℕ) × (judgeRound sheet round ≡ Rejected mask)).
+      let (mask, e) = found in
+      let begin = fails-begin (instanceOf sheet) round (rowsOf mask) (sheet-rejected round mask .0 e .1 .0) row in (
+        λ first. let (others, same) = begin .0 first in (others, ap values-of e ∙ ap (λ (rows : List ℕ). 0 ∷ rows) same),
+        λ (others, same). begin .1 (others, tail-eq-of-cons-eq (sym (ap values-of e) ∙ same)),
+      ))
       (not-refused round passed)
 
   -- and its rows say which
@@ -105,7 +142,8 @@ module _ (sheet : List ℕ) (loaded : loadRefusal sheet ≡ 0) where
       let fits = not-refused-fits round passed in
       record {
         accepted = (λ e. sheet-accepted round .0 e .1, λ holds. sheet-accepted round .1 (fits, holds));
-        rejected = λ row. (λ e. sheet-rejected round row .0 e .1, λ fails. sheet-rejected round row .1 (fits, fails));
+        rejected = λ mask. (λ e. sheet-rejected round mask .0 e .1, λ fails. sheet-rejected round mask .1 (fits, fails));
+        first = first-named round passed;
         decided = not-refused round passed;
       }
 

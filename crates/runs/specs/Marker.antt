@@ -1,8 +1,8 @@
--- The marker's text (01, "The marker's lines"; 02, card 3), as the bytes that it prints.
+-- The marker's text (01, "The marker's lines"; 02, cards 3 and 8), as the bytes that it prints.
 -- Assumes nothing.
 use Prim.Native.Nat.{ℕ}
 use mathlib.Core.Bool.{Bool, not, cond, _||_}
-use mathlib.Core.List.{List, [], _∷_, _++_, flatten}
+use mathlib.Core.List.{List, [], _∷_, _++_, flatten, map}
 use lib.Dec.{eqb}
 use Rattle.types.specs.declared.Verdict.{Verdict}
 use Rattle.types.specs.declared.Verdict.the-variants.{Accepted, Rejected, Refused}
@@ -14,7 +14,7 @@ use Rattle.rules.specs.Rule.{Rule, _when_, lowest}
 use Rattle.formats.specs.Load.{loadRules}
 use Rattle.formats.specs.RoundCalls.{countRounds, fetchRound, fileRules}
 use Rattle.formats.specs.Sheet.{headerOf}
-use Rattle.sigma.specs.Answer.{isAccepted}
+use Rattle.sigma.specs.Answer.{isAccepted, rowsOf}
 use Rattle.runs.specs.Calls.{judgeRound}
 use Rattle.runs.specs.Level.{badLevel, levelOf, strongEnough}
 
@@ -26,10 +26,14 @@ newline = 0x0A ∷ []
 unfoldable pub wordLine : List ℕ → ℕ → List ℕ
 wordLine word n = word ++ ascii " " ++ decimal n ++ newline
 
+-- a row, with a space before it
+unfoldable pub rowWord : ℕ → List ℕ
+rowWord row = ascii " " ++ decimal row
+
 -- what a verdict's line says after the round's number
 unfoldable pub verdictText : Verdict → List ℕ
 verdictText Accepted = ascii "accepted"
-verdictText (Rejected row) = ascii "rejected " ++ decimal row
+verdictText (Rejected mask) = ascii "rejected" ++ flatten (map rowWord (rowsOf mask))
 verdictText (Refused number) = ascii "refused " ++ decimal number
 
 -- the line of round k and its verdict

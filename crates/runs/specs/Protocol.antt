@@ -4,18 +4,18 @@
 use Prim.Native.Nat.{ℕ, _+_, _*_, _%_, _^_, _<_, _≤_}
 use mathlib.Core.Path.{_≡_}
 use mathlib.Core.Logic.{_↔_, _⊎_}
-use mathlib.Core.List.{List}
+use mathlib.Core.List.{List, _∷_}
 use lib.ListN.{getD}
 use Rattle.types.specs.declared.Prover.{Prover}
 use Rattle.types.specs.declared.Round.{Round}
 use Rattle.types.specs.declared.Verdict.the-variants.{Accepted, Rejected}
 use Rattle.types.specs.declared.Verifier.{Verifier}
 use Rattle.formats.specs.Sheet.{instanceOf}
-use Rattle.sigma.specs.Answer.{outcome}
+use Rattle.sigma.specs.Answer.{outcome, rowsOf}
 use Rattle.sigma.specs.Image.{rowImage}
 use Rattle.sigma.specs.Instance.{tableOf}
 use Rattle.sigma.specs.Knowledge.{Choice, Witness}
-use Rattle.sigma.specs.Meaning.{Holds, FailsFirst}
+use Rattle.sigma.specs.Meaning.{Holds, FailsExactly, FailsFirst}
 use Rattle.sigma.specs.Reads.{roundOf}
 use Rattle.runs.specs.Calls.{judgeRound}
 use Rattle.runs.specs.JointRun.{JointRun}
@@ -27,10 +27,14 @@ use Rattle.runs.specs.Verifier.{takeResponse}
 pub record JudgesByRows (sheet : List ℕ) (round : Round) : Type 0 where
   -- it is accepted exactly where [r]_i = t_i · z_i^c mod m in every row i
   pub accepted : (judgeRound sheet round ≡ Accepted) ↔ Holds (instanceOf sheet) round
-  -- and rejected with a row exactly where that is the first row whose two sides differ
-  pub rejected : (row : ℕ) → (judgeRound sheet round ≡ Rejected row) ↔ FailsFirst (instanceOf sheet) round row
+  -- and rejected with a mask exactly where its rows are those whose two sides differ and no bit at s or beyond is set
+  pub rejected : (mask : ℕ) → (judgeRound sheet round ≡ Rejected mask)
+      ↔ (FailsExactly (instanceOf sheet) round (rowsOf mask) × (mask < 2 ^ instanceOf sheet .header .rows))
+  -- 01's row, the first whose two sides differ, is the first of them
+  pub first : (row : ℕ) → FailsFirst (instanceOf sheet) round row
+      ↔ ((others : List ℕ) × (outcome (judgeRound sheet round) .values ≡ 0 ∷ row ∷ others))
   -- it is one of the two
-  pub decided : (judgeRound sheet round ≡ Accepted) ⊎ ((row : ℕ) × (judgeRound sheet round ≡ Rejected row))
+  pub decided : (judgeRound sheet round ≡ Accepted) ⊎ ((mask : ℕ) × (judgeRound sheet round ≡ Rejected mask))
 
 -- the protocol on a sheet
 pub record Protocol (sheet : List ℕ) : Type 0 where

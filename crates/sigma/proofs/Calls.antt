@@ -1,6 +1,6 @@
 -- What each call answers, in 01's terms: when it is refused, and what it gives otherwise.
 -- Assumes nothing.
-use Prim.Native.Nat.{ℕ, _<_}
+use Prim.Native.Nat.{ℕ, _^_, _<_, _≤_}
 use mathlib.Core.Path.{_≡_, sym}
 use mathlib.Core.Logic.{_↔_, _≢_, Iff·rfl, Iff·trans, Iff·and}
 use mathlib.Core.Bool.{false, not}
@@ -16,8 +16,8 @@ use Rattle.rules.proofs.Lowest.{lowest-zero}
 use Rattle.sigma.specs.Instance.{Instance}
 use Rattle.sigma.specs.Valid.{Valid}
 use Rattle.sigma.specs.Reads.{roundOf, readRound, SameRound}
-use Rattle.sigma.specs.Meaning.{Holds, FailsFirst, Coordinates, Fits, Extracts}
-use Rattle.sigma.specs.Answer.{isAccepted}
+use Rattle.sigma.specs.Meaning.{Holds, FailsExactly, Coordinates, Fits, Extracts}
+use Rattle.sigma.specs.Answer.{isAccepted, rowsOf}
 use Rattle.sigma.specs.Round.{badCommitment, badChallenge, badCoordinates, verdict}
 use Rattle.sigma.specs.Judge.{judgeRules, judgeAfter, judgeLoaded}
 use Rattle.sigma.specs.Simulator.{simulated, simulateRules, simulateAfter, simulateLoaded}
@@ -108,11 +108,11 @@ module _ (i : Instance) (round : Round) where
   pub judge-accepted : (judgeLoaded i round ≡ Accepted) ↔ (Fits i (readRound (i .header) round) × Holds i (readRound (i .header) round))
   judge-accepted = Iff·trans (judge-given Accepted accepted-not-refused) (Iff·and Iff·rfl (verdict-accepted i _ _ _))
 
-  -- judging rejects exactly a round that fits and whose two sides differ, with the first row in which they do
-  pub judge-rejected : (row : ℕ) → (judgeLoaded i round ≡ Rejected row)
-      ↔ (Fits i (readRound (i .header) round) × FailsFirst i (readRound (i .header) round) row)
-  judge-rejected row =
-      Iff·trans (judge-given (Rejected row) (rejected-not-refused row)) (Iff·and Iff·rfl (verdict-rejected i _ _ _ row))
+  -- judging rejects exactly a round that fits and whose two sides differ, with the rows in which they do
+  pub judge-rejected : i .header .rows ≤ 8 → (mask : ℕ) → (judgeLoaded i round ≡ Rejected mask)
+      ↔ (Fits i (readRound (i .header) round) × (FailsExactly i (readRound (i .header) round) (rowsOf mask) × (mask < 2 ^ i .header .rows)))
+  judge-rejected few mask =
+      Iff·trans (judge-given (Rejected mask) (rejected-not-refused mask)) (Iff·and Iff·rfl (verdict-rejected i _ _ _ few mask))
 
   -- judging refuses with exactly the number above 0 that its rules give
   pub judge-refused : (n : ℕ) → (judgeLoaded i round ≡ Refused n)
@@ -132,12 +132,15 @@ module _ (i : Instance) (round : Round) where
       (λ x. (fits-same i s (x .0), holds-same i s v (x .1)), λ x. (fits-same i back (x .0), holds-same i back v (x .1)))
 
   -- and rejected
-  pub valid-judge-rejected : Valid i → (row : ℕ) → (judgeLoaded i round ≡ Rejected row) ↔ (Fits i round × FailsFirst i round row)
-  valid-judge-rejected v row =
+  pub valid-judge-rejected : Valid i → (mask : ℕ) → (judgeLoaded i round ≡ Rejected mask)
+      ↔ (Fits i round × (FailsExactly i round (rowsOf mask) × (mask < 2 ^ i .header .rows)))
+  valid-judge-rejected v mask =
       let s : SameRound (i .header) (readRound (i .header) round) round = same-round-of-read (i .header) round in
       let back = same-round-sym s in
-      Iff·trans (judge-rejected row)
-      (λ x. (fits-same i s (x .0), fails-same i s v row (x .1)), λ x. (fits-same i back (x .0), fails-same i back v row (x .1)))
+      Iff·trans (judge-rejected (v .table .few-rows) mask) (
+        λ (fits, (all, small)). (fits-same i s fits, (fails-same i s v (rowsOf mask) all, small)),
+        λ (fits, (all, small)). (fits-same i back fits, (fails-same i back v (rowsOf mask) all, small)),
+      )
 
 -- ---- simulating
 

@@ -1,20 +1,22 @@
--- Two lists compared row by row: whether they differ below n, the first row in which they do, and the verdict on them.
+-- Two lists compared row by row: whether they differ below n, the first row in which they do, all rows in which they do, and the
+-- verdict on them.
 -- Assumes nothing.
-use Prim.Native.Nat.{ℕ, _<_}
-use mathlib.Core.Path.{_≡_, refl, ap, subst}
-use mathlib.Core.Logic.{_↔_, _≢_}
+use Prim.Native.Nat.{ℕ, _^_, _<_}
+use mathlib.Core.Path.{_≡_, refl, ap}
+use mathlib.Core.Logic.{_↔_, _≢_, Iff·rfl, Iff·and, Iff·trans}
 use mathlib.Core.Bool.{Bool, true, false, cond, not}
 use mathlib.Core.List.{List}
 use native.Mathlib.Omega.{arith}
 use lib.Dec.{eqb}
 use lib.ListN.{getD}
-use borrow.Author.Tests.{ltb-true}
 use Rattle.types.specs.declared.Verdict.the-variants.{Accepted, Rejected, Refused}
+use Rattle.numbers.specs.Bits.{bit}
 use Rattle.numbers.specs.Search.{any}
+use Rattle.numbers.proofs.Bits.{mask-bits, mask-is, mask-small}
 use Rattle.numbers.proofs.Search.{find-holds, find-first, find-is}
 use Rattle.rules.specs.Says.{Says}
 use Rattle.rules.proofs.Says.{says-equal, says-not}
-use Rattle.sigma.specs.Comparison.{firstDifference, differ, compareSides}
+use Rattle.sigma.specs.Comparison.{firstDifference, differ, differences, compareSides}
 use Rattle.sigma.specs.Reads.{Agree, Differ}
 use Rattle.sigma.proofs.Answer.{accepted-not-refused, rejected-not-refused}
 use Rattle.sigma.proofs.Calculus.{says-passes, says-any, all-pass}
@@ -59,17 +61,41 @@ first-difference-is n xs ys row h different before =
     (says-differs xs ys row .complete different)
     (λ r from below. says-passes (says-equal (getD xs r 0) (getD ys r 0)) .1 (before r below))
 
+-- ---- all rows in which they differ
+
+module _ (n : ℕ) (xs ys : List ℕ) where
+  -- bit i is set exactly where i is below n and the lists differ there
+  pub differences-bits : (i : ℕ) → (bit (differences n xs ys) i ≡ true) ↔ ((i < n) × (getD xs i 0 ≢ getD ys i 0))
+  unfolding differences
+  differences-bits i =
+      let says = says-differs xs ys i in
+      Iff·trans (mask-bits n _ i) (Iff·and Iff·rfl (says .sound, says .complete))
+
+  -- no bit at n or beyond is
+  pub differences-small : differences n xs ys < 2 ^ n
+  unfolding differences
+  differences-small = mask-small n _
+
+  -- no other mask is like this
+  pub differences-is : (mask : ℕ) → mask < 2 ^ n → ((i : ℕ) → i < n → (bit mask i ≡ true) ↔ (getD xs i 0 ≢ getD ys i 0))
+      → differences n xs ys ≡ mask
+  unfolding differences
+  differences-is mask small same =
+      mask-is n _ mask small (λ i inside.
+      let says = says-differs xs ys i in
+      (λ t. same i inside .1 (says .sound t), λ set. says .complete (same i inside .0 set)))
+
 -- ---- the verdict on them
 
 -- between rejected and accepted, accepted is chosen only where the test is false
-choice-accepted : (b : Bool) (row : ℕ) → cond b (Rejected row) Accepted ≡ Accepted → b ≡ false
-choice-accepted true row e = cc
-choice-accepted false row e = refl
+choice-accepted : (b : Bool) (mask : ℕ) → cond b (Rejected mask) Accepted ≡ Accepted → b ≡ false
+choice-accepted true mask e = cc
+choice-accepted false mask e = refl
 
--- and rejected only where it is true, with that row
-choice-rejected : (b : Bool) (row row′ : ℕ) → cond b (Rejected row) Accepted ≡ Rejected row′ → (b ≡ true) × (row ≡ row′)
-choice-rejected true row row′ e = (refl, cc)
-choice-rejected false row row′ e = (cc, cc)
+-- and rejected only where it is true, with that mask
+choice-rejected : (b : Bool) (mask mask′ : ℕ) → cond b (Rejected mask) Accepted ≡ Rejected mask′ → (b ≡ true) × (mask ≡ mask′)
+choice-rejected true mask mask′ e = (refl, cc)
+choice-rejected false mask mask′ e = (cc, cc)
 
 module _ (n : ℕ) (xs ys : List ℕ) where
   -- the sides are accepted exactly when all rows below n agree
@@ -77,28 +103,19 @@ module _ (n : ℕ) (xs ys : List ℕ) where
   unfolding compareSides
   compare-accepted = (λ e. differ-false n xs ys .0 (choice-accepted _ _ e), λ a. rw (differ-false n xs ys .1 a))
 
-  -- the sides are rejected with exactly the first row below n that differs
-  pub compare-rejected : (row : ℕ) → (compareSides n xs ys ≡ Rejected row)
-      ↔ ((row < n) × (getD xs row 0 ≢ getD ys row 0) × Agree row xs ys)
-  unfolding compareSides differ
-  compare-rejected row = (found, given)
-    where
-      found : compareSides n xs ys ≡ Rejected row → (row < n) × (getD xs row 0 ≢ getD ys row 0) × Agree row xs ys
-      found e =
-          let (t, same) = choice-rejected (differ n xs ys) (firstDifference n xs ys) row e in
-          let below : firstDifference n xs ys < n = ltb-true _ _ t in
-          subst (λ (k : ℕ). (k < n) × (getD xs k 0 ≢ getD ys k 0) × Agree k xs ys) same
-          (below, first-difference-differs n xs ys below, first-difference-before n xs ys)
-
-      given : (row < n) × (getD xs row 0 ≢ getD ys row 0) × Agree row xs ys → compareSides n xs ys ≡ Rejected row
-      given (h, different, before) =
-          rw (says-differ n xs ys .complete (row, h, different)) (ap Rejected (first-difference-is n xs ys row h different before))
+  -- the sides are rejected exactly when some row below n differs, with all that do
+  pub compare-rejected : (mask : ℕ) → (compareSides n xs ys ≡ Rejected mask) ↔ (Differ n xs ys × (differences n xs ys ≡ mask))
+  unfolding compareSides
+  compare-rejected mask = (
+    λ e. let (t, same) = choice-rejected (differ n xs ys) (differences n xs ys) mask e in (says-differ n xs ys .sound t, same),
+    λ (different, same). rw (says-differ n xs ys .complete different) (ap Rejected same),
+  )
 
   -- the sides are never refused
   pub compare-not-refused : (k : ℕ) → compareSides n xs ys ≢ Refused k
   unfolding compareSides
   compare-not-refused k = never (differ n xs ys)
     where
-      never : (b : Bool) → cond b (Rejected (firstDifference n xs ys)) Accepted ≢ Refused k
-      never true = rejected-not-refused (firstDifference n xs ys) k
+      never : (b : Bool) → cond b (Rejected (differences n xs ys)) Accepted ≢ Refused k
+      never true = rejected-not-refused (differences n xs ys) k
       never false = accepted-not-refused k

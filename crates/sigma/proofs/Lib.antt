@@ -1,4 +1,5 @@
 -- Laws of the protocol on values: what each test says, what a call answers, what it reads, and demand 3.
+pub mod Rows
 pub mod Answer
 pub mod Positive
 pub mod After
@@ -13,6 +14,7 @@ pub mod ElementGroup
 pub mod ResidueGroup
 pub mod CoordinateGroup
 pub mod Valid
+pub mod Fails
 pub mod Unread
 pub mod Verdict
 pub mod Calls

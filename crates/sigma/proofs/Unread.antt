@@ -18,12 +18,13 @@ use Rattle.sigma.specs.Element.{Element, Coordinate}
 use Rattle.sigma.specs.Valid.{Valid, ValidTable}
 use Rattle.sigma.specs.Image.{rowImage}
 use Rattle.sigma.specs.Reads.{Agree, SameRound, paddedRound, readRound}
-use Rattle.sigma.specs.Meaning.{RowHolds, Holds, FailsFirst, Elements, Coordinates, Fits, Extracts}
+use Rattle.sigma.specs.Meaning.{RowHolds, Holds, FailsExactly, Elements, Coordinates, Fits, Extracts}
 use Rattle.sigma.specs.Judge.{judgeAfter, judgeLoaded}
 use Rattle.sigma.specs.Simulator.{simulateAfter}
 use Rattle.sigma.specs.Extractor.{extractAfter}
 use Rattle.sigma.proofs.Tests.{says-exponent}
 use Rattle.sigma.proofs.ByKind.{rowImage-exponent, rowImage-root}
+use Rattle.sigma.proofs.Fails.{fails-alike}
 use Rattle.sigma.proofs.Valid.{valid-kind}
 
 -- ---- rounds
@@ -117,14 +118,11 @@ module _ (i : Instance) {round round′ : Round} (s : SameRound (i .header) roun
   pub holds-same : Valid i → Holds i round → Holds i round′
   holds-same v f row h = row-same v row h (f row h)
 
--- so does the first row in which the equation fails
-pub fails-same : (i : Instance) {round round′ : Round} → SameRound (i .header) round round′ → Valid i → (row : ℕ)
-    → FailsFirst i round row → FailsFirst i round′ row
-fails-same i s v row f = record {
-  inside = f .inside;
-  fails = λ x. f .fails (row-same i (same-round-sym s) v row (f .inside) x);
-  before = λ k h. row-same i s v k (omega arith) (f .before k h);
-}
+-- so do the rows in which the equation fails
+pub fails-same : (i : Instance) {round round′ : Round} → SameRound (i .header) round round′ → Valid i → (rows : List ℕ)
+    → FailsExactly i round rows → FailsExactly i round′ rows
+fails-same i {round} {round′} s v rows =
+    fails-alike i i round round′ refl (λ row h. (row-same i s v row h, row-same i (same-round-sym s) v row h)) rows
 
 -- so does what the extractor asks for
 pub extracts-same : (i : Instance) {first first′ second second′ : Round}

@@ -7,6 +7,7 @@ use lib.Dec.{eqb, ltb}
 use lib.ListN.{getD}
 use Rattle.types.specs.declared.Verdict.{Verdict}
 use Rattle.types.specs.declared.Verdict.the-variants.{Accepted, Rejected}
+use Rattle.numbers.specs.Bits.{maskBelow}
 use Rattle.numbers.specs.Search.{find}
 
 -- the first place below n at which the lists differ, and n where there is none
@@ -17,6 +18,10 @@ firstDifference n xs ys = find (λ i. not (eqb (getD xs i 0) (getD ys i 0))) 0 n
 unfoldable pub differ : ℕ → List ℕ → List ℕ → Bool
 differ n xs ys = ltb (firstDifference n xs ys) n
 
--- the verdict on two sides of n rows: accepted where all rows agree, else rejected with the first that does not
+-- the places below n at which the lists differ, as a mask
+unfoldable pub differences : ℕ → List ℕ → List ℕ → ℕ
+differences n xs ys = maskBelow n (λ i. not (eqb (getD xs i 0) (getD ys i 0)))
+
+-- the verdict on two sides of n rows: accepted where all rows agree, else rejected with all that do not
 unfoldable pub compareSides : ℕ → List ℕ → List ℕ → Verdict
-compareSides n xs ys = cond (differ n xs ys) (Rejected (firstDifference n xs ys)) Accepted
+compareSides n xs ys = cond (differ n xs ys) (Rejected (differences n xs ys)) Accepted

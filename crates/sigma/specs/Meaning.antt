@@ -2,10 +2,11 @@
 -- Assumes nothing.
 use Prim.Native.Nat.{ℕ, _*_, _%_, _^_, _<_}
 use mathlib.Core.Path.{_≡_}
-use mathlib.Core.Logic.{_≢_}
+use mathlib.Core.Logic.{_↔_, _≢_}
 use mathlib.Core.List.{List}
-use lib.ListN.{getD}
+use lib.ListN.{length, getD}
 use Rattle.types.specs.declared.Round.{Round}
+use Rattle.lists.specs.Member.{Member, Rising}
 use Rattle.sigma.specs.Instance.{Instance, tableOf, statementAt}
 use Rattle.sigma.specs.Element.{Element, Coordinate}
 use Rattle.sigma.specs.Image.{rowImage}
@@ -25,6 +26,12 @@ pub record FailsFirst (inst : Instance) (round : Round) (row : ℕ) : Type 0 whe
   pub inside : row < inst .header .rows
   pub fails : ¬ RowHolds inst round row
   pub before : (k : ℕ) → k < row → RowHolds inst round k
+
+-- `rows` are exactly the rows whose two sides differ, rising, and there is one
+pub record FailsExactly (inst : Instance) (round : Round) (rows : List ℕ) : Type 0 where
+  pub exactly : (i : ℕ) → Member i rows ↔ ((i < inst .header .rows) × (¬ RowHolds inst round i))
+  pub rising : Rising rows
+  pub some : 0 < length rows
 
 -- every value is a group element (14)
 abbrev pub Elements : Instance → List ℕ → Type 0

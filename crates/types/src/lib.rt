@@ -59,7 +59,7 @@ pub struct Fetched {
     pub refusal: u32,
 }
 
-// What judging a round answers: accepted, rejected with the first differing row, or refused with a number.
+// What judging a round answers: accepted, rejected with the differing rows, bit i of a mask for row i, or refused with a number.
 pub enum Verdict {
     Accepted,
     Rejected(u32),

@@ -1,20 +1,21 @@
 -- `image::verdict` meets its contract: comparing the two sides in eight places is comparing the values that are read. The
--- invariant: the rows before i agree. The measure: how many rows are left. Assumes nothing.
+-- invariant: the mask of the rows before i that differ, and the bit of row i. The measure: how many rows are left. Assumes nothing.
 use mathlib.Core.Path.{refl}
 use Prim.Native.Nat.{_-_}
 use native.Mathlib.Omega.{arith}
 use Rattle.sigma.specs.Instance.{instanceWith, statementAt}
 use Rattle.image.proofs.Slots.{product-reduced}
-use Rattle.comparison.proofs.TwoSides.{agreed-none}
-use Rattle.image.proofs.Unread.{verdict-compared, RowsAgree, rows-on, verdict-differs, verdict-agrees}
+use Rattle.comparison.proofs.Masks.{marked-none, marked-small}
+use Rattle.image.proofs.Unread.{verdict-compared, RowsMarked, rows-on, verdict-marked}
 use Rattle.image.proofs.verdict.Statement.{statement}
 use Rattle.image.proofs.verdict.Tie as tie
 
 abbrev Inv-loop : tie.InvT-loop
-Inv-loop h c r entries statement t rows i₀ i = RowsAgree (instanceWith h entries statement) t c r i
+Inv-loop h c r entries statement t rows mask₀ bit₀ i₀ mask bit i =
+    RowsMarked (instanceWith h entries statement) t c r i mask bit
 
 abbrev μ-loop : tie.MeasureT-loop
-μ-loop h c r entries statement t rows i₀ i = rows - i
+μ-loop h c r entries statement t rows mask₀ bit₀ i₀ mask bit i = rows - i
 
 cast-rows : tie.Need-cast-rows Inv-loop μ-loop
 cast-rows c = omega arith
@@ -40,7 +41,7 @@ returns c =
     verdict-compared (instanceWith (args .h) (args .t2) (args .t3)) (start .pre) _ _ _ left right (c .compare .ensures)
 
 loop-holds : tie.Need-loop-holds Inv-loop μ-loop
-loop-holds c = agreed-none _ _ _
+loop-holds c = marked-none _ _ _
 
 mul-row : tie.Need-mul-row Inv-loop μ-loop
 mul-row c = omega arith
@@ -69,20 +70,12 @@ pow-mod-requires c κs = omega arith
 mul-mod-requires : tie.Need-mul-mod-requires Inv-loop μ-loop
 mul-mod-requires c κs = omega arith
 
-cast-t34 : tie.Need-cast-t34 Inv-loop μ-loop
-cast-t34 c = omega arith
+marked-requires : tie.Need-marked-requires Inv-loop μ-loop
+marked-requires c κs = marked-small _ _ _ _ _ _ (omega arith) (c .before .before .before .before .before .loop .inv) .0
 
-returns-2 : tie.Need-returns-2 Inv-loop μ-loop
-unfolding statementAt
-returns-2 c =
-    let right = c .before in
-    let left = right .before .before in
-    let inside = left .before .before in
-    let start = inside .before .before .before .before .before in
-    let args = start .args in
-    verdict-differs (instanceWith (args .h) (args .t2) (args .t3)) _ _ _ _ (inside .loop-test .taken) (left .row-product .ensures _ refl)
-    (product-reduced _ _ _ (right .before .pow-mod .ensures .0) (right .mul-mod .ensures .0)) (start .pre) (c .if2 .taken)
-    (inside .before .loop .inv)
+mul-bit : tie.Need-mul-bit Inv-loop μ-loop
+mul-bit c =
+    omega (arith, marked-small _ _ _ _ _ _ (omega arith) (c .before .before .before .before .before .before .loop .inv) .1)
 
 add-i : tie.Need-add-i Inv-loop μ-loop
 add-i c = omega arith
@@ -97,15 +90,19 @@ loop-again c =
     let left = right .before .before in
     let inside = left .before .before in
     let args = inside .before .before .before .before .before .args in
-    rows-on (instanceWith (args .h) (args .t2) (args .t3)) _ _ _ _ (inside .loop-test .taken) (left .row-product .ensures _ refl)
-    (product-reduced _ _ _ (right .before .pow-mod .ensures .0) (right .mul-mod .ensures .0)) (c .if2 .left)
+    rows-on (instanceWith (args .h) (args .t2) (args .t3)) _ _ _ _ _ _ (inside .loop-test .taken) (left .row-product .ensures _ refl)
+    (product-reduced _ _ _ (right .before .pow-mod .ensures .0) (right .mul-mod .ensures .0)) (c .marked .ensures)
     (inside .before .loop .inv)
 
-returns-3 : tie.Need-returns-3 Inv-loop μ-loop
-returns-3 c =
-    let start = c .before .before .before .before .before in
+verdict-of-requires : tie.Need-verdict-of-requires Inv-loop μ-loop
+verdict-of-requires c κs = omega arith
+
+returns-2 : tie.Need-returns-2 Inv-loop μ-loop
+returns-2 c =
+    let start = c .before .before .before .before .before .before in
     let args = start .args in
-    verdict-agrees (instanceWith (args .h) (args .t2) (args .t3)) _ _ _ _ (c .loop-test .left) (start .pre) (c .before .loop .inv)
+    verdict-marked (instanceWith (args .h) (args .t2) (args .t3)) _ _ _ (start .pre) _ _ _ (c .before .loop-test .left)
+    (c .before .before .loop .inv) (c .verdict-of .ensures)
 
 pub verdict-spec : {M : Type 1} → statement M
 verdict-spec =
@@ -129,9 +126,10 @@ verdict-spec =
     array-read-pow-mod
     pow-mod-requires
     mul-mod-requires
-    cast-t34
-    returns-2
+    marked-requires
+    mul-bit
     add-i
     loop-less
     loop-again
-    returns-3)
+    verdict-of-requires
+    returns-2)

@@ -1,7 +1,6 @@
 -- `or_crossing::verdicts::or_judgement_of` meets its contract: each arm has its verdict's four numbers.
 -- Assumes nothing.
 use borrow.Author.Needs.{needs}
-use Rattle.disjunctions.specs.OneOfTwo.{orOutcome}
 use Rattle.or_crossing.specs.Verdicts.{orJudgement}
 use Rattle.or_crossing.proofs.verdicts.or_judgement_of.Statement.{statement}
 use Rattle.or_crossing.proofs.verdicts.or_judgement_of.Tie as tie
@@ -16,15 +15,15 @@ enum-known-verdict-2 : tie.Need-enum-known-verdict-2
 enum-known-verdict-2 c = search needs
 
 returns : tie.Need-returns
-unfolding orJudgement orOutcome
+unfolding orJudgement
 returns c = rw (c .enum-told .given .1)
 
 returns-2 : tie.Need-returns-2
-unfolding orJudgement orOutcome
+unfolding orJudgement
 returns-2 c = rw (c .before .verdict .given .1)
 
 returns-3 : tie.Need-returns-3
-unfolding orJudgement orOutcome
+unfolding orJudgement
 returns-3 c = rw (c .before .verdict2 .given .1)
 
 pub or-judgement-of-spec : {M : Type 1} → statement M

@@ -8,22 +8,25 @@ use Rattle.or_judge.proofs.sides.combined.Tie as tie
 enum-told : tie.Need-enum-told
 enum-told c = search needs
 
-second-verdict-requires : tie.Need-second-verdict-requires
-second-verdict-requires c κs = search needs
+second-alone-requires : tie.Need-second-alone-requires
+second-alone-requires c κs = search needs
 
 enum-known-first : tie.Need-enum-known-first
 enum-known-first c = search needs
+
+with-second-requires : tie.Need-with-second-requires
+with-second-requires c κs = search needs
 
 enum-known-first-2 : tie.Need-enum-known-first-2
 enum-known-first-2 c = search needs
 
 returns : tie.Need-returns
 unfolding combined
-returns c = rw (c .before .enum-told .given .1) (c .second-verdict .ensures)
+returns c = rw (c .before .enum-told .given .1) (c .second-alone .ensures)
 
 returns-2 : tie.Need-returns-2
 unfolding combined
-returns-2 c = rw (c .before .first .given .1)
+returns-2 c = rw (c .before .before .first .given .1) (c .with-second .ensures)
 
 returns-3 : tie.Need-returns-3
 unfolding combined
@@ -34,8 +37,9 @@ combined-spec =
     tie.close
     (tie.spec
     enum-told
-    second-verdict-requires
+    second-alone-requires
     enum-known-first
+    with-second-requires
     enum-known-first-2
     returns
     returns-2

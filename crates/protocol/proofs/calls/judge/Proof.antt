@@ -1,10 +1,9 @@
 -- `protocol::calls::judge` meets its contract: a refused sheet's number is the answer, else a refused round's, else the verdict
 -- on the loaded values.
 -- Assumes nothing.
-use mathlib.Core.Path.{refl, sym, ap}
+use mathlib.Core.Path.{refl, sym}
 use native.Mathlib.Omega.{arith}
 use Rattle.runs.specs.Calls.{judgeRound}
-use Rattle.sigma.specs.Answer.{outcome}
 use Rattle.sigma.proofs.After.{judgeAfter-clear, judgeAfter-refused}
 use Rattle.sigma.proofs.Valid.{valid-modulus}
 use Rattle.instance.proofs.Answers.{answer-refused, answer-header, answer-valid, answer-call}
@@ -19,7 +18,7 @@ returns : tie.Need-returns
 unfolding judgeRound
 returns c =
     let (number, some) = answer-refused _ _ (c .before .load .ensures) (c .if1 .taken) in
-    rw number (ap outcome (sym (judgeAfter-refused _ _ some _)))
+    rw number (sym (judgeAfter-refused _ _ some _))
 
 round-refusal-requires : tie.Need-round-refusal-requires
 round-refusal-requires c κs =
@@ -33,10 +32,9 @@ returns-2 c =
     let tested = c .before in
     let passed = tested .before .before .before .before in
     let round = passed .before .before .before .args .round in
-    ap outcome
-    (answer-call _ _ (passed .before .load .ensures) (passed .if1 .left)
+    answer-call _ _ (passed .before .load .ensures) (passed .if1 .left)
     (λ before inst none. judgeAfter-clear before inst none round)
-    refl (judge-number _ round _ (tested .round-refusal .ensures _ _) (c .if2 .taken)))
+    refl (judge-number _ round _ (tested .round-refusal .ensures _ _) (c .if2 .taken))
 
 loaded-entries-requires : tie.Need-loaded-entries-requires
 loaded-entries-requires c κs =
@@ -55,11 +53,10 @@ returns-3 c =
     let tested = none .before in
     let passed = tested .before .before .before .before in
     let round = passed .before .before .before .args .round in
-    ap outcome
-    (answer-call _ _ (passed .before .load .ensures) (passed .if1 .left)
+    answer-call _ _ (passed .before .load .ensures) (passed .if1 .left)
     (λ before inst none. judgeAfter-clear before inst none round)
     (c .before .loaded-entries .ensures)
-    (judge-verdict _ round _ (tested .round-refusal .ensures _ _) (none .if2 .left) (c .verdict .ensures)))
+    (judge-verdict _ round _ (tested .round-refusal .ensures _ _) (none .if2 .left) (c .verdict .ensures))
 
 pub judge-spec : {M : Type 1} → statement M
 judge-spec =

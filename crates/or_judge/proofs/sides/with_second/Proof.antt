@@ -1,9 +1,9 @@
--- `or_judge::sides::second_verdict` meets its contract: each arm is a clause of the definition.
+-- `or_judge::sides::with_second` meets its contract: each arm is a clause of the definition.
 -- Assumes nothing.
 use borrow.Author.Needs.{needs}
-use Rattle.disjunctions.specs.Judge.{secondVerdict}
-use Rattle.or_judge.proofs.sides.second_verdict.Statement.{statement}
-use Rattle.or_judge.proofs.sides.second_verdict.Tie as tie
+use Rattle.disjunctions.specs.Judge.{combined}
+use Rattle.or_judge.proofs.sides.with_second.Statement.{statement}
+use Rattle.or_judge.proofs.sides.with_second.Tie as tie
 
 enum-told : tie.Need-enum-told
 enum-told c = search needs
@@ -15,17 +15,17 @@ enum-known-second-2 : tie.Need-enum-known-second-2
 enum-known-second-2 c = search needs
 
 returns : tie.Need-returns
-unfolding secondVerdict
+unfolding combined
 returns c = rw (c .enum-told .given .1)
 
 returns-2 : tie.Need-returns-2
-unfolding secondVerdict
+unfolding combined
 returns-2 c = rw (c .before .second .given .1)
 
 returns-3 : tie.Need-returns-3
-unfolding secondVerdict
+unfolding combined
 returns-3 c = rw (c .before .second2 .given .1)
 
-pub second-verdict-spec : {M : Type 1} → statement M
-second-verdict-spec =
+pub with-second-spec : {M : Type 1} → statement M
+with-second-spec =
     tie.close (tie.spec enum-told enum-known-second enum-known-second-2 returns returns-2 returns-3)

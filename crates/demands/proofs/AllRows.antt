@@ -1,0 +1,109 @@
+-- Every verdict that rejects carries exactly the rows whose two sides differ: judging, Vic's response and both sides of an OR round.
+-- Assumes nothing.
+use Prim.Native.Nat.{ℕ, _+_, _<_}
+use mathlib.Core.Path.{_≡_, sym, ap, subst, _∙_}
+use mathlib.Core.Bool.{false≢true}
+use mathlib.Core.Logic.{inl, inr, ⊎-elim, Iff·symm, Iff·trans}
+use mathlib.Core.List.{List}
+use native.Mathlib.Omega.{arith}
+use Rattle.types.specs.declared.Round.{Round}
+use Rattle.types.specs.declared.Verdict.{Verdict}
+use Rattle.types.specs.declared.Verdict.the-variants.{Accepted, Rejected}
+use Rattle.disjunctions.specs.declared.OrRound.{OrRound}
+use Rattle.disjunctions.specs.declared.OrVerdict.the-variants.{OrRejected}
+use Rattle.numbers.proofs.Bits.{bit-beyond, bit-digit}
+use Rattle.formats.specs.Load.{loadRefusal}
+use Rattle.formats.specs.Sheet.{instanceOf}
+use Rattle.formats.proofs.Loads.{loads-valid}
+use Rattle.sigma.specs.Answer.{outcome}
+use Rattle.sigma.specs.Reads.{roundOf}
+use Rattle.sigma.proofs.Fails.{FailsInBits, fails-bits}
+use Rattle.sigma.proofs.Rows.{rows-some}
+use Rattle.runs.specs.Calls.{judgeRound}
+use Rattle.runs.proofs.Protocol.{fits-judged, sheet-accepted, sheet-rejected, verdicts}
+use Rattle.runs.proofs.Verdicts.{takeResponse-given}
+use Rattle.disjunctions.specs.Judge.{judgeOr}
+use Rattle.disjunctions.specs.Knowledge.{Pair}
+use Rattle.disjunctions.specs.OneOfTwo.{SideMask, orNumber, orOutcome}
+use Rattle.disjunctions.specs.Round.{firstRound, secondRound}
+use Rattle.disjunctions.proofs.Judged.{Ways, both, earlier, later, or-rejected, or-ways, same-masks}
+use Rattle.demands.specs.AllRows.{AllRows, Differing, VerdictRows}
+
+-- ---- one sheet
+
+module _ (sheet : List ℕ) (loaded : loadRefusal sheet ≡ 0) (round : Round) where
+  -- bits as digits
+  digits-differ : (mask : ℕ) → FailsInBits (instanceOf sheet) round mask → Differing sheet round mask
+  digits-differ mask bits i = Iff·trans (Iff·symm (bit-digit mask i)) (bits i)
+
+  -- the rows of a rejected round
+  rejected-differ : (mask : ℕ) → judgeRound sheet round ≡ Rejected mask → (0 < mask) × Differing sheet round mask
+  rejected-differ mask e =
+      let (all, small) = sheet-rejected sheet loaded round mask .0 e .1 in
+      let few = loads-valid sheet loaded .table .few-rows in
+      (rows-some mask (all .some), digits-differ mask (fails-bits (instanceOf sheet) round few mask all small))
+
+  -- an accepted round has none
+  accepted-differ : judgeRound sheet round ≡ Accepted → Differing sheet round 0
+  accepted-differ e =
+      let holds = sheet-accepted sheet loaded round .0 e .1 in
+      digits-differ 0 (λ i. (
+        λ set. absurd (false≢true (sym (bit-beyond 0 0 i (omega arith) (omega arith)) ∙ set)),
+        λ (inside, fails). absurd (fails (holds i inside)),
+      ))
+
+  -- a verdict that is not refused
+  judged-rows : outcome (judgeRound sheet round) .number ≡ 0 → VerdictRows sheet round (judgeRound sheet round)
+  judged-rows passed =
+      let rows = verdicts sheet loaded round passed in
+      ⊎-elim (λ e. inl (e, rows .accepted .0 e)) (λ (mask, e). let (some, bits) = rejected-differ mask e in inr (mask, e, some, bits))
+      (rows .decided)
+
+-- ---- two sheets
+
+-- the rows of a side
+side-differ : (s : List ℕ) → loadRefusal s ≡ 0 → (round : Round) (mask : ℕ) → SideMask s round mask → Differing s round mask
+side-differ s loaded round mask (inl (e, none)) = subst (Differing s round) (sym none) (accepted-differ s loaded round e)
+side-differ s loaded round mask (inr e) = rejected-differ s loaded round mask e .1
+
+module _ (s s′ : List ℕ) (pair : Pair s s′) (round : OrRound) (mask0 mask1 : ℕ) (e : judgeOr s s′ round ≡ OrRejected mask0 mask1) where
+  -- the two sides
+  abbrev first : Round
+  first = firstRound round
+
+  abbrev second : Round
+  second = secondRound (instanceOf s .header .challenges) round
+
+  -- a rejected round is not refused
+  or-passed : orNumber (judgeOr s s′ round) ≡ 0
+  unfolding orNumber orOutcome
+  or-passed = ap orNumber e
+
+  -- one of the sides has a row
+  or-some : Ways s s′ round → 0 < mask0 + mask1
+  or-some (both a w) = absurd (or-rejected s s′ pair round mask0 mask1 or-passed .0 e .2 w)
+  or-some (later mask a b w) =
+      omega (arith, rejected-differ s′ (pair .second-loads) second mask b .0, same-masks 0 mask mask0 mask1 (sym w ∙ e) .1)
+  or-some (earlier mask mask′ a w) =
+      omega (arith, rejected-differ s (pair .first-loads) first mask a .0, same-masks mask mask′ mask0 mask1 (sym w ∙ e) .0)
+
+  -- both sides
+  either-differ : Differing s (firstRound round) mask0
+      × Differing s′ (secondRound (instanceOf s .header .challenges) round) mask1 × (0 < mask0 + mask1)
+  either-differ =
+      let (a, b, other) = or-rejected s s′ pair round mask0 mask1 or-passed .0 e in (
+        side-differ s (pair .first-loads) first mask0 a,
+        side-differ s′ (pair .second-loads) second mask1 b,
+        or-some (or-ways s s′ pair round or-passed),
+      )
+
+pub all-rows : AllRows
+all-rows = record {
+  judged = λ sheet loaded round fits. judged-rows sheet loaded round (fits-judged sheet loaded round fits);
+  in-session = λ sheet loaded v r passed.
+      let round = roundOf (v .commitment) (v .challenge) r in
+      let same = takeResponse-given sheet v r passed in
+      let number = ap (λ (w : Verdict). outcome w .number) (sym same) ∙ passed in
+      subst (VerdictRows sheet round) (sym same) (judged-rows sheet loaded round number);
+  either = either-differ;
+}
