@@ -3,19 +3,20 @@
 use Prim.Native.Nat.{ℕ, _+_, _<_}
 use mathlib.Core.Path.{_≡_, sym, ap, subst, _∙_}
 use mathlib.Core.Bool.{false≢true}
-use mathlib.Core.Logic.{inl, inr, ⊎-elim, Iff·symm, Iff·trans}
+use mathlib.Core.Logic.{_⊎_, inl, inr, ⊎-elim, Iff·symm, Iff·trans}
 use mathlib.Core.List.{List}
 use native.Mathlib.Omega.{arith}
 use Rattle.types.specs.declared.Round.{Round}
 use Rattle.types.specs.declared.Verdict.{Verdict}
 use Rattle.types.specs.declared.Verdict.the-variants.{Accepted, Rejected}
 use Rattle.disjunctions.specs.declared.OrRound.{OrRound}
-use Rattle.disjunctions.specs.declared.OrVerdict.the-variants.{OrRejected}
+use Rattle.disjunctions.specs.declared.OrVerdict.the-variants.{OrAccepted, OrRejected}
 use Rattle.numbers.proofs.Bits.{bit-beyond, bit-digit}
 use Rattle.formats.specs.Load.{loadRefusal}
 use Rattle.formats.specs.Sheet.{instanceOf}
 use Rattle.formats.proofs.Loads.{loads-valid}
 use Rattle.sigma.specs.Answer.{outcome}
+use Rattle.sigma.specs.Meaning.{Holds}
 use Rattle.sigma.specs.Reads.{roundOf}
 use Rattle.sigma.proofs.Fails.{FailsInBits, fails-bits}
 use Rattle.sigma.proofs.Rows.{rows-some}
@@ -24,9 +25,9 @@ use Rattle.runs.proofs.Protocol.{fits-judged, sheet-accepted, sheet-rejected, v
 use Rattle.runs.proofs.Verdicts.{takeResponse-given}
 use Rattle.disjunctions.specs.Judge.{judgeOr}
 use Rattle.disjunctions.specs.Knowledge.{Pair}
-use Rattle.disjunctions.specs.OneOfTwo.{SideMask, orNumber, orOutcome}
+use Rattle.disjunctions.specs.OneOfTwo.{SideMask, orNumber}
 use Rattle.disjunctions.specs.Round.{firstRound, secondRound}
-use Rattle.disjunctions.proofs.Judged.{Ways, both, earlier, later, or-rejected, or-ways, same-masks}
+use Rattle.disjunctions.proofs.Judged.{Ways, both, earlier, later, or-accepted, or-rejected, or-ways}
 use Rattle.demands.specs.AllRows.{AllRows, Differing, VerdictRows}
 
 -- ---- one sheet
@@ -66,7 +67,7 @@ side-differ : (s : List ℕ) → loadRefusal s ≡ 0 → (round : Round) (mask :
 side-differ s loaded round mask (inl (e, none)) = subst (Differing s round) (sym none) (accepted-differ s loaded round e)
 side-differ s loaded round mask (inr e) = rejected-differ s loaded round mask e .1
 
-module _ (s s′ : List ℕ) (pair : Pair s s′) (round : OrRound) (mask0 mask1 : ℕ) (e : judgeOr s s′ round ≡ OrRejected mask0 mask1) where
+module _ (s s′ : List ℕ) (pair : Pair s s′) (round : OrRound) (passed : orNumber (judgeOr s s′ round) ≡ 0) where
   -- the two sides
   abbrev first : Round
   first = firstRound round
@@ -74,28 +75,33 @@ module _ (s s′ : List ℕ) (pair : Pair s s′) (round : OrRound) (mask0 mask1
   abbrev second : Round
   second = secondRound (instanceOf s .header .challenges) round
 
-  -- a rejected round is not refused
-  or-passed : orNumber (judgeOr s s′ round) ≡ 0
-  unfolding orNumber orOutcome
-  or-passed = ap orNumber e
+  -- where one of them has a row, the round is rejected with the rows of both
+  abbrev Rejects : Type 0
+  Rejects =
+      (mask0 : ℕ) × (mask1 : ℕ) × (judgeOr s s′ round ≡ OrRejected mask0 mask1) × (0 < mask0 + mask1)
+      × Differing s first mask0 × Differing s′ second mask1
 
-  -- one of the sides has a row
-  or-some : Ways s s′ round → 0 < mask0 + mask1
-  or-some (both a w) = absurd (or-rejected s s′ pair round mask0 mask1 or-passed .0 e .2 w)
-  or-some (later mask a b w) =
-      omega (arith, rejected-differ s′ (pair .second-loads) second mask b .0, same-masks 0 mask mask0 mask1 (sym w ∙ e) .1)
-  or-some (earlier mask mask′ a w) =
-      omega (arith, rejected-differ s (pair .first-loads) first mask a .0, same-masks mask mask′ mask0 mask1 (sym w ∙ e) .0)
-
-  -- both sides
-  either-differ : Differing s (firstRound round) mask0
-      × Differing s′ (secondRound (instanceOf s .header .challenges) round) mask1 × (0 < mask0 + mask1)
-  either-differ =
-      let (a, b, other) = or-rejected s s′ pair round mask0 mask1 or-passed .0 e in (
+  rejects : (mask0 mask1 : ℕ) → judgeOr s s′ round ≡ OrRejected mask0 mask1 → 0 < mask0 + mask1 → Rejects
+  rejects mask0 mask1 e some =
+      let (a, b, other) = or-rejected s s′ pair round mask0 mask1 passed .0 e in (
+        mask0,
+        mask1,
+        e,
+        some,
         side-differ s (pair .first-loads) first mask0 a,
         side-differ s′ (pair .second-loads) second mask1 b,
-        or-some (or-ways s s′ pair round or-passed),
       )
+
+  -- the three ways
+  either-way : Ways s s′ round
+      → ((judgeOr s s′ round ≡ OrAccepted) × Holds (instanceOf s) (firstRound round)
+      × Holds (instanceOf s′) (secondRound (instanceOf s .header .challenges) round)) ⊎ Rejects
+  either-way (both a w) =
+      let (small, x, y) = or-accepted s s′ pair round .0 w in
+      inl (w, sheet-accepted s (pair .first-loads) first .0 x .1, sheet-accepted s′ (pair .second-loads) second .0 y .1)
+  either-way (later mask a b w) = inr (rejects 0 mask w (omega (arith, rejected-differ s′ (pair .second-loads) second mask b .0)))
+  either-way (earlier mask mask′ a w) =
+      inr (rejects mask mask′ w (omega (arith, rejected-differ s (pair .first-loads) first mask a .0)))
 
 pub all-rows : AllRows
 all-rows = record {
@@ -105,5 +111,5 @@ all-rows = record {
       let same = takeResponse-given sheet v r passed in
       let number = ap (λ (w : Verdict). outcome w .number) (sym same) ∙ passed in
       subst (VerdictRows sheet round) (sym same) (judged-rows sheet loaded round number);
-  either = either-differ;
+  both-sides = λ s s′ pair round passed. either-way s s′ pair round passed (or-ways s s′ pair round passed);
 }

@@ -21,9 +21,10 @@ use Rattle.runs.specs.Level.{badLevel, levelOf}
 use Rattle.runs.specs.Marker.{newline, wordLine, rowWord, verdictText, verdictLine, resultLine, verdictOn, roundLine, failsAt, markerText}
 use Rattle.runs.proofs.Level.{level-passes, says-badLevel}
 use Rattle.runs.proofs.Marker.{empty-fails, passes-at, result-line, round-lines, round-refusal}
+use Rattle.runs.proofs.MarkerLength.{text-short}
 use Rattle.runs.proofs.MarkerRefusal.{file-line, level-line, sheet-line}
 use Rattle.runs.proofs.Protocol.{sheet-rejected}
-use Rattle.demands.specs.MarksFiles.{rejectedRows, printed, textEnding, Passes, MarksFiles}
+use Rattle.demands.specs.MarksFiles.{rowsLine, printed, textEnding, Passes, MarksFiles}
 
 -- the line of a round
 line-printed : (k : ℕ) (verdict : Verdict) → verdictLine k verdict ≡ printed k verdict
@@ -60,13 +61,13 @@ ends sheet f level e good true fails = inr (
 rejected-rows : (sheet f : List ℕ) → loadRefusal sheet ≡ 0 → (k mask : ℕ) → verdictOn sheet f k ≡ Rejected mask
     → (row : ℕ) × (others : List ℕ) × FailsFirst (instanceOf sheet) (fetchRound sheet f k .round) row
     × FailsExactly (instanceOf sheet) (fetchRound sheet f k .round) (row ∷ others)
-    × (printed k (verdictOn sheet f k) ≡ rejectedRows k (row ∷ others))
+    × (printed k (verdictOn sheet f k) ≡ rowsLine k (row ∷ others))
 unfolding verdictOn printed
 rejected-rows sheet f loaded k mask e =
     let round = fetchRound sheet f k .round in
     let all = sheet-rejected sheet loaded round mask .0 e .1 .0 in
     let (row, others, whole, first, exactly) = fails-split (instanceOf sheet) round (rowsOf mask) all in
-    (row, others, first, exactly, ap (printed k) e ∙ ap (rejectedRows k) whole)
+    (row, others, first, exactly, ap (printed k) e ∙ ap (rowsLine k) whole)
 
 pub marks-files : MarksFiles
 unfolding verdictOn wordLine newline ascii decimal digits countField
@@ -78,5 +79,6 @@ marks-files = record {
   ending = λ sheet f level e is-level. ends sheet f level e (level-passes level .1 is-level) _ refl;
   empty-fails = λ sheet f level e is-level z. empty-fails sheet f level e (level-passes level .1 is-level) z;
   rejected = rejected-rows;
+  short = text-short;
   round-refusals = round-refusal;
 }

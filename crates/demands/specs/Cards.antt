@@ -1,6 +1,6 @@
 -- What the cards of 02 ask beyond 01, a field for each card. Card 3, which changes the marker, stands in Demand1 and MarksFiles,
--- and what card 7 changes of 01's calls on round files in Demand1, Layout, Writers, ReadsBack and ReasonsTrue. How card 8's rows are
--- printed stands in MarksFiles and ReasonsTrue.
+-- and what card 7 changes of 01's calls on round files in Demand1, Layout, Writers, ReadsBack and ReasonsTrue. That card 8's rows rise
+-- and begin with 01's row stands in VerdictOutcomes, Protocol and OneOfTwo, and how they are printed in MarksFiles and ReasonsTrue.
 -- Assumes nothing.
 use Rattle.disjunctions.specs.OneOfTwo.{OrProof}
 use Rattle.formats.specs.SameCommitment.{WordsCompare}

@@ -23,13 +23,13 @@ use Rattle.runs.specs.Calls.{judgeRound}
 use Rattle.runs.specs.Marker.{markerText, verdictOn}
 
 -- the line of a rejected round k: its number and the rows
-abbrev pub rejectedRows : ℕ → List ℕ → List ℕ
-rejectedRows k rows = decimal k ++ ascii " rejected" ++ flatten (map (λ row. ascii " " ++ decimal row) rows) ++ ascii "\n"
+abbrev pub rowsLine : ℕ → List ℕ → List ℕ
+rowsLine k rows = decimal k ++ ascii " rejected" ++ flatten (map (λ row. ascii " " ++ decimal row) rows) ++ ascii "\n"
 
 -- the line of round k: its number and its verdict, with the differing rows or the refusal
 unfoldable pub printed : ℕ → Verdict → List ℕ
 printed k Accepted = decimal k ++ ascii " accepted\n"
-printed k (Rejected mask) = rejectedRows k (rowsOf mask)
+printed k (Rejected mask) = rowsLine k (rowsOf mask)
 printed k (Refused number) = decimal k ++ ascii " refused " ++ decimal number ++ ascii "\n"
 
 -- the text of a file that reads: its own count, a line for each of its rounds, and a last line
@@ -73,7 +73,9 @@ pub record MarksFiles : Type 0 where
   pub rejected : (sheet f : List ℕ) → loadRefusal sheet ≡ 0 → (k mask : ℕ) → verdictOn sheet f k ≡ Rejected mask
       → (row : ℕ) × (others : List ℕ) × FailsFirst (instanceOf sheet) (fetchRound sheet f k .round) row
       × FailsExactly (instanceOf sheet) (fetchRound sheet f k .round) (row ∷ others)
-      × (printed k (verdictOn sheet f k) ≡ rejectedRows k (row ∷ others))
+      × (printed k (verdictOn sheet f k) ≡ rowsLine k (row ∷ others))
+  -- 14,864 bytes hold every text
+  pub short : (sheet f level : List ℕ) → length (markerText sheet f level) ≤ 14864
   -- of a sheet that loads, a round is refused with 14, 15 or 16
   pub round-refusals : (sheet f : List ℕ) → loadRefusal sheet ≡ 0 → (k number : ℕ) → verdictOn sheet f k ≡ Refused number
       → Member number (14 ∷ 15 ∷ 16 ∷ [])

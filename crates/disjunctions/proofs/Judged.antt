@@ -74,11 +74,6 @@ mask-second OrAccepted = 0
 mask-second (OrRejected mask0 mask1) = mask1
 mask-second (OrRefused number) = 0
 
--- rejected verdicts that are equal have the same masks
-pub same-masks : (a b c d : ℕ) → OrRejected a b ≡ OrRejected c d → (a ≡ c) × (b ≡ d)
-unfolding mask-first mask-second
-same-masks a b c d e = (ap mask-first e, ap mask-second e)
-
 -- two of the three are never equal
 apart : (v w : OrVerdict) → tag v ≢ tag w → v ≢ w
 apart v w different same = different (ap tag same)

@@ -1,5 +1,5 @@
--- What 02's fourth card asks, with all rows that differ (card 8): judging, extracting and proving "I know one of the two", for every two sheets that load with one K,
--- and the refusals and the session for any bytes.
+-- What 02's fourth card asks, with all rows that differ (card 8): judging, extracting and proving "I know one of the two", for every
+-- two sheets that load with one K, and the refusals and the session for any bytes.
 -- Assumes nothing.
 use Prim.Native.Nat.{ℕ, suc, _+_, _%_, _<_, _≤_}
 use mathlib.Core.Path.{_≡_}

@@ -61,9 +61,11 @@ pub record RowsPage : Type 0 where
   pub in-session :
       takeResponse eightRows (record { commitment = threeDiffer .commitment; challenge = 3; phase = Asked }) (array (4 ∷ [])) .verdict
       ≡ Rejected 146
-  -- two rows: the second alone, and both
-  pub pair : map (judgeRound pairBytes) (roundOf (array (9 ∷ 9 ∷ [])) 3 (array (4 ∷ [])) ∷ roundOf (array (9 ∷ 6 ∷ [])) 3 (array (5 ∷ [])) ∷ [])
-      ≡ Rejected 2 ∷ Rejected 3 ∷ []
+  -- two rows: the first alone, the second alone, and both
+  pub pair : map (judgeRound pairBytes)
+      (roundOf (array (6 ∷ 6 ∷ [])) 3 (array (4 ∷ [])) ∷ roundOf (array (9 ∷ 9 ∷ [])) 3 (array (4 ∷ [])) ∷
+      roundOf (array (9 ∷ 6 ∷ [])) 3 (array (5 ∷ [])) ∷ [])
+      ≡ Rejected 1 ∷ Rejected 2 ∷ Rejected 3 ∷ []
   -- the marker's lines
   pub marked :
       markerText eightRows (fileIn 1 (headerOf eightRows) (withRows (replicate 8 9) ∷ threeDiffer ∷ withRows (replicate 8 1) ∷ [])) (1 ∷ [])

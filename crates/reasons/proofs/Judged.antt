@@ -14,6 +14,7 @@ use Rattle.encoding.specs.Text.{ascii}
 use Rattle.lists.specs.Places.{zeros8}
 use Rattle.lists.proofs.Places.{getD-zeros8}
 use Rattle.sigma.specs.Answer.{judged, outcome, rowsOf}
+use Rattle.sigma.specs.Meaning.{FailsExactly}
 use Rattle.sigma.proofs.After.{judgeAfter-refused}
 use Rattle.sigma.proofs.Answer.{accepted-not-refused, judged-given, unlessRefused-positive}
 use Rattle.sigma.proofs.Fails.{fails-split}
@@ -54,21 +55,30 @@ module _ (s f : List ℕ) where
     | no passed ↦ omega arith
   ]
 
-  -- the line is then `accepted` or has the differing rows
-  pub line-judged : reasonNumber s f ≡ 0 → (reasonText s f ≡ ascii "accepted\n") ⊎ RejectedLine s f
+  -- and the sheet loads
+  pub reason-loads : reasonNumber s f ≡ 0 → loadRefusal s ≡ 0
+  reason-loads none = loads s .1 (check-runs s f 0 .0 (check-passed none) .0)
+
+  -- round 0 is then accepted, or rejected with the rows that fail
+  pub first-judged : reasonNumber s f ≡ 0 → (firstVerdict s f ≡ Accepted)
+      ⊎ ((mask : ℕ) × (firstVerdict s f ≡ Rejected mask) × FailsExactly (instanceOf s) (firstRound s f) (rowsOf mask))
   unfolding reasonNumber
-  line-judged none =
+  first-judged none =
       let passed = check-passed none in
       let same = checked-judged s f passed in
       let number = ap (λ (v : Verdict). outcome v .number) (sym same) ∙ none in
-      let rows = verdicts s (loads s .1 (check-runs s f 0 .0 passed .0)) (firstRound s f) number in
-      ⊎-elim (λ e. inl (text-accepted s f (same ∙ e)))
-      (λ (mask, e).
-      let (all, small) = rows .rejected mask .0 e in
+      let rows = verdicts s (reason-loads none) (firstRound s f) number in
+      ⊎-elim (λ e. inl (same ∙ e)) (λ (mask, e). inr (mask, same ∙ e, rows .rejected mask .0 e .0)) (rows .decided)
+
+  -- and the line is `accepted` or has these rows
+  pub line-judged : reasonNumber s f ≡ 0 → (reasonText s f ≡ ascii "accepted\n") ⊎ RejectedLine s f
+  line-judged none =
+      ⊎-elim (λ e. inl (text-accepted s f e))
+      (λ (mask, e, all).
       let (row, others, whole, first, exactly) = fails-split (instanceOf s) (firstRound s f) (rowsOf mask) all in
-      let text = text-rejected s f mask (same ∙ e) (λ k m. all .exactly k .0 m .0) in
+      let text = text-rejected s f mask e (λ k m. all .exactly k .0 m .0) in
       inr (row, others, first, exactly, text ∙ ap (λ (ks : List ℕ). ascii "rejected" ++ flatten (map (toldRow s f) ks) ++ ascii "\n") whole))
-      (rows .decided)
+      (first-judged none)
 
   -- a round that judging accepts stands in a file that the check lets pass: else it is read as zeros, which are no elements
   accepted-passed : judgeRound s (firstRound s f) ≡ Accepted → checkRound s f 0 ≡ 0

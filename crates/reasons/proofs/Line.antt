@@ -1,19 +1,17 @@
 -- The one line by its verdict: a refusal is told with its number, and what is not refused by the verdict on round 0.
 -- Assumes nothing.
-use Prim.Native.Nat.{ℕ, _<_, _≤_}
+use Prim.Native.Nat.{ℕ, _<_}
 use mathlib.Core.Path.{_≡_, refl, sym, ap, ap₂, _∙_}
 use mathlib.Core.List.{List, _++_, append-assoc, flatten, map}
 use native.Mathlib.Decide.{decLt}
 use native.Mathlib.Omega.{arith}
-use lib.ListN.{getD, length, length-append}
+use lib.ListN.{getD, length}
 use Rattle.types.specs.declared.Verdict.{Verdict}
 use Rattle.types.specs.declared.Verdict.the-variants.{Accepted, Rejected, Refused}
-use Rattle.numbers.specs.Bits.{bit}
 use Rattle.encoding.specs.Text.{ascii, decimal}
-use Rattle.encoding.proofs.Text.{decimal-length}
 use Rattle.lists.specs.Member.{Member}
 use Rattle.lists.specs.Places.{places}
-use Rattle.lists.proofs.Words.{words-agree, words-short}
+use Rattle.lists.proofs.Words.{words-agree}
 use Rattle.rules.specs.Condition.{Given}
 use Rattle.rules.specs.Rule.{Rule, lowest}
 use Rattle.rules.proofs.Condition.{given, tests-append}
@@ -59,20 +57,6 @@ pub rejected-line : (mask : ℕ) (spots : ℕ → Spot) (left right : List ℕ)
     → lineText (Rejected mask) spots left right ≡ rejectedLine mask left right
 unfolding lineText
 rejected-line mask spots left right = refl
-
--- it has 201 bytes at most: eight rows with two numbers of ten digits
-pub rejected-short : (mask : ℕ) (left right : List ℕ)
-    → ((row : ℕ) → row < 8 → (getD left row 0 < 4294967296) × (getD right row 0 < 4294967296))
-    → length (rejectedLine mask left right) ≤ 201
-unfolding ascii rowsOf rowText
-rejected-short mask left right small =
-    let rows = words-short (rowText left right) 24 8 (bit mask) (λ row few.
-    let (a, b) = small row few in
-    let one = decimal-length 0 row (omega arith) in
-    let two = decimal-length 9 (getD left row 0) (omega arith) in
-    let three = decimal-length 9 (getD right row 0) (omega arith) in
-    simp length-append (omega arith)) in
-    simp length-append (omega (arith, rows))
 
 module _ (s f : List ℕ) where
   -- ---- the number

@@ -28,6 +28,7 @@ use Rattle.reasons.proofs.Cut.{line-cut}
 use Rattle.rules.proofs.Explains.{Explains, explains-append, explains-caused, explains-given, rising-first}
 use Rattle.reasons.proofs.FileSpots.{file-explained}
 use Rattle.reasons.proofs.Judged.{line-accepted, line-judged}
+use Rattle.reasons.proofs.Length.{reason-short}
 use Rattle.reasons.proofs.Line.{number-given, text-length, text-offset}
 use Rattle.reasons.proofs.Named.{Broken, Named}
 use Rattle.reasons.proofs.RoundSpots.{check-none, round-explained}
@@ -82,5 +83,6 @@ reasons-true = record {
   apart = λ s f n o l. apart s f o l n;
   judged = line-judged;
   accepted = line-accepted;
+  short = reason-short;
   kept = λ a b enough enough′ s f. line-cut a b enough enough′ s f (length s) (length f);
 }

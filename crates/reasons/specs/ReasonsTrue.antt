@@ -9,6 +9,7 @@ use mathlib.Core.List.{List, [], _∷_, _++_, flatten, map}
 use lib.ListN.{getD, length, take}
 use Rattle.types.specs.declared.Round.{Round}
 use Rattle.types.specs.declared.Verdict.the-variants.{Accepted}
+use Rattle.encoding.specs.Bytes.{AllBytes}
 use Rattle.encoding.specs.Text.{ascii, decimal}
 use Rattle.lists.specs.Member.{Member}
 use Rattle.rules.specs.Condition.{Condition}
@@ -82,6 +83,8 @@ pub record ReasonsTrue : Type 0 where
   pub judged : (s f : List ℕ) → reasonNumber s f ≡ 0 → (reasonText s f ≡ ascii "accepted\n") ⊎ RejectedLine s f
   -- `accepted` is printed exactly where judging accepts round 0
   pub accepted : (s f : List ℕ) → (reasonText s f ≡ ascii "accepted\n") ↔ (judgeRound s (firstRound s f) ≡ Accepted)
+  -- where nothing is refused, the line has 201 bytes at most
+  pub short : (s f : List ℕ) → AllBytes s → reasonNumber s f ≡ 0 → length (reasonText s f) ≤ 201
   -- 309 bytes of a sheet and 34,824 of a file are enough, and a length that is told is that of the whole file
   pub kept : (a b : ℕ) → 309 ≤ a → 34824 ≤ b → (s f : List ℕ)
       → reasonLine (take a s) (length s) (take b f) (length f) ≡ reasonText s f

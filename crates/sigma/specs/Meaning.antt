@@ -27,7 +27,7 @@ pub record FailsFirst (inst : Instance) (round : Round) (row : ℕ) : Type 0 whe
   pub fails : ¬ RowHolds inst round row
   pub before : (k : ℕ) → k < row → RowHolds inst round k
 
--- `rows` are exactly the rows whose two sides differ, rising, and there is one
+-- `rows` are exactly the rows whose two sides differ, rising, and there is at least one
 pub record FailsExactly (inst : Instance) (round : Round) (rows : List ℕ) : Type 0 where
   pub exactly : (i : ℕ) → Member i rows ↔ ((i < inst .header .rows) × (¬ RowHolds inst round i))
   pub rising : Rising rows
