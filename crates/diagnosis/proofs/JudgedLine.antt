@@ -4,7 +4,7 @@ use Prim.Native.Nat.{ℕ, _+_, _≤_, _<_}
 use mathlib.Core.Path.{_≡_, sym, ap, _∙_}
 use mathlib.Core.List.{List}
 use native.Mathlib.Omega.{arith}
-use lib.ListN.{getD, length}
+use lib.ListN.{length}
 use Rattle.types.specs.declared.Header.{Header}
 use Rattle.types.specs.declared.Round.{Round}
 use Rattle.types.specs.declared.Verdict.{Verdict}
@@ -14,8 +14,6 @@ use Rattle.sigma.specs.Image.{image}
 use Rattle.sigma.specs.Instance.{Instance, tableOf}
 use Rattle.sigma.specs.Judge.{judgeLoaded}
 use Rattle.sigma.specs.Round.{expectedImage}
-use Rattle.sigma.specs.Valid.{Valid}
-use Rattle.sigma.proofs.Calls.{valid-judge-rejected}
 use Rattle.formats.specs.Meaning.{IsRoundFile}
 use Rattle.formats.specs.RoundFile.{challengeWidth, countField, recordLength, recordStart, roundAt}
 use Rattle.formats.proofs.Part.{record-inside}
@@ -58,15 +56,10 @@ module _ (inst : Instance) (f : List ℕ) {v : Verdict} (is-verdict : v ≡ verd
   accepted-told e = judged-by ∙ ap lineOf e
 
   -- a rejected one
-  pub rejected-told : {round : Round} → round ≡ first → (row : ℕ) → v ≡ Rejected row
+  pub rejected-told : {round : Round} → round ≡ first → (mask : ℕ) → v ≡ Rejected mask
       → judgedLine inst f
-      ≡ rejectedLine row (getD (image (tableOf inst) (round .response)) row 0)
-      (getD (expectedImage inst (round .commitment) (round .challenge)) row 0)
-  rejected-told is-round row e = rw is-round (judged-by ∙ ap lineOf e ∙ rejected-line row _ _ _)
-
-  -- whose row is one of the sheet's
-  pub rejected-inside : Valid inst → (row : ℕ) → v ≡ Rejected row → row < inst .header .rows
-  rejected-inside valid row e = valid-judge-rejected inst first valid row .0 (sym judged-first ∙ e) .1 .inside
+      ≡ rejectedLine mask (image (tableOf inst) (round .response)) (expectedImage inst (round .commitment) (round .challenge))
+  rejected-told is-round mask e = rw is-round (judged-by ∙ ap lineOf e ∙ rejected-line mask _ _ _)
 
   -- a refused one
   pub refused-told : (n : ℕ) → v ≡ Refused n → judgedLine inst f ≡ refusedLine n (roundSpot (inst .header) f n)

@@ -13,7 +13,7 @@ use types::Header;
 use types::Round;
 use types::Verdict;
 ghost use Prim.Native.Nat.{_≤_, _<_};
-ghost use lib.ListN.{getD, length};
+ghost use lib.ListN.{length};
 ghost use Rattle.encoding.specs.Placed.{Placed};
 ghost use Rattle.formats.specs.Meaning.{IsRoundFile};
 ghost use Rattle.formats.specs.RoundFile.{countField};
@@ -24,33 +24,32 @@ ghost use Rattle.sigma.specs.Valid.{Valid};
 ghost use Rattle.reasons.specs.Lines.{rejectedLine};
 ghost use Rattle.diagnosis.specs.Judged.{judgedLine};
 
-// Stores the line of a round that is rejected with the row, at the start: the row, its value of [r] and its value of t z^c.
+// Stores the line of a round that is rejected with the rows of a mask, at the start: each row, its value of [r] and its value of
+// t z^c.
 fn write_sides(
     text: &mut [u8],
     h: Header,
     entries: [[u32; 8]; 8],
     statement: [u32; 8],
     round: Round,
-    row: u32,
+    mask: u32,
 ) -> usize
     requires valid { ⌜ Valid (instanceWith h entries statement) ⌝ }
-    requires row { ⌜ row < h .rows ⌝ }
-    requires room { ⌜ 48 ≤ length (now text) ⌝ }
+    requires room { ⌜ 201 ≤ length (now text) ⌝ }
     ensures placed { λ r. ⌜ Placed (now (text .entry)) 0
-        (rejectedLine row (getD (image (tableWith h entries) (round .response)) row 0)
-        (getD (expectedImage (instanceWith h entries statement) (round .commitment) (round .challenge)) row 0))
+        (rejectedLine mask (image (tableWith h entries) (round .response))
+        (expectedImage (instanceWith h entries statement) (round .commitment) (round .challenge)))
         (now (text .exit)) r ⌝ }
-    ensures short { λ r. ⌜ r ≤ 48 ⌝ }
+    ensures short { λ r. ⌜ r ≤ 201 ⌝ }
 {
     let response = round.response;
     let commitment = round.commitment;
     let left = image(h, entries, response);
     let right = expected_image(h, statement, commitment, round.challenge);
-    let i = row as usize;
-    write_rejected(text, row, left[i], right[i])
+    write_rejected(text, mask, left, right)
 }
 
-// Stores the line on the round that stands first in a file, at the start: `accepted`, the first differing row with both its
+// Stores the line on the round that stands first in a file, at the start: `accepted`, the differing rows with both their
 // values, or a refusal with the offset of the first value that breaks its rule.
 pub fn write_judged(
     text: &mut [u8],
@@ -62,16 +61,16 @@ pub fn write_judged(
     requires valid { ⌜ Valid (instanceWith h entries statement) ⌝ }
     requires file { ⌜ IsRoundFile h (now file) ⌝ }
     requires some { ⌜ 0 < countField (now file) ⌝ }
-    requires room { ⌜ 48 ≤ length (now text) ⌝ }
+    requires room { ⌜ 201 ≤ length (now text) ⌝ }
     ensures placed { λ r. ⌜ Placed (now (text .entry)) 0 (judgedLine (instanceWith h entries statement) (now (file .entry)))
         (now (text .exit)) r ⌝ }
-    ensures short { λ r. ⌜ r ≤ 48 ⌝ }
+    ensures short { λ r. ⌜ r ≤ 201 ⌝ }
 {
     match verdict_at(h, entries, statement, file, 0) {
         Verdict::Accepted => write_word(text, 0, b"accepted\n"),
-        Verdict::Rejected(row) => {
+        Verdict::Rejected(mask) => {
             let round = round_at(h, file_width(file), file, START);
-            write_sides(text, h, entries, statement, round, row)
+            write_sides(text, h, entries, statement, round, mask)
         }
         Verdict::Refused(number) => write_refused(text, number, round_spot(h, file, number)),
     }

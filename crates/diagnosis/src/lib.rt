@@ -18,8 +18,8 @@ ghost use Rattle.encoding.specs.Front.{FrontOf};
 ghost use Rattle.encoding.specs.Placed.{Placed};
 ghost use Rattle.reasons.specs.Reason.{reasonLine, reasonText};
 
-// As many bytes hold every line: the longest is a refusal with a length of twenty digits.
-pub const LONGEST: usize = 48;
+// As many bytes hold every line: the longest is `rejected` with eight rows, each with two values of ten digits.
+pub const LONGEST: usize = 201;
 
 // How many bytes of a sheet have to be kept: one more than the longest has, so that the line on what is kept of a longer one,
 // with its length, is the line on the whole.
@@ -61,7 +61,7 @@ fn write_reason(
 
 // Stores the reason on a sheet and a round file at the start of text and answers its length; no byte behind it is changed. It
 // is one line: `refused`, the number and the offset of the first value that breaks that rule, or `length` and the length that
-// does; `rejected`, the first differing row and both its values; or `accepted`.
+// does; `rejected` and each differing row with both its values; or `accepted`.
 pub fn reason(sheet: &[u8], file: &[u8], text: &mut [u8; LONGEST]) -> usize
     ensures inside { λ r. ⌜ r ≤ length (now (text .exit)) ⌝ }
     ensures answer { λ r. ⌜ r ≡ length (reasonText (now (sheet .entry)) (now (file .entry))) ⌝ }

@@ -1,4 +1,4 @@
--- The pieces of a line: how long a word with a number is at most, and the line of a rejected round piece by piece.
+-- The pieces of a line: how long a word with a number is at most, and a row of a rejected round piece by piece.
 -- Assumes nothing.
 use Prim.Native.Nat.{ℕ, _+_, _^_, _≤_, _<_}
 use mathlib.Core.Path.{_≡_, subst}
@@ -9,7 +9,6 @@ use Rattle.encoding.specs.Placed.{Placed}
 use Rattle.encoding.specs.Text.{ascii, decimal}
 use Rattle.encoding.proofs.Placed.{placed-behind}
 use Rattle.encoding.proofs.Text.{decimal-length}
-use Rattle.reasons.specs.Lines.{rejectedLine}
 
 -- a number of 32 bits has at most ten digits
 pub digits-short : (n : ℕ) → n < 2 ^ 32 → length (decimal n) ≤ 10
@@ -22,16 +21,14 @@ unfolding ascii
 numbered-short word n small placed = omega (arith, digits-short n small, simp length-append at (placed .behind))
 
 -- words put together in two ways
-row-words : (a b c d e g : List ℕ) → a ++ b ++ c ++ ([] ++ b ++ d) ++ ([] ++ b ++ e) ++ g ≡ (a ++ b) ++ c ++ b ++ d ++ b ++ e ++ g
-row-words a b c d e g = simp append-assoc
+row-words : (a b c d : List ℕ) → [] ++ a ++ b ++ ([] ++ a ++ c) ++ ([] ++ a ++ d) ≡ a ++ b ++ a ++ c ++ a ++ d
+row-words a b c d = simp append-assoc
 
--- the row, the two sides and the line's end, one behind the other
-pub rejected-placed : (row left right : ℕ) {l m p q k : List ℕ} {x y z w : ℕ}
-    → Placed l 0 (ascii "rejected" ++ ascii " " ++ decimal row) m x → Placed m x ([] ++ ascii " " ++ decimal left) p y
-    → Placed p y ([] ++ ascii " " ++ decimal right) q z → Placed q z (ascii "\n") k w
-    → Placed l 0 (rejectedLine row left right) k w
-unfolding ascii
-rejected-placed row left right {l} {k = k} {w = w} first second third end =
-    subst (λ (bytes : List ℕ). Placed l 0 bytes k w)
-    (row-words (ascii "rejected") (ascii " ") (decimal row) (decimal left) (decimal right) (ascii "\n"))
-    (placed-behind (placed-behind (placed-behind first second) third) end)
+-- a row and its two sides, one behind the other
+pub sides-placed : (row left right : ℕ) {l m p q : List ℕ} {at x y z : ℕ}
+    → Placed l at ([] ++ ascii " " ++ decimal row) m x → Placed m x ([] ++ ascii " " ++ decimal left) p y
+    → Placed p y ([] ++ ascii " " ++ decimal right) q z
+    → Placed l at (ascii " " ++ decimal row ++ ascii " " ++ decimal left ++ ascii " " ++ decimal right) q z
+sides-placed row left right {l} {q = q} {at} {z = z} first second third =
+    subst (λ (bytes : List ℕ). Placed l at bytes q z) (row-words (ascii " ") (decimal row) (decimal left) (decimal right))
+    (placed-behind (placed-behind first second) third)

@@ -1,14 +1,19 @@
-// The text of the reason's line (02, card 1). Each function asks that its bytes have room, stores them, changes no other byte and answers
-// the index behind them.
+// The text of the reason's line (02, cards 1 and 8). Each function asks that its bytes have room, stores them, changes no other byte and
+// answers the index behind them.
 use reasons::Spot;
 use text::write_decimal;
 use text::write_numbered;
 use text::write_word;
-ghost use Prim.Native.Nat.{_+_, _≤_};
+ghost use Prim.Native.Nat.{_+_, _%_, _≤_, _<_};
+ghost use mathlib.Core.Bool.{cond};
+ghost use mathlib.Core.List.{[], _++_, flatten, map};
+ghost use lib.Dec.{eqb};
 ghost use lib.ListN.{length};
 ghost use Rattle.encoding.specs.Placed.{Placed};
+ghost use Rattle.encoding.specs.Text.{ascii, decimal};
 ghost use Rattle.reasons.specs.Lines.{refusedLine, rejectedLine};
-ghost use Rattle.reasons.specs.Reason.{spotText};
+ghost use Rattle.reasons.specs.Reason.{rowText, spotText};
+ghost use Rattle.sigma.specs.Answer.{rowsOf};
 
 // Stores a spot: an offset, or the word `length` and a length, of at most twenty digits.
 fn write_spot(text: &mut [u8], at: usize, spot: Spot) -> usize
@@ -34,14 +39,62 @@ pub fn write_refused(text: &mut [u8], number: u32, spot: Spot) -> usize
     write_word(text, end, b"\n")
 }
 
-// Stores the line of a rejected round at the start: the row and the values of its two sides.
-pub fn write_rejected(text: &mut [u8], row: u32, left: u32, right: u32) -> usize
-    requires room { ⌜ 48 ≤ length (now text) ⌝ }
-    ensures placed { λ r. ⌜ Placed (now (text .entry)) 0 (rejectedLine row left right) (now (text .exit)) r ⌝ }
-    ensures short { λ r. ⌜ r ≤ 48 ⌝ }
+// Stores a row and the values of its two sides, each with a space before it.
+fn write_sides(text: &mut [u8], at: usize, row: u32, left: u32, right: u32) -> usize
+    requires row { ⌜ row < 8 ⌝ }
+    requires room { ⌜ at + 24 ≤ length (now text) ⌝ }
+    ensures placed { λ r. ⌜ Placed (now (text .entry)) at
+        (ascii " " ++ decimal row ++ ascii " " ++ decimal left ++ ascii " " ++ decimal right) (now (text .exit)) r ⌝ }
+    ensures short { λ r. ⌜ r ≤ at + 24 ⌝ }
 {
-    let first = write_numbered(text, 0, b"rejected", row as u64);
+    let first = write_numbered(text, at, b"", row as u64);
     let second = write_numbered(text, first, b"", left as u64);
-    let end = write_numbered(text, second, b"", right as u64);
+    write_numbered(text, second, b"", right as u64)
+}
+
+// Stores a row and the values of its two sides where the lowest bit of rest is set, else nothing.
+fn write_row(
+    text: &mut [u8],
+    at: usize,
+    row: usize,
+    rest: u32,
+    left: [u32; 8],
+    right: [u32; 8],
+) -> usize
+    requires row { ⌜ row < 8 ⌝ }
+    requires room { ⌜ at + 24 ≤ length (now text) ⌝ }
+    ensures placed { λ r. ⌜ Placed (now (text .entry)) at (cond (eqb (rest % 2) 1) (rowText left right row) [])
+        (now (text .exit)) r ⌝ }
+    ensures short { λ r. ⌜ r ≤ at + 24 ⌝ }
+{
+    if rest % 2 != 1 {
+        return at;
+    }
+    write_sides(text, at, row as u32, left[row], right[row])
+}
+
+// Stores the rows of a mask, rising, each with the values of its two sides.
+fn write_rows(text: &mut [u8], at: usize, mask: u32, left: [u32; 8], right: [u32; 8]) -> usize
+    requires room { ⌜ at + 192 ≤ length (now text) ⌝ }
+    ensures placed { λ r. ⌜ Placed (now (text .entry)) at (flatten (map (rowText left right) (rowsOf mask))) (now (text .exit)) r ⌝ }
+    ensures short { λ r. ⌜ r ≤ at + 192 ⌝ }
+{
+    let mut next = at;
+    let mut rest = mask;
+    for row in 0..8usize {
+        next = write_row(text, next, row, rest, left, right);
+        rest = rest / 2;
+    }
+    next
+}
+
+// Stores the line of a rejected round at the start: each row of a mask with the values of its two sides.
+pub fn write_rejected(text: &mut [u8], mask: u32, left: [u32; 8], right: [u32; 8]) -> usize
+    requires room { ⌜ 201 ≤ length (now text) ⌝ }
+    ensures placed { λ r. ⌜ Placed (now (text .entry)) 0 (rejectedLine mask left right) (now (text .exit)) r ⌝ }
+    ensures short { λ r. ⌜ r ≤ 201 ⌝ }
+{
+    let next = write_word(text, 0, b"rejected");
+    let end = write_rows(text, next, mask, left, right);
     write_word(text, end, b"\n")
 }

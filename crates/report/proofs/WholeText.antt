@@ -36,8 +36,8 @@ use Rattle.sigma.specs.Instance.{instanceWith}
 use Rattle.round_lines.specs.Lines.{failsIn, linesIn, verdictIn}
 use Rattle.report.proofs.AtLevel.{level-bad, level-good}
 
--- the marker's text placed at the start of 7,696 bytes is what the contract asks for
-pub text-placed : (s f level : List ℕ) {l bytes m : List ℕ} {r : ℕ} → 7696 ≤ length l → markerText s f level ≡ bytes
+-- the marker's text placed at the start of 14,864 bytes is what the contract asks for
+pub text-placed : (s f level : List ℕ) {l bytes m : List ℕ} {r : ℕ} → 14864 ≤ length l → markerText s f level ≡ bytes
     → Placed l 0 bytes m r
     → (r ≤ length m) × ((r ≡ length (markerText s f level)) × (m ≡ sets l 0 (markerText s f level)))
 text-placed s f level {l} {bytes} {m} {r} room e placed =
@@ -138,7 +138,7 @@ module _ (s f : List ℕ) {loaded : Loaded} (is-load : loaded ≡ load s) where
           -- which has room
           pub rounds-fit : length (wordLine (ascii "rounds") (counted .count))
               + length (linesIn (instanceWith (loaded .header) entries (loaded .statement)) f (counted .count)) + 5
-              ≤ 7696
+              ≤ 14864
           rounds-fit =
               let line = wordLine (ascii "rounds") (counted .count) in
               let rounds = linesIn (instanceWith (loaded .header) entries (loaded .statement)) f (counted .count) in

@@ -17,8 +17,8 @@ ghost use lib.Seq.{sets};
 ghost use Rattle.encoding.specs.Front.{FrontOf};
 ghost use Rattle.runs.specs.Marker.{markerText};
 
-// As many bytes hold every text: `rounds 512`, 512 lines of at most 15 bytes, and `fail`.
-pub const LONGEST: usize = 7696;
+// As many bytes hold every text: `rounds 512`, 512 lines of at most 29 bytes, and `fail`.
+pub const LONGEST: usize = 14864;
 
 // How many bytes of a sheet have to be read: one more than the longest has, so that the text on what is read of a longer one
 // is the text on the whole.

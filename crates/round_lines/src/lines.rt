@@ -1,5 +1,6 @@
 // The text of one line. Each function asks that its bytes have room, stores them from an index on, changes no other byte and
 // answers the index behind them.
+use row_words::write_rows;
 use text::write_decimal;
 use text::write_numbered;
 use text::write_word;
@@ -26,7 +27,10 @@ fn write_verdict(text: &mut [u8], at: usize, verdict: Verdict) -> usize
 {
     match verdict {
         Verdict::Accepted => write_word(text, at, b"accepted"),
-        Verdict::Rejected(row) => write_numbered(text, at, b"rejected", row as u64),
+        Verdict::Rejected(rows) => {
+            let next = write_word(text, at, b"rejected");
+            write_rows(text, next, rows)
+        }
         Verdict::Refused(number) => write_numbered(text, at, b"refused", number as u64),
     }
 }

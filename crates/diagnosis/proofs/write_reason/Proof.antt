@@ -23,7 +23,7 @@ returns c =
     let spot = c .before .before in
     let refused = spot .before in
     let (placed, short) = c .write-refused .ensures in (
-      line-inside (omega arith) short placed,
+      line-inside (omega arith) (omega arith) placed,
       λ same.
           placed-as
           (sheet-line _ _ (refused .before .load .ensures) (refused .if1 .taken) _ _
@@ -47,7 +47,7 @@ returns-2 c =
     let loaded = checked .before .before in
     let (placed, short) = c .write-refused2 .ensures in
     let is-load = loaded .before .load .ensures in (
-      line-inside (omega arith) short placed,
+      line-inside (omega arith) (omega arith) placed,
       λ same.
           placed-as
           (file-line _ _ is-load (loaded .if1 .left) (checked .check-in .ensures) (refused .if2 .taken) _ _

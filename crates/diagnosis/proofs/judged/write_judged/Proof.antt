@@ -4,7 +4,7 @@ use native.Mathlib.Omega.{arith}
 use borrow.Author.Needs.{needs}
 use Rattle.encoding.specs.Text.{ascii}
 use Rattle.formats.proofs.Growing.{file-long}
-use Rattle.diagnosis.proofs.JudgedLine.{accepted-told, first-inside, refused-told, rejected-inside, rejected-told}
+use Rattle.diagnosis.proofs.JudgedLine.{accepted-told, first-inside, refused-told, rejected-told}
 use Rattle.diagnosis.proofs.judged.write_judged.Statement.{statement}
 use Rattle.diagnosis.proofs.judged.write_judged.Tie as tie
 
@@ -22,8 +22,8 @@ slice-aggregate-write-word c = search needs
 write-word-requires : tie.Need-write-word-requires
 write-word-requires c κs = omega arith
 
-enum-known-row : tie.Need-enum-known-row
-enum-known-row c = search needs
+enum-known-mask : tie.Need-enum-known-mask
+enum-known-mask c = search needs
 
 file-width-requires : tie.Need-file-width-requires
 file-width-requires c κs = omega (arith, file-long (c .before .before .before .before .before .before .pre .1 .0))
@@ -35,11 +35,7 @@ round-at-requires c κs =
     (valid .table .few-rows, (valid .table .few-columns, (known, rw width (first-inside file some))))
 
 write-sides-requires : tie.Need-write-sides-requires
-write-sides-requires c κs =
-    let row = c .before .before .before .before in
-    let judged = row .before .before in
-    let valid = judged .before .before .before .pre .0 in
-    (valid, (rejected-inside _ _ (judged .verdict-at .ensures) valid _ (row .row .given .1), omega arith))
+write-sides-requires c κs = (c .before .before .before .before .before .before .before .before .before .pre .0, omega arith)
 
 enum-known-number : tie.Need-enum-known-number
 enum-known-number c = search needs
@@ -71,10 +67,10 @@ returns-2 : tie.Need-returns-2
 returns-2 c =
     let written = c .before .before in
     let read = written .before .before in
-    let row = read .before .before .before in
-    let judged = row .before .before in
+    let mask = read .before .before .before in
+    let judged = mask .before .before in
     let round = rw (read .before .file-width .ensures .0) at (read .round-at .ensures) in
-    let line = rejected-told _ _ (judged .verdict-at .ensures) round _ (row .row .given .1) in
+    let line = rejected-told _ _ (judged .verdict-at .ensures) round _ (mask .mask .given .1) in
     (rw line (written .write-sides .ensures .0), written .write-sides .ensures .1)
 
 same-length-3 : tie.Need-same-length-3
@@ -87,7 +83,7 @@ returns-3 c =
     let number = spot .before .before .before in
     let judged = number .before .before in
     let line = refused-told _ _ (judged .verdict-at .ensures) _ (number .number .given .1) in
-    (rw (line, ← spot .round-spot .ensures) (written .write-refused .ensures .0), written .write-refused .ensures .1)
+    (rw (line, ← spot .round-spot .ensures) (written .write-refused .ensures .0), omega (arith, written .write-refused .ensures .1))
 
 pub write-judged-spec : {M : Type 1} → statement M
 write-judged-spec =
@@ -97,7 +93,7 @@ write-judged-spec =
     enum-told
     slice-aggregate-write-word
     write-word-requires
-    enum-known-row
+    enum-known-mask
     file-width-requires
     round-at-requires
     write-sides-requires

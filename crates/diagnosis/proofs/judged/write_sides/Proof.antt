@@ -1,4 +1,4 @@
--- `diagnosis::judged::write_sides` meets its contract: a row of the two sides is a place of their arrays.
+-- `diagnosis::judged::write_sides` meets its contract: the two sides stand in the first places of their arrays.
 -- Assumes nothing.
 use native.Mathlib.Omega.{arith}
 use Rattle.diagnosis.proofs.Pieces.{sides-placed}
@@ -10,18 +10,6 @@ image-requires c κs = omega arith
 
 expected-image-requires : tie.Need-expected-image-requires
 expected-image-requires c κs = omega arith
-
-mul-write-rejected : tie.Need-mul-write-rejected
-mul-write-rejected c = omega arith
-
-array-read-write-rejected : tie.Need-array-read-write-rejected
-array-read-write-rejected c = omega arith
-
-mul-write-rejected-2 : tie.Need-mul-write-rejected-2
-mul-write-rejected-2 c = omega arith
-
-array-read-write-rejected-2 : tie.Need-array-read-write-rejected-2
-array-read-write-rejected-2 c = omega arith
 
 write-rejected-requires : tie.Need-write-rejected-requires
 write-rejected-requires c κs = omega arith
@@ -43,10 +31,6 @@ write-sides-spec =
     (tie.spec
     image-requires
     expected-image-requires
-    mul-write-rejected
-    array-read-write-rejected
-    mul-write-rejected-2
-    array-read-write-rejected-2
     write-rejected-requires
     same-length
     returns)

@@ -6,6 +6,7 @@ use lib.ListN.{length}
 use borrow.Author.Needs.{needs}
 use Rattle.types.specs.declared.Verdict.{Verdict}
 use Rattle.encoding.specs.Text.{ascii}
+use Rattle.encoding.proofs.Placed.{placed-behind}
 use Rattle.runs.specs.Marker.{verdictText}
 use Rattle.round_lines.proofs.lines.write_verdict.Statement.{statement}
 use Rattle.round_lines.proofs.lines.write_verdict.Tie as tie
@@ -23,6 +24,23 @@ write-word-requires c κs = omega (arith, ap (λ (v : Verdict). length (verdictT
 enum-known-verdict : tie.Need-enum-known-verdict
 enum-known-verdict c = search needs
 
+slice-aggregate-write-word-2 : tie.Need-slice-aggregate-write-word-2
+slice-aggregate-write-word-2 c = search needs
+
+write-word-requires-2 : tie.Need-write-word-requires-2
+unfolding verdictText ascii
+write-word-requires-2 c κs = omega (arith, ap (λ (v : Verdict). length (verdictText v)) (c .before .before .before .verdict .given .1))
+
+write-rows-requires : tie.Need-write-rows-requires
+unfolding verdictText ascii
+write-rows-requires c κs =
+    let word = c .before .before .before in
+    let told = word .before .before .before .before .verdict .given in
+    omega (arith, ap (λ (v : Verdict). length (verdictText v)) (told .1), word .write-word2 .ensures .behind)
+
+enum-known-verdict-2 : tie.Need-enum-known-verdict-2
+enum-known-verdict-2 c = search needs
+
 slice-aggregate-write-numbered : tie.Need-slice-aggregate-write-numbered
 slice-aggregate-write-numbered c = search needs
 
@@ -31,20 +49,7 @@ cast-write-numbered c = omega arith
 
 write-numbered-requires : tie.Need-write-numbered-requires
 unfolding verdictText ascii
-write-numbered-requires c κs = omega (arith, ap (λ (v : Verdict). length (verdictText v)) (c .before .before .before .verdict .given .1))
-
-enum-known-verdict-2 : tie.Need-enum-known-verdict-2
-enum-known-verdict-2 c = search needs
-
-slice-aggregate-write-numbered-2 : tie.Need-slice-aggregate-write-numbered-2
-slice-aggregate-write-numbered-2 c = search needs
-
-cast-write-numbered-2 : tie.Need-cast-write-numbered-2
-cast-write-numbered-2 c = omega arith
-
-write-numbered-requires-2 : tie.Need-write-numbered-requires-2
-unfolding verdictText ascii
-write-numbered-requires-2 c κs = omega (arith, ap (λ (v : Verdict). length (verdictText v)) (c .before .before .before .verdict2 .given .1))
+write-numbered-requires c κs = omega (arith, ap (λ (v : Verdict). length (verdictText v)) (c .before .before .before .verdict2 .given .1))
 
 same-length : tie.Need-same-length
 same-length c = omega arith
@@ -62,7 +67,8 @@ returns-2 : tie.Need-returns-2
 unfolding verdictText ascii
 returns-2 c =
     let written = c .before .before in
-    rw (written .before .before .before .before .verdict .given .1) (written .write-numbered .ensures)
+    let word = written .before .before .before .before in
+    rw (word .before .before .before .before .verdict .given .1) (placed-behind (word .write-word2 .ensures) (written .write-rows .ensures))
 
 same-length-3 : tie.Need-same-length-3
 same-length-3 c = omega arith
@@ -71,7 +77,7 @@ returns-3 : tie.Need-returns-3
 unfolding verdictText ascii
 returns-3 c =
     let written = c .before .before in
-    rw (written .before .before .before .before .verdict2 .given .1) (written .write-numbered2 .ensures)
+    rw (written .before .before .before .before .verdict2 .given .1) (written .write-numbered .ensures)
 
 pub write-verdict-spec : {M : Type 1} → statement M
 write-verdict-spec =
@@ -81,13 +87,13 @@ write-verdict-spec =
     slice-aggregate-write-word
     write-word-requires
     enum-known-verdict
+    slice-aggregate-write-word-2
+    write-word-requires-2
+    write-rows-requires
+    enum-known-verdict-2
     slice-aggregate-write-numbered
     cast-write-numbered
     write-numbered-requires
-    enum-known-verdict-2
-    slice-aggregate-write-numbered-2
-    cast-write-numbered-2
-    write-numbered-requires-2
     same-length
     returns
     same-length-2
