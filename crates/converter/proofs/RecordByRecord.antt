@@ -7,7 +7,7 @@ use mathlib.Core.List.{List, [], _∷_, _++_, append-nil, flatten, map, map-appe
 use native.Mathlib.Numerals.{add-one}
 use native.Mathlib.Omega.{arith}
 use lib.ListN.{length, take, drop}
-use lib.Seq.{sets}
+use lib.Seq.{length-sets, sets}
 use Rattle.types.specs.declared.Header.{Header}
 use Rattle.types.specs.declared.Round.{Round}
 use Rattle.encoding.specs.Bytes.{numberAt}
@@ -25,6 +25,10 @@ use Rattle.formats.proofs.Appending.{length-recordBytes}
 use Rattle.formats.proofs.Part.{record-inside}
 use Rattle.formats.proofs.Records.{recordStart-later, recordStart-suc}
 use Rattle.converter.specs.Records.{otherRecords, otherWidth}
+
+-- a buffer is as long as before bytes were placed in it
+pub same-size : {l xs m : List ℕ} {at next : ℕ} → Placed l at xs m next → length m ≡ length l
+same-size {l} {xs} {at = at} placed = ap length (placed .stored) ∙ length-sets l at xs
 
 module _ (h : Header) (f : List ℕ) where
   -- the values of record k

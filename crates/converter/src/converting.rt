@@ -1,6 +1,5 @@
 // The converter for a sheet whose fixed fields are loaded (02, card 7; refusals 12, 15 and 22).
 use crate::records::other_version;
-use crate::records::record_count;
 use crate::records::wide_record;
 use crate::records::write_records;
 use fields::read_u16;
@@ -29,7 +28,8 @@ fn other_length(h: Header, file: &[u8]) -> usize
     ensures { λ r. ⌜ r ≡ recordStart (otherWidth (now (file .entry))) h (countField (now (file .entry))) ⌝ }
 {
     let width = width_of(other_version(file));
-    record_start(h, width, record_count(file))
+    let count = read_u16(file, 5) as usize;
+    record_start(h, width, count)
 }
 
 // The number that the converter is refused with, 12, 15, 22 or 0.

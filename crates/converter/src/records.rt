@@ -12,7 +12,6 @@ ghost use Prim.Native.Nat.{_≤_};
 ghost use mathlib.Core.Path.{_≡_};
 ghost use lib.ListN.{length};
 ghost use lib.Seq.{sets};
-ghost use Rattle.encoding.specs.Bytes.{numberAt};
 ghost use Rattle.formats.specs.Convert.{otherVersion, wideRecord};
 ghost use Rattle.formats.specs.Meaning.{IsRoundFile};
 ghost use Rattle.formats.specs.RoundFile.{countField, fileVersion, recordStart};
@@ -29,14 +28,6 @@ pub fn other_version(file: &[u8]) -> u32
     1
 }
 
-// How many records a file has.
-pub fn record_count(file: &[u8]) -> usize
-    requires long { ⌜ 7 ≤ length (now file) ⌝ }
-    ensures { λ r. ⌜ r ≡ numberAt 2 (now (file .entry)) 5 ⌝ }
-{
-    read_u16(file, 5) as usize
-}
-
 // Whether some record of a file has a challenge that the other version cannot hold.
 pub fn wide_record(h: Header, file: &[u8]) -> bool
     requires rows { ⌜ h .rows ≤ 8 ⌝ }
@@ -46,7 +37,7 @@ pub fn wide_record(h: Header, file: &[u8]) -> bool
 {
     let version = other_version(file);
     let width = file_width(file);
-    let count = record_count(file);
+    let count = read_u16(file, 5) as usize;
     for k in 0..count {
         let at = record_start(h, width, k);
         let challenge = challenge_at(file, width, at + 4 * h.rows as usize);
@@ -69,8 +60,8 @@ pub fn write_records(h: Header, file: &[u8], buffer: &mut [u8])
 {
     let from = file_width(file);
     let to = width_of(other_version(file));
-    let count = record_count(file);
-    for k in 0..count {
+    let rounds = read_u16(file, 5) as usize;
+    for k in 0..rounds {
         let round = round_at(h, from, file, record_start(h, from, k));
         let at = record_start(h, to, k);
         write_record(&mut buffer[at..], h, to, round);

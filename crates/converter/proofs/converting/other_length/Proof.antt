@@ -12,8 +12,11 @@ other-version-requires c κs = file-long (c .before .pre .1 .1)
 width-of-requires : tie.Need-width-of-requires
 width-of-requires c κs = omega arith
 
-record-count-requires : tie.Need-record-count-requires
-record-count-requires c κs = file-long (c .before .before .before .pre .1 .1)
+read-u16-requires : tie.Need-read-u16-requires
+read-u16-requires c κs = file-long (c .before .before .before .pre .1 .1)
+
+cast-count : tie.Need-cast-count
+cast-count c = omega arith
 
 record-start-requires : tie.Need-record-start-requires
 unfolding countField
@@ -24,7 +27,7 @@ unfolding countField
 returns c =
     let counted = c .before in
     let sized = counted .before in
-    rw (c .record-start .ensures .0, sized .width-of .ensures .0, sized .before .other-version .ensures, counted .record-count .ensures)
+    rw (c .record-start .ensures .0, sized .width-of .ensures .0, sized .before .other-version .ensures, counted .read-u16 .ensures .0)
 
 pub other-length-spec : {M : Type 1} → statement M
 other-length-spec =
@@ -32,6 +35,7 @@ other-length-spec =
     (tie.spec
     other-version-requires
     width-of-requires
-    record-count-requires
+    read-u16-requires
+    cast-count
     record-start-requires
     returns)

@@ -26,8 +26,11 @@ other-version-requires c κs = file-long (c .before .pre .1 .1)
 file-width-requires : tie.Need-file-width-requires Inv-loop μ-loop
 file-width-requires c κs = omega (arith, file-long (c .before .before .pre .1 .1))
 
-record-count-requires : tie.Need-record-count-requires Inv-loop μ-loop
-record-count-requires c κs = file-long (c .before .before .before .pre .1 .1)
+read-u16-requires : tie.Need-read-u16-requires Inv-loop μ-loop
+read-u16-requires c κs = file-long (c .before .before .before .pre .1 .1)
+
+cast-count : tie.Need-cast-count Inv-loop μ-loop
+cast-count c = omega arith
 
 loop-holds : tie.Need-loop-holds Inv-loop μ-loop
 loop-holds c = (omega arith, any-start _)
@@ -55,7 +58,7 @@ challenge-at-requires c κs =
     let measured = counted .before in
     let (width, (small, known)) = measured .file-width .ensures in
     let (rows, (columns, file)) = measured .before .before .before .pre in
-    let fits = record-there _ _ _ width (started .record-start .ensures .0) file (omega (arith, counted .record-count .ensures)) in
+    let fits = record-there _ _ _ width (started .record-start .ensures .0) file (omega (arith, counted .read-u16 .ensures)) in
     (known, omega arith)
 
 wide-challenge-requires : tie.Need-wide-challenge-requires Inv-loop μ-loop
@@ -69,7 +72,7 @@ returns c =
     let started = read .before .before in
     let counted = started .before .before .before in
     let measured = counted .before in
-    any-here _ _ _ (omega (arith, counted .record-count .ensures))
+    any-here _ _ _ (omega (arith, counted .read-u16 .ensures))
     (wide-tested _ _ _ (measured .file-width .ensures .0) (started .record-start .ensures .0) (measured .before .other-version .ensures)
     (read .challenge-at .ensures) (tested .wide-challenge .ensures) ∙ c .if1 .taken)
 
@@ -97,7 +100,7 @@ unfolding wideRecord countField
 returns-2 c =
     let at-loop = c .before in
     let (within, none) = at-loop .loop .inv in
-    let is-count = at-loop .before .record-count .ensures in
+    let is-count = at-loop .before .read-u16 .ensures in
     any-end _ _ _ (omega arith) (omega arith) none
 
 pub wide-record-spec : {M : Type 1} → statement M
@@ -108,7 +111,8 @@ wide-record-spec =
     μ-loop
     other-version-requires
     file-width-requires
-    record-count-requires
+    read-u16-requires
+    cast-count
     loop-holds
     record-start-requires
     cast-challenge-at

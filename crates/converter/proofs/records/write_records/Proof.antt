@@ -9,18 +9,25 @@ use Rattle.encoding.specs.Placed.{Placed}
 use Rattle.formats.specs.RoundFile.{countField, recordStart, widthOf}
 use Rattle.formats.proofs.Growing.{file-long}
 use Rattle.converter.specs.Records.{otherRecords, otherWidth}
-use Rattle.converter.proofs.RecordByRecord.{none-stored, record-room, record-stored, record-there, round-read}
+use Rattle.converter.proofs.RecordByRecord.{
+  none-stored,
+  record-room,
+  record-stored,
+  record-there,
+  round-read,
+  same-size,
+}
 use Rattle.converter.proofs.records.write_records.Statement.{statement}
 use Rattle.converter.proofs.records.write_records.Tie as tie
 
 abbrev Inv-loop : tie.InvT-loop
-Inv-loop h file buffer₀ from to count k₀ buffer k =
+Inv-loop h file buffer₀ from to rounds k₀ buffer k =
     Placed buffer₀ 7 (otherRecords h file k) buffer (recordStart (otherWidth file) h k)
-    × (k ≤ count)
+    × (k ≤ rounds)
     × (length buffer ≡ length buffer₀)
 
 abbrev μ-loop : tie.MeasureT-loop
-μ-loop h file buffer₀ from to count k₀ buffer k = count - k
+μ-loop h file buffer₀ from to rounds k₀ buffer k = rounds - k
 
 file-width-requires : tie.Need-file-width-requires Inv-loop μ-loop
 file-width-requires c κs = omega (arith, file-long (c .before .before .pre .1 .1 .0))
@@ -31,8 +38,11 @@ other-version-requires c κs = file-long (c .before .before .before .pre .1 .1 .
 width-of-requires : tie.Need-width-of-requires Inv-loop μ-loop
 width-of-requires c κs = omega arith
 
-record-count-requires : tie.Need-record-count-requires Inv-loop μ-loop
-record-count-requires c κs = file-long (c .before .before .before .before .before .pre .1 .1 .0)
+read-u16-requires : tie.Need-read-u16-requires Inv-loop μ-loop
+read-u16-requires c κs = file-long (c .before .before .before .before .before .pre .1 .1 .0)
+
+cast-rounds : tie.Need-cast-rounds Inv-loop μ-loop
+cast-rounds c = omega arith
 
 loop-holds : tie.Need-loop-holds Inv-loop μ-loop
 loop-holds c = (none-stored _ _ _, omega arith, refl)
@@ -50,7 +60,7 @@ round-at-requires c κs =
     let measured = counted .before .before .before in
     let start = measured .before .before .before in
     let (width, (small, known)) = measured .file-width .ensures in
-    let fits = record-there _ _ _ width (c .record-start .ensures .0) (start .pre .1 .1 .0) (omega (arith, counted .record-count .ensures)) in
+    let fits = record-there _ _ _ width (c .record-start .ensures .0) (start .pre .1 .1 .0) (omega (arith, counted .read-u16 .ensures)) in
     (omega arith, (omega arith, (known, fits)))
 
 record-start-requires-2 : tie.Need-record-start-requires-2 Inv-loop μ-loop
@@ -66,7 +76,7 @@ sub-write-record c =
     let widened = counted .before in
     let start = widened .before .before .before .before .before in
     let is-to = widened .width-of .ensures .0 ∙ ap widthOf (widened .before .other-version .ensures) in
-    omega (arith, record-room _ _ _ is-to (c .record-start2 .ensures .0) _ (start .pre .1 .1 .1) (omega (arith, counted .record-count .ensures)))
+    omega (arith, record-room _ _ _ is-to (c .record-start2 .ensures .0) _ (start .pre .1 .1 .1) (omega (arith, counted .read-u16 .ensures)))
 
 part-write-record-start : tie.Need-part-write-record-start Inv-loop μ-loop
 unfolding countField
@@ -75,7 +85,7 @@ part-write-record-start c =
     let widened = counted .before in
     let start = widened .before .before .before .before .before in
     let is-to = widened .width-of .ensures .0 ∙ ap widthOf (widened .before .other-version .ensures) in
-    omega (arith, record-room _ _ _ is-to (c .record-start2 .ensures .0) _ (start .pre .1 .1 .1) (omega (arith, counted .record-count .ensures)))
+    omega (arith, record-room _ _ _ is-to (c .record-start2 .ensures .0) _ (start .pre .1 .1 .1) (omega (arith, counted .read-u16 .ensures)))
 
 part-write-record-end : tie.Need-part-write-record-end Inv-loop μ-loop
 part-write-record-end c = omega arith
@@ -90,7 +100,7 @@ write-record-requires c κs =
     let start = widened .before .before .before .before .before in
     let (width, (small, known)) = widened .width-of .ensures in
     let is-to = width ∙ ap widthOf (widened .before .other-version .ensures) in
-    let room = record-room _ _ _ is-to (placed .record-start2 .ensures .0) _ (start .pre .1 .1 .1) (omega (arith, counted .record-count .ensures)) in
+    let room = record-room _ _ _ is-to (placed .record-start2 .ensures .0) _ (start .pre .1 .1 .1) (omega (arith, counted .read-u16 .ensures)) in
     (omega arith, (omega arith, (known, simp (length-take, length-drop) (omega (arith, room, at-loop .loop .inv .2)))))
 
 add-k : tie.Need-add-k Inv-loop μ-loop
@@ -112,12 +122,11 @@ loop-again c =
     let start = measured .before .before .before in
     let is-to = widened .width-of .ensures .0 ∙ ap widthOf (widened .before .other-version .ensures) in
     let is-at = placed .record-start2 .ensures .0 in
-    let room = record-room _ _ _ is-to is-at _ (start .pre .1 .1 .1) (omega (arith, counted .record-count .ensures)) in
-    let is-round = round-read _ _ _ (measured .file-width .ensures .0) (read .before .record-start .ensures .0) (read .round-at .ensures) in (
-      record-stored _ _ _ is-to is-at (at-loop .loop .inv .0) (omega arith) is-round (stored .write-record .ensures),
-      omega arith,
-      omega arith,
-    )
+    let room = record-room _ _ _ is-to is-at _ (start .pre .1 .1 .1) (omega (arith, counted .read-u16 .ensures)) in
+    let is-round = round-read _ _ _ (measured .file-width .ensures .0) (read .before .record-start .ensures .0) (read .round-at .ensures) in
+    let (before, few, size) = at-loop .loop .inv in
+    let next = record-stored _ _ _ is-to is-at before (omega (arith, room, size)) is-round (stored .write-record .ensures) in
+    (next, omega arith, same-size next)
 
 same-length : tie.Need-same-length Inv-loop μ-loop
 same-length c = omega arith
@@ -126,8 +135,8 @@ returns : tie.Need-returns Inv-loop μ-loop
 unfolding countField
 returns c =
     let at-loop = c .before in
-    let whole : at-loop .loop .k ≡ at-loop .before .record-count .result = omega arith in
-    rw (← at-loop .before .record-count .ensures, ← whole) (at-loop .loop .inv .0 .stored)
+    let whole : at-loop .loop .k ≡ at-loop .before .read-u16 .result = omega arith in
+    rw (← at-loop .before .read-u16 .ensures .0, ← whole) (at-loop .loop .inv .0 .stored)
 
 pub write-records-spec : {M : Type 1} → statement M
 write-records-spec =
@@ -138,7 +147,8 @@ write-records-spec =
     file-width-requires
     other-version-requires
     width-of-requires
-    record-count-requires
+    read-u16-requires
+    cast-rounds
     loop-holds
     record-start-requires
     round-at-requires
