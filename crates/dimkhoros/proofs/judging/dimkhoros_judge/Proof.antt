@@ -1,7 +1,6 @@
 -- `dimkhoros::judging::dimkhoros_judge` meets its contract: it hands out the verdict's three numbers.
 -- Assumes nothing.
 use borrow.Author.Needs.{needs}
-use Rattle.sigma.proofs.Answer.{outcome-injective}
 use Rattle.dimkhoros.proofs.judging.dimkhoros_judge.Statement.{statement}
 use Rattle.dimkhoros.proofs.judging.dimkhoros_judge.Tie as tie
 
@@ -12,7 +11,7 @@ judgement-of-requires : tie.Need-judgement-of-requires
 judgement-of-requires c κs = search needs
 
 returns : tie.Need-returns
-returns c = rw (c .judgement-of .ensures, outcome-injective _ _ (c .before .judge .ensures))
+returns c = rw (c .judgement-of .ensures, c .before .judge .ensures)
 
 pub dimkhoros-judge-spec : {M : Type 1} → statement M
 dimkhoros-judge-spec = tie.close (tie.spec judge-requires judgement-of-requires returns)
