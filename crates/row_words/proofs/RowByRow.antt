@@ -18,15 +18,15 @@ use Rattle.encoding.proofs.Placed.{placed-behind}
 use Rattle.sigma.specs.Answer.{rowsOf}
 
 module _ (word : ℕ → List ℕ) (mask : ℕ) where
-  -- the words of the rows wordsBefore row n
-  abbrev wordsBefore : ℕ → List ℕ
+  -- the words of the rows before row n
+  abbrev pub wordsBefore : ℕ → List ℕ
   wordsBefore n = flatten (map word (selected n (bit mask)))
 
   -- the words of the rows before a row are placed, and the rest of the mask has that row's bit lowest
   abbrev pub Told : List ℕ → ℕ → List ℕ → ℕ → ℕ → ℕ → Type 0
-  Told l at m next rest row = Placed l at (flatten (map word (selected row (bit mask)))) m next × (rest ≡ mask / 2 ^ row) × (row ≤ 8)
+  Told l at m next rest row = Placed l at (wordsBefore row) m next × (rest ≡ mask / 2 ^ row) × (row ≤ 8)
 
-  -- wordsBefore row 0
+  -- before row 0
   pub told-none : (l : List ℕ) (at : ℕ) → Told l at l at mask 0
   told-none l at = (rw (words-zero word (bit mask)) (record { stored = refl; behind = omega arith }), sym (div-one mask), omega arith)
 
@@ -57,7 +57,7 @@ module _ (word : ℕ → List ℕ) (mask : ℕ) where
     told-on few last =
         let (placed, is-rest, within) = told in (
           rw (add-one row, words-next row rest is-rest) (placed-behind placed last),
-          rw is-rest (div-div-eq-div-mul mask (2 ^ row) 2 ∙ ap (λ (v : ℕ). mask / v) (sym (pow-suc 2 row) ∙ ap (λ (k : ℕ). 2 ^ k) (sym (add-one row)))),
+          rw (is-rest, add-one row, pow-suc 2 row) (div-div-eq-div-mul mask (2 ^ row) 2),
           omega arith,
         )
 

@@ -21,9 +21,7 @@ loop-holds : tie.Need-loop-holds Inv-loop μ-loop
 loop-holds c = (told-none _ _ _ _, refl, omega arith)
 
 write-row-requires : tie.Need-write-row-requires Inv-loop μ-loop
-write-row-requires c κs =
-    let (told, size, short) = c .before .before .loop .inv in
-    (c .before .loop-test .taken, omega arith)
+write-row-requires c κs = omega arith
 
 add-row : tie.Need-add-row Inv-loop μ-loop
 add-row c = omega arith
@@ -36,7 +34,7 @@ loop-again c =
     let written = c .before .before in
     let turn = written .before .before in
     let (told, size, short) = turn .before .loop .inv in
-    (told-on _ _ told (turn .loop-test .taken) (written .write-row .ensures .0), omega arith, omega arith)
+    (told-on _ _ told (omega arith) (written .write-row .ensures .0), omega arith, omega arith)
 
 same-length : tie.Need-same-length Inv-loop μ-loop
 same-length c = omega arith

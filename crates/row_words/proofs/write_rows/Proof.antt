@@ -22,7 +22,7 @@ loop-holds c = (told-none _ _ _ _, refl)
 write-row-requires : tie.Need-write-row-requires Inv-loop μ-loop
 write-row-requires c κs =
     let (told, size) = c .before .before .loop .inv in
-    told-room _ _ told _ (c .before .loop-test .taken) (omega arith)
+    told-room _ _ told _ (omega arith) (omega arith)
 
 add-row : tie.Need-add-row Inv-loop μ-loop
 add-row c = omega arith
@@ -35,7 +35,7 @@ loop-again c =
     let written = c .before .before in
     let turn = written .before .before in
     let (told, size) = turn .before .loop .inv in
-    (told-on _ _ told (turn .loop-test .taken) (written .write-row .ensures), omega arith)
+    (told-on _ _ told (omega arith) (written .write-row .ensures), omega arith)
 
 same-length : tie.Need-same-length Inv-loop μ-loop
 same-length c = omega arith
