@@ -566,7 +566,7 @@ DimkhorosFetched dimkhoros_read(const uint8_t *sheet, size_t sheet_length, const
  */
 DIMKHOROS_CHECKED
 DimkhorosCompared dimkhoros_same_commitment(const uint8_t *sheet, size_t sheet_length, const uint8_t *file,
-                                            size_t file_length, uint32_t i, uint32_t j);
+                                            size_t file_length, size_t i, size_t j);
 
 /* Writes a file without rounds to the start of `buffer` and answers its length, 7. Refuses 22. */
 DIMKHOROS_CHECKED

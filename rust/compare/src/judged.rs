@@ -99,8 +99,8 @@ pub fn read(sheet: &[u8], file: &[u8], number: usize) -> Fetched {
     }
 }
 
-pub fn same_commitment(sheet: &[u8], file: &[u8], i: u32, j: u32) -> Compared {
-    match judge::same_commitment(sheet, file, i.into(), j.into()) {
+pub fn same_commitment(sheet: &[u8], file: &[u8], i: usize, j: usize) -> Compared {
+    match judge::same_commitment(sheet, file, i as u64, j as u64) {
         Ok(same) => Compared {
             refusal: 0,
             same: same.into(),

@@ -77,7 +77,7 @@ calls! {
     check(sheet: &[u8], file: &[u8], number: usize) -> u32;
     part(sheet: &[u8], file: &[u8], number: usize) -> Part;
     read(sheet: &[u8], file: &[u8], number: usize) -> Fetched;
-    same_commitment(sheet: &[u8], file: &[u8], i: u32, j: u32) -> Compared;
+    same_commitment(sheet: &[u8], file: &[u8], i: usize, j: usize) -> Compared;
     empty(buffer: &mut [u8]) -> Written;
     append(sheet: &[u8], buffer: &mut [u8], used: usize, round: &Round) -> Written;
 

@@ -125,8 +125,6 @@ impl<'a> RoundFile<'a> {
     /// # Ok::<(), Refusal>(())
     /// ```
     pub fn same_commitment(&self, i: usize, j: usize) -> Result<bool, Refusal> {
-        // A number that does not fit the call becomes the largest, and no file has a round of that number.
-        let [i, j] = [i, j].map(|number| u32::try_from(number).unwrap_or(u32::MAX));
         let compared = sys::same_commitment(self.instance.bytes(), self.bytes, i, j);
         Refusal::check(compared.refusal)?;
         Ok(compared.same == 1)

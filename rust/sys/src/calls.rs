@@ -123,7 +123,7 @@ pub fn read(sheet: &[u8], file: &[u8], number: usize) -> Fetched {
 
 /// Answers whether the rounds of these two numbers in a file have the same commitment.
 #[inline]
-pub fn same_commitment(sheet: &[u8], file: &[u8], i: u32, j: u32) -> Compared {
+pub fn same_commitment(sheet: &[u8], file: &[u8], i: usize, j: usize) -> Compared {
     let (pointer, length) = (sheet.as_ptr(), sheet.len());
     // SAFETY: the slices are given by their pointers and lengths.
     unsafe { dimkhoros_same_commitment(pointer, length, file.as_ptr(), file.len(), i, j) }

@@ -74,8 +74,8 @@ unsafe extern "C" {
         sheet_length: usize,
         file: *const u8,
         file_length: usize,
-        i: u32,
-        j: u32,
+        i: usize,
+        j: usize,
     ) -> Compared;
 
     pub fn dimkhoros_empty(buffer: *mut u8, buffer_length: usize) -> Written;

@@ -33,7 +33,7 @@ pub struct FileCase {
 pub struct SameCase {
     pub sheet: Vec<u8>,
     pub file: Vec<u8>,
-    pub numbers: [u32; 2],
+    pub numbers: [usize; 2],
 }
 
 impl FileCase {

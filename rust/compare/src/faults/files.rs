@@ -79,7 +79,7 @@ pub fn read(fault: Fault, sheet: &[u8], file: &[u8], number: usize) -> Fetched {
     right
 }
 
-pub fn same_commitment(fault: Fault, sheet: &[u8], file: &[u8], i: u32, j: u32) -> Compared {
+pub fn same_commitment(fault: Fault, sheet: &[u8], file: &[u8], i: usize, j: usize) -> Compared {
     let right = Judge.same_commitment(sheet, file, i, j);
     match right.refusal {
         0 => compared(fault, sheet, file, [i, j], right),
@@ -92,12 +92,12 @@ fn compared(
     fault: Fault,
     sheet: &[u8],
     file: &[u8],
-    numbers: [u32; 2],
+    numbers: [usize; 2],
     mut right: Compared,
 ) -> Compared {
     let header = Judge.load(sheet).header;
     let (rows, columns) = (header.rows as usize, header.columns as usize);
-    let parts = numbers.map(|number| Judge.part(sheet, file, number as usize).offset);
+    let parts = numbers.map(|number| Judge.part(sheet, file, number).offset);
     let bytes = match fault {
         Fault::SameColumns => 4 * columns,
         Fault::SameFirstWord => 4,
@@ -108,7 +108,7 @@ fn compared(
             return right;
         }
         Fault::SameTested => {
-            let read = numbers.map(|number| Judge.read(sheet, file, number as usize).round);
+            let read = numbers.map(|number| Judge.read(sheet, file, number).round);
             let refused = |round| Judge.judge(sheet, round).refusal == 14;
             let refusal = if read.iter().any(refused) { 14 } else { 0 };
             return Compared {
@@ -128,10 +128,10 @@ fn not_compared(
     fault: Fault,
     sheet: &[u8],
     file: &[u8],
-    [i, j]: [u32; 2],
+    [i, j]: [usize; 2],
     right: Compared,
 ) -> Compared {
-    let count = Judge.count(sheet, file).count;
+    let count = Judge.count(sheet, file).count as usize;
     let refused = |refusal| Compared { refusal, same: 0 };
     match (fault, right.refusal) {
         (Fault::SameFirstNumber, 13) if i < count => Compared::default(),

@@ -63,13 +63,13 @@ fn same_case(random: &mut Random) -> SameCase {
         files::any(random, record)
     };
     let count = file.len().saturating_sub(7) / record;
-    let mut numbers = [0, 1].map(|_| files::round_number(random, record, &file) as u32);
+    let mut numbers = [0, 1].map(|_| files::round_number(random, record, &file));
     if count > 0 && !random.once_in(4) {
         let places = [random.below(count), random.below(count)];
-        numbers = places.map(|place| place as u32);
+        numbers = places;
         alike(random, &mut file, record, places, 4 * rows);
         if random.once_in(8) {
-            numbers[random.below(2)] = files::round_number(random, record, &file) as u32;
+            numbers[random.below(2)] = files::round_number(random, record, &file);
         }
     }
     SameCase {
@@ -171,14 +171,14 @@ mod tests {
         } = case;
         let compared = Judge.same_commitment(sheet, file, *i, *j);
         let header = Judge.load(sheet).header;
-        let count = Judge.count(sheet, file).count;
+        let count = Judge.count(sheet, file).count as usize;
         match compared.refusal {
             0 => {}
             13 => return format!("13, i inside {}, j inside {}", *i < count, *j < count),
             number => return number.to_string(),
         }
         let [one, other] = [*i, *j].map(|number| {
-            let part = Judge.part(sheet, file, number as usize);
+            let part = Judge.part(sheet, file, number);
             &file[part.offset..part.offset + part.length]
         });
         let bytes = 4 * header.rows as usize;

@@ -285,7 +285,7 @@ static void files(void) {
     printf("%u\n", dimkhoros_check(wide, sizeof wide, buffer, 143, (size_t)-1));
     print_compared(dimkhoros_same_commitment(wide, sizeof wide, buffer, 143, 1, 1));
     print_compared(dimkhoros_same_commitment(wide, sizeof wide, buffer, 143, 0, 1));
-    print_compared(dimkhoros_same_commitment(wide, sizeof wide, buffer, 143, 0, UINT32_MAX));
+    print_compared(dimkhoros_same_commitment(wide, sizeof wide, buffer, 143, 0, SIZE_MAX));
 }
 
 static void rounds(void) {

@@ -152,7 +152,7 @@ fn files(text: &mut String) {
         check(&wide, &buffer[..143], usize::MAX),
         same_commitment(&wide, &buffer[..143], 1, 1),
         same_commitment(&wide, &buffer[..143], 0, 1),
-        same_commitment(&wide, &buffer[..143], 0, u32::MAX),
+        same_commitment(&wide, &buffer[..143], 0, usize::MAX),
     );
 }
 

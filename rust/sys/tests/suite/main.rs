@@ -5,4 +5,5 @@ mod echo;
 mod header;
 mod in_place;
 mod layout;
+mod types;
 mod warnings;
