@@ -2,8 +2,8 @@
 
 use crate::pages::{PLANS, made, page_a, round};
 use dimkhoros::{
-    EMPTY_FILE, Instance, LONGEST_FILE, MOST_ROUNDS, Refusal, Round, RoundFile, RoundWriter,
-    Rows, Values, Verdict, places,
+    EMPTY_FILE, Instance, LONGEST_FILE, MOST_ROUNDS, Refusal, Round, RoundFile, RoundWriter, Rows,
+    Values, Verdict, places,
 };
 
 #[test]

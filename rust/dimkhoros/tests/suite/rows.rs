@@ -51,7 +51,8 @@ fn every_mask_is_told_in_a_session_and_out_of_one() {
     let instance = sheet(8);
     assert_eq!(instance.judge(&differing(0)), Ok(Verdict::Accepted));
     for mask in 1..256 {
-        let (round, rejected) = (differing(mask), Verdict::Rejected { rows: Rows::from_mask(mask) });
+        let (round, rejected) =
+            (differing(mask), Verdict::Rejected { rows: Rows::from_mask(mask) });
         assert_eq!(instance.judge(&round), Ok(rejected));
         let vic = Verifier::new().take_commitment(&instance, &round.commitment).unwrap();
         let vic = vic.take_challenge(&instance, 0).unwrap();
