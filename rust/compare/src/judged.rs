@@ -110,7 +110,7 @@ pub fn same_commitment(sheet: &[u8], file: &[u8], i: usize, j: usize) -> Compare
 }
 
 pub fn empty(buffer: &mut [u8]) -> Written {
-    written(judge::empty(buffer))
+    written(judge::empty(1, buffer))
 }
 
 pub fn append(sheet: &[u8], buffer: &mut [u8], used: usize, added: &Round) -> Written {
