@@ -59,8 +59,8 @@ pub fn reason(fault: Fault, sheet: &[u8], file: &[u8], text: &mut [u8; LONGEST_R
         line.pop();
     }
     text[..line.len()].copy_from_slice(line.as_bytes());
-    if fault == Fault::ReasonByteAfter {
-        text[line.len()] = 0;
+    if let (Fault::ReasonByteAfter, Some(byte)) = (fault, text.get_mut(line.len())) {
+        *byte = 0;
     }
     line.len()
 }
