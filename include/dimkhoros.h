@@ -40,8 +40,9 @@
  * session keeps what it holds in all eight, and the commitments that Peggy's hold are tested in all eight (by 21).
  *
  * Refusals. A call answers a number, or a struct with a field `refusal`: 0, or the number of what was refused. Where several
- * apply it is the earliest in the order 23, 24, 1 to 11, 26, 12, 25, 13 to 22. A refused call changes no session, array or
- * buffer, and has 0 in every other field of its answer. Compilers warn of a call whose answer is thrown away.
+ * apply it is the earliest in the order 23, 24, 1 to 9, 27, 10, 11, 26, 12, 25, 13 to 16, 28, 17 to 22. A refused call changes
+ * no session, array or buffer, and has 0 in every other field of its answer. Compilers warn of a call whose answer is thrown
+ * away.
  *
  * Random numbers are the caller's: nonces, challenges and simulated responses are handed in. A nonce has to be drawn at
  * random from all coordinates for each session, or the responses give the witness away.
@@ -74,13 +75,16 @@ extern "C" {
 /* Sizes. */
 #define DIMKHOROS_PLACES 8              /* numbers in a commitment, statement, witness, nonce or response */
 #define DIMKHOROS_ENTRIES 64            /* numbers in a table: row i, column j, both from 0, stands at 8 * i + j */
+#define DIMKHOROS_MOST_PLAYERS 8        /* players of the largest team */
+#define DIMKHOROS_PARTS 64              /* numbers that a team brings: value i of player p, both from 0, stands at 8 * p + i */
 #define DIMKHOROS_LONGEST_SHEET 308     /* bytes of the longest sheet */
 #define DIMKHOROS_SHIPPED_PATTERNS 34   /* bytes of the pattern file that dimkhoros_patterns writes */
 #define DIMKHOROS_MOST_PATTERNS 32      /* patterns in the fullest pattern file */
 #define DIMKHOROS_LONGEST_PATTERNS 2150 /* bytes of the longest pattern file */
 #define DIMKHOROS_EMPTY_FILE 7          /* bytes of a round file without rounds */
 #define DIMKHOROS_MOST_ROUNDS 512       /* rounds in the fullest round file */
-#define DIMKHOROS_LONGEST_FILE 34823    /* bytes of the longest round file */
+#define DIMKHOROS_LONGEST_FILE 34823    /* bytes of the longest round file, which has version 1 */
+#define DIMKHOROS_LONGEST_FILE_2 33799  /* bytes of the longest round file of version 2 */
 #define DIMKHOROS_LONGEST_TEXT 14864    /* bytes that hold every text of the marker */
 #define DIMKHOROS_LONGEST_REASON 201    /* bytes that hold every line of the reason */
 #define DIMKHOROS_STORED_PROVER 79      /* bytes of a stored session of Peggy's */
@@ -113,7 +117,10 @@ extern "C" {
 #define DIMKHOROS_VERIFIER_ASKED 2   /* a commitment and the challenge given on it are held */
 #define DIMKHOROS_VERIFIER_JUDGED 3  /* a response was judged */
 
-/* Every refusal by its number, with its name and what it says. 23 and 24 are tested before 1, 26 behind 11 and 25 behind 12. */
+/*
+ * Every refusal by its number, with its name and what it says. 23 and 24 are tested before 1, 27 behind 9, 26 behind 11, 25
+ * behind 12 and 28 behind 16.
+ */
 #define DIMKHOROS_REFUSALS(REFUSAL)                                                                               \
     REFUSAL(1, PATTERN, "the pattern file has no pattern of this number, or it takes another count of values")    \
     REFUSAL(2, SHEET_MARK, "the sheet is shorter than a header or does not begin with HOM")                       \
@@ -126,11 +133,13 @@ extern "C" {
                            " the order or exponent")                                                              \
     REFUSAL(9, SHEET_LENGTH, "the sheet is longer or shorter than its header says")                               \
     REFUSAL(10, ENTRY, "a table entry or public value lies outside the group")                                    \
-    REFUSAL(11, STATEMENT, "a statement value lies outside the group")                                            \
-    REFUSAL(12, FILE, "the bytes are no round file of this sheet, or the file is full")                           \
+    REFUSAL(11, STATEMENT, "a value of the statement or of a player's image lies outside the group")              \
+    REFUSAL(12, FILE, "the bytes are no round file of this sheet, the file is full, or the version asked for is"  \
+                      " another than 1 and 2")                                                                    \
     REFUSAL(13, ROUND_NUMBER, "the file has no round of this number")                                             \
     REFUSAL(14, COMMITMENT, "a commitment value lies outside the group")                                          \
-    REFUSAL(15, CHALLENGE, "the challenge has to be below the sheet's challenge count")                           \
+    REFUSAL(15, CHALLENGE, "the challenge has to be below the sheet's challenge count, or 65535 at most where it" \
+                           " is written to a round file of version 2")                                            \
     REFUSAL(16, COORDINATE, "a value of the witness, nonce or response lies outside the domain")                  \
     REFUSAL(17, WITNESS, "the table does not carry the witness to the statement")                                 \
     REFUSAL(18, COMMITMENTS_DIFFER, "the two rounds have different commitments")                                  \
@@ -142,7 +151,9 @@ extern "C" {
                               " values or length is wrong")                                                       \
     REFUSAL(24, PATTERN_DIGITS, "a pattern has a digit above its number of values, or a value that no digit names") \
     REFUSAL(25, LEVEL, "the level has to be one byte from 1 to 64")                                               \
-    REFUSAL(26, COUNTS_DIFFER, "the two sheets have different challenge counts")
+    REFUSAL(26, COUNTS_DIFFER, "the two sheets have different challenge counts")                                  \
+    REFUSAL(27, TEAM, "the team has to have 2 to 8 players")                                                      \
+    REFUSAL(28, IMAGES, "the images of the team's players do not multiply to the statement")
 
 /* The refusals by name: DIMKHOROS_REFUSED_PATTERN is 1, and so on through the list. */
 enum {
@@ -220,7 +231,7 @@ typedef struct {
     uint32_t refusal;
 } DimkhorosCompared;
 
-/* A simulated commitment or an extracted witness. */
+/* A simulated commitment, an extracted witness, or a commitment or response of a team. */
 typedef struct {
     uint32_t values[DIMKHOROS_PLACES];
     uint32_t refusal;
@@ -550,7 +561,44 @@ DIMKHOROS_CHECKED
 DimkhorosOrExtracted dimkhoros_or_extract(const uint8_t *first, size_t first_length, const uint8_t *second,
                                           size_t second_length, DimkhorosOrRound a, DimkhorosOrRound b);
 
+/* --- Peggy as a team --- */
+
+/*
+ * Two to eight players each hold a part of a witness. A part's image is public, and the images multiply to the statement. Each
+ * player has a session of Peggy's on the sheet with the player's own image as its statement, and all hear the same challenge. A
+ * combiner makes one round of theirs, which Vic judges by the sheet itself: it is the round that a single Peggy sends for the
+ * joined witness and the joined nonce. Where all players' rounds are accepted so is the whole, and where exactly one is rejected
+ * so is the whole. This is proved. Joined means, column by column, added modulo q (exponent sheets) or multiplied modulo m (root
+ * sheets).
+ *
+ * The players' values stand one player behind the other, value i of player p at 8 * p + i. Those of players from `count` on are
+ * not read, nor are the places behind a player's s or n values.
+ *
+ * 27 is given behind 9, before an entry of the sheet is looked at; 11 is for the statement and for the images; and 28 is given
+ * last, where the images do not multiply to the statement.
+ */
+
+/*
+ * Answers the players' commitments multiplied modulo m, row by row: the commitment of the whole. Refuses 2 to 9, 27, 10, 11, 14
+ * and 28.
+ */
+DIMKHOROS_CHECKED
+DimkhorosComputed dimkhoros_team_commitment(const uint8_t *sheet, size_t sheet_length, uint32_t count,
+                                            const uint32_t images[DIMKHOROS_PARTS],
+                                            const uint32_t commitments[DIMKHOROS_PARTS]);
+
+/* Answers the players' responses joined, column by column: the response of the whole. Refuses 2 to 9, 27, 10, 11, 16 and 28. */
+DIMKHOROS_CHECKED
+DimkhorosComputed dimkhoros_team_response(const uint8_t *sheet, size_t sheet_length, uint32_t count,
+                                          const uint32_t images[DIMKHOROS_PARTS],
+                                          const uint32_t responses[DIMKHOROS_PARTS]);
+
 /* --- Round files --- */
+
+/*
+ * A round file has version 1 or 2. In version 2 a challenge is stored in two bytes, and a round has 4 * (s + n) + 2; in version
+ * 1 it has four, and a round 4 * (s + n + 1). All calls take files of both. docs/FORMATS.md has the bytes.
+ */
 
 /* Answers how many rounds a file has, 0 to 512. Refuses 2 to 12. */
 DIMKHOROS_CHECKED
@@ -582,19 +630,33 @@ DIMKHOROS_CHECKED
 DimkhorosCompared dimkhoros_same_commitment(const uint8_t *sheet, size_t sheet_length, const uint8_t *file,
                                             size_t file_length, size_t i, size_t j);
 
-/* Writes a file without rounds to the start of `buffer` and answers its length, 7. Refuses 22. */
+/*
+ * Writes a file of this version without rounds to the start of `buffer` and answers its length, 7. No byte behind it is
+ * changed. Refuses 12, for any version but 1 and 2, and 22.
+ */
 DIMKHOROS_CHECKED
-DimkhorosWritten dimkhoros_empty(uint8_t *buffer, size_t buffer_length);
+DimkhorosWritten dimkhoros_empty(uint32_t version, uint8_t *buffer, size_t buffer_length);
 
 /*
- * Adds a round to the file in the first `used` bytes of `buffer`, without testing its values, and answers how many bytes are
- * then in use. The round is written straight behind these bytes, the file's count rises by one, and no other byte is
- * changed. Refuses 2 to 12 and 22: 12 where the bytes in use are no file of this sheet, are more than the buffer has or
- * hold 512 rounds, and 22 where the buffer has no room for the round.
+ * Adds a round to the file in the first `used` bytes of `buffer`, in that file's version, and answers how many bytes are then in
+ * use. The round is written straight behind these bytes, the file's count rises by one, and no other byte is changed. Its
+ * values are not tested, but for a challenge that version 2 cannot hold. Refuses 2 to 12, 15 and 22: 12 where the bytes in use
+ * are no file of this sheet, are more than the buffer has or hold 512 rounds, 15 where they have version 2 and the challenge is
+ * above 65535, and 22 where the buffer has no room for the round.
  */
 DIMKHOROS_CHECKED
 DimkhorosWritten dimkhoros_append(const uint8_t *sheet, size_t sheet_length, uint8_t *buffer, size_t buffer_length,
                                   size_t used, DimkhorosRound round);
+
+/*
+ * Writes the rounds of a file in its other version, 2 for 1 and 1 for 2, to the start of `buffer` and answers how many bytes
+ * these are: the file's without or with two for each round. No byte behind them is changed. The rounds keep their order and all
+ * their values, so that every verdict stays the same, and converting the result gives the file again. Refuses 2 to 12, 15 and
+ * 22: 15 where any round of a file of version 1 has a challenge above 65535. One of K to 65535 is converted like the others.
+ */
+DIMKHOROS_CHECKED
+DimkhorosWritten dimkhoros_convert(const uint8_t *sheet, size_t sheet_length, const uint8_t *file, size_t file_length,
+                                   uint8_t *buffer, size_t buffer_length);
 
 /* --- The marker and the reason --- */
 

@@ -1,6 +1,7 @@
-/* Vic keeps a file of rounds, a marker judges each of them and says whether they are enough for a level, and a student is told
- * the reason. A sheet of two rows shows how the rows that differ are named. */
+/* Vic keeps a file of rounds, a marker judges each of them and says whether they are enough for a level, a student is told the
+ * reason, and the file is converted to version 2 and back. A sheet of two rows shows how the rows that differ are named. */
 #include "common.h"
+#include <string.h>
 
 static const DimkhorosRound mixed[] = {
     {{9}, 3, {4}},
@@ -26,7 +27,7 @@ static const DimkhorosRound of_two_rows[] = {
 /* Writes the file of so many rounds and answers its length. */
 static size_t write_file(const uint8_t *sheet, size_t length, const DimkhorosRound *rounds, size_t count,
                          uint8_t file[DIMKHOROS_LONGEST_FILE]) {
-    DimkhorosWritten written = dimkhoros_empty(file, DIMKHOROS_LONGEST_FILE);
+    DimkhorosWritten written = dimkhoros_empty(1, file, DIMKHOROS_LONGEST_FILE);
     expect(written.refusal);
     for (size_t i = 0; i < count; i++) {
         written = dimkhoros_append(sheet, length, file, DIMKHOROS_LONGEST_FILE, written.length, rounds[i]);
@@ -82,6 +83,36 @@ static void show_reason(const uint8_t *sheet, size_t length, const DimkhorosRoun
     printf("The reason on round %zu alone: %.*s", number, (int)line_length, (const char *)line);
 }
 
+/* Converts a file of version 1 to version 2 and back, and shows what becomes of it. */
+static void show_versions(const uint8_t *sheet, size_t length, const uint8_t *file, size_t file_length) {
+    uint8_t narrow[DIMKHOROS_LONGEST_FILE_2];
+    uint8_t again[DIMKHOROS_LONGEST_FILE];
+    DimkhorosWritten two = dimkhoros_convert(sheet, length, file, file_length, narrow, sizeof narrow);
+    expect(two.refusal);
+    printf("The file in version 2: %zu bytes.\n", two.length);
+    show_round(sheet, length, narrow, two.length, 2);
+    DimkhorosWritten one = dimkhoros_convert(sheet, length, narrow, two.length, again, sizeof again);
+    expect(one.refusal);
+    int same = one.length == file_length && memcmp(again, file, file_length) == 0;
+    printf("Converted back: %zu bytes, %s.\n", one.length, same ? "the same as before" : "other ones");
+}
+
+/* Shows what becomes of a challenge that 16 bits do not hold. */
+static void show_wide(const uint8_t *sheet, size_t length) {
+    const DimkhorosRound wide = {{9}, 65536, {4}};
+    uint8_t file[DIMKHOROS_LONGEST_FILE];
+    uint8_t narrow[DIMKHOROS_LONGEST_FILE_2];
+    size_t file_length = write_file(sheet, length, &wide, 1, file);
+    printf("A file of version 1 with the challenge 65536, converted: ");
+    show_refusal(dimkhoros_convert(sheet, length, file, file_length, narrow, sizeof narrow).refusal);
+    DimkhorosWritten empty = dimkhoros_empty(2, narrow, sizeof narrow);
+    expect(empty.refusal);
+    printf("The same round added to a file of version 2: ");
+    show_refusal(dimkhoros_append(sheet, length, narrow, sizeof narrow, empty.length, wide).refusal);
+    printf("A file of version 3: ");
+    show_refusal(dimkhoros_empty(3, narrow, sizeof narrow).refusal);
+}
+
 /* Shows how the rows that differ are told: in a verdict, by the marker and by the reason. */
 static void show_rows(void) {
     const uint32_t values[2] = {2, 16}, statement[2] = {13, 18};
@@ -115,6 +146,8 @@ int main(void) {
     for (size_t number = 0; number <= counted.count; number++) {
         show_round(sheet, length, file, file_length, number);
     }
+    show_versions(sheet, length, file, file_length);
+    show_wide(sheet, length);
     show_mark(sheet, length, file, file_length, 7);
     for (size_t count = 2; count <= 3; count++) {
         file_length = write_file(sheet, length, accepted, count, file);

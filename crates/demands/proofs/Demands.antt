@@ -12,6 +12,7 @@ use Rattle.patterns.proofs.PatternCalls.{pattern-calls, pattern-refusals}
 use Rattle.products.proofs.TeamRefusals.{team-refusals}
 use Rattle.products.proofs.TeamWorks.{team-works}
 use Rattle.reasons.proofs.ReasonsTrue.{reasons-true}
+use Rattle.runs.proofs.ConvertsFiles.{convert-refusals, converts-files}
 use Rattle.runs.proofs.Demand1.{demand1}
 use Rattle.runs.proofs.Demand3.{demand3}
 use Rattle.runs.proofs.MainProtocol.{main-protocol}
@@ -31,6 +32,7 @@ demands = record {
     one-of-two = or-refusals;
     words = words-refusals;
     team = team-refusals;
+    sixteen-bits = convert-refusals;
   };
   sessions = sessions;
   main-protocol = main-protocol;
@@ -53,5 +55,6 @@ demands = record {
     one-of-two = or-proof;
     words = words-compare;
     team = team-works;
+    sixteen-bits = converts-files;
   };
 }

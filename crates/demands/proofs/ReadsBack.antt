@@ -3,16 +3,18 @@
 use Prim.Native.Nat.{ℕ}
 use mathlib.Core.Path.{sym, subst}
 use mathlib.Core.List.{List}
+use mathlib.Core.Logic.{inl, inr, ⊎-elim}
 use Rattle.sigma.specs.Instance.{Instance}
-use Rattle.formats.specs.Outcome.{Puts}
+use Rattle.formats.specs.Outcome.{Puts, front}
 use Rattle.formats.specs.Write.{Writing}
+use Rattle.formats.proofs.Files.{width-only}
 use Rattle.formats.proofs.FilesByCalls.{rewritten, appended-read}
 use Rattle.formats.proofs.Growing.{append-grows}
 use Rattle.formats.proofs.Loads.{loads}
 use Rattle.formats.proofs.SheetRoundTrip.{encode-loads, load-encodes}
 use Rattle.formats.proofs.Writing.{puts-front}
 use Rattle.patterns.proofs.Making.{make-loads}
-use Rattle.demands.specs.ReadsBack.{front, LoadsAs, ReadsBack}
+use Rattle.demands.specs.ReadsBack.{LoadsAs, ReadsBack}
 
 -- a sheet that was put at the front loads there
 front-loads : {sheet buffer : List ℕ} {w : Writing} {inst : Instance} → Puts sheet buffer w → LoadsAs sheet inst
@@ -28,7 +30,8 @@ reads-back = record {
       let (put, none, same) = make-loads f number m ℓ K values z buffer e small short in
       front-loads put (none, same);
   sheet-again = λ sheet buffer bytes e fits. load-encodes sheet bytes e buffer fits;
-  appended = λ sheet buffer e. appended-read sheet buffer (loads sheet .0 e);
+  appended = λ version width has sheet buffer e.
+      rw (← width-only has) (appended-read (⊎-elim (λ x. inl (x .0)) (λ x. inr (x .0)) has) sheet buffer (loads sheet .0 e));
   grown = append-grows;
   file-again = rewritten;
 }

@@ -1,10 +1,12 @@
--- What the cards of 02 ask beyond 01, a field for each card. Card 3, which changes the marker, stands in Demand1 and MarksFiles.
+-- What the cards of 02 ask beyond 01, a field for each card. Card 3, which changes the marker, stands in Demand1 and MarksFiles,
+-- and what card 7 changes of 01's calls on round files in Demand1, Layout, Writers, ReadsBack and ReasonsTrue.
 -- Assumes nothing.
 use Rattle.disjunctions.specs.OneOfTwo.{OrProof}
 use Rattle.formats.specs.SameCommitment.{WordsCompare}
 use Rattle.patterns.specs.PatternCalls.{PatternCalls}
 use Rattle.products.specs.TeamWorks.{TeamWorks}
 use Rattle.reasons.specs.ReasonsTrue.{ReasonsTrue}
+use Rattle.runs.specs.ConvertsFiles.{ConvertsFiles}
 
 pub record Cards : Type 0 where
   -- 1: the line on a sheet, a file or its round 0 tells the first value that breaks the first rule that is broken, or the first
@@ -22,3 +24,6 @@ pub record Cards : Type 0 where
   -- 6: what the combiner of a team answers is the round that a single Peggy with the joined witness and the joined nonce sends; where
   -- all parts are accepted under their own images so is the whole, and where exactly one is rejected it is rejected
   pub team : TeamWorks
+  -- 7, beside the calls of 01: a round file that converts is put into the lent buffer in the other version, reads there as it did
+  -- and converts back to its own bytes
+  pub sixteen-bits : ConvertsFiles

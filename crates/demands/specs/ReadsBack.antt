@@ -1,5 +1,6 @@
 -- Demand 2's half on files (00): sheets and round files that the calls write read back as the same values, and a file that
--- reads is written back as the same bytes. What a call wrote is the buffer's front of the length that it answered.
+-- reads is written back as the same bytes, in each version of round files (02, card 7). What a call wrote is the buffer's front of
+-- the length that it answered.
 -- Assumes nothing.
 use Prim.Native.Nat.{ℕ, _^_, _<_, _≤_}
 use mathlib.Core.Path.{_≡_}
@@ -7,24 +8,20 @@ use mathlib.Core.List.{List, map}
 use lib.ListN.{length, take}
 use Rattle.types.specs.declared.Round.{Round}
 use Rattle.lists.specs.Member.{Member}
-use Rattle.encoding.specs.Bytes.{AllBytes}
+use Rattle.encoding.specs.Bytes.{AllBytes, numberAt}
 use Rattle.sigma.specs.Instance.{Instance}
 use Rattle.sigma.specs.Reads.{paddedRound}
 use Rattle.formats.specs.Append.{append, emptyFile}
 use Rattle.formats.specs.Encode.{encode}
 use Rattle.formats.specs.Load.{loadRefusal, loaded}
-use Rattle.formats.specs.Meaning.{readInstance}
-use Rattle.formats.specs.Outcome.{Puts}
+use Rattle.formats.specs.Meaning.{HasWidth, readInstance}
+use Rattle.formats.specs.Outcome.{Puts, front}
 use Rattle.formats.specs.RoundCalls.{countRounds}
-use Rattle.formats.specs.RoundFile.{recordStart, widthOf}
+use Rattle.formats.specs.RoundFile.{recordStart}
 use Rattle.formats.specs.Rounds.{Grows, Words, appendEach, roundsRead}
 use Rattle.formats.specs.Sheet.{headerOf}
 use Rattle.formats.specs.Write.{Writing}
 use Rattle.patterns.specs.Maker.{asked, makeFrom}
-
--- the bytes that a call has put at the front of a lent buffer
-abbrev pub front : Writing → List ℕ
-front w = take (w .answer .length) (w .buffer)
 
 -- a sheet loads, and loading gives these values
 abbrev pub LoadsAs : List ℕ → Instance → Type 0
@@ -42,16 +39,17 @@ pub record ReadsBack : Type 0 where
   -- a sheet that loads is written back as the same bytes from what loading gives
   pub sheet-again : (sheet buffer : List ℕ) → AllBytes sheet → loadRefusal sheet ≡ 0 → length sheet ≤ length buffer
       → Puts sheet buffer (encode (loaded sheet) buffer)
-  -- rounds of 32-bit values, appended one by one to an empty file, are counted and read back as what is stored of them
-  pub appended : (sheet buffer : List ℕ) → loadRefusal sheet ≡ 0 → (rounds : List Round) → length rounds ≤ 512
-      → recordStart (widthOf 1) (headerOf sheet) (length rounds) ≤ length buffer
-      → ((round : Round) → Member round rounds → Words (widthOf 1) (headerOf sheet) round)
-      → (w : Writing) → w ≡ appendEach sheet (emptyFile buffer) rounds
-      → (countRounds sheet (front w) ≡ record { refusal = 0; count = length rounds })
+  -- rounds of 32-bit values, and in version 2 of 16-bit challenges, appended one by one to an empty file of a version, are of that
+  -- version, counted and read back as what is stored of them
+  pub appended : (version width : ℕ) → HasWidth version width → (sheet buffer : List ℕ) → loadRefusal sheet ≡ 0 → (rounds : List Round) → length rounds ≤ 512
+      → recordStart width (headerOf sheet) (length rounds) ≤ length buffer
+      → ((round : Round) → Member round rounds → Words width (headerOf sheet) round)
+      → (w : Writing) → w ≡ appendEach sheet (emptyFile version buffer) rounds
+      → (numberAt 2 (front w) 3 ≡ version) × (countRounds sheet (front w) ≡ record { refusal = 0; count = length rounds })
       × (roundsRead sheet (front w) ≡ map (paddedRound (headerOf sheet)) rounds)
   -- a round appended to any round file is the file's last
   pub grown : (sheet buffer : List ℕ) (used : ℕ) (round : Round) → append sheet buffer used round .answer .refusal ≡ 0
       → Grows sheet (take used buffer) round (front (append sheet buffer used round))
-  -- a round file that reads is written back as the same bytes from what the read call gives
+  -- a round file that reads is written back as the same bytes, in its version, from what the read call gives
   pub file-again : (sheet file buffer : List ℕ) → AllBytes file → countRounds sheet file .refusal ≡ 0 → length file ≤ length buffer
-      → Puts file buffer (appendEach sheet (emptyFile buffer) (roundsRead sheet file))
+      → Puts file buffer (appendEach sheet (emptyFile (numberAt 2 file 3) buffer) (roundsRead sheet file))

@@ -6,10 +6,11 @@ use Rattle.disjunctions.specs.OneOfTwo.{OrRefusals}
 use Rattle.formats.specs.SameCommitment.{WordsRefusals}
 use Rattle.patterns.specs.PatternCalls.{PatternRefusals}
 use Rattle.products.specs.TeamWorks.{TeamRefusals}
+use Rattle.runs.specs.ConvertsFiles.{ConvertRefusals}
 use Rattle.runs.specs.Demand1.{Demand1}
 
 pub record Refusals : Type 0 where
-  -- the calls of 01, but for the sheet maker
+  -- the calls of 01, but for the sheet maker, with cards 3 and 7
   pub calls : Demand1
   -- card 2: the sheet maker, which takes a pattern file, and the call that writes the shipped one
   pub patterns : PatternRefusals
@@ -19,3 +20,5 @@ pub record Refusals : Type 0 where
   pub words : WordsRefusals
   -- card 6: the combiner's calls
   pub team : TeamRefusals
+  -- card 7: converting a round file
+  pub sixteen-bits : ConvertRefusals

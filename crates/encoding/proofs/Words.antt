@@ -1,15 +1,23 @@
--- Words and bytes: of bytes, words of any width agree exactly where the bytes that they are made of do.
+-- Words and bytes: of bytes, a word fits its width, and words of any width agree exactly where the bytes that they are made of do.
 -- Assumes nothing.
-use Prim.Native.Nat.{ℕ, zero, suc, _+_, _-_, _*_, _<_, _≤_}
+use Prim.Native.Nat.{ℕ, zero, suc, _+_, _-_, _*_, _^_, _<_, _≤_}
 use mathlib.Core.Path.{_≡_, ap, _∙_}
 use mathlib.Core.Logic.{_↔_}
 use mathlib.Core.List.{List}
 use native.Mathlib.Decide.{decLt}
-use native.Mathlib.Nat.{mul-le-mul-left}
+use native.Mathlib.Nat.{mul-le-mul-left, pow-suc, pow-zero}
 use native.Mathlib.Omega.{arith}
 use lib.ListN.{getD}
 use Rattle.encoding.specs.Bytes.{AllBytes, numberAt}
 use Rattle.encoding.proofs.Bytes.{numberAt-agree}
+
+-- a number of bytes fits them
+pub number-fits : (w : ℕ) (s : List ℕ) (at : ℕ) → AllBytes s → numberAt w s at < 256 ^ w
+unfolding numberAt
+number-fits zero s at bytes = omega (arith, pow-zero 256)
+number-fits (suc w) s at bytes =
+    let low : getD s (at + w) 0 < 256 = bytes (at + w) in
+    omega (arith, number-fits w s at bytes, pow-suc 256 w)
 
 -- a number of bytes has one spelling in so many bytes
 number-bytes : (w : ℕ) (s : List ℕ) (a b : ℕ) → AllBytes s → numberAt w s a ≡ numberAt w s b

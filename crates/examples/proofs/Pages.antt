@@ -53,7 +53,8 @@ use Rattle.sigma.specs.Round.{
   badWitness,
 }
 use Rattle.sigma.specs.Simulator.{simulated, simulateRules, simulateAfter}
-use Rattle.formats.specs.Append.{emptyFile, badInUse, appendRules, appended, appendAfter, append}
+use Rattle.formats.specs.Append.{emptyRules, emptyFile, badInUse, wideChallenge, appendRules, appended, appendAfter, append}
+use Rattle.formats.specs.Convert.{otherVersion, wideRecord, converted, convertRules, convertAfter, convert}
 use Rattle.formats.specs.Encode.{headerBytes, storedEntries, sheetOf, encodeRules, encode}
 use Rattle.formats.specs.Load.{badStart, badLength, shapeRules, loadRules, loadRefusal, noHeader, load, loadEntries}
 use Rattle.formats.specs.RoundCalls.{
@@ -71,6 +72,7 @@ use Rattle.formats.specs.RoundFile.{
   roundMark,
   fileVersion,
   countField,
+  unknownVersion,
   challengeWidth,
   widthOf,
   recordLength,
@@ -80,6 +82,7 @@ use Rattle.formats.specs.RoundFile.{
   badFile,
   noRounds,
 }
+use Rattle.formats.specs.Rounds.{roundsOf, fileIn}
 use Rattle.formats.specs.Sheet.{
   sheetMark,
   versionOf,
@@ -235,6 +238,9 @@ use Rattle.examples.specs.Corners.{
   noBytes,
   counting,
   appending,
+  storing,
+  starting,
+  converting,
   marking,
   lastLine,
   extracting,
@@ -249,7 +255,7 @@ use Rattle.examples.specs.Corners.{
   telling,
   EveryCorner,
 }
-use Rattle.examples.specs.MarkerExample.{exampleFile, exampleText}
+use Rattle.examples.specs.MarkerExample.{exampleFile, exampleText, narrowFile}
 use Rattle.examples.specs.OrPage.{
   logarithmSheet,
   smallOr,
@@ -318,7 +324,8 @@ unfolding euclid gcd residue quotient power bezoutRight bezoutLeft inverse produ
     judgeOr orRound orOutcome own other orProverIn wipedOr newOrProver orStep firstCommitment secondCommitment commitOrRules
     commitOrAfter unfitOr respondOrRules respondOrAfter dropOrRules commitOr respondOr dropOr otherChallenge firstRound
     secondRound readOr logarithmSheet smallOr judgingOr orRun bothWaysOr orJudging orExtracting orPeggy knowsFirst
-    orCommitting orResponding orNumbers fewerChallenges
+    orCommitting orResponding orNumbers fewerChallenges unknownVersion emptyRules wideChallenge otherVersion wideRecord converted
+    convertRules convertAfter convert roundsOf fileIn storing starting converting narrowFile
 worked-examples = (
   record {
     A = refl;
@@ -342,6 +349,10 @@ worked-examples = (
     rejected = refl;
     refused = refl;
     refused-length = refl;
+    to-two = refl;
+    to-one = refl;
+    marked-two = refl;
+    refused-two = refl;
   },
   record {
     shipped-bytes = refl;

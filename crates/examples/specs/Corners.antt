@@ -13,10 +13,11 @@ use Rattle.types.specs.declared.Verifier.{Verifier}
 use Rattle.types.specs.declared.VerifierPhase.{VerifierPhase}
 use Rattle.types.specs.declared.VerifierPhase.the-variants.{Waiting, Holding, Asked, Judged}
 use Rattle.encoding.specs.Text.{ascii}
-use Rattle.examples.specs.MarkerExample.{exampleFile}
+use Rattle.examples.specs.MarkerExample.{exampleFile, narrowFile}
 use Rattle.examples.specs.Pages.{array, judging, repeated, smallRound}
 use Rattle.examples.specs.Sheets.{schnorrSheet, sheetBytes, smallSheet}
 use Rattle.formats.specs.Append.{append, emptyFile}
+use Rattle.formats.specs.Convert.{convert}
 use Rattle.formats.specs.Encode.{encode}
 use Rattle.formats.specs.Load.{loadRefusal, loaded}
 use Rattle.formats.specs.RoundCalls.{checkRound, countRounds}
@@ -106,6 +107,19 @@ counting file = countRounds schnorrSheet file .refusal
 -- the number that the record writer is refused with, in a buffer that begins as such a file does
 unfoldable pub appending : ℕ → ℕ → ℕ → ℕ → ℕ
 appending high low bytes used = append schnorrSheet (zerosFile high low bytes) used (smallRound 9 3 4) .answer .refusal
+
+-- the number that the record writer is refused with for a challenge, in a buffer of so many bytes behind a file of no rounds in a
+-- version (02, card 7)
+unfoldable pub storing : ℕ → ℕ → ℕ → ℕ
+storing version c bytes = append schnorrSheet (changed (zerosFile 0 0 bytes) 4 version) 7 (smallRound 9 c 4) .answer .refusal
+
+-- the number that making a file of no rounds in a version is refused with, in a buffer of so many bytes
+unfoldable pub starting : ℕ → ℕ → ℕ
+starting version bytes = emptyFile version (replicate bytes 0) .answer .refusal
+
+-- the number that the converter is refused with for a file, in a buffer of so many bytes
+unfoldable pub converting : List ℕ → ℕ → ℕ
+converting file bytes = convert schnorrSheet file (replicate bytes 0) .answer .refusal
 
 -- ---- the marker
 
@@ -223,11 +237,17 @@ pub record EveryCorner : Type 0 where
       changed (onesSheet 1 2 2 6) 43 5 ∷ [])
   -- round files
   pub refusal12 :
-      Corner 12 (map counting (noBytes ∷ exampleFile ∷ zerosFile 2 0 6144 ∷ []) ++ appending 1 255 6144 6139 ∷ [])
+      Corner 12
+      (map counting
+      (noBytes ∷ exampleFile ∷ zerosFile 2 0 6144 ∷ changed noBytes 4 2 ∷ narrowFile ∷ changed (zerosFile 2 0 5120) 4 2 ∷ []) ++
+      appending 1 255 6144 6139 ∷ starting 1 7 ∷ starting 2 7 ∷ converting (changed noBytes 4 2) 7 ∷ [])
       (map counting
       (take 6 noBytes ∷ changed noBytes 0 0x53 ∷ changed noBytes 1 0x4F ∷ changed noBytes 2 0x45 ∷ changed noBytes 4 0 ∷
-      changed noBytes 4 2 ∷ changed noBytes 3 1 ∷ zerosFile 2 1 6156 ∷ take 54 exampleFile ∷ (exampleFile ++ 0 ∷ []) ∷ []) ++
-      appending 0 0 12 6 ∷ appending 0 0 12 8 ∷ appending 0 0 0 8 ∷ appending 2 0 6156 6151 ∷ [])
+      changed noBytes 4 3 ∷ changed noBytes 3 1 ∷ zerosFile 2 1 6156 ∷ take 54 exampleFile ∷ (exampleFile ++ 0 ∷ []) ∷
+      changed exampleFile 4 2 ∷ changed narrowFile 4 1 ∷ changed (zerosFile 2 1 5130) 4 2 ∷ []) ++
+      appending 0 0 12 6 ∷ appending 0 0 12 8 ∷ appending 0 0 0 8 ∷ appending 2 0 6156 6151 ∷ storing 3 65536 12 ∷
+      starting 0 7 ∷ starting 3 7 ∷ starting 65537 7 ∷ starting 65538 7 ∷ starting 3 6 ∷
+      converting (changed noBytes 4 3) 7 ∷ converting (changed (take 54 exampleFile) 12 1) 6 ∷ [])
   pub refusal13 :
       Corner 13 (map (checkRound schnorrSheet exampleFile) (0 ∷ 3 ∷ []))
       (map (checkRound schnorrSheet exampleFile) (4 ∷ 65536 ∷ []) ++ checkRound schnorrSheet noBytes 0 ∷ [])
@@ -239,9 +259,11 @@ pub record EveryCorner : Type 0 where
   pub refusal15 :
       Corner 15
       (judging schnorrSheet 9 10 0 ∷ simulating schnorrSheet 10 0 ∷ responding 10 7 (peggy Committed 5 0) ∷
-      asking 10 (vic Holding 9 0) ∷ [])
+      asking 10 (vic Holding 9 0) ∷ storing 2 65535 10 ∷ storing 1 65536 12 ∷ converting (sets exampleFile 49 (255 ∷ 255 ∷ [])) 47 ∷
+      converting (sets narrowFile 41 (255 ∷ 255 ∷ [])) 55 ∷ [])
       (judging schnorrSheet 9 11 0 ∷ simulating schnorrSheet 11 0 ∷ responding 11 7 (peggy Committed 5 0) ∷
-      asking 11 (vic Holding 9 0) ∷ extracting 9 11 1 ∷ [])
+      asking 11 (vic Holding 9 0) ∷ extracting 9 11 1 ∷ storing 2 65536 10 ∷ storing 2 65536 0 ∷
+      converting (changed exampleFile 48 1) 47 ∷ converting (changed exampleFile 12 1) 47 ∷ converting (changed exampleFile 48 1) 0 ∷ [])
   pub refusal16 :
       Corner 16
       (judging schnorrSheet 9 0 10 ∷ simulating schnorrSheet 0 10 ∷ simulating rootBytes 0 34 ∷
@@ -271,9 +293,11 @@ pub record EveryCorner : Type 0 where
   pub refusal22 :
       Corner 22
       (writingIn 28 ++
-      writeShipped (replicate 34 0) .answer .refusal ∷ emptyFile (replicate 7 0) .answer .refusal ∷ appending 0 0 12 7 ∷ [])
+      writeShipped (replicate 34 0) .answer .refusal ∷ starting 1 7 ∷ starting 2 7 ∷ appending 0 0 12 7 ∷ storing 2 3 10 ∷
+      converting exampleFile 47 ∷ converting narrowFile 55 ∷ [])
       (writingIn 27 ++
-      writeShipped (replicate 33 0) .answer .refusal ∷ emptyFile (replicate 6 0) .answer .refusal ∷ appending 0 0 11 7 ∷ [])
+      writeShipped (replicate 33 0) .answer .refusal ∷ starting 1 6 ∷ starting 2 6 ∷ appending 0 0 11 7 ∷ storing 2 3 9 ∷
+      converting exampleFile 46 ∷ converting narrowFile 54 ∷ [])
   -- the marker's level (02, card 3)
   pub refusal25 : Corner 25 (map marking ((1 ∷ []) ∷ (64 ∷ []) ∷ [])) (map marking ([] ∷ (7 ∷ 7 ∷ []) ∷ (0 ∷ []) ∷ (65 ∷ []) ∷ []))
   -- and the rounds that it asks for: four with K 65,536 are exactly 2^64, which is enough

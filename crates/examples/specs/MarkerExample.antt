@@ -12,6 +12,15 @@ exampleFile =
     0 ∷ 0 ∷ 0 ∷ 9 ∷ 0 ∷ 0 ∷ 0 ∷ 1 ∷ 0 ∷ 0 ∷ 0 ∷ 2 ∷
     0 ∷ 0 ∷ 0 ∷ 5 ∷ 0 ∷ 0 ∷ 0 ∷ 0 ∷ 0 ∷ 0 ∷ 0 ∷ 0 ∷ []
 
+-- the same rounds in version 2 (02, card 7)
+unfoldable pub narrowFile : List ℕ
+narrowFile =
+    0x52 ∷ 0x4E ∷ 0x44 ∷ 0 ∷ 2 ∷ 0 ∷ 4 ∷
+    0 ∷ 0 ∷ 0 ∷ 9 ∷ 0 ∷ 3 ∷ 0 ∷ 0 ∷ 0 ∷ 4 ∷
+    0 ∷ 0 ∷ 0 ∷ 9 ∷ 0 ∷ 1 ∷ 0 ∷ 0 ∷ 0 ∷ 1 ∷
+    0 ∷ 0 ∷ 0 ∷ 9 ∷ 0 ∷ 1 ∷ 0 ∷ 0 ∷ 0 ∷ 2 ∷
+    0 ∷ 0 ∷ 0 ∷ 5 ∷ 0 ∷ 0 ∷ 0 ∷ 0 ∷ 0 ∷ 0 ∷ []
+
 -- 01's six lines: rounds 4, 0 accepted, 1 accepted, 2 rejected 0, 3 refused 14, fail
 unfoldable pub exampleText : List ℕ
 exampleText =

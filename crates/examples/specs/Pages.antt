@@ -4,10 +4,11 @@ use Prim.Native.Nat.{ℕ}
 use mathlib.Core.Path.{_≡_}
 use mathlib.Core.List.{List, [], _∷_, _++_, flatten, map}
 use lib.ListN.{replicate, take}
+use lib.Seq.{sets}
 use Rattle.types.specs.declared.Round.{Round}
 use Rattle.lists.specs.Places.{places}
 use Rattle.encoding.specs.Text.{ascii}
-use Rattle.examples.specs.MarkerExample.{exampleFile, exampleText}
+use Rattle.examples.specs.MarkerExample.{exampleFile, exampleText, narrowFile}
 use Rattle.examples.specs.Sheets.{
   fourBytes,
   smallSheet,
@@ -17,6 +18,7 @@ use Rattle.examples.specs.Sheets.{
   productSheet,
   rootSheet,
 }
+use Rattle.formats.specs.Convert.{convert}
 use Rattle.formats.specs.Load.{loadRefusal}
 use Rattle.formats.specs.Sheet.{headerOf}
 use Rattle.runs.specs.Calls.{judgeRound, simulateCommitment, extractWitness}
@@ -104,3 +106,9 @@ pub record EveryPage : Type 0 where
       reasonText schnorrSheet (take 54 exampleFile)
       ≡ 0x72 ∷ 0x65 ∷ 0x66 ∷ 0x75 ∷ 0x73 ∷ 0x65 ∷ 0x64 ∷ 0x20 ∷ 0x31 ∷ 0x32 ∷ 0x20 ∷ 0x6C ∷ 0x65 ∷ 0x6E ∷ 0x67 ∷ 0x74 ∷ 0x68 ∷
       0x20 ∷ 0x35 ∷ 0x34 ∷ 0x0A ∷ []
+  -- 02, card 7: the marker's example and the same rounds in version 2 are converted to each other and marked alike; a response slot
+  -- 11 in version 2 is refused 16 13
+  pub to-two : convert schnorrSheet exampleFile (replicate 47 0) .buffer ≡ narrowFile
+  pub to-one : convert schnorrSheet narrowFile (replicate 55 0) .buffer ≡ exampleFile
+  pub marked-two : markerText schnorrSheet narrowFile (7 ∷ []) ≡ exampleText
+  pub refused-two : reasonText schnorrSheet (sets narrowFile 16 (11 ∷ [])) ≡ ascii "refused 16 13\n"

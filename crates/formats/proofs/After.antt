@@ -12,8 +12,9 @@ use Rattle.rules.specs.Rule.{Rule, lowest, Clear}
 use Rattle.rules.proofs.Lowest.{lowest-later, lowest-earlier}
 use Rattle.sigma.proofs.Answer.{unlessRefused-positive}
 use Rattle.formats.specs.Append.{appendAfter, appendRules}
+use Rattle.formats.specs.Convert.{convertAfter, convertRules}
 use Rattle.formats.specs.RoundCalls.{countAfter, checkAfter, locateAfter, fetchAfter, noRound, fileRules, roundRules}
-use Rattle.formats.specs.Write.{written}
+use Rattle.formats.specs.Write.{written, writtenAtStart}
 
 -- where a refusal has a number, no place is answered
 pub nowhere : (start size n : ℕ) → 0 < n
@@ -50,6 +51,11 @@ module _ (before : List Rule) (h : Header) where
   unfolding appendAfter
   appendAfter-clear none buffer used round = rw (lowest-later before _ none)
 
+  -- converting
+  pub convertAfter-clear : Clear before → (f buffer : List ℕ) → convertAfter before h f buffer ≡ convertAfter [] h f buffer
+  unfolding convertAfter
+  convertAfter-clear none f buffer = rw (lowest-later before _ none)
+
   -- ---- a rule of the sheet applies
 
   -- counting
@@ -83,7 +89,18 @@ module _ (before : List Rule) (h : Header) where
   unfolding appendAfter written
   appendAfter-refused some buffer used round =
       rw (
-        lowest-earlier before (appendRules h buffer used) some,
+        lowest-earlier before (appendRules h buffer used round) some,
+        unlessRefused-positive {A = ℕ} _ 0 (lowest before) some,
+        unlessRefused-positive _ buffer (lowest before) some,
+      )
+
+  -- converting
+  pub convertAfter-refused : 0 < lowest before → (f buffer : List ℕ)
+      → convertAfter before h f buffer ≡ record { answer = record { refusal = lowest before; length = 0 }; buffer = buffer }
+  unfolding convertAfter writtenAtStart written
+  convertAfter-refused some f buffer =
+      rw (
+        lowest-earlier before (convertRules h f buffer) some,
         unlessRefused-positive {A = ℕ} _ 0 (lowest before) some,
         unlessRefused-positive _ buffer (lowest before) some,
       )

@@ -1,9 +1,10 @@
 -- The record writer: a refused call changes no byte and answers length 0; a call that is not refused stores the record straight
 -- after the bytes in use, raises the count field by one and changes no other byte.
 -- Assumes nothing.
-use Prim.Native.Nat.{ℕ, _+_, _<_, _≤_}
+use Prim.Native.Nat.{ℕ, _+_, _^_, _<_, _≤_}
 use mathlib.Core.Path.{_≡_, refl, sym, ap, _∙_}
 use mathlib.Core.Logic.{_↔_, _⊎_, ⊎-elim}
+use mathlib.Core.Bool.{false}
 use mathlib.Core.List.{List, _++_}
 use native.Mathlib.Omega.{arith}
 use lib.ListN.{length, getD, take, drop, length-append}
@@ -16,16 +17,18 @@ use Rattle.encoding.proofs.Replaced.{getD-sets-before, getD-sets-behind, drop-s
 use Rattle.lists.proofs.Places.{length-places}
 use Rattle.rules.specs.Rule.{lowest}
 use Rattle.rules.proofs.Lowest.{clear-append, clear-lowest, lowest-clear}
-use Rattle.formats.specs.Append.{appendRules, appended, appendAfter, append}
+use Rattle.rules.proofs.Says.{says-false}
+use Rattle.formats.specs.Append.{appendRules, appended, appendAfter, append, wideChallenge}
 use Rattle.formats.specs.Load.{loadRules}
 use Rattle.formats.specs.Meaning.{Loads, InUse}
 use Rattle.formats.specs.Outcome.{Keeps, Adds}
-use Rattle.formats.specs.RoundFile.{countField, recordBytes, recordLength, recordStart, widthInUse}
+use Rattle.formats.specs.RoundFile.{countField, fileVersion, recordBytes, recordLength, recordStart, widthInUse, widthOf}
 use Rattle.formats.specs.Sheet.{headerOf}
 use Rattle.formats.specs.Write.{written}
 use Rattle.formats.proofs.Files.{in-use-passes, record-behind}
 use Rattle.formats.proofs.Loads.{load-clear}
 use Rattle.formats.proofs.Positive.{record-positive}
+use Rattle.formats.proofs.Tests.{says-wideChallenge}
 use Rattle.formats.proofs.Writing.{short-passes, written-refusal, written-refused, written-given}
 
 -- a record is as long as 01 says
@@ -33,6 +36,23 @@ pub length-recordBytes : (width : ℕ) (h : Header) (round : Round) → length (
 unfolding recordBytes recordLength
 length-recordBytes width h round =
     simp (length-append, length-bytesOf, length-bytesOfEach, length-places) (omega arith)
+
+-- a record of the version can hold the challenge
+abbrev pub Narrow : ℕ → ℕ → Type 0
+Narrow version c = version ≡ 2 → c ≤ 65535
+
+-- not 15 for the writer
+pub narrow-passes : (version c : ℕ) → (wideChallenge version c ≡ false) ↔ Narrow version c
+narrow-passes version c =
+    let wide = says-false (says-wideChallenge version c) in (
+      λ e two. let low : ¬ (65535 < c) = λ high. wide .0 e (two, high) in omega arith,
+      λ narrow. wide .1 (λ (two, high). omega (arith, narrow two)),
+    )
+
+-- a challenge that fits the width of a version is one that its records can hold
+pub width-narrow : (version c : ℕ) → c < 256 ^ widthOf version → Narrow version c
+unfolding widthOf
+width-narrow version c low two = let fits : c < 256 ^ 2 = rw two at low in omega arith
 
 module _ {h : Header} {buffer : List ℕ} {used : ℕ} (u : InUse h buffer used) where
   -- the bytes in use end where the next record begins
@@ -50,26 +70,29 @@ module _ {h : Header} {buffer : List ℕ} {used : ℕ} (u : InUse h buffer used)
 
 module _ (s buffer : List ℕ) (used : ℕ) (round : Round) where
   -- its number is what its rules give
-  pub append-refusal : append s buffer used round .answer .refusal ≡ lowest (loadRules s ++ appendRules (headerOf s) buffer used)
+  pub append-refusal : append s buffer used round .answer .refusal ≡ lowest (loadRules s ++ appendRules (headerOf s) buffer used round)
   unfolding append appendAfter
   append-refusal = written-refusal _ _ _ _
 
-  -- it runs exactly where the sheet loads, the bytes in use are a round file with room and the buffer can hold the record
+  -- it runs exactly where the sheet loads, the bytes in use are a round file with room, their version can hold the challenge and
+  -- the buffer the record
   pub append-runs : (append s buffer used round .answer .refusal ≡ 0)
-      ↔ (Loads s × InUse (headerOf s) buffer used × (used + recordLength (widthInUse buffer used) (headerOf s) ≤ length buffer))
+      ↔ (Loads s × InUse (headerOf s) buffer used × Narrow (fileVersion (take used buffer)) (round .challenge)
+      × (used + recordLength (widthInUse buffer used) (headerOf s) ≤ length buffer))
   unfolding appendRules
   append-runs =
       let h = headerOf s in
-      let rules = loadRules s ++ appendRules h buffer used in
-      let parts = clear-append (loadRules s) (appendRules h buffer used) in
+      let rules = loadRules s ++ appendRules h buffer used round in
+      let parts = clear-append (loadRules s) (appendRules h buffer used round) in
       let file = in-use-passes h buffer used in
+      let hold = narrow-passes (fileVersion (take used buffer)) (round .challenge) in
       let room = short-passes buffer (used + recordLength (widthInUse buffer used) h) in (
         λ e.
-            let clear = clear-lowest rules (record-positive s h buffer used) (sym append-refusal ∙ e) in
-            let (sheet, (inside, (fits, none))) = parts .0 clear in
-            (load-clear s .0 sheet, file .0 inside, room .0 fits),
-        λ (l, u, fits).
-            append-refusal ∙ lowest-clear rules (parts .1 (load-clear s .1 l, (file .1 u, (room .1 fits, tt)))),
+            let clear = clear-lowest rules (record-positive s h buffer used round) (sym append-refusal ∙ e) in
+            let (sheet, (inside, (narrow, (fits, none)))) = parts .0 clear in
+            (load-clear s .0 sheet, file .0 inside, hold .0 narrow, room .0 fits),
+        λ (l, u, narrow, fits).
+            append-refusal ∙ lowest-clear rules (parts .1 (load-clear s .1 l, (file .1 u, (hold .1 narrow, (room .1 fits, tt))))),
       )
 
   -- a refused call keeps the buffer
@@ -145,7 +168,7 @@ appended-behind h buffer used round n long behind =
 pub append-adds : (s buffer : List ℕ) (used : ℕ) (round : Round) → append s buffer used round .answer .refusal ≡ 0
     → Adds (headerOf s) round buffer used (append s buffer used round)
 append-adds s buffer used round e =
-    let (l, u, fits) = append-runs s buffer used round .0 e in
+    let (l, u, narrow, fits) = append-runs s buffer used round .0 e in
     rw (append-given s buffer used round e) (record {
       number = refl;
       answered = refl;

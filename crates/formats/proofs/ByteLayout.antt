@@ -33,9 +33,9 @@ use Rattle.formats.specs.ByteLayout.{
   RoundAt,
   SheetLayout,
   WordsAt,
-  recordSize,
 }
 use Rattle.formats.specs.Load.{load, loadRefusal}
+use Rattle.formats.specs.Meaning.{recordSize}
 use Rattle.formats.specs.RoundCalls.{countRounds}
 use Rattle.formats.specs.RoundFile.{
   challengeWidth,
@@ -45,7 +45,6 @@ use Rattle.formats.specs.RoundFile.{
   recordStart,
   roundAt,
   roundMark,
-  widthOf,
 }
 use Rattle.formats.specs.Sheet.{
   entriesOf,
@@ -59,7 +58,7 @@ use Rattle.formats.specs.Sheet.{
   zeros64,
 }
 use Rattle.formats.proofs.Entries.{entryCount-exponent, entryCount-root}
-use Rattle.formats.proofs.Files.{check-runs, count-given, count-runs, fetch-given}
+use Rattle.formats.proofs.Files.{check-runs, count-given, count-runs, fetch-given, width-known, width-only}
 use Rattle.formats.proofs.Loads.{loaded-given, loads, loads-few}
 use Rattle.formats.proofs.Part.{part-given}
 
@@ -156,31 +155,33 @@ module _ (s : List ℕ) where
 -- ---- round files
 
 -- a round that is read from index `at` on
-round-read : (h : Header) (f : List ℕ) (at : ℕ) → h .rows ≤ 8 → h .columns ≤ 8 → RoundAt h f at (roundAt 4 h f at)
+round-read : (width : ℕ) (h : Header) (f : List ℕ) (at : ℕ) → h .rows ≤ 8 → h .columns ≤ 8
+    → RoundAt width h f at (roundAt width h f at)
 unfolding roundAt
-round-read h f at few narrow = record {
+round-read width h f at few narrow = record {
   commitment = words-at f at (h .rows) few;
   challenge = refl;
-  response = words-at f (at + 4 * h .rows + 4) (h .columns) narrow;
+  response = words-at f (at + 4 * h .rows + width) (h .columns) narrow;
 }
 
 module _ (s f : List ℕ) where
   -- a file that reads
-  file-layout : countRounds s f .refusal ≡ 0 → FileLayout s f
-  unfolding countField fileVersion roundMark ascii recordStart recordLength challengeWidth widthOf
+  file-layout : countRounds s f .refusal ≡ 0 → FileLayout (challengeWidth f) s f
+  unfolding countField fileVersion roundMark ascii recordStart recordLength challengeWidth
   file-layout e =
       let (l, r) = count-runs s f .0 e in
       let h = headerOf s in
       let (few, narrow) = loads-few s l in
-      let width : 4 * h .rows + 4 + 4 * h .columns ≡ recordSize h = omega arith in
+      let w = challengeWidth f in
+      let width : 4 * h .rows + w + 4 * h .columns ≡ recordSize w h = omega arith in
       record {
         mark = r .mark;
-        version = r .version;
+        version = width-known (r .version);
         count = ap (λ (c : Counted). c .count) (count-given s f e);
         size = r .exact ∙ ap (λ (n : ℕ). 7 + countField f * n) width;
         rounds = λ k b.
-            let at = subst (λ (n : ℕ). RoundAt h f (7 + k * n) (roundAt 4 h f (7 + k * (4 * h .rows + 4 + 4 * h .columns)))) width
-            (round-read h f _ few narrow) in
+            let at = subst (λ (n : ℕ). RoundAt w h f (7 + k * n) (roundAt w h f (7 + k * (4 * h .rows + w + 4 * h .columns)))) width
+            (round-read w h f _ few narrow) in
             rw (fetch-given s f k (check-runs s f k .1 (l, r, b))) (refl, at);
         parts = λ k b.
             part-given s f k (check-runs s f k .1 (l, r, b)) ∙ ap (λ (n : ℕ). take n (drop (7 + k * n) f)) width;
@@ -199,11 +200,12 @@ high-byte-first = record {
 
 -- all of it
 pub layout : Layout
-unfolding load
+unfolding load challengeWidth fileVersion
 layout = record {
   numbers = high-byte-first;
   sheets = sheet-layout;
   number = λ s. refl;
   loading = loaded-layout;
+  widths = λ f width known. width-only known;
   files = file-layout;
 }

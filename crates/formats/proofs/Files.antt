@@ -1,9 +1,9 @@
 -- A round file is read exactly where none of 01's conditions holds, and what the calls that read it answer then.
 -- Assumes nothing.
 use Prim.Native.Nat.{ℕ, _<_, _≤_}
-use mathlib.Core.Path.{_≡_, refl, ap}
-use mathlib.Core.Logic.{_↔_}
-use mathlib.Core.Bool.{false, not, _||_}
+use mathlib.Core.Path.{_≡_, refl, sym, ap}
+use mathlib.Core.Logic.{_↔_, inl, inr}
+use mathlib.Core.Bool.{Bool, true, false, cond, not, _||_}
 use mathlib.Core.List.{List, _++_}
 use native.Mathlib.Omega.{arith}
 use lib.Dec.{eqb, leb, ltb}
@@ -13,14 +13,14 @@ use Rattle.types.specs.declared.Header.{Header}
 use Rattle.encoding.specs.Text.{ascii}
 use Rattle.lists.proofs.Places.{tabulate-agree}
 use Rattle.rules.proofs.Lowest.{clear-append, clear-lowest, lowest-clear}
-use Rattle.rules.proofs.Says.{says-equal}
+use Rattle.rules.proofs.Says.{says-equal, says-or}
 use Rattle.sigma.specs.Comparison.{differ}
 use Rattle.sigma.proofs.Answer.{unlessRefused-zero}
 use Rattle.sigma.proofs.Calculus.{says-passes, both-fail}
 use Rattle.sigma.proofs.Comparison.{differ-false}
 use Rattle.formats.specs.Append.{badInUse}
 use Rattle.formats.specs.Load.{loadRules}
-use Rattle.formats.specs.Meaning.{Loads, IsRoundFile, InUse}
+use Rattle.formats.specs.Meaning.{Loads, HasWidth, IsRoundFile, IsVersion, InUse}
 use Rattle.formats.specs.RoundCalls.{fileRules, roundRules, countAfter, checkAfter}
 use Rattle.formats.specs.RoundCalls.{fetchAfter, countRounds, checkRound, fetchRound}
 use Rattle.formats.specs.RoundFile.{
@@ -31,6 +31,7 @@ use Rattle.formats.specs.RoundFile.{
   recordStart,
   roundAt,
   roundMark,
+  unknownVersion,
   widthOf,
 }
 use Rattle.formats.specs.Rounds.{roundsRead, roundsOf}
@@ -50,26 +51,41 @@ record-behind width h k = omega arith
 
 -- ---- the width of a file's challenges
 
--- it has at most four bytes
+-- of a known version it is that version's
+pub width-known : {version : ℕ} → IsVersion version → HasWidth version (widthOf version)
+unfolding widthOf
+width-known (inl one) = inl (one, rw one)
+width-known (inr two) = inr (two, rw two)
+
+-- and there is no other
+pub width-only : {version width : ℕ} → HasWidth version width → widthOf version ≡ width
+unfolding widthOf
+width-only (inl (one, four)) = rw one (sym four)
+width-only (inr (two, both)) = rw two (sym both)
+
+-- it has one to four bytes
+pub width-some : (version : ℕ) → (0 < widthOf version) × (widthOf version ≤ 4)
+unfolding widthOf
+width-some version = cases (eqb version 2)
+  where
+    cases : (b : Bool) → (_<_ 0 (cond b 2 4)) × (_≤_ (cond b 2 4) 4)
+    cases true = (omega arith, omega arith)
+    cases false = (omega arith, omega arith)
+
+-- and so has a file's
 pub width-small : (f : List ℕ) → challengeWidth f ≤ 4
-unfolding challengeWidth widthOf
-width-small f = omega arith
+unfolding challengeWidth
+width-small f = width-some (fileVersion f) .1
 
 -- files of one version have one width
 pub width-version : (f f′ : List ℕ) → fileVersion f ≡ fileVersion f′ → challengeWidth f ≡ challengeWidth f′
 unfolding challengeWidth
 width-version f f′ e = ap widthOf e
 
--- that of a round file is its version's
-pub file-width : {h : Header} {f : List ℕ} → IsRoundFile h f → challengeWidth f ≡ widthOf 1
-unfolding challengeWidth
-file-width r = ap widthOf (r .version)
-
--- a file of version 1 whose length goes with its count has the length that its own width gives
-pub exact-width : (h : Header) (f : List ℕ) → fileVersion f ≡ 1 → (length f ≡ recordStart (widthOf 1) h (countField f))
-    ↔ (length f ≡ recordStart (challengeWidth f) h (countField f))
-unfolding challengeWidth
-exact-width h f one = rw one ((λ e. e), (λ e. e))
+-- a version that is not refused is known
+pub version-passes : (version : ℕ) → (unknownVersion version ≡ false) ↔ IsVersion version
+unfolding unknownVersion
+version-passes version = says-passes (says-or (says-equal version 1) (says-equal version 2))
 
 -- not 12: the file is a round file of the sheet
 pub file-passes : (h : Header) (f : List ℕ) → (badFile h f ≡ false) ↔ IsRoundFile h f
@@ -77,7 +93,7 @@ unfolding badFile
 file-passes h f =
     let short = ltb (length f) 7 in
     let other = differ 3 f roundMark in
-    let version = not (eqb (fileVersion f) 1) in
+    let version = unknownVersion (fileVersion f) in
     let many = ltb 512 (countField f) in
     let fits = not (eqb (length f) (recordStart (challengeWidth f) h (countField f))) in
     let first = both-fail (short || other || version || many) fits in
@@ -86,7 +102,7 @@ file-passes h f =
     let fourth = both-fail short other in
     let agree = differ-false 3 f roundMark in
     let passes = says-passes (says-equal (length f) (recordStart (challengeWidth f) h (countField f))) in
-    let numbered = says-passes (says-equal (fileVersion f) 1) in (
+    let numbered = version-passes (fileVersion f) in (
       λ e.
           let (a, exact) = first .0 e in
           let (b, few) = second .0 a in

@@ -94,7 +94,7 @@ module _ {h : Header} {f : List ℕ} (r : IsRoundFile h f) (room : countField f 
         mark =
             take-sets-before 3 (f ++ bytes) 5 (bytesOf 2 (countField f + 1)) (omega arith)
             ∙ take-append-le 3 f bytes (omega (arith, file-long r)) ∙ r .mark;
-        version = grown-version ∙ r .version;
+        version = rw grown-version (r .version);
         few = omega (arith, grown-count);
         exact =
             grown-length ∙ sym (recordStart-suc (challengeWidth f) h (countField f))
@@ -125,12 +125,14 @@ module _ {h : Header} {f : List ℕ} (r : IsRoundFile h f) (room : countField f 
 -- a round that is appended stands behind the rounds that were there
 pub append-grows : (s buffer : List ℕ) (used : ℕ) (round : Round) → append s buffer used round .answer .refusal ≡ 0
     → Grows s (take used buffer) round (take (append s buffer used round .answer .length) (append s buffer used round .buffer))
+unfolding fileVersion
 append-grows s buffer used round e =
     let f = take used buffer in
-    let (l, u, fits) = append-runs s buffer used round .0 e in
+    let (l, u, narrow, fits) = append-runs s buffer used round .0 e in
     let file = grown-file (u .file) (u .room) round in
     let before = count-given s f (count-runs s f .1 (l, u .file)) in
     rw (append-given s buffer used round e, in-use-grown u round fits) (record {
+      version = grown-version (u .file) (u .room) round;
       count = count-given s _ (count-runs s _ .1 (l, file)) ∙ rw (grown-count (u .file) (u .room) round, before);
       rounds = λ words.
           rounds-read s _ l file ∙ grown-rounds (u .file) (u .room) round words

@@ -16,6 +16,8 @@ pub mod Records
 pub mod Rounds
 pub mod Growing
 pub mod RoundFileRoundTrip
+pub mod Converting
+pub mod ConvertCalls
 pub mod Part
 pub mod LongFiles
 pub mod ByteLayout

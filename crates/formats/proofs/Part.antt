@@ -13,10 +13,10 @@ use Rattle.encoding.specs.Bytes.{AllBytes}
 use Rattle.sigma.proofs.Answer.{unlessRefused-zero}
 use Rattle.formats.specs.Meaning.{IsRoundFile}
 use Rattle.formats.specs.RoundCalls.{checkRound, fetchRound, partOfRound, locateAfter, locateRound}
-use Rattle.formats.specs.RoundFile.{challengeWidth, countField, recordBytes, recordLength, recordStart, widthOf}
+use Rattle.formats.specs.RoundFile.{challengeWidth, countField, fileVersion, recordBytes, recordLength, recordStart}
 use Rattle.formats.specs.Sheet.{headerOf}
 use Rattle.formats.proofs.After.{nowhere}
-use Rattle.formats.proofs.Files.{check-runs, fetch-given}
+use Rattle.formats.proofs.Files.{check-runs, fetch-given, width-some}
 use Rattle.formats.proofs.Records.{recordBytes-roundAt, recordStart-later}
 
 -- a record of a file lies inside it
@@ -73,11 +73,11 @@ module _ (s f : List ℕ) (k : ℕ) where
 
   -- the check gives 0 exactly where the part is not empty
   pub part-not-empty : (checkRound s f k ≡ 0) ↔ (partOfRound s f k ≢ [])
-  unfolding recordLength challengeWidth widthOf
+  unfolding recordLength challengeWidth
   part-not-empty = (
     λ e nothing.
         let none : length (partOfRound s f k) ≡ 0 = ap length nothing in
-        omega (arith, part-length e),
+        omega (arith, part-length e, width-some (fileVersion f) .0),
     λ some. decide some (checkRound s f k) refl,
   )
     where

@@ -4,6 +4,7 @@ use Prim.Native.Nat.{ℕ}
 use mathlib.Core.List.{List, _++_}
 use lib.Dec.{T}
 use Rattle.types.specs.declared.Header.{Header}
+use Rattle.types.specs.declared.Round.{Round}
 use Rattle.rules.specs.Rule.{allPositive}
 use Rattle.sigma.specs.Admission.{headerRules, elementRules}
 use Rattle.sigma.specs.Instance.{Instance}
@@ -33,7 +34,7 @@ unfolding loadRules shapeRules headerRules elementRules roundRules fileRules
 check-positive s h f k = tt
 
 -- the record writer, after the rules of the sheet
-pub record-positive : (s : List ℕ) (h : Header) (buffer : List ℕ) (used : ℕ)
-    → T (allPositive (loadRules s ++ appendRules h buffer used))
+pub record-positive : (s : List ℕ) (h : Header) (buffer : List ℕ) (used : ℕ) (round : Round)
+    → T (allPositive (loadRules s ++ appendRules h buffer used round))
 unfolding loadRules shapeRules headerRules elementRules appendRules
-record-positive s h buffer used = tt
+record-positive s h buffer used round = tt

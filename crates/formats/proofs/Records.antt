@@ -21,10 +21,12 @@ use Rattle.encoding.proofs.Bytes.{
   number-behind,
   numbers-behind,
 }
+use Rattle.encoding.proofs.Words.{number-fits}
 use Rattle.lists.specs.Places.{itemsAt, pad8, places}
-use Rattle.lists.proofs.Places.{itemsAt-agree, length-itemsAt, length-places, places-pad8, places-whole}
+use Rattle.lists.proofs.Places.{getD-itemsAt, getD-pad8, itemsAt-agree, length-itemsAt, length-places, places-pad8, places-whole}
 use Rattle.sigma.specs.Reads.{paddedRound}
 use Rattle.formats.specs.RoundFile.{recordBytes, recordLength, recordStart, roundAt}
+use Rattle.formats.specs.Rounds.{Words}
 
 -- the next record begins a record's length later
 pub recordStart-suc : (width : ℕ) (h : Header) (k : ℕ) → recordStart width h (suc k) ≡ recordStart width h k + recordLength width h
@@ -84,6 +86,10 @@ roundAt-recordBytes width h round xs ys small low few =
     (length-places (h .columns) (round .response)) (below-places (256 ^ 4) (h .columns) (round .response) (omega arith) few) in
     λ j. record { commitment = pad8 0 (commitment j); challenge = challenge j; response = pad8 0 (response j) }
 
+-- the places of words that were read are the words
+read-places : (s : List ℕ) (from n : ℕ) → places n (pad8 0 (itemsAt (numberAt 4 s) from 4 n)) ≡ itemsAt (numberAt 4 s) from 4 n
+read-places s from n = places-pad8 n _ ∙ places-whole n _ (length-itemsAt (numberAt 4 s) from 4 n)
+
 -- the bytes of a round that was read are those that it was read from
 pub recordBytes-roundAt : (width : ℕ) (h : Header) (s : List ℕ) (at : ℕ) → at + recordLength width h ≤ length s → AllBytes s
     → recordBytes width h (roundAt width h s at) ≡ take (recordLength width h) (drop at s)
@@ -91,10 +97,10 @@ unfolding roundAt recordBytes recordLength
 recordBytes-roundAt width h s at fits b =
     let f = numberAt 4 s in
     let seam : at + (4 * h .rows + width) ≡ at + 4 * h .rows + width = omega arith in
-    let t = ap (bytesOfEach 4) (kept at (h .rows)) ∙ bytesOfEach-itemsAt 4 s at (h .rows) (omega arith) b in
+    let t = ap (bytesOfEach 4) (read-places s at (h .rows)) ∙ bytesOfEach-itemsAt 4 s at (h .rows) (omega arith) b in
     let c = bytesOf-numberAt width s (at + 4 * h .rows) (omega arith) b in
     let r =
-    ap (bytesOfEach 4) (kept (at + 4 * h .rows + width) (h .columns))
+    ap (bytesOfEach 4) (read-places s (at + 4 * h .rows + width) (h .columns))
     ∙ bytesOfEach-itemsAt 4 s (at + 4 * h .rows + width) (h .columns) (omega arith) b in
     rw (
       t,
@@ -106,6 +112,22 @@ recordBytes-roundAt width h s at fits b =
       drop-drop (4 * h .rows + width) at s,
       seam,
     )
+
+-- a round that was read is what is stored of it
+pub roundAt-padded : (width : ℕ) (h : Header) (s : List ℕ) (at : ℕ) → paddedRound h (roundAt width h s at) ≡ roundAt width h s at
+unfolding roundAt paddedRound
+roundAt-padded width h s at = rw (read-places s at (h .rows), read-places s (at + 4 * h .rows + width) (h .columns))
+
+-- a round that was read from bytes has 32-bit values and a challenge of the width
+pub roundAt-words : (width : ℕ) (h : Header) (s : List ℕ) (at : ℕ) → AllBytes s → Words width h (roundAt width h s at)
+unfolding roundAt
+roundAt-words width h s at b = record {
+  commitment = λ j less. read-fits at (h .rows) j less;
+  challenge = number-fits width s (at + 4 * h .rows) b;
+  response = λ j less. read-fits (at + 4 * h .rows + width) (h .columns) j less;
+}
   where
-    kept : (from n : ℕ) → places n (pad8 0 (itemsAt (numberAt 4 s) from 4 n)) ≡ itemsAt (numberAt 4 s) from 4 n
-    kept from n = places-pad8 n _ ∙ places-whole n _ (length-itemsAt (numberAt 4 s) from 4 n)
+    read-fits : (from n j : ℕ) → j < n → getD (pad8 0 (itemsAt (numberAt 4 s) from 4 n)) j 0 < 2 ^ 32
+    read-fits from n j less =
+        rw (getD-pad8 0 (itemsAt (numberAt 4 s) from 4 n) j, getD-itemsAt (numberAt 4 s) from 4 n j 0 less)
+        (omega (arith, number-fits 4 s (from + 4 * j) b))

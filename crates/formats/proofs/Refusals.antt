@@ -5,8 +5,9 @@ use Prim.Native.Nat.{ℕ, _+_, _<_}
 use mathlib.Core.Path.{refl}
 use mathlib.Core.Logic.{_≢_}
 use mathlib.Core.List.{List, [], _∷_, _++_}
-use lib.ListN.{length}
+use lib.ListN.{length, take}
 use Rattle.types.specs.declared.Header.{Header}
+use Rattle.types.specs.declared.Round.{Round}
 use Rattle.rules.specs.Condition.{_if_, Tests}
 use Rattle.rules.specs.Rule.{_when_}
 use Rattle.rules.proofs.Condition.{tests-append}
@@ -15,7 +16,7 @@ use Rattle.sigma.specs.Admission.{headerRules, elementRules}
 use Rattle.sigma.specs.Instance.{Instance}
 use Rattle.sigma.specs.Refusals.{headerConditions, elementConditions}
 use Rattle.sigma.proofs.Refusals.{header-tests, element-tests}
-use Rattle.formats.specs.Append.{appendRules}
+use Rattle.formats.specs.Append.{appendRules, emptyRules}
 use Rattle.formats.specs.Encode.{encodeRules}
 use Rattle.formats.specs.Load.{badLength, shapeRules, loadRules}
 use Rattle.formats.specs.Refusals.{
@@ -28,7 +29,7 @@ use Rattle.formats.specs.Refusals.{
   appendConditions,
 }
 use Rattle.formats.specs.RoundCalls.{fileRules, roundRules}
-use Rattle.formats.specs.RoundFile.{countField, noRounds, recordLength, widthInUse}
+use Rattle.formats.specs.RoundFile.{countField, fileVersion, recordLength, widthInUse}
 use Rattle.formats.specs.Sheet.{headerOf, instanceOf, sheetLength, versionOf}
 use Rattle.formats.specs.Write.{short}
 use Rattle.formats.proofs.Tests.{
@@ -37,7 +38,10 @@ use Rattle.formats.proofs.Tests.{
   says-badFile,
   says-badInUse,
   says-short,
+  says-unknownVersion,
+  says-wideChallenge,
 }
+use Rattle.formats.proofs.Writing.{length-noRounds}
 
 -- 2 to 9 of a sheet's shape
 pub shape-tests : (s : List ℕ) → Tests (shapeRules s) (shapeConditions s)
@@ -77,15 +81,20 @@ pub round-tests : (h : Header) (f : List ℕ) (k : ℕ) → Tests (roundRules h 
 unfolding roundRules fileRules
 round-tests h f k = (refl, says-badFile h f, (refl, says-at-most (countField f) k, tt))
 
--- 22 of the empty file
-pub empty-tests : (buffer : List ℕ) → Tests ((22 when short buffer (length noRounds)) ∷ []) (emptyConditions buffer)
-empty-tests buffer = (refl, says-short buffer (length noRounds), tt)
+-- 12 and 22 of the empty file
+pub empty-tests : (version : ℕ) (buffer : List ℕ) → Tests (emptyRules version buffer) (emptyConditions version buffer)
+unfolding emptyRules
+empty-tests version buffer =
+    (refl, says-unknownVersion version, (refl, rw (length-noRounds version) (says-short buffer 7), tt))
 
--- 12 and 22 of the record writer
-pub append-tests : (h : Header) (buffer : List ℕ) (used : ℕ) → Tests (appendRules h buffer used) (appendConditions h buffer used)
+-- 12, 15 and 22 of the record writer
+pub append-tests : (h : Header) (buffer : List ℕ) (used : ℕ) (round : Round)
+    → Tests (appendRules h buffer used round) (appendConditions h buffer used round)
 unfolding appendRules
-append-tests h buffer used =
-    (refl, says-badInUse h buffer used, (refl, says-short buffer (used + recordLength (widthInUse buffer used) h), tt))
+append-tests h buffer used round =
+    let wide = says-wideChallenge (fileVersion (take used buffer)) (round .challenge) in
+    let room = says-short buffer (used + recordLength (widthInUse buffer used) h) in
+    (refl, says-badInUse h buffer used, (refl, wide, (refl, room, tt)))
 
 -- ---- after the rules of the sheet
 
@@ -103,10 +112,10 @@ check-tests s f k =
     tests-append (loadRules s) (roundRules (headerOf s) f k) (loadConditions s) (roundConditions (headerOf s) f k)
     (load-tests s) (round-tests (headerOf s) f k)
 
--- 2 to 12 and 22 of the record writer
-pub record-tests : (s buffer : List ℕ) (used : ℕ)
-    → Tests (loadRules s ++ appendRules (headerOf s) buffer used)
-    (loadConditions s ++ appendConditions (headerOf s) buffer used)
-record-tests s buffer used =
-    tests-append (loadRules s) (appendRules (headerOf s) buffer used) (loadConditions s)
-    (appendConditions (headerOf s) buffer used) (load-tests s) (append-tests (headerOf s) buffer used)
+-- 2 to 12, 15 and 22 of the record writer
+pub record-tests : (s buffer : List ℕ) (used : ℕ) (round : Round)
+    → Tests (loadRules s ++ appendRules (headerOf s) buffer used round)
+    (loadConditions s ++ appendConditions (headerOf s) buffer used round)
+record-tests s buffer used round =
+    tests-append (loadRules s) (appendRules (headerOf s) buffer used round) (loadConditions s)
+    (appendConditions (headerOf s) buffer used round) (load-tests s) (append-tests (headerOf s) buffer used round)

@@ -2,12 +2,12 @@
 -- holds is that file.
 -- Assumes nothing.
 use Prim.Native.Nat.{ℕ, zero, suc, _+_, _*_, _^_, _<_, _≤_}
-use mathlib.Core.Path.{_≡_, refl, sym, ap, ap₂, _∙_}
+use mathlib.Core.Path.{_≡_, refl, sym, ap, ap₂, subst, _∙_}
 use mathlib.Core.Logic.{inl, inr}
 use mathlib.Core.List.{List, [], _∷_, _++_, append-assoc, append-nil, flatten, map}
 use native.Mathlib.Nat.{mul-comm, mul-suc, mul-zero}
 use native.Mathlib.Omega.{arith}
-use lib.ListN.{length, take, drop, length-append}
+use lib.ListN.{getD, length, take, drop, length-append}
 use lib.Seq.{drop-drop, take-add, take-all, take-at}
 use Rattle.types.specs.declared.Header.{Header}
 use Rattle.types.specs.declared.Round.{Round}
@@ -15,9 +15,11 @@ use Rattle.encoding.specs.Bytes.{bytesOf, AllBytes}
 use Rattle.encoding.proofs.Bytes.{length-bytesOf, number-behind, take-bytesOf}
 use Rattle.lists.specs.Member.{Member}
 use Rattle.lists.specs.Places.{itemsAt}
-use Rattle.lists.proofs.Places.{itemsAt-tabulate, length-tabulate, tabulate-agree}
+use Rattle.lists.proofs.Member.{member-place}
+use Rattle.lists.proofs.Places.{getD-tabulate, itemsAt-tabulate, length-tabulate, tabulate-agree}
 use Rattle.sigma.specs.Reads.{paddedRound}
-use Rattle.formats.specs.Meaning.{IsRoundFile}
+use Rattle.formats.specs.Meaning.{IsRoundFile, IsVersion}
+use Rattle.formats.specs.RoundCalls.{noRound}
 use Rattle.formats.specs.RoundFile.{
   challengeWidth,
   countField,
@@ -32,7 +34,7 @@ use Rattle.formats.specs.RoundFile.{
 use Rattle.formats.specs.Rounds.{Words, fileIn, roundsOf}
 use Rattle.formats.proofs.Appending.{length-recordBytes}
 use Rattle.formats.proofs.Files.{length-roundMark}
-use Rattle.formats.proofs.Records.{recordBytes-roundAt, roundAt-recordBytes}
+use Rattle.formats.proofs.Records.{recordBytes-roundAt, roundAt-recordBytes, roundAt-words}
 
 module _ (width : ℕ) (h : Header) where
   -- the bytes of records, one behind the other
@@ -101,6 +103,27 @@ module _ (h : Header) where
   unfolding roundsOf
   length-roundsOf f = length-tabulate (countField f) _
 
+  -- round k is the one that is read from record k
+  pub round-of : (f : List ℕ) (k : ℕ) → k < countField f
+      → getD (roundsOf h f) k noRound ≡ roundAt (challengeWidth f) h f (recordStart (challengeWidth f) h k)
+  unfolding roundsOf
+  round-of f k below = getD-tabulate (countField f) _ k noRound below
+
+  -- what holds of every record holds of every round
+  pub each-round : (f : List ℕ) (P : Round → Type 0)
+      → ((k : ℕ) → k < countField f → P (roundAt (challengeWidth f) h f (recordStart (challengeWidth f) h k)))
+      → (round : Round) → Member round (roundsOf h f) → P round
+  each-round f P holds round m =
+      let (k, inside, same) = member-place noRound round (roundsOf h f) m in
+      let below : k < countField f = omega (arith, length-roundsOf f) in
+      subst P (sym (same ∙ round-of f k below)) (holds k below)
+
+  -- a round of a file of bytes has 32-bit values and a challenge of the file's width
+  pub rounds-words : (f : List ℕ) → AllBytes f → (round : Round) → Member round (roundsOf h f) → Words (challengeWidth f) h round
+  rounds-words f b =
+      each-round f (Words (challengeWidth f) h)
+      (λ k below. roundAt-words (challengeWidth f) h f (recordStart (challengeWidth f) h k) b)
+
   -- the rounds of a file, written again in its version, are the file
   pub fileIn-roundsOf : (f : List ℕ) → IsRoundFile h f → AllBytes f → fileIn (fileVersion f) h (roundsOf h f) ≡ f
   unfolding fileIn fileVersion countField recordStart challengeWidth
@@ -121,6 +144,11 @@ module _ (h : Header) where
       (take-all (7 + l * countField f) f (omega arith))
 
 -- ---- the file of given rounds
+
+-- a version has 16 bits
+pub version-small : {version : ℕ} → IsVersion version → version < 2 ^ 16
+version-small (inl one) = omega arith
+version-small (inr two) = omega arith
 
 module _ (version : ℕ) (h : Header) (rounds : List Round) where
   -- its length
@@ -164,16 +192,15 @@ module _ (version : ℕ) (h : Header) (rounds : List Round) where
       ∙ ap₂ (λ (s : List ℕ) (at : ℕ). itemsAt (roundAt (widthOf version) h s) at l (length rounds)) (sym (append-nil f))
       (sym size) ∙ records-back (widthOf version) h rounds front [] words
 
--- in version 1, of at most 512 rounds, it is a round file
-pub fileIn-is-file : (h : Header) (rounds : List Round) → length rounds ≤ 512 → IsRoundFile h (fileIn 1 h rounds)
-unfolding fileIn
-fileIn-is-file h rounds few =
-    let count = count-fileIn 1 h rounds (omega arith) in
-    record {
-      mark = simp append-assoc (take-at roundMark _ 3 length-roundMark);
-      version = version-fileIn 1 h rounds (omega arith);
-      few = omega arith;
-      exact =
-          length-fileIn 1 h rounds
-          ∙ ap₂ (λ (width n : ℕ). recordStart width h n) (sym (width-fileIn 1 h rounds (omega arith))) (sym count);
-    }
+  -- in either version, of at most 512 rounds, it is a round file
+  pub fileIn-is-file : IsVersion version → length rounds ≤ 512 → IsRoundFile h (fileIn version h rounds)
+  unfolding fileIn
+  fileIn-is-file known few =
+      let small = version-small known in
+      let count = count-fileIn (omega arith) in
+      record {
+        mark = simp append-assoc (take-at roundMark _ 3 length-roundMark);
+        version = rw (version-fileIn small) known;
+        few = omega arith;
+        exact = length-fileIn ∙ ap₂ (λ (width n : ℕ). recordStart width h n) (sym (width-fileIn small)) (sym count);
+      }

@@ -22,7 +22,7 @@ use Rattle.sigma.specs.Valid.{Valid}
 use Rattle.sigma.proofs.ByKind.{exponent-kind, root-kind}
 use Rattle.sigma.proofs.Tests.{says-exponent}
 use Rattle.sigma.proofs.Unread.{same-commitment, same-response}
-use Rattle.formats.specs.Append.{appended, appendAfter, append}
+use Rattle.formats.specs.Append.{appended, appendAfter, appendRules, append}
 use Rattle.formats.specs.Encode.{storedEntries, sheetOf, encodeRules, encode}
 use Rattle.formats.specs.Load.{loadRules}
 use Rattle.formats.specs.Meaning.{SameInstance, readInstance}
@@ -164,8 +164,8 @@ recordBytes-same width h s = rw (same-commitment s, same-response s, s .challeng
 -- the record writer, after the rules of the sheet
 pub appendAfter-same : (before : List Rule) (h : Header) (buffer : List ℕ) (used : ℕ) {round round′ : Round}
     → SameRound h round round′ → appendAfter before h buffer used round ≡ appendAfter before h buffer used round′
-unfolding appendAfter appended
-appendAfter-same before h buffer used s = rw (recordBytes-same _ h s)
+unfolding appendAfter appendRules appended
+appendAfter-same before h buffer used s = rw (recordBytes-same _ h s, s .challenge)
 
 -- the record writer
 pub append-same : (sheet buffer : List ℕ) (used : ℕ) {round round′ : Round}

@@ -22,14 +22,15 @@ use Rattle.sigma.specs.Instance.{Instance}
 use Rattle.sigma.specs.Valid.{Valid}
 use Rattle.sigma.proofs.Answer.{unlessRefused-zero, unlessRefused-positive}
 use Rattle.sigma.proofs.Valid.{clear-valid}
-use Rattle.formats.specs.Append.{emptyFile}
+use Rattle.formats.specs.Append.{emptyFile, emptyRules}
 use Rattle.formats.specs.Encode.{headerBytes, sheetOf, encodeRules, encode}
+use Rattle.formats.specs.Meaning.{IsVersion}
 use Rattle.formats.specs.Outcome.{Keeps, Puts}
 use Rattle.formats.specs.RoundFile.{noRounds}
 use Rattle.formats.specs.Sheet.{sheetLength}
 use Rattle.formats.specs.Write.{Writing, short, written, writtenAtStart}
 use Rattle.formats.proofs.Entries.{length-storedEntries}
-use Rattle.formats.proofs.Files.{length-roundMark}
+use Rattle.formats.proofs.Files.{length-roundMark, version-passes}
 use Rattle.formats.proofs.Loads.{length-sheetMark}
 use Rattle.formats.proofs.Positive.{encode-positive}
 
@@ -130,29 +131,33 @@ module _ (i : Instance) (buffer : List ℕ) where
 -- ---- the file of no rounds
 
 -- it has seven bytes
-pub length-noRounds : length noRounds ≡ 7
+pub length-noRounds : (version : ℕ) → length (noRounds version) ≡ 7
 unfolding noRounds
-length-noRounds = simp (length-append, length-bytesOf, length-roundMark)
+length-noRounds version = simp (length-append, length-bytesOf, length-roundMark)
 
-module _ (buffer : List ℕ) where
-  -- it is made exactly in a buffer of at least seven bytes
-  pub empty-runs : (emptyFile buffer .answer .refusal ≡ 0) ↔ (7 ≤ length buffer)
-  unfolding emptyFile writtenAtStart
+module _ (version : ℕ) (buffer : List ℕ) where
+  -- it is made exactly in version 1 or 2 and in a buffer of at least seven bytes
+  pub empty-runs : (emptyFile version buffer .answer .refusal ≡ 0) ↔ (IsVersion version × (7 ≤ length buffer))
+  unfolding emptyFile emptyRules writtenAtStart
   empty-runs =
-      let rules = (22 when short buffer (length noRounds)) ∷ [] in
-      let passes = short-passes buffer (length noRounds) in (
+      let rules = emptyRules version buffer in
+      let size = length-noRounds version in
+      let passes = short-passes buffer (length (noRounds version)) in (
         λ e.
-            let (fits, none) = clear-lowest rules tt (sym (written-refusal _ _ _ buffer) ∙ e) in
-            omega (arith, passes .0 fits, length-noRounds),
-        λ fits. written-refusal _ _ _ buffer ∙ lowest-clear rules (passes .1 (omega (arith, length-noRounds)), tt),
+            let (known, (fits, none)) = clear-lowest rules tt (sym (written-refusal _ _ _ buffer) ∙ e) in
+            (version-passes version .0 known, omega (arith, passes .0 fits)),
+        λ (known, fits).
+            written-refusal _ _ _ buffer ∙ lowest-clear rules (version-passes version .1 known, (passes .1 (omega arith), tt)),
       )
 
   -- a refused call keeps the buffer
-  pub empty-refused : 0 < emptyFile buffer .answer .refusal → Keeps buffer (emptyFile buffer)
+  pub empty-refused : 0 < emptyFile version buffer .answer .refusal → Keeps buffer (emptyFile version buffer)
   unfolding emptyFile writtenAtStart written
   empty-refused h = written-refused _ _ _ _ h
 
   -- else the file of no rounds stands at the start of the buffer
-  pub empty-puts : emptyFile buffer .answer .refusal ≡ 0 → Puts noRounds buffer (emptyFile buffer)
+  pub empty-puts : emptyFile version buffer .answer .refusal ≡ 0 → Puts (noRounds version) buffer (emptyFile version buffer)
   unfolding emptyFile writtenAtStart
-  empty-puts e = start-written _ noRounds buffer (sym (written-refusal _ _ _ buffer) ∙ e) (omega (arith, length-noRounds, empty-runs .0 e))
+  empty-puts e =
+      start-written _ (noRounds version) buffer (sym (written-refusal _ _ _ buffer) ∙ e)
+      (omega (arith, length-noRounds version, empty-runs .0 e .1))

@@ -1,4 +1,4 @@
--- Where the values of a sheet and of a round file stand in their bytes (01, "The sheet" and "A round").
+-- Where the values of a sheet and of a round file stand in their bytes (01, "The sheet" and "A round"; 02, card 7).
 -- Assumes nothing.
 use Prim.Native.Nat.{ℕ, _+_, _*_, _^_, _<_, _≤_}
 use mathlib.Core.Path.{_≡_}
@@ -10,7 +10,9 @@ use Rattle.types.specs.declared.Round.{Round}
 use Rattle.encoding.specs.Bytes.{numberAt}
 use Rattle.sigma.specs.Instance.{Instance}
 use Rattle.formats.specs.Load.{load, loadRefusal, loaded}
+use Rattle.formats.specs.Meaning.{HasWidth, recordSize}
 use Rattle.formats.specs.RoundCalls.{countRounds, fetchRound, partOfRound}
+use Rattle.formats.specs.RoundFile.{challengeWidth}
 use Rattle.formats.specs.Sheet.{headerOf, instanceOf, versionOf}
 
 -- numbers are unsigned and have their high byte first
@@ -64,27 +66,24 @@ pub record LoadedLayout (sheet : List ℕ) : Type 0 where
   pub root : headerOf sheet .kind ≢ 1 → length sheet ≡ 20 + 4 * headerOf sheet .rows
   pub values : loaded sheet ≡ instanceOf sheet
 
--- the bytes of a record: t, c, r in 4(s + n + 1) bytes
-abbrev pub recordSize : Header → ℕ
-recordSize h = 4 * (h .rows + h .columns + 1)
-
 -- a round as it stands in a file from byte `at` on
-pub record RoundAt (h : Header) (file : List ℕ) (at : ℕ) (round : Round) : Type 0 where
+pub record RoundAt (width : ℕ) (h : Header) (file : List ℕ) (at : ℕ) (round : Round) : Type 0 where
   pub commitment : WordsAt file at (h .rows) (round .commitment)
-  pub challenge : round .challenge ≡ numberAt 4 file (at + 4 * h .rows)
-  pub response : WordsAt file (at + 4 * h .rows + 4) (h .columns) (round .response)
+  pub challenge : round .challenge ≡ numberAt width file (at + 4 * h .rows)
+  pub response : WordsAt file (at + 4 * h .rows + width) (h .columns) (round .response)
 
--- a round file that reads for a sheet
-pub record FileLayout (sheet file : List ℕ) : Type 0 where
+-- a round file that reads for a sheet, and whose challenges have so many bytes
+pub record FileLayout (width : ℕ) (sheet file : List ℕ) : Type 0 where
   pub mark : take 3 file ≡ 0x52 ∷ 0x4E ∷ 0x44 ∷ []
-  pub version : numberAt 2 file 3 ≡ 1
+  pub version : HasWidth (numberAt 2 file 3) width
   pub count : countRounds sheet file .count ≡ numberAt 2 file 5
-  pub size : length file ≡ 7 + numberAt 2 file 5 * recordSize (headerOf sheet)
+  pub size : length file ≡ 7 + numberAt 2 file 5 * recordSize width (headerOf sheet)
   pub rounds : (k : ℕ) → k < numberAt 2 file 5
       → (fetchRound sheet file k .refusal ≡ 0)
-      × RoundAt (headerOf sheet) file (7 + k * recordSize (headerOf sheet)) (fetchRound sheet file k .round)
+      × RoundAt width (headerOf sheet) file (7 + k * recordSize width (headerOf sheet)) (fetchRound sheet file k .round)
   pub parts : (k : ℕ) → k < numberAt 2 file 5
-      → partOfRound sheet file k ≡ take (recordSize (headerOf sheet)) (drop (7 + k * recordSize (headerOf sheet)) file)
+      → partOfRound sheet file k
+      ≡ take (recordSize width (headerOf sheet)) (drop (7 + k * recordSize width (headerOf sheet)) file)
 
 pub record Layout : Type 0 where
   pub numbers : HighByteFirst
@@ -92,4 +91,6 @@ pub record Layout : Type 0 where
   -- whether a sheet loads is what the loader's number says
   pub number : (sheet : List ℕ) → load sheet .refusal ≡ loadRefusal sheet
   pub loading : (sheet : List ℕ) → loadRefusal sheet ≡ 0 → LoadedLayout sheet
-  pub files : (sheet file : List ℕ) → countRounds sheet file .refusal ≡ 0 → FileLayout sheet file
+  -- the width of a file's challenges is that of its version
+  pub widths : (file : List ℕ) (width : ℕ) → HasWidth (numberAt 2 file 3) width → challengeWidth file ≡ width
+  pub files : (sheet file : List ℕ) → countRounds sheet file .refusal ≡ 0 → FileLayout (challengeWidth file) sheet file

@@ -11,5 +11,6 @@ pub mod SameCommitment
 pub mod Meaning
 pub mod Outcome
 pub mod Rounds
+pub mod Convert
 pub mod ByteLayout
 pub mod Writers

@@ -1,8 +1,10 @@
--- What 01 says of bytes, as facts: a sheet that loads, a round file of a sheet, and what is read of a sheet's values.
+-- What 01 says of bytes, as facts: a sheet that loads, a round file of a sheet, in the versions of 02's card 7, and what is read
+-- of a sheet's values.
 -- Assumes nothing.
-use Prim.Native.Nat.{ℕ, _<_, _≤_}
+use Prim.Native.Nat.{ℕ, _+_, _*_, _<_, _≤_}
 use mathlib.Core.Path.{_≡_}
 use mathlib.Core.Bool.{cond}
+use mathlib.Core.Logic.{_⊎_}
 use mathlib.Core.List.{List}
 use lib.ListN.{length, take}
 use Rattle.types.specs.declared.Header.{Header}
@@ -20,10 +22,22 @@ pub record Loads (s : List ℕ) : Type 0 where
   pub valid : Valid (instanceOf s)
   pub exact : length s ≡ sheetLength (headerOf s)
 
+-- the versions of round files
+abbrev pub IsVersion : ℕ → Type 0
+IsVersion version = (version ≡ 1) ⊎ (version ≡ 2)
+
+-- a challenge has four bytes in version 1 and two in version 2
+abbrev pub HasWidth : ℕ → ℕ → Type 0
+HasWidth version width = ((version ≡ 1) × (width ≡ 4)) ⊎ ((version ≡ 2) × (width ≡ 2))
+
+-- the bytes of a record whose challenge has so many: t, c, r in 4(s + n) and those
+abbrev pub recordSize : ℕ → Header → ℕ
+recordSize width h = 4 * (h .rows + h .columns) + width
+
 -- 12 does not apply to the round file
 pub record IsRoundFile (h : Header) (f : List ℕ) : Type 0 where
   pub mark : take 3 f ≡ roundMark
-  pub version : fileVersion f ≡ 1
+  pub version : IsVersion (fileVersion f)
   pub few : countField f ≤ 512
   pub exact : length f ≡ recordStart (challengeWidth f) h (countField f)
 

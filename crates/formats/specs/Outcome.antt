@@ -10,6 +10,10 @@ use Rattle.types.specs.declared.Round.{Round}
 use Rattle.formats.specs.RoundFile.{countField, recordBytes, recordLength, widthInUse}
 use Rattle.formats.specs.Write.{Writing}
 
+-- the bytes that a call has put at the front of a lent buffer
+abbrev pub front : Writing → List ℕ
+front w = take (w .answer .length) (w .buffer)
+
 -- the buffer keeps its bytes, and the length answered is 0
 pub record Keeps (buffer : List ℕ) (w : Writing) : Type 0 where
   pub answered : w .answer .length ≡ 0

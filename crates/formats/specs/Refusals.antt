@@ -1,20 +1,22 @@
--- The conditions of 01's refusals on bytes ("Turned back", 2, 3, 9, 12, 13 and 22), as facts, and which of them each call
--- asks, in order.
+-- The conditions of 01's refusals on bytes ("Turned back", 2, 3, 9, 12, 13 and 22; 02, card 7, for 15), as facts, and which of
+-- them each call asks, in order.
 -- Assumes nothing.
 use Prim.Native.Nat.{ℕ, _+_, _<_, _≤_}
+use mathlib.Core.Path.{_≡_}
 use mathlib.Core.Logic.{_⊎_, _≢_}
 use mathlib.Core.List.{List, [], _∷_, _++_}
 use lib.ListN.{length, take}
 use Rattle.types.specs.declared.Header.{Header}
+use Rattle.types.specs.declared.Round.{Round}
 use Rattle.rules.specs.Condition.{Condition, _if_}
 use Rattle.sigma.specs.Instance.{Instance}
 use Rattle.sigma.specs.Reads.{Differ}
 use Rattle.sigma.specs.Refusals.{headerConditions, elementConditions}
+use Rattle.formats.specs.Meaning.{IsVersion}
 use Rattle.formats.specs.RoundFile.{
   challengeWidth,
   countField,
   fileVersion,
-  noRounds,
   recordLength,
   recordStart,
   roundMark,
@@ -22,10 +24,10 @@ use Rattle.formats.specs.RoundFile.{
 }
 use Rattle.formats.specs.Sheet.{headerOf, instanceOf, sheetLength, sheetMark, versionOf}
 
--- the file has under 7 bytes, another mark, a version other than 1, a count above 512 or a length that does not fit
+-- the file has under 7 bytes, another mark, a version other than 1 and 2, a count above 512 or a length that does not fit
 abbrev pub Refusal12 : Header → List ℕ → Type 0
 Refusal12 h f =
-    (length f < 7) ⊎ Differ 3 f roundMark ⊎ (fileVersion f ≢ 1) ⊎ (512 < countField f) ⊎
+    (length f < 7) ⊎ Differ 3 f roundMark ⊎ (¬ IsVersion (fileVersion f)) ⊎ (512 < countField f) ⊎
     (length f ≢ recordStart (challengeWidth f) h (countField f))
 
 -- a sheet's shape; 2 is for under 20 bytes or another mark, and 9 for a length that is not exactly what the header gives
@@ -52,12 +54,14 @@ fileConditions h f = (12 if Refusal12 h f) ∷ []
 abbrev pub roundConditions : Header → List ℕ → ℕ → List Condition
 roundConditions h f k = (12 if Refusal12 h f) ∷ (13 if (countField f ≤ k)) ∷ []
 
--- the empty file
-abbrev pub emptyConditions : List ℕ → List Condition
-emptyConditions buffer = (22 if (length buffer < length noRounds)) ∷ []
+-- the empty file, of seven bytes; 12 is for a version other than 1 and 2
+abbrev pub emptyConditions : ℕ → List ℕ → List Condition
+emptyConditions version buffer = (12 if (¬ IsVersion version)) ∷ (22 if (length buffer < 7)) ∷ []
 
--- the record writer; 12 is for more bytes in use than the buffer has, no file in those bytes, or 512 rounds already
-abbrev pub appendConditions : Header → List ℕ → ℕ → List Condition
-appendConditions h buffer used =
+-- the record writer; 12 is for more bytes in use than the buffer has, no file in those bytes, or 512 rounds already, and 15 for a
+-- challenge above 65,535 where the bytes in use are of version 2
+abbrev pub appendConditions : Header → List ℕ → ℕ → Round → List Condition
+appendConditions h buffer used round =
     (12 if ((length buffer < used) ⊎ Refusal12 h (take used buffer) ⊎ (512 ≤ countField (take used buffer)))) ∷
+    (15 if ((fileVersion (take used buffer) ≡ 2) × (65535 < round .challenge))) ∷
     (22 if (length buffer < used + recordLength (widthInUse buffer used) h)) ∷ []

@@ -1,8 +1,8 @@
--- The bytes of a round file (01, "A round"): seven bytes and then the records. The width of a stored challenge is a
+-- The bytes of a round file (01, "A round"; 02, card 7): seven bytes and then the records. The width of a stored challenge is a
 -- parameter of the layout, and `widthOf` has it for each version of a file.
 -- Assumes nothing.
 use Prim.Native.Nat.{ℕ, _+_, _*_}
-use mathlib.Core.Bool.{Bool, not, _||_}
+use mathlib.Core.Bool.{Bool, cond, not, _||_}
 use mathlib.Core.List.{List, _++_}
 use lib.Dec.{eqb, ltb}
 use lib.ListN.{length, take}
@@ -25,9 +25,13 @@ fileVersion f = numberAt 2 f 3
 unfoldable pub countField : List ℕ → ℕ
 countField f = numberAt 2 f 5
 
--- the width in bytes of a challenge in a file of the version: 4 in each
+-- a version other than 1 and 2
+unfoldable pub unknownVersion : ℕ → Bool
+unknownVersion version = not (eqb version 1 || eqb version 2)
+
+-- the width in bytes of a challenge in a file of the version: 2 in version 2, else 4
 unfoldable pub widthOf : ℕ → ℕ
-widthOf version = 4
+widthOf version = cond (eqb version 2) 2 4
 
 -- the width of a file's challenges
 unfoldable pub challengeWidth : List ℕ → ℕ
@@ -60,12 +64,12 @@ roundAt width h f at =
       response = pad8 0 (wordsAt f (at + 4 * h .rows + width) (h .columns));
     }
 
--- under 7 bytes, another mark, a version other than 1, a count above 512 or a length that does not fit (12)
+-- under 7 bytes, another mark, a version other than 1 and 2, a count above 512 or a length that does not fit (12)
 unfoldable pub badFile : Header → List ℕ → Bool
 badFile h f =
-    ltb (length f) 7 || differ 3 f roundMark || not (eqb (fileVersion f) 1) || ltb 512 (countField f) ||
+    ltb (length f) 7 || differ 3 f roundMark || unknownVersion (fileVersion f) || ltb 512 (countField f) ||
     not (eqb (length f) (recordStart (challengeWidth f) h (countField f)))
 
--- the file of no rounds
-unfoldable pub noRounds : List ℕ
-noRounds = roundMark ++ bytesOf 2 1 ++ bytesOf 2 0
+-- the file of no rounds, in a version
+unfoldable pub noRounds : ℕ → List ℕ
+noRounds version = roundMark ++ bytesOf 2 version ++ bytesOf 2 0

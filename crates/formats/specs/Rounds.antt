@@ -6,7 +6,7 @@ use mathlib.Core.List.{List, [], _∷_, _++_, flatten, map}
 use lib.ListN.{length, getD}
 use Rattle.types.specs.declared.Header.{Header}
 use Rattle.types.specs.declared.Round.{Round}
-use Rattle.encoding.specs.Bytes.{bytesOf}
+use Rattle.encoding.specs.Bytes.{bytesOf, numberAt}
 use Rattle.lists.specs.Places.{tabulate}
 use Rattle.sigma.specs.Reads.{paddedRound}
 use Rattle.formats.specs.Append.{append}
@@ -39,8 +39,9 @@ appendEach sheet w (round ∷ rounds) = appendEach sheet (append sheet (w .buffe
 abbrev pub roundsRead : List ℕ → List ℕ → List Round
 roundsRead sheet f = tabulate (countRounds sheet f .count) (λ k. fetchRound sheet f k .round)
 
--- the file f′ reads as the file f with one round more, at its end
+-- the file f′ is of the version of the file f and reads as f with one round more, at its end
 pub record Grows (sheet f : List ℕ) (round : Round) (f′ : List ℕ) : Type 0 where
+  pub version : numberAt 2 f′ 3 ≡ numberAt 2 f 3
   pub count : countRounds sheet f′ ≡ record { refusal = 0; count = countRounds sheet f .count + 1 }
   pub rounds : Words (challengeWidth f) (headerOf sheet) round
       → roundsRead sheet f′ ≡ roundsRead sheet f ++ paddedRound (headerOf sheet) round ∷ []

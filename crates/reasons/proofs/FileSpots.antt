@@ -7,12 +7,13 @@ use mathlib.Core.Logic.{Iff·trans, _⊎_, inl, inr, ⊎-elim}
 use native.Mathlib.Omega.{arith}
 use lib.ListN.{length}
 use Rattle.rules.proofs.Explains.{Explains, explain}
-use Rattle.rules.proofs.Says.{says-elim, says-equal, says-false, says-less, says-not}
-use Rattle.sigma.proofs.Calculus.{says-stable}
+use Rattle.rules.proofs.Says.{says-elim, says-false, says-less}
 use Rattle.sigma.proofs.Comparison.{differ-false, says-differ}
 use Rattle.formats.specs.Refusals.{Refusal12, roundConditions}
 use Rattle.formats.specs.RoundFile.{countField, fileVersion, recordLength, recordStart, roundMark}
 use Rattle.formats.specs.Sheet.{headerOf}
+use Rattle.formats.proofs.Files.{version-passes}
+use Rattle.formats.proofs.Tests.{says-unknownVersion}
 use Rattle.reasons.specs.Breaks.{RightStart}
 use Rattle.reasons.specs.Reason.{fileSpot, spotOf}
 use Rattle.reasons.proofs.Named.{Broken, Named, caused, field-explained, in-file, length-named, value-named}
@@ -30,7 +31,7 @@ module _ (s f : List ℕ) where
       let breaks = in-file s f 12 (λ o none. none) in
       let short = says-less (length f) 7 in
       let mark = says-differ 3 f roundMark in
-      let version = says-not (says-equal (fileVersion f) 1) in
+      let version = says-unknownVersion (fileVersion f) in
       let count = says-less 512 (countField f) in
       says-elim short (λ low. length-named s f 12 (length f) (refl, inl low) (rw (short .complete low))) λ a.
       says-elim mark
@@ -49,7 +50,7 @@ module _ (s f : List ℕ) where
       (rw (says-false short .1 a, says-false mark .1 b, says-false version .1 c, count .complete many))) λ d.
       let right : RightStart f = record {
         mark = differ-false 3 f roundMark .0 (says-false mark .1 b);
-        version = says-stable (says-equal (fileVersion f) 1) c;
+        version = version-passes (fileVersion f) .0 (says-false version .1 c);
         count = omega arith;
       } in
       length-named s f 12 (length f) (refl, inr (right, last a b c d wrong))

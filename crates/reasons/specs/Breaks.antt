@@ -1,6 +1,6 @@
 -- Which values break which of 01's rules 2 to 16, and where they stand in the files (02, card 1; 01, "The sheet", "A round" and
--- "Turned back"). Each fact reads the value at the offset and the fixed fields, and nothing of the program. A rule is asked only
--- where no lower one is broken, and its value then stands inside the file.
+-- "Turned back"). Each fact reads the value at the offset, the fixed fields and the width of a file's challenges, and nothing else
+-- of the program. A rule is asked only where no lower one is broken, and its value then stands inside the file.
 -- Assumes nothing.
 use Prim.Native.Nat.{ℕ, _+_, _*_, _<_, _≤_}
 use mathlib.Core.Path.{_≡_}
@@ -10,6 +10,7 @@ use lib.ListN.{length}
 use Rattle.encoding.specs.Bytes.{numberAt}
 use Rattle.encoding.specs.Text.{ascii}
 use Rattle.rules.specs.Condition.{Applies, Condition, _if_}
+use Rattle.formats.specs.Meaning.{IsVersion}
 use Rattle.formats.specs.RoundFile.{challengeWidth}
 use Rattle.formats.specs.Sheet.{headerOf}
 use Rattle.sigma.specs.Element.{Coordinate, Element}
@@ -46,12 +47,12 @@ brokenInSheet s o =
     (¬ Element (headerOf s) (numberAt 4 s o)))) ∷ []
 
 -- the rules that the value at offset o of a round file breaks: mark, version or count; a count of no rounds; and in round 0,
--- whose record begins at 7, a commitment value, the challenge (of 4 bytes), and a response slot
+-- whose record begins at 7, a commitment value, the challenge and a response slot
 abbrev pub brokenInFile : List ℕ → List ℕ → ℕ → List Condition
 brokenInFile s f o =
     (12 if
     ((7 ≤ length f) ×
-    (((o ≡ 0) × Differ 3 f (ascii "RND")) ⊎ ((o ≡ 3) × (numberAt 2 f 3 ≢ 1)) ⊎ ((o ≡ 5) × (512 < numberAt 2 f 5))))) ∷
+    (((o ≡ 0) × Differ 3 f (ascii "RND")) ⊎ ((o ≡ 3) × (¬ IsVersion (numberAt 2 f 3))) ⊎ ((o ≡ 5) × (512 < numberAt 2 f 5))))) ∷
     (13 if ((o ≡ 5) × (numberAt 2 f 5 ≡ 0))) ∷
     (14 if ((i : ℕ) × (i < numberAt 1 s 18) × (o ≡ 7 + 4 * i) × (¬ Element (headerOf s) (numberAt 4 f o)))) ∷
     (15 if ((o ≡ 7 + 4 * numberAt 1 s 18) × (numberAt 4 s 14 ≤ numberAt (challengeWidth f) f o))) ∷
@@ -71,7 +72,7 @@ pub record FirstBreak (s f : List ℕ) (n o : ℕ) : Type 0 where
 -- mark, version and count of a round file are right
 pub record RightStart (f : List ℕ) : Type 0 where
   pub mark : Agree 3 f (ascii "RND")
-  pub version : numberAt 2 f 3 ≡ 1
+  pub version : IsVersion (numberAt 2 f 3)
   pub count : numberAt 2 f 5 ≤ 512
 
 -- the rules that a file's length l breaks: a header that is too short, or, all else being right, a length that does not fit

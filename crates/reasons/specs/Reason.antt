@@ -17,7 +17,7 @@ use Rattle.encoding.specs.Bytes.{numberAt}
 use Rattle.encoding.specs.Text.{ascii, decimal}
 use Rattle.rules.specs.Answer.{unlessRefused}
 use Rattle.formats.specs.RoundCalls.{checkRound, fetchRound}
-use Rattle.formats.specs.RoundFile.{challengeWidth, countField, fileVersion, roundMark}
+use Rattle.formats.specs.RoundFile.{challengeWidth, countField, fileVersion, roundMark, unknownVersion}
 use Rattle.formats.specs.Sheet.{entryCount, headerOf, instanceOf}
 use Rattle.sigma.specs.Answer.{outcome}
 use Rattle.sigma.specs.Comparison.{differ}
@@ -56,7 +56,7 @@ fileSpot f found n =
     cond (eqb n 13) (At 5)
     (cond (ltb found 7) (Length found)
     (cond (differ 3 f roundMark) (At 0)
-    (cond (not (eqb (fileVersion f) 1)) (At 3)
+    (cond (unknownVersion (fileVersion f)) (At 3)
     (cond (ltb 512 (countField f)) (At 5) (Length found)))))
 
 -- where the value of round 0 stands that breaks rule 14, 15 or 16

@@ -26,17 +26,13 @@ use Rattle.formats.specs.RoundCalls.{
   locateRound,
   roundRules,
 }
-use Rattle.formats.specs.RoundFile.{challengeWidth, countField, recordLength, recordStart, roundAt, widthOf}
-use Rattle.formats.proofs.Files.{file-width, number-passes}
+use Rattle.formats.specs.RoundFile.{challengeWidth, countField, recordLength, recordStart, roundAt}
+use Rattle.formats.proofs.Files.{number-passes}
 use Rattle.formats.proofs.Growing.{file-long}
 use Rattle.formats.proofs.Part.{place-inside, record-inside}
-use Rattle.round_file.proofs.FileTest.{file-clear}
+use Rattle.round_layout.proofs.FileTest.{file-clear}
 
 module _ (h : Header) (f : List ℕ) {n : ℕ} (tested : n ≡ lowest (fileRules h f)) where
-  -- a file that passes has the seven bytes before the records
-  pub seven-bytes : n ≡ 0 → 7 ≤ length f
-  seven-bytes e = file-long (file-clear h f tested e)
-
   -- a refused file has no count
   pub count-none : n ≢ 0 → record { refusal = n; count = 0 } ≡ countAfter [] h f
   unfolding countAfter
@@ -73,11 +69,13 @@ module _ (h : Header) (f : List ℕ) (k : ℕ) {n : ℕ} (tested : n ≡ checkAf
       let (zero, (number, none)) = lowest-append-zero (fileRules h f) ((13 when leb (countField f) k) ∷ []) tt tt .0 (sym tested ∙ e) in
       (file-clear h f refl zero, number-passes f k .0 number)
 
-  -- its record lies inside the file
-  pub record-there : n ≡ 0 → (k < 512) × (recordStart (widthOf 1) h k + recordLength (widthOf 1) h ≤ length f)
-  record-there e =
-      let (file, inside) = round-there e in
-      (omega (arith, file .few), rw (← file-width file) (record-inside file k inside))
+  -- its number is below 512
+  pub number-small : n ≡ 0 → k < 512
+  number-small e = let (file, inside) = round-there e in omega (arith, file .few)
+
+  -- and the file has the seven bytes before the records
+  pub seven-there : n ≡ 0 → 7 ≤ length f
+  seven-there e = file-long (round-there e .0)
 
   -- a refused round has no place
   pub place-none : n ≢ 0 → record { offset = 0; length = 0 } ≡ locateAfter [] h f k
@@ -90,18 +88,19 @@ module _ (h : Header) (f : List ℕ) (k : ℕ) {n : ℕ} (tested : n ≡ checkAf
       )
 
   -- the place of a round that passes is its record's
-  pub place-record : {start size : ℕ} → n ≡ 0 → start ≡ recordStart (widthOf 1) h k → size ≡ recordLength (widthOf 1) h
+  pub place-record : {width start size : ℕ} → n ≡ 0 → width ≡ challengeWidth f
+      → start ≡ recordStart width h k → size ≡ recordLength width h
       → record { offset = start; length = size } ≡ locateAfter [] h f k
   unfolding locateAfter
-  place-record e is-start is-size =
+  place-record e is-width is-start is-size =
       rw (
         ← tested,
         e,
         is-start,
         is-size,
-        file-width (round-there e .0),
-        unlessRefused-zero (recordStart (widthOf 1) h k) 0,
-        unlessRefused-zero (recordLength (widthOf 1) h) 0,
+        is-width,
+        unlessRefused-zero (recordStart (challengeWidth f) h k) 0,
+        unlessRefused-zero (recordLength (challengeWidth f) h) 0,
       )
 
   -- a refused round is read as zeros
@@ -110,14 +109,14 @@ module _ (h : Header) (f : List ℕ) (k : ℕ) {n : ℕ} (tested : n ≡ checkAf
   fetch-none some is-none = rw (← tested, is-none, unlessRefused-positive _ noRound n (omega arith))
 
   -- a round that passes is read from its record, which lies inside the file
-  module _ (passed : n ≡ 0) {start : ℕ} (is-start : start ≡ recordStart (widthOf 1) h k) where
-    pub record-fits : start + recordLength (challengeWidth f) h ≤ length f
-    record-fits = rw (is-start, file-width (round-there passed .0)) (record-there passed .1)
+  module _ (passed : n ≡ 0) {width start : ℕ} (is-width : width ≡ challengeWidth f) (is-start : start ≡ recordStart width h k) where
+    pub record-fits : start + recordLength width h ≤ length f
+    record-fits = let (file, inside) = round-there passed in rw (is-start, is-width) (record-inside file k inside)
 
-    pub fetch-record : {round : Round} → round ≡ roundAt (challengeWidth f) h f start
+    pub fetch-record : {round : Round} → round ≡ roundAt width h f start
         → record { round = round; refusal = 0 } ≡ fetchAfter [] h f k
     unfolding fetchAfter
-    fetch-record is-round = rw (← tested, passed, is-round, is-start, file-width (round-there passed .0), unlessRefused-zero)
+    fetch-record is-round = rw (← tested, passed, is-round, is-start, is-width, unlessRefused-zero)
 
 module _ (s f : List ℕ) (k : ℕ) {place : Part} (found : place ≡ locateRound s f k) where
   -- a round's place lies inside the file

@@ -1,3 +1,2 @@
--- Laws that the proofs of the functions cite, by topic.
-pub mod FileTest
+-- Laws that the proofs of the functions cite.
 pub mod FileReading

@@ -1,10 +1,11 @@
-// Reading a round file for a sheet whose fixed fields are loaded (01, "A round" and refusals 12 and 13).
-use crate::layout::file_refusal;
-use crate::layout::record_length;
-use crate::layout::record_start;
+// Reading a round file for a sheet whose fixed fields are loaded (01, "A round" and refusals 12 and 13; 02, card 7).
 use fields::read_u16;
 use fields::read_u32;
 use fields::read_words;
+use round_layout::file_refusal;
+use round_layout::file_width;
+use round_layout::record_length;
+use round_layout::record_start;
 use types::Counted;
 use types::Fetched;
 use types::Header;
@@ -15,9 +16,10 @@ ghost use mathlib.Core.Path.{_≡_};
 ghost use mathlib.Core.List.{[]};
 ghost use lib.ListN.{length};
 ghost use Rattle.lists.specs.Places.{pad8};
-ghost use Rattle.encoding.specs.Bytes.{wordsAt};
-ghost use Rattle.formats.specs.RoundFile.{challengeWidth, recordLength, roundAt};
+ghost use Rattle.encoding.specs.Bytes.{numberAt, wordsAt};
+ghost use Rattle.formats.specs.RoundFile.{recordLength, roundAt};
 ghost use Rattle.formats.specs.RoundCalls.{noRound, countAfter, checkAfter, locateAfter, fetchAfter};
+ghost use Rattle.round_layout.specs.Width.{IsWidth};
 
 // How many rounds a file has; 0 beside the number where it is refused.
 pub fn count_in(h: Header, file: &[u8]) -> Counted
@@ -65,9 +67,10 @@ pub fn locate_in(h: Header, file: &[u8], k: usize) -> Part
             length: 0,
         };
     }
+    let width = file_width(file);
     Part {
-        offset: record_start(h, k),
-        length: record_length(h),
+        offset: record_start(h, width, k),
+        length: record_length(h, width),
     }
 }
 
@@ -84,18 +87,31 @@ fn places_at(file: &[u8], at: usize, n: usize) -> [u32; 8]
     read_words(file, at, n)
 }
 
-// The values of the record that begins at index at of a file.
-pub fn round_at(h: Header, file: &[u8], at: usize) -> Round
+// The challenge of width bytes that begins at index at of a file.
+pub fn challenge_at(file: &[u8], width: usize, at: usize) -> u32
+    requires width { ⌜ IsWidth width ⌝ }
+    requires within { ⌜ at + width ≤ length (now file) ⌝ }
+    ensures { λ r. ⌜ r ≡ numberAt width (now (file .entry)) at ⌝ }
+{
+    if width == 2 {
+        return read_u16(file, at);
+    }
+    read_u32(file, at)
+}
+
+// The values of the record that begins at index at of a file and whose challenge has width bytes.
+pub fn round_at(h: Header, width: usize, file: &[u8], at: usize) -> Round
     requires rows { ⌜ h .rows ≤ 8 ⌝ }
     requires columns { ⌜ h .columns ≤ 8 ⌝ }
-    requires within { ⌜ at + recordLength (challengeWidth (now file)) h ≤ length (now file) ⌝ }
-    ensures { λ r. ⌜ r ≡ roundAt (challengeWidth (now (file .entry))) h (now (file .entry)) at ⌝ }
+    requires width { ⌜ IsWidth width ⌝ }
+    requires within { ⌜ at + recordLength width h ≤ length (now file) ⌝ }
+    ensures { λ r. ⌜ r ≡ roundAt width h (now (file .entry)) at ⌝ }
 {
     let rows = h.rows as usize;
     let columns = h.columns as usize;
     let commitment = places_at(file, at, rows);
-    let challenge = read_u32(file, at + 4 * rows);
-    let response = places_at(file, at + 4 * rows + 4, columns);
+    let challenge = challenge_at(file, width, at + 4 * rows);
+    let response = places_at(file, at + 4 * rows + width, columns);
     Round {
         commitment,
         challenge,
@@ -128,6 +144,7 @@ pub fn read_in(h: Header, file: &[u8], k: usize) -> Fetched
             refusal,
         };
     }
-    let round = round_at(h, file, record_start(h, k));
+    let width = file_width(file);
+    let round = round_at(h, width, file, record_start(h, width, k));
     Fetched { round, refusal: 0 }
 }

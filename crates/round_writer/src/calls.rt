@@ -6,8 +6,8 @@ use types::Written;
 ghost use mathlib.Core.Path.{_≡_};
 ghost use Rattle.formats.specs.Append.{append};
 
-// Writes round straight behind the first used bytes of buffer, which are a round file, raises its count by one and answers
-// the count of bytes in use. Where it is refused, with 2 to 12 or 22, buffer keeps its bytes.
+// Writes round straight behind the first used bytes of buffer, which are a round file, in their version, raises its count by
+// one and answers the count of bytes in use. Where it is refused, with 2 to 12, 15 or 22, buffer keeps its bytes.
 pub fn append(sheet: &[u8], buffer: &mut [u8], used: usize, round: Round) -> Written
     ensures answer { λ r. ⌜ r ≡ append (now (sheet .entry)) (now (buffer .entry)) used round .answer ⌝ }
     ensures bytes { λ _. ⌜ now (buffer .exit) ≡ append (now (sheet .entry)) (now (buffer .entry)) used round .buffer ⌝ }

@@ -74,9 +74,9 @@ demand1 = record {
   checking = λ sheet file k. refuses-tested _ _ refl refl _ (check-tests sheet file k) (part-refused sheet file k);
   part = part-not-empty;
   reading = λ sheet file k. refuses-tested _ _ refl refl _ (check-tests sheet file k) (unlessRefused-positive _ noRound _);
-  starting = λ buffer. refuses-tested _ _ refl refl _ (empty-tests buffer) (empty-refused buffer);
+  starting = λ version buffer. refuses-tested _ _ refl refl _ (empty-tests version buffer) (empty-refused version buffer);
   appending = λ sheet buffer used round.
-      refuses-tested _ _ refl refl _ (record-tests sheet buffer used) (append-refused sheet buffer used round);
+      refuses-tested _ _ refl refl _ (record-tests sheet buffer used round) (append-refused sheet buffer used round);
   judging = λ sheet round.
       refuses-given _ _ refl refl _ (judge-number sheet round) (judged-kept _ _ (verdict-not-refused (instanceOf sheet) _ _ _));
   simulating = λ sheet c r. refuses-given _ _ refl refl _ (simulate-number sheet c r) (unlessRefused-positive _ zeros8 _);

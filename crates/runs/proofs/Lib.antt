@@ -24,6 +24,7 @@ pub mod JointRun
 pub mod Level
 pub mod MarkerRefusal
 pub mod Demand1
+pub mod ConvertsFiles
 pub mod Marker
 pub mod MarkerVerdict
 pub mod MarkerLength

@@ -84,12 +84,13 @@ pub record Demand1 : Type 0 where
   pub reading : (sheet file : List ℕ) (k : ℕ)
       → RefusesOn sheet (12 ∷ 13 ∷ []) (roundConditions (headerOf sheet) file k) (fetchRound sheet file k .refusal)
       (fetchRound sheet file k .round ≡ roundOf (replicate 8 0) 0 (replicate 8 0))
-  -- making a file of no rounds; a refused call keeps the buffer's bytes and answers length 0
-  pub starting : (buffer : List ℕ)
-      → Refuses (22 ∷ []) (emptyConditions buffer) (emptyFile buffer .answer .refusal) (Keeps buffer (emptyFile buffer))
-  -- the record writer; likewise
+  -- making a file of no rounds, in version 1 or 2 (02, card 7); a refused call keeps the buffer's bytes and answers length 0
+  pub starting : (version : ℕ) (buffer : List ℕ)
+      → Refuses (12 ∷ 22 ∷ []) (emptyConditions version buffer) (emptyFile version buffer .answer .refusal)
+      (Keeps buffer (emptyFile version buffer))
+  -- the record writer, which keeps to the version of the bytes in use; likewise
   pub appending : (sheet buffer : List ℕ) (used : ℕ) (round : Round)
-      → RefusesOn sheet (12 ∷ 22 ∷ []) (appendConditions (headerOf sheet) buffer used)
+      → RefusesOn sheet (12 ∷ 15 ∷ 22 ∷ []) (appendConditions (headerOf sheet) buffer used round)
       (append sheet buffer used round .answer .refusal) (Keeps buffer (append sheet buffer used round))
   -- ---- the calls on rounds
   -- judging; a refused round's verdict is the number

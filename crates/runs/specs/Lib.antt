@@ -17,3 +17,4 @@ pub mod Demand3
 pub mod Level
 pub mod Marker
 pub mod Demand1
+pub mod ConvertsFiles

@@ -15,11 +15,14 @@ pub enum Call {
     SameCommitment,
     Empty,
     Append,
+    Convert,
     Judge,
     Simulate,
     Extract,
     OrJudge,
     OrExtract,
+    TeamCommitment,
+    TeamResponse,
     ProverNew,
     ProverCommit,
     ProverRespond,
@@ -68,13 +71,16 @@ const CALLS: &[Entry] = &[
     entry(Call::Part, "part", true, &[12, 13]),
     entry(Call::Read, "read", true, &[12, 13]),
     entry(Call::SameCommitment, "same_commitment", true, &[12, 13]),
-    entry(Call::Empty, "empty", false, &[22]),
-    entry(Call::Append, "append", true, &[12, 22]),
+    entry(Call::Empty, "empty", false, &[12, 22]),
+    entry(Call::Append, "append", true, &[12, 15, 22]),
+    entry(Call::Convert, "convert", true, &[12, 15, 22]),
     entry(Call::Judge, "judge", true, &[14, 15, 16]),
     entry(Call::Simulate, "simulate", true, &[15, 16]),
     entry(Call::Extract, "extract", true, &[14, 15, 16, 18, 19, 20]),
     entry(Call::OrJudge, "or_judge", true, &[26, 14, 15, 16]),
     entry(Call::OrExtract, "or_extract", true, &[26, 14, 15, 16, 18, 19, 20]),
+    entry(Call::TeamCommitment, "team_commitment", true, &[27, 14, 28]),
+    entry(Call::TeamResponse, "team_response", true, &[27, 16, 28]),
     entry(Call::ProverNew, "prover_new", false, &[]),
     entry(Call::ProverCommit, "prover_commit", true, &[16, 21]),
     entry(Call::ProverRespond, "prover_respond", true, &[15, 16, 17, 21]),
@@ -97,7 +103,8 @@ pub const CALL_COUNT: usize = CALLS.len();
 /// All numbers in the order in which they are tested, the cards' numbers where
 /// 02 puts them. Of several that apply the first here is given.
 pub const ORDER: [u32; LAST as usize] = [
-    23, 24, 1, 2, 3, 4, 5, 6, 7, 8, 9, 10, 11, 26, 12, 25, 13, 14, 15, 16, 17, 18, 19, 20, 21, 22,
+    23, 24, 1, 2, 3, 4, 5, 6, 7, 8, 9, 27, 10, 11, 26, 12, 25, 13, 14, 15, 16, 28, 17, 18, 19, 20,
+    21, 22,
 ];
 
 /// The numbers that the loading of a sheet can give.
@@ -150,6 +157,12 @@ impl Call {
     pub fn can_give(self, number: u32) -> bool {
         let loads = CALLS[self as usize].loads;
         number == 0 || self.others().contains(&number) || loads && SHEET_NUMBERS.contains(&number)
+    }
+
+    /// All numbers that the call can give, in their order.
+    pub fn numbers(self) -> Vec<u32> {
+        let given = ORDER.into_iter().filter(|number| self.can_give(*number));
+        given.collect()
     }
 
     /// How many sides the call answers a verdict on.

@@ -6,6 +6,7 @@ mod or_sessions;
 mod rounds;
 mod sessions;
 mod sheets;
+mod teams;
 mod texts;
 mod writers;
 
@@ -21,6 +22,7 @@ pub use or_sessions::{OrSessionCase, OrStep};
 pub use rounds::{RoundCall, RoundCase};
 pub use sessions::{SessionCase, Step};
 pub use sheets::SheetCase;
+pub use teams::TeamCase;
 pub use texts::{TextCall, TextCase};
 pub use writers::{WriterCase, Writing};
 

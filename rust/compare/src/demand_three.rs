@@ -54,7 +54,7 @@ pub fn choices(values: &[u32], count: usize) -> Vec<Places> {
 /// witnesses.
 pub struct Small {
     library: Library,
-    calls: Cell<u64>,
+    pub calls: Cell<u64>,
     pub bytes: Vec<u8>,
     pub sheet: Sheet,
     pub domain: Vec<Places>,
@@ -159,7 +159,7 @@ impl Small {
     }
 
     /// The honest round of a witness and a nonce.
-    fn honest(&self, witness: &Places, challenge: u32, nonce: &Places) -> Result<Round, u32> {
+    pub fn honest(&self, witness: &Places, challenge: u32, nonce: &Places) -> Result<Round, u32> {
         self.count(3);
         let session = self.library.prover_new();
         let committed = self.library.prover_commit(&self.bytes, session, nonce);

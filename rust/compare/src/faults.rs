@@ -14,7 +14,9 @@ mod reasons;
 mod rounds;
 mod rows;
 mod sheets;
+mod teams;
 mod verifier;
+mod versions;
 mod writers;
 
 pub use extracting::extract;
@@ -30,7 +32,11 @@ pub use prover::{prover_commit, prover_drop, prover_new, prover_respond};
 pub use reasons::reason;
 pub use rounds::{judge, simulate};
 pub use sheets::{entries, load};
+#[cfg(test)]
+pub use teams::product;
+pub use teams::{team_commitment, team_response};
 pub use verifier::{verifier_challenge, verifier_commitment, verifier_new, verifier_response};
+pub use versions::convert;
 pub use writers::{append, empty, encode};
 
 #[cfg(test)]

@@ -2,6 +2,7 @@
 
 mod or_proof;
 mod sessions;
+mod teams;
 mod values;
 
 use judge::pattern_file;
@@ -19,6 +20,7 @@ use values::{computed, judgement, loaded, round, written};
 pub use or_proof::{
     or_extract, or_judge, or_prover_commit, or_prover_drop, or_prover_new, or_prover_respond,
 };
+pub use teams::{team_commitment, team_response};
 
 pub fn load(sheet: &[u8]) -> Loaded {
     loaded(judge::load(sheet))
@@ -109,13 +111,17 @@ pub fn same_commitment(sheet: &[u8], file: &[u8], i: usize, j: usize) -> Compare
     }
 }
 
-pub fn empty(buffer: &mut [u8]) -> Written {
-    written(judge::empty(1, buffer))
+pub fn empty(version: u32, buffer: &mut [u8]) -> Written {
+    written(judge::empty(version.into(), buffer))
 }
 
 pub fn append(sheet: &[u8], buffer: &mut [u8], used: usize, added: &Round) -> Written {
     let appended = judge::append(sheet, buffer, used as u64, &round(added));
     written(appended.map(|length| length as usize))
+}
+
+pub fn convert(sheet: &[u8], file: &[u8], buffer: &mut [u8]) -> Written {
+    written(judge::convert(sheet, file, buffer))
 }
 
 pub fn judge(sheet: &[u8], judged: &Round) -> Judgement {

@@ -5,9 +5,10 @@ use crate::{judged, proved};
 
 pub use dimkhoros_sys::{
     phases, Compared, Computed, Counted, Fetched, Header, Judgement, Loaded, OrAnswer, OrExtracted,
-    OrJudgement, OrRound, OrSession, Part, Places, ProverAnswer, ProverSession, Round,
-    VerifierAnswer, VerifierJudgement, VerifierSession, Written, LONGEST_FILE, LONGEST_REASON,
-    LONGEST_SHEET, LONGEST_TEXT, MOST_ROUNDS, SHIPPED_PATTERNS,
+    OrJudgement, OrRound, OrSession, Part, Parts, Places, ProverAnswer, ProverSession, Round,
+    VerifierAnswer, VerifierJudgement, VerifierSession, Written, LONGEST_FILE, LONGEST_FILE_2,
+    LONGEST_REASON, LONGEST_SHEET, LONGEST_TEXT, MOST_PLAYERS, MOST_ROUNDS, PARTS, PLACES,
+    SHIPPED_PATTERNS,
 };
 
 /// The numbers that the sheet maker takes. The pattern number 0 is that of root
@@ -78,8 +79,9 @@ calls! {
     part(sheet: &[u8], file: &[u8], number: usize) -> Part;
     read(sheet: &[u8], file: &[u8], number: usize) -> Fetched;
     same_commitment(sheet: &[u8], file: &[u8], i: usize, j: usize) -> Compared;
-    empty(buffer: &mut [u8]) -> Written;
+    empty(version: u32, buffer: &mut [u8]) -> Written;
     append(sheet: &[u8], buffer: &mut [u8], used: usize, round: &Round) -> Written;
+    convert(sheet: &[u8], file: &[u8], buffer: &mut [u8]) -> Written;
 
     judge(sheet: &[u8], round: &Round) -> Judgement;
     simulate(sheet: &[u8], challenge: u32, response: &Places) -> Computed;
@@ -87,6 +89,9 @@ calls! {
 
     or_judge(first: &[u8], second: &[u8], round: &OrRound) -> OrJudgement;
     or_extract(first: &[u8], second: &[u8], a: &OrRound, b: &OrRound) -> OrExtracted;
+
+    team_commitment(sheet: &[u8], count: u32, images: &Parts, commitments: &Parts) -> Computed;
+    team_response(sheet: &[u8], count: u32, images: &Parts, responses: &Parts) -> Computed;
 
     prover_new() -> ProverSession;
     prover_commit(sheet: &[u8], session: ProverSession, nonce: &Places) -> ProverAnswer;

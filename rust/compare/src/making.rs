@@ -2,6 +2,7 @@
 //! fault or several, or that are anything.
 
 mod brought;
+mod file_writers;
 mod files;
 mod inputs;
 mod levels;
@@ -17,6 +18,7 @@ mod reasons;
 mod rounds;
 mod runs;
 mod sheets;
+mod teams;
 mod verifier;
 
 use std::iter::repeat_n;
@@ -32,7 +34,7 @@ pub use reasons::reason_case;
 type Maker = fn(&mut Random) -> Box<dyn Case>;
 
 /// How often each maker is asked, among the sum of these.
-const SHARES: [(Maker, usize); 30] = [
+const SHARES: [(Maker, usize); 33] = [
     (sheets::load, 3),
     (sheets::entries, 2),
     (sheets::encode, 4),
@@ -43,13 +45,16 @@ const SHARES: [(Maker, usize); 30] = [
     (files::part, 2),
     (files::read, 2),
     (files::same_commitment, 3),
-    (files::empty, 1),
-    (files::append, 4),
+    (file_writers::empty, 1),
+    (file_writers::append, 4),
+    (file_writers::convert, 4),
     (rounds::judge, 5),
     (rounds::simulate, 3),
     (rounds::extract, 6),
     (or_rounds::judge, 7),
     (or_rounds::extract, 6),
+    (teams::commitment, 5),
+    (teams::response, 5),
     (prover::commit, 3),
     (prover::respond, 7),
     (prover::give_up, 1),

@@ -69,7 +69,7 @@ fn verdict(rows: u32) -> Judgement {
 }
 
 /// What a library says of a round: in a session and out of one, and in both texts
-/// on a file of this round alone.
+/// on a file of this round alone, of version 1 for kind 1 and of version 2 for kind 2.
 #[derive(Debug, PartialEq, Eq)]
 struct Said {
     judged: Judgement,
@@ -102,7 +102,8 @@ fn expected(rows: u32, sides: [Places; 2]) -> Said {
 /// What the library says.
 fn said(library: Library, sheet: &Sheet, round: &Round) -> Said {
     let bytes = sheet.bytes();
-    let file = files::of_rounds(&sheet.header, &[*round]);
+    let version = sheet.header.kind as u16;
+    let file = files::of_rounds(&sheet.header, version, &[*round]);
     let asked = VerifierSession {
         commitment: round.commitment,
         challenge: round.challenge,

@@ -22,11 +22,6 @@ fn side(random: &mut Random) -> u32 {
     }
 }
 
-/// The length in bytes of one record of a round file.
-pub fn record_length(header: &Header) -> usize {
-    4 * (header.rows + header.columns + 1) as usize
-}
-
 /// The fixed fields in a sheet's bytes, where it has all of them.
 pub fn header(sheet: &[u8]) -> Option<Header> {
     let fields = sheet.first_chunk::<20>()?;

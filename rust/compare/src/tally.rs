@@ -39,8 +39,8 @@ fn columns() -> impl Iterator<Item = u32> {
     [0].into_iter().chain(ORDER)
 }
 
-/// Whether a sheet, or two, are refused with this number, or one is not made: it
-/// is tested before a round file's.
+/// Whether a sheet, two or a team are refused with this number, or a sheet is not
+/// made: it is tested before a round file's.
 fn is_of_sheet(number: u32) -> bool {
     let mut earlier = ORDER.iter().take_while(|other| **other != 12);
     earlier.any(|other| *other == number)

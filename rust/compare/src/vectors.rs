@@ -9,6 +9,7 @@ mod answers;
 mod bytes;
 mod inputs;
 mod or_answers;
+mod team_answers;
 
 use std::fs;
 use std::io;

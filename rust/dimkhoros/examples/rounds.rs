@@ -1,12 +1,12 @@
-//! Vic keeps a file of rounds, a marker judges each of them and says whether they are enough for a level, and a student is
-//! told the reason. A sheet of two rows shows how the rows that differ are named.
+//! Vic keeps a file of rounds, a marker judges each of them and says whether they are enough for a level, a student is told the
+//! reason, and the file is converted to version 2 and back. A sheet of two rows shows how the rows that differ are named.
 
 mod common;
 
 use common::page_a;
 use dimkhoros::{
-    EMPTY_FILE, Instance, LONGEST_FILE, LONGEST_REASON, LONGEST_TEXT, Pattern, Patterns, Plan,
-    Refusal, Round, RoundFile, RoundWriter, mark, places, reason,
+    EMPTY_FILE, Instance, LONGEST_FILE, LONGEST_FILE_2, LONGEST_REASON, LONGEST_TEXT, Pattern,
+    Patterns, Plan, Refusal, Round, RoundFile, RoundWriter, mark, places, reason,
 };
 
 /// A round of page A's sheet.
@@ -33,7 +33,7 @@ fn write_file<'a>(
     rounds: &[Round],
     buffer: &'a mut [u8],
 ) -> Result<RoundWriter<'a>, Refusal> {
-    let mut writer = RoundWriter::start(instance, buffer)?;
+    let mut writer = RoundWriter::start(instance, 1, buffer)?;
     for round in rounds {
         writer.append(round)?;
     }
@@ -53,6 +53,37 @@ fn reason_alone(instance: &Instance, round: Round) -> Result<String, Refusal> {
     let writer = write_file(instance, &[round], &mut buffer)?;
     let mut line = [0; LONGEST_REASON];
     Ok(reason(instance.bytes(), writer.file().bytes(), &mut line).to_string())
+}
+
+/// Converts a file of version 1 to version 2 and back, and shows what becomes of it.
+fn show_versions(instance: &Instance, file: &RoundFile<'_>) -> Result<(), Refusal> {
+    let (mut narrow, mut again) = ([0; LONGEST_FILE_2], [0; LONGEST_FILE]);
+    let two = file.convert_into(&mut narrow)?;
+    println!("The file in version {}: {} bytes.", two.version(), two.bytes().len());
+    println!("round 2: {}", describe(instance, &two, 2)?);
+    let one = two.convert_into(&mut again)?;
+    let same = if one.bytes() == file.bytes() { "the same as before" } else { "other ones" };
+    println!("Converted back: {} bytes, {same}.", one.bytes().len());
+    Ok(())
+}
+
+/// Shows a refusal that is expected.
+fn show_refusal<T>(what: &str, result: Result<T, Refusal>) {
+    let shown = result.map_or_else(|refusal| refusal.to_string(), |_| "not refused".to_string());
+    println!("{what}: {shown}");
+}
+
+/// Shows what becomes of a challenge that 16 bits do not hold.
+fn show_wide(instance: &Instance) -> Result<(), Refusal> {
+    let wide = round(9, 65_536, 4);
+    let (mut buffer, mut narrow) = ([0; LONGEST_FILE], [0; LONGEST_FILE_2]);
+    let writer = write_file(instance, &[wide], &mut buffer)?;
+    let converted = writer.file().convert_into(&mut narrow).map(|_| ());
+    show_refusal("A file of version 1 with the challenge 65536, converted", converted);
+    let appended = RoundWriter::start(instance, 2, &mut narrow)?.append(&wide);
+    show_refusal("The same round added to a file of version 2", appended);
+    show_refusal("A file of version 3", RoundWriter::start(instance, 3, &mut narrow));
+    Ok(())
 }
 
 /// Shows how the rows that differ are told: in a verdict, by the marker and by the reason.
@@ -97,6 +128,8 @@ fn main() -> Result<(), Refusal> {
             describe(&instance, &file, number).unwrap_or_else(|refusal| refusal.to_string())
         );
     }
+    show_versions(&instance, &file)?;
+    show_wide(&instance)?;
     show_mark(&instance, &file, 7);
     let accepted = [round(9, 3, 4), round(9, 1, 1), round(2, 3, 0)];
     for (count, level) in [(2, 7), (3, 7), (3, 65)] {

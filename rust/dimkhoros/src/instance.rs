@@ -112,6 +112,24 @@ impl Instance {
         Instance::load(&sheet[..written.length])
     }
 
+    /// Makes the sheet with this statement in the place of its own, or refuses it with 11.
+    ///
+    /// ```
+    /// use dimkhoros::{Refusal, places};
+    /// # use dimkhoros::{Instance, Patterns, Plan};
+    /// # let plan = Plan { pattern: 1, modulus: 23, order: 11, challenges: 11, values: &[2], statement: &[13] };
+    /// # let instance = Instance::from_pattern(&Patterns::shipped(), &plan)?;
+    ///
+    /// let other = instance.with_statement(&places([8]))?;
+    /// assert_eq!(other.values().statement, places([8]));
+    /// assert_eq!(other.values().entries, instance.values().entries);
+    /// assert_eq!(instance.with_statement(&places([5])), Err(Refusal::Statement));
+    /// # Ok::<(), Refusal>(())
+    /// ```
+    pub fn with_statement(&self, statement: &Places) -> Result<Instance, Refusal> {
+        Instance::encode(&Values { statement: *statement, ..self.values })
+    }
+
     /// The sheet's bytes.
     ///
     /// ```

@@ -19,6 +19,7 @@ mod refused;
 mod round_file;
 mod rows;
 mod stored;
+mod team;
 mod verdict;
 mod verifier;
 
@@ -28,9 +29,9 @@ mod verifier;
 mod authors {}
 
 pub use dimkhoros_sys::{
-    EMPTY_FILE, EXPONENT, Header, LONGEST_FILE, LONGEST_PATTERNS, LONGEST_REASON, LONGEST_SHEET,
-    LONGEST_TEXT, MOST_PATTERNS, MOST_ROUNDS, OrRound, PLACES, Places, ROOT, Round,
-    SHIPPED_PATTERNS, version,
+    EMPTY_FILE, EXPONENT, Header, LONGEST_FILE, LONGEST_FILE_2, LONGEST_PATTERNS, LONGEST_REASON,
+    LONGEST_SHEET, LONGEST_TEXT, MOST_PATTERNS, MOST_PLAYERS, MOST_ROUNDS, OrRound, PLACES, Places,
+    ROOT, Round, SHIPPED_PATTERNS, version,
 };
 pub use instance::{Instance, Values};
 pub use marker::mark;
@@ -47,5 +48,6 @@ pub use refused::Refused;
 pub use round_file::{RoundFile, RoundWriter};
 pub use rows::{RowNumbers, Rows};
 pub use stored::{Damaged, STORED_OR_PROVER, STORED_PROVER, STORED_VERIFIER};
+pub use team::Team;
 pub use verdict::Verdict;
 pub use verifier::{Verifier, VerifierParts, VerifierPhase};

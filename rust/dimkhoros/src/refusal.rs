@@ -6,8 +6,8 @@ use core::fmt;
 /// Makes the enum, with its sentences as the documentation, and the list of all out of one table.
 macro_rules! refusals {
     ($($number:literal, $name:ident, $sentence:literal;)*) => {
-        /// Why a call was refused. Where several refusals apply, the earliest in the order 23, 24, 1 to 11, 26, 12, 25, 13 to
-        /// 22 is given.
+        /// Why a call was refused. Where several refusals apply, the earliest in the order 23, 24, 1 to 9, 27, 10, 11, 26, 12,
+        /// 25, 13 to 16, 28, 17 to 22 is given.
         ///
         /// ```
         /// use dimkhoros::{Instance, Refusal};
@@ -50,11 +50,11 @@ refusals! {
     8, Challenges, "the challenge count K has to be 2 to 65536, and no number from 2 to K - 1 may divide the order or exponent";
     9, SheetLength, "the sheet is longer or shorter than its header says";
     10, Entry, "a table entry or public value lies outside the group";
-    11, Statement, "a statement value lies outside the group";
-    12, File, "the bytes are no round file of this sheet, or the file is full";
+    11, Statement, "a value of the statement or of a player's image lies outside the group";
+    12, File, "the bytes are no round file of this sheet, the file is full, or the version asked for is another than 1 and 2";
     13, RoundNumber, "the file has no round of this number";
     14, Commitment, "a commitment value lies outside the group";
-    15, Challenge, "the challenge has to be below the sheet's challenge count";
+    15, Challenge, "the challenge has to be below the sheet's challenge count, or 65535 at most where it is written to a round file of version 2";
     16, Coordinate, "a value of the witness, nonce or response lies outside the domain";
     17, Witness, "the table does not carry the witness to the statement";
     18, CommitmentsDiffer, "the two rounds have different commitments";
@@ -66,6 +66,8 @@ refusals! {
     24, PatternDigits, "a pattern has a digit above its number of values, or a value that no digit names";
     25, Level, "the level has to be one byte from 1 to 64";
     26, CountsDiffer, "the two sheets have different challenge counts";
+    27, Team, "the team has to have 2 to 8 players";
+    28, Images, "the images of the team's players do not multiply to the statement";
 }
 
 impl Refusal {

@@ -1,9 +1,10 @@
-//! Round files: reading them and adding rounds to them.
+//! Round files: reading them, adding rounds to them and converting them.
 
 use crate::{Instance, Refusal, Round};
 use dimkhoros_sys as sys;
 
-/// A round file of an instance, over the caller's own bytes.
+/// A round file of an instance, over the caller's own bytes. Its version is 1 or 2: in version 2 a challenge is stored in 16 bits,
+/// in version 1 in 32.
 ///
 /// ```
 /// use dimkhoros::{places, RoundFile};
@@ -56,6 +57,21 @@ impl<'a> RoundFile<'a> {
     /// ```
     pub fn count(&self) -> usize {
         self.count
+    }
+
+    /// The file's version, 1 or 2.
+    ///
+    /// ```
+    /// # use dimkhoros::{Instance, Patterns, Plan, RoundFile};
+    /// # let plan = Plan { pattern: 1, modulus: 23, order: 11, challenges: 11, values: &[2], statement: &[13] };
+    /// # let instance = Instance::from_pattern(&Patterns::shipped(), &plan)?;
+    /// assert_eq!(RoundFile::open(&instance, b"RND\x00\x01\x00\x00")?.version(), 1);
+    /// assert_eq!(RoundFile::open(&instance, b"RND\x00\x02\x00\x00")?.version(), 2);
+    /// # Ok::<(), dimkhoros::Refusal>(())
+    /// ```
+    pub fn version(&self) -> u32 {
+        // A file that is open has a version below 256.
+        self.bytes[4].into()
     }
 
     /// The file's bytes.
@@ -130,6 +146,35 @@ impl<'a> RoundFile<'a> {
         Ok(compared.same == 1)
     }
 
+    /// Writes the file in its other version, 2 for 1 and 1 for 2, to the start of a buffer; no byte behind it is changed. The
+    /// rounds keep their order and all their values. A file of version 1 with a challenge above 65,535 is refused with 15, and
+    /// a buffer that is too short with 22, and the buffer is not changed.
+    ///
+    /// Every verdict stays the same, and the result converts to the file again: this is proved.
+    ///
+    /// ```
+    /// # use dimkhoros::{Instance, Patterns, Plan, Refusal, RoundFile};
+    /// # let plan = Plan { pattern: 1, modulus: 23, order: 11, challenges: 11, values: &[2], statement: &[13] };
+    /// # let instance = Instance::from_pattern(&Patterns::shipped(), &plan)?;
+    /// # let bytes = b"RND\x00\x01\x00\x01\x00\x00\x00\x09\x00\x00\x00\x03\x00\x00\x00\x04";
+    /// let file = RoundFile::open(&instance, bytes)?;
+    /// let mut buffer = [0; 17];
+    /// let narrow = file.convert_into(&mut buffer)?;
+    /// assert_eq!(narrow.bytes(), b"RND\x00\x02\x00\x01\x00\x00\x00\x09\x00\x03\x00\x00\x00\x04");
+    /// assert_eq!(narrow.read(0), file.read(0));
+    /// assert_eq!(narrow.convert_into(&mut [0; 19])?.bytes(), bytes);
+    /// assert_eq!(narrow.convert_into(&mut [0; 18]).unwrap_err(), Refusal::Buffer);
+    /// # Ok::<(), Refusal>(())
+    /// ```
+    pub fn convert_into<'b>(&self, buffer: &'b mut [u8]) -> Result<RoundFile<'b>, Refusal>
+    where
+        'a: 'b,
+    {
+        let written = sys::convert(self.instance.bytes(), self.bytes, buffer);
+        Refusal::check(written.refusal)?;
+        Ok(RoundFile { bytes: &buffer[..written.length], ..*self })
+    }
+
     /// All rounds of the file, in order.
     ///
     /// ```
@@ -156,7 +201,7 @@ impl<'a> RoundFile<'a> {
 /// # let instance = Instance::from_pattern(&Patterns::shipped(), &plan)?;
 ///
 /// let mut buffer = [0; LONGEST_FILE];
-/// let mut writer = RoundWriter::start(&instance, &mut buffer)?;
+/// let mut writer = RoundWriter::start(&instance, 1, &mut buffer)?;
 /// writer.append(&Round { commitment: places([9]), challenge: 3, response: places([4]) })?;
 /// assert_eq!(writer.file().bytes(), b"RND\x00\x01\x00\x01\x00\x00\x00\x09\x00\x00\x00\x03\x00\x00\x00\x04");
 /// # Ok::<(), dimkhoros::Refusal>(())
@@ -170,18 +215,24 @@ pub struct RoundWriter<'a> {
 }
 
 impl<'a> RoundWriter<'a> {
-    /// Writes a file without rounds to the start of a buffer, or refuses the buffer with 22 and changes nothing.
+    /// Writes a file of version 1 or 2 without rounds to the start of a buffer. Any other version is refused with 12 and a
+    /// buffer that is too short with 22, and nothing is changed.
     ///
     /// ```
     /// # use dimkhoros::{Instance, Patterns, Plan, Refusal, RoundWriter};
     /// # let plan = Plan { pattern: 1, modulus: 23, order: 11, challenges: 11, values: &[2], statement: &[13] };
     /// # let instance = Instance::from_pattern(&Patterns::shipped(), &plan)?;
-    /// assert_eq!(RoundWriter::start(&instance, &mut [0; 7])?.file().count(), 0);
-    /// assert_eq!(RoundWriter::start(&instance, &mut [0; 6]).unwrap_err(), Refusal::Buffer);
+    /// assert_eq!(RoundWriter::start(&instance, 2, &mut [0; 7])?.file().version(), 2);
+    /// assert_eq!(RoundWriter::start(&instance, 2, &mut [0; 6]).unwrap_err(), Refusal::Buffer);
+    /// assert_eq!(RoundWriter::start(&instance, 3, &mut [0; 7]).unwrap_err(), Refusal::File);
     /// # Ok::<(), Refusal>(())
     /// ```
-    pub fn start(instance: &'a Instance, buffer: &'a mut [u8]) -> Result<RoundWriter<'a>, Refusal> {
-        let written = sys::empty(buffer);
+    pub fn start(
+        instance: &'a Instance,
+        version: u32,
+        buffer: &'a mut [u8],
+    ) -> Result<RoundWriter<'a>, Refusal> {
+        let written = sys::empty(version, buffer);
         Refusal::check(written.refusal)?;
         Ok(RoundWriter { instance, buffer, used: written.length, count: 0 })
     }
@@ -207,15 +258,17 @@ impl<'a> RoundWriter<'a> {
         Ok(RoundWriter { instance, buffer, used, count })
     }
 
-    /// Adds a round, whose values are not tested. A file of 512 rounds is refused with 12 and a buffer without room for the
-    /// round with 22, and neither is changed.
+    /// Adds a round in the file's version. Its values are not tested, but for a challenge above 65,535, which a file of version 2
+    /// cannot hold and which is refused with 15. A file of 512 rounds is refused with 12 and a buffer without room for the
+    /// round with 22. What is refused changes nothing.
     ///
     /// ```
     /// # use dimkhoros::{Instance, Patterns, Plan, Refusal, Round, RoundWriter};
     /// # let plan = Plan { pattern: 1, modulus: 23, order: 11, challenges: 11, values: &[2], statement: &[13] };
     /// # let instance = Instance::from_pattern(&Patterns::shipped(), &plan)?;
     /// let mut buffer = [0; 20];
-    /// let mut writer = RoundWriter::start(&instance, &mut buffer)?;
+    /// let mut writer = RoundWriter::start(&instance, 2, &mut buffer)?;
+    /// assert_eq!(writer.append(&Round { challenge: 65_536, ..Round::default() }), Err(Refusal::Challenge));
     /// assert_eq!(writer.append(&Round::default()), Ok(()));
     /// assert_eq!(writer.append(&Round::default()), Err(Refusal::Buffer));
     /// assert_eq!(writer.file().count(), 1);
@@ -236,7 +289,7 @@ impl<'a> RoundWriter<'a> {
     /// # let plan = Plan { pattern: 1, modulus: 23, order: 11, challenges: 11, values: &[2], statement: &[13] };
     /// # let instance = Instance::from_pattern(&Patterns::shipped(), &plan)?;
     /// let mut buffer = [0; 100];
-    /// let writer = RoundWriter::start(&instance, &mut buffer)?;
+    /// let writer = RoundWriter::start(&instance, 1, &mut buffer)?;
     /// assert_eq!(writer.file().bytes(), b"RND\x00\x01\x00\x00");
     /// # Ok::<(), dimkhoros::Refusal>(())
     /// ```

@@ -11,8 +11,9 @@
 use crate::exports::*;
 use crate::{
     Compared, Computed, Counted, ENTRIES, Fetched, Header, Judgement, LONGEST_REASON, LONGEST_TEXT,
-    Loaded, OrAnswer, OrExtracted, OrJudgement, OrRound, OrSession, Part, Places, ProverAnswer,
-    ProverSession, Round, VerifierAnswer, VerifierJudgement, VerifierSession, Written,
+    Loaded, OrAnswer, OrExtracted, OrJudgement, OrRound, OrSession, Part, Parts, Places,
+    ProverAnswer, ProverSession, Round, VerifierAnswer, VerifierJudgement, VerifierSession,
+    Written,
 };
 
 /// The version of the archive that is linked, 10000 * major + 100 * minor + patch.
@@ -129,11 +130,11 @@ pub fn same_commitment(sheet: &[u8], file: &[u8], i: usize, j: usize) -> Compare
     unsafe { dimkhoros_same_commitment(pointer, length, file.as_ptr(), file.len(), i, j) }
 }
 
-/// Writes a file without rounds to the start of a buffer.
+/// Writes a file of this version, 1 or 2, without rounds to the start of a buffer.
 #[inline]
-pub fn empty(buffer: &mut [u8]) -> Written {
+pub fn empty(version: u32, buffer: &mut [u8]) -> Written {
     // SAFETY: the slice is given by its pointer and length.
-    unsafe { dimkhoros_empty(buffer.as_mut_ptr(), buffer.len()) }
+    unsafe { dimkhoros_empty(version, buffer.as_mut_ptr(), buffer.len()) }
 }
 
 /// Adds a round to the file in the first `used` bytes of a buffer.
@@ -142,6 +143,22 @@ pub fn append(sheet: &[u8], buffer: &mut [u8], used: usize, round: &Round) -> Wr
     let (pointer, length) = (buffer.as_mut_ptr(), buffer.len());
     // SAFETY: the slices are given by their pointers and lengths. `used` may be any number.
     unsafe { dimkhoros_append(sheet.as_ptr(), sheet.len(), pointer, length, used, *round) }
+}
+
+/// Writes the rounds of a file in its other version to the start of a buffer.
+#[inline]
+pub fn convert(sheet: &[u8], file: &[u8], buffer: &mut [u8]) -> Written {
+    // SAFETY: the slices are given by their pointers and lengths.
+    unsafe {
+        dimkhoros_convert(
+            sheet.as_ptr(),
+            sheet.len(),
+            file.as_ptr(),
+            file.len(),
+            buffer.as_mut_ptr(),
+            buffer.len(),
+        )
+    }
 }
 
 /// Answers Vic's verdict on a round.
@@ -179,6 +196,26 @@ pub fn or_extract(first: &[u8], second: &[u8], a: &OrRound, b: &OrRound) -> OrEx
     let (pointer, length) = (first.as_ptr(), first.len());
     // SAFETY: the slices are given by their pointers and lengths.
     unsafe { dimkhoros_or_extract(pointer, length, second.as_ptr(), second.len(), *a, *b) }
+}
+
+/// Answers the commitments of a team's players multiplied, given the players' images.
+#[inline]
+pub fn team_commitment(sheet: &[u8], count: u32, images: &Parts, commitments: &Parts) -> Computed {
+    let (pointer, length) = (sheet.as_ptr(), sheet.len());
+    // SAFETY: the slice is given by its pointer and length; `images` and `commitments` have 64 numbers each. `count` may be
+    // any number.
+    unsafe {
+        dimkhoros_team_commitment(pointer, length, count, images.as_ptr(), commitments.as_ptr())
+    }
+}
+
+/// Answers the responses of a team's players joined, given the players' images.
+#[inline]
+pub fn team_response(sheet: &[u8], count: u32, images: &Parts, responses: &Parts) -> Computed {
+    let (pointer, length) = (sheet.as_ptr(), sheet.len());
+    // SAFETY: the slice is given by its pointer and length; `images` and `responses` have 64 numbers each. `count` may be any
+    // number.
+    unsafe { dimkhoros_team_response(pointer, length, count, images.as_ptr(), responses.as_ptr()) }
 }
 
 /// Writes the marker's text on a sheet, a round file and a level file to the start of `text`, and answers its length.

@@ -78,7 +78,7 @@ unsafe extern "C" {
         j: usize,
     ) -> Compared;
 
-    pub fn dimkhoros_empty(buffer: *mut u8, buffer_length: usize) -> Written;
+    pub fn dimkhoros_empty(version: u32, buffer: *mut u8, buffer_length: usize) -> Written;
 
     pub fn dimkhoros_append(
         sheet: *const u8,
@@ -87,6 +87,15 @@ unsafe extern "C" {
         buffer_length: usize,
         used: usize,
         round: Round,
+    ) -> Written;
+
+    pub fn dimkhoros_convert(
+        sheet: *const u8,
+        sheet_length: usize,
+        file: *const u8,
+        file_length: usize,
+        buffer: *mut u8,
+        buffer_length: usize,
     ) -> Written;
 
     pub fn dimkhoros_judge(sheet: *const u8, sheet_length: usize, round: Round) -> Judgement;
@@ -121,6 +130,22 @@ unsafe extern "C" {
         a: OrRound,
         b: OrRound,
     ) -> OrExtracted;
+
+    pub fn dimkhoros_team_commitment(
+        sheet: *const u8,
+        sheet_length: usize,
+        count: u32,
+        images: *const u32,
+        commitments: *const u32,
+    ) -> Computed;
+
+    pub fn dimkhoros_team_response(
+        sheet: *const u8,
+        sheet_length: usize,
+        count: u32,
+        images: *const u32,
+        responses: *const u32,
+    ) -> Computed;
 
     pub fn dimkhoros_mark(
         sheet: *const u8,

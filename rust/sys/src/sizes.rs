@@ -29,6 +29,33 @@ pub type Places = [u32; PLACES];
 /// ```
 pub const ENTRIES: usize = 64;
 
+/// How many players the largest team has.
+///
+/// ```
+/// # use dimkhoros_sys::MOST_PLAYERS;
+/// assert_eq!(MOST_PLAYERS, 8);
+/// ```
+pub const MOST_PLAYERS: usize = 8;
+
+/// How many numbers a team brings: value i of player p, both from 0, stands at 8 p + i.
+///
+/// ```
+/// # use dimkhoros_sys::{MOST_PLAYERS, PARTS, PLACES};
+/// assert_eq!(PARTS, MOST_PLAYERS * PLACES);
+/// ```
+pub const PARTS: usize = 64;
+
+/// What the players of a team bring: their images, commitments or responses, one player behind the other.
+///
+/// The values of players beyond the count are not read, nor are the places behind a player's s or n values.
+///
+/// ```
+/// # use dimkhoros_sys::{PARTS, Parts};
+/// let mut images: Parts = [0; PARTS];
+/// images[8] = 13; // the second player's value of row 0
+/// ```
+pub type Parts = [u32; PARTS];
+
 /// How many bytes the longest sheet has.
 ///
 /// ```
@@ -78,13 +105,21 @@ pub const EMPTY_FILE: usize = 7;
 /// ```
 pub const MOST_ROUNDS: usize = 512;
 
-/// How many bytes the longest round file has.
+/// How many bytes the longest round file has. Its version is 1, so that these bytes hold a file of either version.
 ///
 /// ```
 /// # use dimkhoros_sys::{EMPTY_FILE, LONGEST_FILE, MOST_ROUNDS, PLACES};
 /// assert_eq!(LONGEST_FILE, EMPTY_FILE + MOST_ROUNDS * 4 * (PLACES + 1 + PLACES));
 /// ```
 pub const LONGEST_FILE: usize = 34_823;
+
+/// How many bytes the longest round file of version 2 has.
+///
+/// ```
+/// # use dimkhoros_sys::{EMPTY_FILE, LONGEST_FILE_2, MOST_ROUNDS, PLACES};
+/// assert_eq!(LONGEST_FILE_2, EMPTY_FILE + MOST_ROUNDS * (4 * (PLACES + PLACES) + 2));
+/// ```
+pub const LONGEST_FILE_2: usize = 33_799;
 
 /// How many bytes are lent to the marker's text. They hold 512 lines of the longest, and so every text; the longest text has
 /// 14,754.

@@ -23,11 +23,17 @@ pub enum Writing {
         values: Vec<u32>,
         statement: Vec<u32>,
     },
-    Empty,
+    Empty {
+        version: u32,
+    },
     Append {
         sheet: Vec<u8>,
         used: usize,
         round: Round,
+    },
+    Convert {
+        sheet: Vec<u8>,
+        file: Vec<u8>,
     },
 }
 
@@ -44,8 +50,9 @@ impl Writing {
             Writing::Encode { .. } => Call::Encode,
             Writing::Patterns => Call::Patterns,
             Writing::FromPattern { .. } => Call::FromPattern,
-            Writing::Empty => Call::Empty,
+            Writing::Empty { .. } => Call::Empty,
             Writing::Append { .. } => Call::Append,
+            Writing::Convert { .. } => Call::Convert,
         }
     }
 
@@ -61,8 +68,9 @@ impl Writing {
                 values,
                 statement,
             } => library.from_pattern(patterns, *plan, values, statement, buffer),
-            Writing::Empty => library.empty(buffer),
+            Writing::Empty { version } => library.empty(*version, buffer),
             Writing::Append { sheet, used, round } => library.append(sheet, buffer, *used, round),
+            Writing::Convert { sheet, file } => library.convert(sheet, file, buffer),
         }
     }
 }
@@ -78,8 +86,8 @@ impl Case for WriterCase {
         match &self.writing {
             Writing::Encode { sheet } => Some(sheet.header),
             Writing::FromPattern { plan, .. } => Some(plan.header()),
-            Writing::Patterns | Writing::Empty => None,
-            Writing::Append { sheet, .. } => sheets::header(sheet),
+            Writing::Patterns | Writing::Empty { .. } => None,
+            Writing::Append { sheet, .. } | Writing::Convert { sheet, .. } => sheets::header(sheet),
         }
     }
 }
@@ -104,11 +112,16 @@ impl fmt::Display for WriterCase {
                 writeln!(out, "    values {}", numbers(values))?;
                 writeln!(out, "    statement {}", numbers(statement))?;
             }
-            Writing::Patterns | Writing::Empty => {}
+            Writing::Patterns => {}
+            Writing::Empty { version } => writeln!(out, "    version {version:#x}")?,
             Writing::Append { sheet, used, round } => {
                 writeln!(out, "    sheet {}", hex(sheet))?;
                 writeln!(out, "    used {used:#x}")?;
                 writeln!(out, "    {round:x?}")?;
+            }
+            Writing::Convert { sheet, file } => {
+                writeln!(out, "    sheet {}", hex(sheet))?;
+                writeln!(out, "    file {}", hex(file))?;
             }
         }
         write!(out, "{}", self.lent)

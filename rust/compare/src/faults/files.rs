@@ -1,16 +1,16 @@
 //! Faults of the calls that read a round file and compare its rounds.
 
 use crate::faults::Fault;
+use crate::files::{record_in, record_length, version, width};
 use crate::library::Library::Judge;
 use crate::library::{Compared, Counted, Fetched, Part};
-use crate::sheets::record_length;
 
 pub fn count(fault: Fault, sheet: &[u8], file: &[u8]) -> Counted {
     let right = Judge.count(sheet, file);
     let header = Judge.load(sheet).header;
     match (fault, right.refusal) {
-        (Fault::ManyRounds, 12) if file.starts_with(b"RND\x00\x01\x02\x01") => {
-            let fits = file.len() == 7 + 513 * record_length(&header);
+        (Fault::ManyRounds, 12) if file.starts_with(b"RND") && file.get(5..7) == Some(&[2, 1]) => {
+            let fits = file.len() == 7 + 513 * record_in(&header, file);
             let many = Counted {
                 refusal: 0,
                 count: 513,
@@ -24,6 +24,20 @@ pub fn count(fault: Fault, sheet: &[u8], file: &[u8]) -> Counted {
         (Fault::VersionLow, 12) if file.len() >= 7 => {
             let mut file = file.to_vec();
             file[3] = 0;
+            Judge.count(sheet, &file)
+        }
+        (Fault::VersionThree, 12) if file.starts_with(b"RND\x00\x03") => {
+            let mut file = file.to_vec();
+            file[4] = 1;
+            Judge.count(sheet, &file)
+        }
+        (Fault::VersionOneOnly, 0) if version(file) == 2 => Counted {
+            refusal: 12,
+            count: 0,
+        },
+        (Fault::WidthFour, 0 | 12) if file.starts_with(b"RND\x00\x02") => {
+            let mut file = file.to_vec();
+            file[4] = 1;
             Judge.count(sheet, &file)
         }
         (Fault::FileFirst, 2..=11) if file.len() < 7 => Counted {
@@ -49,7 +63,7 @@ pub fn part(fault: Fault, sheet: &[u8], file: &[u8], number: usize) -> Part {
     let mut right = Judge.part(sheet, file, number);
     let header = Judge.load(sheet).header;
     if fault == Fault::PartWraps && Judge.check(sheet, file, number) == 13 {
-        let record = record_length(&header);
+        let record = record_in(&header, file);
         let offset = number.wrapping_mul(record).wrapping_add(7);
         if offset < file.len() {
             return Part {
@@ -57,6 +71,10 @@ pub fn part(fault: Fault, sheet: &[u8], file: &[u8], number: usize) -> Part {
                 length: record,
             };
         }
+    }
+    if fault == Fault::PartWide && right.length > 0 {
+        right.length = record_length(&header, 1);
+        right.offset = 7 + number * right.length;
     }
     if fault == Fault::PartCut {
         right.offset &= 0x7fff;
@@ -72,6 +90,12 @@ pub fn read(fault: Fault, sheet: &[u8], file: &[u8], number: usize) -> Fetched {
     let header = Judge.load(sheet).header;
     if fault == Fault::LastSlot {
         right.round.response[7] = 0;
+    }
+    if fault == Fault::ReadWide && version(file) == 2 {
+        right.round.challenge <<= 16;
+    }
+    if fault == Fault::ReadByte && version(file) == 2 {
+        right.round.challenge &= 0xff;
     }
     if fault == Fault::ReadOn && right.refusal == 0 && header.rows < 8 {
         right.round.commitment[header.rows as usize] = right.round.challenge;
@@ -102,7 +126,13 @@ fn compared(
         Fault::SameColumns => 4 * columns,
         Fault::SameFirstWord => 4,
         Fault::SameLastByte => 4 * rows - 1,
-        Fault::SameChallenge => 4 * rows + 4,
+        Fault::SameChallenge => 4 * rows + width(version(file)),
+        Fault::SameWide => {
+            let at = |number: usize| 7 + number * record_length(&header, 1);
+            let [one, other] = numbers.map(|number| file.get(at(number)..at(number) + 4 * rows));
+            right.same = u32::from(one == other);
+            return right;
+        }
         Fault::SameItself if numbers[0] == numbers[1] => {
             right.same = 0;
             return right;

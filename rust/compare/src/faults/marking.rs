@@ -2,6 +2,7 @@
 
 use crate::faults::rows::mark_rows;
 use crate::faults::Fault;
+use crate::files::version;
 use crate::library::Library::Judge;
 use crate::library::LONGEST_TEXT;
 use crate::sheets::header;
@@ -13,7 +14,10 @@ pub fn mark(
     level: &[u8],
     text: &mut [u8; LONGEST_TEXT],
 ) -> usize {
-    let right = judged(sheet, file, level);
+    let mut right = judged(sheet, file, level);
+    if fault == Fault::MarkVersionOne && version(file) == 2 && right.starts_with("rounds") {
+        right = String::from("file 12\n");
+    }
     let marked = if right.starts_with("rounds") {
         let (challenges, rows) =
             header(sheet).map_or((0, 0), |header| (header.challenges, header.rows));

@@ -2,10 +2,10 @@
 
 use crate::faults::rows::{reason_rows, told_rows};
 use crate::faults::Fault;
+use crate::files::{record_in, version, width};
 use crate::groups::Group;
 use crate::library::Library::Judge;
 use crate::library::LONGEST_REASON;
-use crate::sheets::record_length;
 
 /// A line, by its parts: a refusal's number with an offset or a length, a
 /// rejected round's rows, each with its two sides.
@@ -101,7 +101,7 @@ fn of_file(fault: Fault, right: Line, sheet: &[u8], file: &[u8]) -> Line {
     match (fault, right) {
         (Fault::ReasonMarkFirst, Line::Length(_, 0..7)) if !begins(file, b"RND") => Line::At(12, 0),
         (Fault::ReasonLengthFirst, Line::At(12, _))
-            if !fits(record_length(&Judge.load(sheet).header)) =>
+            if !fits(record_in(&Judge.load(sheet).header, file)) =>
         {
             Line::Length(12, file.len())
         }
@@ -123,10 +123,16 @@ fn of_round(fault: Fault, right: Line, sheet: &[u8], file: &[u8]) -> Line {
             Line::At(14, last_stranger(sheet, file, 7, rows))
         }
         (Fault::ReasonChallengeLast, Line::At(15, _)) => Line::At(15, 7 + 4 * (rows + columns)),
-        (Fault::ReasonResponseFirst, Line::At(16, offset)) => Line::At(16, offset - 4),
+        (Fault::ReasonResponseFirst, Line::At(16, offset)) => {
+            Line::At(16, offset - width(version(file)))
+        }
+        (Fault::ReasonWide, Line::At(16, offset)) => {
+            Line::At(16, offset + 4 - width(version(file)))
+        }
+        (Fault::ReasonVersionOne, _) if version(file) == 2 => Line::At(12, 3),
         (Fault::ReasonLastRound, _) => {
-            let last = &file[file.len() - record_length(&header)..];
-            Line::of(sheet, &[b"RND\x00\x01\x00\x01", last].concat())
+            let last = &file[file.len() - record_in(&header, file)..];
+            Line::of(sheet, &[&file[..5], &[0, 1], last].concat())
         }
         (_, Line::Rejected(told)) => {
             let response = Judge.read(sheet, file, 0).round.response;

@@ -1,9 +1,9 @@
 //! Faults of the calls that write into a lent buffer.
 
-use crate::faults::Fault;
+use crate::faults::{versions, Fault};
+use crate::files;
 use crate::library::Library::Judge;
 use crate::library::{Header, Round, Written};
-use crate::sheets::record_length;
 
 /// A refusal with this number.
 pub fn refused(refusal: u32) -> Written {
@@ -82,14 +82,22 @@ pub fn encode(
     }
 }
 
-pub fn empty(fault: Fault, buffer: &mut [u8]) -> Written {
-    if fault == Fault::EmptyNeedsEight && buffer.len() == 7 {
-        return refused(22);
+pub fn empty(fault: Fault, version: u32, buffer: &mut [u8]) -> Written {
+    let known = [1, 2].contains(&version);
+    match fault {
+        Fault::EmptyNeedsEight if known && buffer.len() == 7 => return refused(22),
+        Fault::EmptyClears if known && buffer.len() > 7 => buffer[7] = 0,
+        Fault::EmptyVersionCut => return Judge.empty(version & 0xffff, buffer),
+        Fault::EmptyVersionOne if known => return Judge.empty(1, buffer),
+        Fault::EmptyVersionAny if buffer.len() >= 7 => {
+            let made = Judge.empty(1, buffer);
+            buffer[3..5].copy_from_slice(&(version as u16).to_be_bytes());
+            return made;
+        }
+        Fault::EmptyShortFirst if buffer.len() < 7 => return refused(22),
+        _ => {}
     }
-    if fault == Fault::EmptyClears && buffer.len() > 7 {
-        buffer[7] = 0;
-    }
-    Judge.empty(buffer)
+    Judge.empty(version, buffer)
 }
 
 pub fn append(
@@ -106,7 +114,7 @@ pub fn append(
     let right = Judge.append(sheet, buffer, used, round);
     let header = Judge.load(sheet).header;
     match (fault, right.refusal) {
-        (_, 12) => append_unfit(fault, sheet, buffer, used, &record(sheet, round)),
+        (_, 12) => append_unfit(fault, sheet, buffer, used, round),
         (Fault::CountCarry, 0) => {
             buffer[5] = before[5];
             right
@@ -123,29 +131,22 @@ pub fn append(
             buffer.copy_from_slice(&before);
             refused(22)
         }
-        _ => right,
+        _ => versions::append(fault, &header, (&before, buffer), used, round, right),
     }
 }
 
-/// The bytes of a round, as it stands in a file.
-fn record(sheet: &[u8], round: &Round) -> Vec<u8> {
-    let mut file = vec![0; 7 + record_length(&Judge.load(sheet).header)];
-    Judge.empty(&mut file);
-    Judge.append(sheet, &mut file, 7, round);
-    file.split_off(7)
-}
-
-/// Appending this record where the bytes in use are refused.
+/// Appending a round where the bytes in use are refused.
 fn append_unfit(
     fault: Fault,
     sheet: &[u8],
     buffer: &mut [u8],
     used: usize,
-    record: &[u8],
+    round: &Round,
 ) -> Written {
     let Some(file) = buffer.get(..used) else {
         return refused(if fault == Fault::UsedBeyond { 22 } else { 12 });
     };
+    let record = files::record(&Judge.load(sheet).header, files::version(file), round);
     let counted = Judge.count(sheet, file);
     let length = used + record.len();
     let short = buffer.len() < length;
@@ -154,7 +155,7 @@ fn append_unfit(
         (Fault::FileUntested, 12) => {
             let count = u16::from_be_bytes([buffer[5], buffer[6]]).wrapping_add(1);
             buffer[5..7].copy_from_slice(&count.to_be_bytes());
-            buffer[used..length].copy_from_slice(record);
+            buffer[used..length].copy_from_slice(&record);
             Written { refusal: 0, length }
         }
         _ => refused(12),

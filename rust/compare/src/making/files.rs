@@ -1,9 +1,7 @@
-//! Cases of the calls on round files.
+//! Cases of the calls that read a round file.
 
-use crate::cases::{Case, FileCall, FileCase, SameCase, WriterCase, Writing};
+use crate::cases::{Case, FileCall, FileCase, SameCase};
 use crate::files;
-use crate::lent::Lent;
-use crate::library::Round;
 use crate::making::sheets;
 use crate::random::Random;
 
@@ -29,13 +27,13 @@ pub fn read(random: &mut Random) -> Box<dyn Case> {
 
 /// A sheet, a file and a round number, each of them right or wrong.
 fn of_call(random: &mut Random, call: FileCall) -> Box<dyn Case> {
-    let (sheet, record) = sheets::bytes(random, 4);
+    let (sheet, header) = sheets::bytes(random, 4);
     let file = if random.once_in(4) {
-        files::damaged(random, record)
+        files::damaged(random, &header)
     } else {
-        files::any(random, record)
+        files::any(random, &header)
     };
-    let number = files::round_number(random, record, &file);
+    let number = files::round_number(random, files::record_in(&header, &file), &file);
     Box::new(FileCase {
         call,
         sheet,
@@ -52,16 +50,17 @@ pub fn same_commitment(random: &mut Random) -> Box<dyn Case> {
 /// A sheet, a file and two round numbers, each of them right or wrong. Two
 /// records of the file are mostly alike but for one byte or the challenge.
 fn same_case(random: &mut Random) -> SameCase {
-    let (sheet, record) = sheets::bytes(random, 4);
+    let (sheet, header) = sheets::bytes(random, 4);
     let rows = match sheet.get(18) {
         Some(rows) => usize::from(*rows).clamp(1, 8),
         None => 1,
     };
     let mut file = if random.once_in(6) {
-        files::damaged(random, record)
+        files::damaged(random, &header)
     } else {
-        files::any(random, record)
+        files::any(random, &header)
     };
+    let record = files::record_in(&header, &file);
     let count = file.len().saturating_sub(7) / record;
     let mut numbers = [0, 1].map(|_| files::round_number(random, record, &file));
     if count > 0 && !random.once_in(4) {
@@ -89,70 +88,12 @@ fn alike(random: &mut Random, file: &mut [u8], record: usize, places: [usize; 2]
         2 => Some(bytes - 1),
         3 => Some(bytes - 1 - random.below(4.min(bytes))),
         4 => Some(random.below(bytes)),
-        5 | 6 => Some(bytes + random.below(4)),
+        5 | 6 => Some(bytes + random.below(files::width(files::version(file)))),
         _ => Some(random.below(record)),
     };
     if let Some(byte) = changed.filter(|byte| *byte < record) {
         file[to + byte] ^= 1 << random.below(8);
     }
-}
-
-/// A case of the empty file.
-pub fn empty(random: &mut Random) -> Box<dyn Case> {
-    Box::new(WriterCase {
-        writing: Writing::Empty,
-        lent: Lent::for_result(random, 7),
-    })
-}
-
-/// A case of the record writer. Where the buffer is shorter than the bytes in
-/// use, the file goes on behind it.
-pub fn append(random: &mut Random) -> Box<dyn Case> {
-    let (sheet, record) = sheets::bytes(random, 5);
-    let file = if random.once_in(5) {
-        files::damaged(random, record)
-    } else {
-        files::any(random, record)
-    };
-    let room = match random.below(10) {
-        0..=3 => record,
-        4 => record - 1,
-        5 => record + 1,
-        6 => 0,
-        7 => random.below(record),
-        _ => record + random.below(100),
-    };
-    let (used, length) = lengths(random, record, file.len(), room);
-    Box::new(WriterCase {
-        writing: Writing::Append {
-            sheet,
-            used,
-            round: Round {
-                commitment: random.words(),
-                challenge: random.word(),
-                response: random.words(),
-            },
-        },
-        lent: Lent::first(random, &file, length),
-    })
-}
-
-/// The bytes in use and the buffer's length, mostly those of the file and of
-/// the file with so much room.
-fn lengths(random: &mut Random, record: usize, file: usize, room: usize) -> (usize, usize) {
-    let (mut used, mut length) = (file, file + room);
-    match random.below(24) {
-        0 => used += 1,
-        1 => used = used.saturating_sub(1),
-        2 => length = file.saturating_sub(1),
-        3 => length = random.below(file + 1),
-        4 => used = length + 1,
-        5 => used = random.pick(&[0, 7, used + record, used.saturating_sub(record)]),
-        6 => used += random.pick(&[1 << 16, 1 << 32, 1 << 63]),
-        7 => used = usize::MAX - random.below(200),
-        _ => {}
-    }
-    (used, length)
 }
 
 #[cfg(test)]
@@ -189,7 +130,7 @@ mod tests {
             [] if i == j => "i = j".to_string(),
             [] => "two equal rounds".to_string(),
             [byte] if byte == bytes - 1 => "the last byte".to_string(),
-            [byte] if (bytes..bytes + 4).contains(&byte) => {
+            [byte] if (bytes..bytes + files::width(files::version(file))).contains(&byte) => {
                 format!("the challenge, s < n {}", header.rows < header.columns)
             }
             [byte] if byte < bytes => format!("a byte, n < s {}", header.columns < header.rows),

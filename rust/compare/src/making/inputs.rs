@@ -36,11 +36,10 @@ impl Inputs {
         };
         let group = damage::group_for(random, first);
         let instance = instance(random, group);
-        let numbers = [&SHEET_NUMBERS, call.others()].concat();
         let faults = if first == 0 {
             Vec::new()
         } else {
-            faults(random, &numbers, first)
+            faults(random, &call.numbers(), first)
         };
         Inputs { instance, faults }
     }

@@ -11,7 +11,6 @@ use crate::library::{Round, LONGEST_TEXT};
 use crate::making::brought::{round, spoil_round};
 use crate::making::levels::{self, needed, HIGHEST};
 use crate::random::Random;
-use crate::sheets::record_length;
 
 /// A case of the marker.
 pub fn mark(random: &mut Random) -> Box<dyn Case> {
@@ -22,13 +21,13 @@ pub fn mark(random: &mut Random) -> Box<dyn Case> {
 pub fn mark_case(random: &mut Random) -> TextCase {
     let instance = instance(random);
     let challenges = instance.sheet.header.challenges;
-    let record = record_length(&instance.sheet.header);
-    let count = round_count(random, &instance);
+    let header = &instance.sheet.header;
+    let (version, count) = (files::any_version(random), round_count(random, &instance));
     let file = match random.below(12) {
         0 => Vec::new(),
-        1 => files::damaged(random, record),
-        2 => files::file(random, record, 2),
-        _ => mark_file(random, &instance, count),
+        1 => files::damaged(random, header),
+        2 => files::of_count(random, header, version, 2),
+        _ => mark_file(random, &instance, version, count),
     };
     let sheet = match random.below(24) {
         0 => Vec::new(),
@@ -84,8 +83,9 @@ fn round_count(random: &mut Random, instance: &Instance) -> usize {
     }
 }
 
-/// A file of so many rounds that are all accepted, or of which some are not.
-pub fn mark_file(random: &mut Random, instance: &Instance, count: usize) -> Vec<u8> {
+/// A file of this version and of so many rounds that are all accepted, or of
+/// which some are not.
+pub fn mark_file(random: &mut Random, instance: &Instance, version: u16, count: usize) -> Vec<u8> {
     let bad = random.pick(&[0, 0, 1, 2, 8]);
     let mut rounds = Vec::new();
     for _ in 0..count {
@@ -95,7 +95,7 @@ pub fn mark_file(random: &mut Random, instance: &Instance, count: usize) -> Vec<
             instance.accepted(random)
         });
     }
-    files::of_rounds(&instance.sheet.header, &rounds)
+    files::of_rounds(&instance.sheet.header, version, &rounds)
 }
 
 /// A round that is mostly rejected or refused.
@@ -192,7 +192,7 @@ mod tests {
             }),
         ];
         let mut met = [0; 12];
-        for seed in 0..20_000 {
+        for seed in 0..30_000 {
             let case = mark_case(&mut Random::new(seed));
             if let Some(shape) = shape(&case) {
                 for (times, (_, holds)) in met.iter_mut().zip(shapes) {

@@ -3,7 +3,7 @@
 
 use crate::calls::Call;
 use crate::cases::{Case, TextCall, TextCase};
-use crate::damage::{spoil_length, spoil_version};
+use crate::damage::spoil_length;
 use crate::files;
 use crate::instance::Instance;
 use crate::lent::Lent;
@@ -56,8 +56,8 @@ fn sheet(random: &mut Random, inputs: &Inputs) -> Vec<u8> {
     sheet
 }
 
-/// The file with its faults, now and then an empty one. Round 0 has the faults
-/// of a round; what is in the others does not count.
+/// The file, of either version, with its faults, now and then an empty one.
+/// Round 0 has the faults of a round; what is in the others does not count.
 fn file(random: &mut Random, inputs: &Inputs) -> Vec<u8> {
     let Inputs { instance, faults } = inputs;
     if random.once_in(30) {
@@ -73,7 +73,8 @@ fn file(random: &mut Random, inputs: &Inputs) -> Vec<u8> {
             rounds.push(other(random, instance));
         }
     }
-    let mut file = files::of_rounds(&instance.sheet.header, &rounds);
+    let version = files::any_version(random);
+    let mut file = files::of_rounds(&instance.sheet.header, version, &rounds);
     if faults.contains(&12) {
         spoil(random, &mut file);
     }
@@ -97,7 +98,7 @@ fn spoil(random: &mut Random, bytes: &mut Vec<u8>) {
             0 => put_count(bytes, random.below(MOST_ROUNDS + 1)),
             1 => put_count(bytes, MOST_ROUNDS + 1 + random.below(1000)),
             2 => spoil_length(random, bytes, 7),
-            3 => spoil_version(random, bytes),
+            3 => files::spoil_version(random, bytes),
             4 => bytes[random.below(3)] ^= 1 << random.below(8),
             _ if random.once_in(2) => bytes.truncate(random.below(7)),
             _ => {}
@@ -123,6 +124,9 @@ mod tests {
         let shown = match words[..] {
             ["refused", number, "length", _] => format!("refused {number} length"),
             ["refused", "7" | "12", _] => words.join(" "),
+            ["refused", number @ ("15" | "16"), _] => {
+                format!("refused {number} in {}", files::version(&case.file))
+            }
             [word, number, ..] => format!("{word} {number}"),
             _ => words.join(" "),
         };
@@ -134,7 +138,10 @@ mod tests {
     fn wanted(kind: u32) -> Vec<String> {
         let mut lines = vec!["accepted".to_string()];
         lines.extend((0..8).map(|row| format!("rejected {row}")));
-        lines.extend([2, 3, 5, 6, 8, 10, 11, 13, 14, 15, 16].map(|n| format!("refused {n}")));
+        lines.extend([2, 3, 5, 6, 8, 10, 11, 13, 14].map(|n| format!("refused {n}")));
+        for version in [1, 2] {
+            lines.extend([15, 16].map(|n| format!("refused {n} in {version}")));
+        }
         lines.extend(["refused 7 18", "refused 7 19"].map(String::from));
         lines.extend([0, 3, 5].map(|offset| format!("refused 12 {offset}")));
         lines.extend([2, 9, 12].map(|number| format!("refused {number} length")));

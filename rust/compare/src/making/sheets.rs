@@ -4,22 +4,22 @@ use crate::calls::SHEET_NUMBERS;
 use crate::cases::{Case, SheetCase, WriterCase, Writing};
 use crate::damage::{self, faults, spoil};
 use crate::lent::Lent;
+use crate::library::Header;
 use crate::random::Random;
-use crate::sheets::{record_length, Sheet};
+use crate::sheets::Sheet;
 
-/// The bytes of a sheet and the record length of its rounds. One in so many is
-/// made to be refused or is damaged.
-pub fn bytes(random: &mut Random, spoilt: usize) -> (Vec<u8>, usize) {
+/// The bytes of a sheet, and the header of the sheet that they are made of. One
+/// in so many is made to be refused or is damaged.
+pub fn bytes(random: &mut Random, spoilt: usize) -> (Vec<u8>, Header) {
     let sheet = Sheet::any(random);
-    let record = record_length(&sheet.header);
     if !random.once_in(spoilt) {
-        return (sheet.bytes(), record);
+        return (sheet.bytes(), sheet.header);
     }
     if random.once_in(3) {
-        return (damage::damaged(random, sheet.bytes()), record);
+        return (damage::damaged(random, sheet.bytes()), sheet.header);
     }
     let number = random.pick(&SHEET_NUMBERS);
-    (damage::refused(random, number), record)
+    (damage::refused(random, number), sheet.header)
 }
 
 /// A case of loading.

@@ -9,7 +9,7 @@ use std::path::Path;
 
 use crate::groups::Group;
 use crate::instance::Instance;
-use crate::library::{LONGEST_FILE, LONGEST_SHEET, MOST_ROUNDS};
+use crate::library::{LONGEST_FILE, LONGEST_FILE_2, LONGEST_SHEET, MOST_ROUNDS};
 use crate::making::{mark_case, mark_file, reason_case};
 use crate::printing::hex;
 use crate::random::Random;
@@ -88,6 +88,7 @@ pub fn folders(seed: u64) -> Vec<Folder> {
     let mut folders = examples();
     folders.extend(levels());
     folders.extend(longest(&mut Random::new(seed)));
+    folders.extend(longest_narrow(&mut Random::new(seed)));
     folders.extend(long_and_wrong(&mut Random::new(seed)));
     for make in [mark_case, reason_case] {
         folders.extend((0..CASES).map(|number| {
@@ -157,7 +158,7 @@ fn example_level() -> Place {
 fn longest(random: &mut Random) -> Vec<Folder> {
     let instance = longest_instance(random);
     let sheet = instance.sheet.bytes();
-    let rounds = mark_file(random, &instance, MOST_ROUNDS);
+    let rounds = mark_file(random, &instance, 1, MOST_ROUNDS);
     let lengths = [
         (LONGEST_SHEET, LONGEST_FILE),
         (LONGEST_SHEET, LONGEST_FILE + 1),
@@ -179,13 +180,30 @@ fn longest(random: &mut Random) -> Vec<Folder> {
     folders.into()
 }
 
+/// The longest file of version 2, whole, with a byte too many, and so long that
+/// its records would be those of version 1.
+fn longest_narrow(random: &mut Random) -> Vec<Folder> {
+    let instance = longest_instance(random);
+    let rounds = mark_file(random, &instance, 2, MOST_ROUNDS);
+    let lengths = [LONGEST_FILE_2, LONGEST_FILE_2 + 1, LONGEST_FILE];
+    let folders = lengths.map(|length| {
+        let more = random.bytes(length - rounds.len());
+        Folder {
+            sheet: Place::File(instance.sheet.bytes()),
+            rounds: Place::File([&rounds[..], &more].concat()),
+            level: example_level(),
+        }
+    });
+    folders.into()
+}
+
 /// Files that are too long and have another fault, which is to be told: a sheet
 /// of the wrong kind, and round files with another mark, another version and
 /// too large a count.
 fn long_and_wrong(random: &mut Random) -> Vec<Folder> {
     let instance = longest_instance(random);
     let sheet = instance.sheet.bytes();
-    let rounds = mark_file(random, &instance, MOST_ROUNDS);
+    let rounds = mark_file(random, &instance, 1, MOST_ROUNDS);
     let spoiled = |bytes: &[u8], place: usize, value: u8, length: usize| {
         let mut bytes = bytes.to_vec();
         bytes[place] = value;
@@ -197,7 +215,7 @@ fn long_and_wrong(random: &mut Random) -> Vec<Folder> {
         rounds: Place::File(rounds.clone()),
         level: example_level(),
     }];
-    folders.extend([(0, b'S'), (4, 2), (5, 3)].map(|(place, value)| Folder {
+    folders.extend([(0, b'S'), (4, 3), (5, 3)].map(|(place, value)| Folder {
         sheet: Place::File(sheet.clone()),
         rounds: spoiled(&rounds, place, value, 100_000),
         level: example_level(),
@@ -293,6 +311,18 @@ mod tests {
             assert!(folder.sheet.bytes().starts_with(sheet));
             assert_eq!(text(folder), "sheet 9\n");
             assert_eq!(reason(folder), format!("refused 9 length {length}\n"));
+        }
+    }
+
+    #[test]
+    fn a_file_of_version_2_is_as_long_as_its_version_says() {
+        let folders = longest_narrow(&mut Random::new(SEED));
+        let lengths: Vec<usize> = folders.iter().map(|f| f.rounds.bytes().len()).collect();
+        assert_eq!(lengths, [33_799, 33_800, 34_823]);
+        assert!(text(&folders[0]).starts_with("rounds 512\n"));
+        for (folder, length) in folders.iter().zip(lengths).skip(1) {
+            assert_eq!(text(folder), "file 12\n");
+            assert_eq!(reason(folder), format!("refused 12 length {length}\n"));
         }
     }
 

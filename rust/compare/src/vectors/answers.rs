@@ -105,7 +105,9 @@ impl Given {
                 self.reader(library, call, inputs)
             }
             Call::SameCommitment => self.same_commitment(library, inputs),
-            Call::Patterns | Call::Empty | Call::Append => self.file_writer(library, call, inputs),
+            Call::Patterns | Call::Empty | Call::Append | Call::Convert => {
+                self.file_writer(library, call, inputs)
+            }
             Call::Judge | Call::Simulate | Call::Extract => self.round(library, call, inputs),
             Call::ProverNew => Ok(prover(&library.prover_new())),
             Call::ProverCommit | Call::ProverRespond | Call::ProverDrop => {
@@ -116,6 +118,7 @@ impl Given {
                 self.verifier_step(library, call, inputs)
             }
             Call::OrJudge | Call::OrExtract => self.or_round(library, call, inputs),
+            Call::TeamCommitment | Call::TeamResponse => self.team(library, call, inputs),
             Call::OrProverNew => Ok(or_answers::session(&library.or_prover_new())),
             Call::OrProverCommit | Call::OrProverRespond | Call::OrProverDrop => {
                 self.or_prover_step(library, call, inputs)
@@ -206,7 +209,7 @@ impl Given {
         let before = inputs.bytes("buffer")?;
         let mut after = before.clone();
         let answer = if call == Call::Encode {
-            let (header, entries) = (inputs.header()?, inputs.entries()?);
+            let (header, entries) = (inputs.header()?, inputs.table("entries")?);
             library.encode(header, &entries, &inputs.brought("z")?, &mut after)
         } else {
             let plan = Plan {
@@ -231,7 +234,8 @@ impl Given {
         let mut after = before.clone();
         let answer = match call {
             Call::Patterns => library.patterns(&mut after),
-            Call::Empty => library.empty(&mut after),
+            Call::Empty => library.empty(inputs.number("version")?, &mut after),
+            Call::Convert => library.convert(&self.sheet, &self.file, &mut after),
             _ => {
                 let (used, round) = (inputs.number("used")?, inputs.round("")?);
                 library.append(&self.sheet, &mut after, used, &round)

@@ -80,18 +80,18 @@ impl<'a> Inputs<'a> {
         self.places(name, UNREAD)
     }
 
-    /// 64 entries, given row by row with a slash between rows.
-    pub fn entries(&mut self) -> Result<[u32; 64], String> {
-        let mut entries = [UNREAD; 64];
-        let rows = self.value("entries")?.split('/');
+    /// 64 numbers, given row by row with a slash between rows.
+    pub fn table(&mut self, name: &str) -> Result<[u32; 64], String> {
+        let mut table = [UNREAD; 64];
+        let rows = self.value(name)?.split('/');
         for (place, row) in rows.enumerate() {
-            let places = entries
+            let places = table
                 .chunks_mut(8)
                 .nth(place)
                 .ok_or("there are over eight rows")?;
             fill(places, &numbers(row)?)?;
         }
-        Ok(entries)
+        Ok(table)
     }
 
     pub fn header(&mut self) -> Result<Header, String> {

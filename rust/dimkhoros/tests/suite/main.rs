@@ -4,6 +4,7 @@ mod archive;
 mod boxes;
 #[path = "../../../sys/tests/suite/cc.rs"]
 mod cc;
+mod converting;
 mod examples;
 mod levels;
 mod marks;
@@ -22,4 +23,5 @@ mod sessions;
 mod sheets;
 mod stored;
 mod storing;
+mod teams;
 mod words;

@@ -8,7 +8,7 @@ use dimkhoros::{
 /// The marker's text on a sheet, a file of these rounds and these bytes as the level.
 fn marked(instance: &Instance, rounds: &[Round], level: &[u8]) -> String {
     let mut buffer = vec![0; LONGEST_FILE];
-    let mut writer = RoundWriter::start(instance, &mut buffer).unwrap();
+    let mut writer = RoundWriter::start(instance, 1, &mut buffer).unwrap();
     for round in rounds {
         writer.append(round).unwrap();
     }

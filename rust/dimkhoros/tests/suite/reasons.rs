@@ -14,7 +14,7 @@ fn line(sheet: &[u8], file: &[u8]) -> String {
 /// The bytes of a file of these rounds.
 fn file(instance: &Instance, rounds: &[Round]) -> Vec<u8> {
     let mut buffer = vec![0; LONGEST_FILE];
-    let mut writer = RoundWriter::start(instance, &mut buffer).unwrap();
+    let mut writer = RoundWriter::start(instance, 1, &mut buffer).unwrap();
     for round in rounds {
         writer.append(round).unwrap();
     }

@@ -1,7 +1,9 @@
 //! Each refusal is given under its number.
 
 use crate::pages::{SCHNORR, made, page_a, round};
-use dimkhoros::{Instance, Pair, Patterns, Plan, Prover, Refusal, RoundFile, RoundWriter, places};
+use dimkhoros::{
+    Instance, Pair, Patterns, Plan, Prover, Refusal, RoundFile, RoundWriter, Team, places,
+};
 
 /// What page A's sheet is refused with once a byte of it is changed.
 fn changed(place: usize, byte: u8) -> Refusal {
@@ -56,11 +58,13 @@ fn every_number_is_given() {
         a.extract(&first, &first).unwrap_err(),
         a.extract(&first, &round(9, 1, 2)).unwrap_err(),
         Prover::new().respond(&a, 3, &places([7])).unwrap_err().refusal,
-        RoundWriter::start(&a, &mut [0; 6]).unwrap_err(),
+        RoundWriter::start(&a, 1, &mut [0; 6]).unwrap_err(),
         Patterns::load(b"PAT\x00\x01\x00").unwrap_err(),
         Patterns::load(b"PAT\x00\x01\x01\x01\x01\x01\x00").unwrap_err(),
         Refusal::Level,
         other_count(),
+        Team::new(&a, &[places([13])]).unwrap_err(),
+        Team::new(&a, &[places([8]); 2]).unwrap_err(),
     ];
     assert_eq!(Refusal::from_number(given.len() as u32 + 1), None);
     for (number, refusal) in (1..).zip(given) {

@@ -45,7 +45,7 @@ fn simulated_rounds_are_all_accepted_rounds() {
 fn a_part_lies_in_the_callers_own_file() {
     let a = page_a();
     let mut buffer = [0; 100];
-    let mut writer = RoundWriter::start(&a, &mut buffer).unwrap();
+    let mut writer = RoundWriter::start(&a, 1, &mut buffer).unwrap();
     writer.append(&round(9, 3, 4)).unwrap();
     writer.append(&round(9, 1, 1)).unwrap();
     let bytes = writer.file().bytes().to_vec();
@@ -63,7 +63,7 @@ fn commitments_are_compared_byte_for_byte() {
     let last_byte = Round { commitment: places([12, 8]), ..first };
     let high_byte = Round { commitment: places([12, 9 + (1 << 24)]), ..first };
     let mut buffer = [0; 200];
-    let mut writer = RoundWriter::start(&instance, &mut buffer).unwrap();
+    let mut writer = RoundWriter::start(&instance, 1, &mut buffer).unwrap();
     for round in [first, second, last_byte, high_byte] {
         writer.append(&round).unwrap();
     }
@@ -85,7 +85,7 @@ fn commitments_are_compared_byte_for_byte() {
 fn only_the_count_and_the_record_are_written() {
     let a = page_a();
     let mut buffer = [0xee; 40];
-    let mut writer = RoundWriter::start(&a, &mut buffer).unwrap();
+    let mut writer = RoundWriter::start(&a, 1, &mut buffer).unwrap();
     writer.append(&round(9, 3, 4)).unwrap();
     let mut expected = [0xee; 40];
     expected[..19].copy_from_slice(b"RND\0\x01\0\x01\0\0\0\x09\0\0\0\x03\0\0\0\x04");
@@ -106,7 +106,7 @@ fn bytes_that_are_no_file_are_refused() {
     }
     assert_eq!(RoundFile::open(&a, &[]).unwrap_err(), Refusal::File);
     assert_eq!(RoundFile::open(&a, &vec![b'R'; 1 << 20]).unwrap_err(), Refusal::File);
-    assert_eq!(RoundWriter::start(&a, &mut []).unwrap_err(), Refusal::Buffer);
+    assert_eq!(RoundWriter::start(&a, 1, &mut []).unwrap_err(), Refusal::Buffer);
 }
 
 #[test]
@@ -115,7 +115,7 @@ fn the_longest_file_is_full() {
     (values.header.rows, values.header.columns) = (8, 8);
     let instance = Instance::encode(&values).unwrap();
     let mut buffer = vec![0; LONGEST_FILE + 100];
-    let mut writer = RoundWriter::start(&instance, &mut buffer).unwrap();
+    let mut writer = RoundWriter::start(&instance, 1, &mut buffer).unwrap();
     let numbered = |k| Round { commitment: [k; 8], challenge: k + 1, response: [k + 2; 8] };
     for k in 0..MOST_ROUNDS as u32 {
         writer.append(&numbered(k)).unwrap();

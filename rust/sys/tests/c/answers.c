@@ -52,13 +52,17 @@ size_t look(const uint8_t *sheet, size_t length, uint8_t *bytes, uint32_t *eight
     LOOK(dimkhoros_or_judge(sheet, length, sheet, length, two), .refusal);
     LOOK(dimkhoros_or_extract(sheet, length, sheet, length, two, two), .refusal);
 
+    LOOK(dimkhoros_team_commitment(sheet, length, 2, table, table), .refusal);
+    LOOK(dimkhoros_team_response(sheet, length, 2, table, table), .refusal);
+
     LOOK(dimkhoros_count(sheet, length, bytes, length), .refusal);
     LOOK(dimkhoros_check(sheet, length, bytes, length, 0), );
     LOOK(dimkhoros_part(sheet, length, bytes, length, 0), .length);
     LOOK(dimkhoros_read(sheet, length, bytes, length, 0), .refusal);
     LOOK(dimkhoros_same_commitment(sheet, length, bytes, length, 0, 1), .refusal);
-    LOOK(dimkhoros_empty(bytes, length), .refusal);
+    LOOK(dimkhoros_empty(1, bytes, length), .refusal);
     LOOK(dimkhoros_append(sheet, length, bytes, length, length, round), .refusal);
+    LOOK(dimkhoros_convert(sheet, length, sheet, length, bytes, length), .refusal);
     LOOK(dimkhoros_mark(sheet, length, bytes, length, bytes, length, bytes), );
     LOOK(dimkhoros_reason(sheet, length, bytes, length, bytes), );
 

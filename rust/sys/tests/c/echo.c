@@ -168,6 +168,10 @@ static const uint32_t nonce[8] = {0, 3, 6, 9, 1, 4, 7, 10};
 static const uint32_t commitment[8] = {1, 8, 18, 6, 2, 16, 13, 12};
 static const uint32_t response[8] = {1, 5, 9, 2, 6, 10, 3, 7};
 
+/* What the commitment and this multiply to is the statement. */
+static const uint32_t rest[8] = {2, 12, 3, 18, 16, 4, 1, 6};
+static const uint32_t ones[8] = {1, 1, 1, 1, 1, 1, 1, 1};
+
 static const uint32_t root_witness[8] = {2, 3, 4, 5, 6, 8, 9, 10};
 static const uint32_t root_statement[8] = {30, 38, 53, 26, 62, 50, 58, 10};
 static const uint32_t root_nonce[8] = {12, 13, 15, 16, 17, 18, 19, 20};
@@ -270,7 +274,7 @@ static void sheets(void) {
 
 static void files(void) {
     uint8_t buffer[200];
-    print_written(dimkhoros_empty(buffer, sizeof buffer));
+    print_written(dimkhoros_empty(1, buffer, sizeof buffer));
     print_written(dimkhoros_append(wide, sizeof wide, buffer, sizeof buffer, 7, rising_round(101)));
     print_written(dimkhoros_append(wide, sizeof wide, buffer, sizeof buffer, 75, rising_round(201)));
     print_written(dimkhoros_append(wide, sizeof wide, buffer, sizeof buffer, 143, rising_round(301)));
@@ -286,6 +290,21 @@ static void files(void) {
     print_compared(dimkhoros_same_commitment(wide, sizeof wide, buffer, 143, 1, 1));
     print_compared(dimkhoros_same_commitment(wide, sizeof wide, buffer, 143, 0, 1));
     print_compared(dimkhoros_same_commitment(wide, sizeof wide, buffer, 143, 0, SIZE_MAX));
+
+    uint8_t narrow[141];
+    memset(narrow, 238, sizeof narrow);
+    DimkhorosRound wider = rising_round(1);
+    print_written(dimkhoros_empty(65538, narrow, sizeof narrow));
+    print_written(dimkhoros_convert(wide, sizeof wide, buffer, 143, narrow, 138));
+    print_written(dimkhoros_convert(wide, sizeof wide, buffer, 143, narrow, sizeof narrow));
+    print_bytes(narrow, sizeof narrow);
+    print_fetched(dimkhoros_read(wide, sizeof wide, narrow, 139, 1));
+    wider.challenge = 65536;
+    print_written(dimkhoros_append(wide, sizeof wide, narrow, sizeof narrow, 139, wider));
+    wider.challenge = 65535;
+    print_written(dimkhoros_append(wide, sizeof wide, narrow, sizeof narrow, 139, wider));
+    print_written(dimkhoros_convert(wide, sizeof wide, narrow, 139, buffer, sizeof buffer));
+    print_fetched(dimkhoros_read(wide, sizeof wide, buffer, 143, 1));
 }
 
 static void rounds(void) {
@@ -383,6 +402,32 @@ static void or_provers(void) {
     print_or_answer(dimkhoros_or_prover_drop(odd));
 }
 
+/* What two players bring, and numbers behind it that are not read. */
+static void bring(uint32_t parts[64], const uint32_t first[8], const uint32_t second[8]) {
+    for (uint32_t i = 0; i < 64; i++) {
+        parts[i] = i < 8 ? first[i] : i < 16 ? second[i - 8] : 1001 + i;
+    }
+}
+
+static void teams(void) {
+    uint32_t images[64], root_images[64], commitments[64], responses[64], root_responses[64];
+    bring(images, commitment, rest);
+    bring(root_images, root_statement, ones);
+    bring(commitments, statement, commitment);
+    bring(responses, nonce, response);
+    bring(root_responses, root_nonce, root_response);
+    print_computed(dimkhoros_team_commitment(wide, sizeof wide, 2, images, commitments));
+    print_computed(dimkhoros_team_response(wide, sizeof wide, 2, images, responses));
+    print_computed(dimkhoros_team_commitment(roots, sizeof roots, 2, root_images, root_responses));
+    print_computed(dimkhoros_team_response(roots, sizeof roots, 2, root_images, root_responses));
+    print_computed(dimkhoros_team_commitment(wide, sizeof wide, 1, images, commitments));
+    print_computed(dimkhoros_team_response(wide, sizeof wide, UINT32_MAX, images, responses));
+    print_computed(dimkhoros_team_commitment(wide, sizeof wide, 3, images, commitments));
+    print_computed(dimkhoros_team_response(wide, sizeof wide, 2, commitments, responses));
+    print_computed(dimkhoros_team_commitment(wide, sizeof wide, 2, commitments, responses));
+    print_computed(dimkhoros_team_response(wide, sizeof wide, 2, commitments, commitments));
+}
+
 /* The length of the marker's text on three files, the text, and two bytes behind it, which stay. */
 static void print_mark(const uint8_t *sheet, size_t sheet_length, const uint8_t *file, size_t file_length,
                        const uint8_t *level, size_t level_length) {
@@ -396,7 +441,7 @@ static void print_mark(const uint8_t *sheet, size_t sheet_length, const uint8_t 
 static void marks(void) {
     const uint8_t levels[2] = {2, 3};
     uint8_t file[200];
-    size_t used = dimkhoros_empty(file, sizeof file).length;
+    size_t used = dimkhoros_empty(1, file, sizeof file).length;
     used = dimkhoros_append(wide, sizeof wide, file, sizeof file, used, honest_round(1, response)).length;
     print_mark(wide, sizeof wide, file, used, levels, 1);
     print_mark(wide, sizeof wide, file, used, levels + 1, 1);
@@ -420,7 +465,7 @@ static void reasons(void) {
     uint32_t wrong[8];
     memcpy(wrong, response, sizeof wrong);
     wrong[5] = 0;
-    size_t used = dimkhoros_empty(file, sizeof file).length;
+    size_t used = dimkhoros_empty(1, file, sizeof file).length;
     used = dimkhoros_append(wide, sizeof wide, file, sizeof file, used, honest_round(1, wrong)).length;
     print_reason(wide, sizeof wide, file, used);
     print_reason(wide, sizeof wide, file, used - 1);
@@ -450,9 +495,13 @@ static void empty_slices(void) {
     print_fetched(dimkhoros_read(wide, sizeof wide, NULL, 0, 0));
     print_compared(dimkhoros_same_commitment(NULL, 0, NULL, 0, 0, 0));
     print_compared(dimkhoros_same_commitment(wide, sizeof wide, NULL, 0, 0, 0));
-    print_written(dimkhoros_empty(NULL, 0));
+    print_written(dimkhoros_empty(1, NULL, 0));
+    print_written(dimkhoros_empty(0, NULL, 0));
     print_written(dimkhoros_append(wide, sizeof wide, NULL, 0, 0, rising_round(1)));
     print_written(dimkhoros_append(wide, sizeof wide, NULL, 0, 7, rising_round(1)));
+    print_written(dimkhoros_convert(NULL, 0, NULL, 0, NULL, 0));
+    print_written(dimkhoros_convert(wide, sizeof wide, NULL, 0, NULL, 0));
+    print_written(dimkhoros_convert(wide, sizeof wide, (const uint8_t *)"RND\0\1\0", 7, NULL, 0));
     print_judgement(dimkhoros_judge(NULL, 0, rising_round(1)));
     print_computed(dimkhoros_simulate(NULL, 0, 0, response));
     print_computed(dimkhoros_extract(NULL, 0, rising_round(1), rising_round(2)));
@@ -465,6 +514,11 @@ static void empty_slices(void) {
     print_or_extracted(dimkhoros_or_extract(wide, sizeof wide, NULL, 0, rising_or_round(1), rising_or_round(2)));
     print_or_answer(dimkhoros_or_prover_commit(NULL, 0, wide, sizeof wide, dimkhoros_or_prover_new(), 0, nonce, 1, response));
     print_or_answer(dimkhoros_or_prover_respond(NULL, 0, NULL, 0, dimkhoros_or_prover_new(), 1, witness));
+    for (int i = 0; i < 64; i++) {
+        entries[i] = 1;
+    }
+    print_computed(dimkhoros_team_commitment(NULL, 0, 2, entries, entries));
+    print_computed(dimkhoros_team_response(NULL, 0, 2, entries, entries));
 }
 
 int main(void) {
@@ -475,6 +529,7 @@ int main(void) {
     verifiers();
     or_rounds();
     or_provers();
+    teams();
     marks();
     reasons();
     empty_slices();

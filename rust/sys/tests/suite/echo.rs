@@ -12,6 +12,9 @@ const NONCE: Places = [0, 3, 6, 9, 1, 4, 7, 10];
 const COMMITMENT: Places = [1, 8, 18, 6, 2, 16, 13, 12];
 const RESPONSE: Places = [1, 5, 9, 2, 6, 10, 3, 7];
 
+/// What the commitment and this multiply to is the statement.
+const REST: Places = [2, 12, 3, 18, 16, 4, 1, 6];
+
 /// The header of a sheet of 8 rows and 8 columns.
 const WIDE: Header = Header { kind: 1, modulus: 23, order: 11, challenges: 5, rows: 8, columns: 8 };
 
@@ -92,6 +95,14 @@ fn rising_or_round(first: u32) -> OrRound {
     }
 }
 
+/// What two players bring, and numbers behind it that are not read.
+fn parts(first: Places, second: Places) -> Parts {
+    let mut parts = core::array::from_fn(|i| 1001 + i as u32);
+    parts[..PLACES].copy_from_slice(&first);
+    parts[PLACES..2 * PLACES].copy_from_slice(&second);
+    parts
+}
+
 /// Adds a line for each value.
 macro_rules! print {
     ($text:ident: $($value:expr),* $(,)?) => {
@@ -137,7 +148,7 @@ fn files(text: &mut String) {
     let wide = wide();
     let mut buffer = [0; 200];
     print!(text:
-        empty(&mut buffer),
+        empty(1, &mut buffer),
         append(&wide, &mut buffer, 7, &rising_round(101)),
         append(&wide, &mut buffer, 75, &rising_round(201)),
         append(&wide, &mut buffer, 143, &rising_round(301)),
@@ -153,6 +164,18 @@ fn files(text: &mut String) {
         same_commitment(&wide, &buffer[..143], 1, 1),
         same_commitment(&wide, &buffer[..143], 0, 1),
         same_commitment(&wide, &buffer[..143], 0, usize::MAX),
+    );
+    let mut narrow = [238; 141];
+    print!(text:
+        empty(65_538, &mut narrow),
+        convert(&wide, &buffer[..143], &mut narrow[..138]),
+        convert(&wide, &buffer[..143], &mut narrow),
+        narrow,
+        read(&wide, &narrow[..139], 1),
+        append(&wide, &mut narrow, 139, &Round { challenge: 65_536, ..rising_round(1) }),
+        append(&wide, &mut narrow, 139, &Round { challenge: 65_535, ..rising_round(1) }),
+        convert(&wide, &narrow[..139], &mut buffer),
+        read(&wide, &buffer[..143], 1),
     );
 }
 
@@ -253,6 +276,27 @@ fn or_provers(text: &mut String) {
     );
 }
 
+fn teams(text: &mut String) {
+    let (wide, roots) = (wide(), roots());
+    let images = parts(COMMITMENT, REST);
+    let root_images = parts(ROOT_STATEMENT, [1; 8]);
+    let commitments = parts(STATEMENT, COMMITMENT);
+    let responses = parts(NONCE, RESPONSE);
+    let root_responses = parts(ROOT_NONCE, ROOT_RESPONSE);
+    print!(text:
+        team_commitment(&wide, 2, &images, &commitments),
+        team_response(&wide, 2, &images, &responses),
+        team_commitment(&roots, 2, &root_images, &root_responses),
+        team_response(&roots, 2, &root_images, &root_responses),
+        team_commitment(&wide, 1, &images, &commitments),
+        team_response(&wide, u32::MAX, &images, &responses),
+        team_commitment(&wide, 3, &images, &commitments),
+        team_response(&wide, 2, &commitments, &responses),
+        team_commitment(&wide, 2, &commitments, &responses),
+        team_response(&wide, 2, &commitments, &commitments),
+    );
+}
+
 /// The length of the marker's text on three files, the text, and two bytes behind it, which stay.
 fn mark_over(sheet: &[u8], file: &[u8], level: &[u8]) -> String {
     let mut text = [238; LONGEST_TEXT];
@@ -265,7 +309,7 @@ fn mark_over(sheet: &[u8], file: &[u8], level: &[u8]) -> String {
 fn marks(text: &mut String) {
     let wide = wide();
     let mut file = [0; 200];
-    empty(&mut file);
+    empty(1, &mut file);
     let used = append(&wide, &mut file, 7, &honest_round(1, RESPONSE)).length;
     for level in [&[2][..], &[3], &[2, 3], &[]] {
         text.push_str(&mark_over(&wide, &file[..used], level));
@@ -288,7 +332,7 @@ fn reasons(text: &mut String) {
     let mut file = [0; 200];
     let mut wrong = RESPONSE;
     wrong[5] = 0;
-    empty(&mut file);
+    empty(1, &mut file);
     let used = append(&wide, &mut file, 7, &honest_round(1, wrong)).length;
     text.push_str(&reason_over(&wide, &file[..used]));
     text.push_str(&reason_over(&wide, &file[..used - 1]));
@@ -315,9 +359,13 @@ fn empty_slices(text: &mut String) {
         read(&wide, &[], 0),
         same_commitment(&[], &[], 0, 0),
         same_commitment(&wide, &[], 0, 0),
-        empty(&mut []),
+        empty(1, &mut []),
+        empty(0, &mut []),
         append(&wide, &mut [], 0, &rising_round(1)),
         append(&wide, &mut [], 7, &rising_round(1)),
+        convert(&[], &[], &mut []),
+        convert(&wide, &[], &mut []),
+        convert(&wide, b"RND\0\x01\0\0", &mut []),
         judge(&[], &rising_round(1)),
         simulate(&[], 0, &RESPONSE),
         extract(&[], &rising_round(1), &rising_round(2)),
@@ -330,6 +378,8 @@ fn empty_slices(text: &mut String) {
         or_extract(&wide, &[], &rising_or_round(1), &rising_or_round(2)),
         or_prover_commit(&[], &wide, or_prover_new(), 0, &NONCE, 1, &RESPONSE),
         or_prover_respond(&[], &[], or_prover_new(), 1, &WITNESS),
+        team_commitment(&[], 2, &[1; PARTS], &[1; PARTS]),
+        team_response(&[], 2, &[1; PARTS], &[1; PARTS]),
     );
 }
 
@@ -345,6 +395,7 @@ fn fields_cross_from_rust() {
     verifiers(&mut text);
     or_rounds(&mut text);
     or_provers(&mut text);
+    teams(&mut text);
     marks(&mut text);
     reasons(&mut text);
     empty_slices(&mut text);

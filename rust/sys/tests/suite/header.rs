@@ -9,9 +9,11 @@ use std::fmt::Write;
 use std::fs;
 
 /// The constants of this crate, under their names in C and in the order of the C program.
-const CONSTANTS: [(&str, usize); 21] = [
+const CONSTANTS: [(&str, usize); 24] = [
     ("PLACES", PLACES),
     ("ENTRIES", ENTRIES),
+    ("MOST_PLAYERS", MOST_PLAYERS),
+    ("PARTS", PARTS),
     ("LONGEST_SHEET", LONGEST_SHEET),
     ("SHIPPED_PATTERNS", SHIPPED_PATTERNS),
     ("MOST_PATTERNS", MOST_PATTERNS),
@@ -19,6 +21,7 @@ const CONSTANTS: [(&str, usize); 21] = [
     ("EMPTY_FILE", EMPTY_FILE),
     ("MOST_ROUNDS", MOST_ROUNDS),
     ("LONGEST_FILE", LONGEST_FILE),
+    ("LONGEST_FILE_2", LONGEST_FILE_2),
     ("LONGEST_TEXT", LONGEST_TEXT),
     ("LONGEST_REASON", LONGEST_REASON),
     ("EXPONENT", EXPONENT as usize),

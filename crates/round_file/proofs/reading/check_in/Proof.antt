@@ -2,7 +2,8 @@
 -- Assumes nothing.
 use native.Mathlib.Omega.{arith}
 use Rattle.formats.specs.RoundFile.{countField}
-use Rattle.round_file.proofs.FileReading.{seven-bytes, check-file, check-beyond, check-passes}
+use Rattle.round_layout.proofs.FileTest.{seven-bytes}
+use Rattle.round_file.proofs.FileReading.{check-file, check-beyond, check-passes}
 use Rattle.round_file.proofs.reading.check_in.Statement.{statement}
 use Rattle.round_file.proofs.reading.check_in.Tie as tie
 

@@ -2,7 +2,8 @@
 -- Assumes nothing.
 use native.Mathlib.Omega.{arith}
 use Rattle.formats.specs.RoundFile.{countField}
-use Rattle.round_file.proofs.FileReading.{seven-bytes, count-none, count-field}
+use Rattle.round_layout.proofs.FileTest.{seven-bytes}
+use Rattle.round_file.proofs.FileReading.{count-none, count-field}
 use Rattle.round_file.proofs.reading.count_in.Statement.{statement}
 use Rattle.round_file.proofs.reading.count_in.Tie as tie
 

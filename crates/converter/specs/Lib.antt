@@ -1,0 +1,2 @@
+-- What the converter's functions store.
+pub mod Records

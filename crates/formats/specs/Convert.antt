@@ -1,0 +1,64 @@
+-- The converter of round files (02, card 7; refusals 2 to 12, 15 and 22): the rounds of a file of one version, written in the
+-- other.
+-- Assumes nothing.
+use Prim.Native.Nat.{ℕ, _+_, _*_, _<_}
+use mathlib.Core.Path.{_≡_}
+use mathlib.Core.Bool.{Bool, cond}
+use mathlib.Core.Logic.{_⊎_, _≢_}
+use mathlib.Core.List.{List, [], _∷_, _++_}
+use lib.Dec.{eqb}
+use lib.ListN.{length}
+use Rattle.types.specs.declared.Header.{Header}
+use Rattle.encoding.specs.Bytes.{numberAt}
+use Rattle.numbers.specs.Search.{any}
+use Rattle.rules.specs.Condition.{Condition, _if_}
+use Rattle.rules.specs.Rule.{Rule, _when_, lowest}
+use Rattle.formats.specs.Append.{wideChallenge}
+use Rattle.formats.specs.Load.{loadRules}
+use Rattle.formats.specs.Meaning.{recordSize}
+use Rattle.formats.specs.Refusals.{Refusal12}
+use Rattle.formats.specs.RoundCalls.{fileRules}
+use Rattle.formats.specs.RoundFile.{challengeWidth, countField, fileVersion, recordStart, roundAt, widthOf}
+use Rattle.formats.specs.Rounds.{fileIn, roundsOf}
+use Rattle.formats.specs.Sheet.{headerOf}
+use Rattle.formats.specs.Write.{Writing, short, writtenAtStart}
+
+-- the version that is not the given one: 2 for 1, and 1 for 2
+unfoldable pub otherVersion : ℕ → ℕ
+otherVersion version = cond (eqb version 1) 2 1
+
+-- some record has a challenge that the other version cannot hold (15)
+unfoldable pub wideRecord : Header → List ℕ → Bool
+wideRecord h f =
+    any (countField f) (λ k.
+    wideChallenge (otherVersion (fileVersion f)) (roundAt (challengeWidth f) h f (recordStart (challengeWidth f) h k) .challenge))
+
+-- the file's rounds in the other version
+unfoldable pub converted : Header → List ℕ → List ℕ
+converted h f = fileIn (otherVersion (fileVersion f)) h (roundsOf h f)
+
+-- the rules of the file and the buffer
+unfoldable pub convertRules : Header → List ℕ → List ℕ → List Rule
+convertRules h f buffer =
+    fileRules h f ++
+    (15 when wideRecord h f) ∷ (22 when short buffer (recordStart (widthOf (otherVersion (fileVersion f))) h (countField f))) ∷ []
+
+-- after the rules of the sheet: the converter's outcome
+unfoldable pub convertAfter : List Rule → Header → List ℕ → List ℕ → Writing
+convertAfter before h f buffer = writtenAtStart (lowest (before ++ convertRules h f buffer)) (converted h f) buffer
+
+-- the converter
+unfoldable pub convert : List ℕ → List ℕ → List ℕ → Writing
+convert sheet f buffer = convertAfter (loadRules sheet) (headerOf sheet) f buffer
+
+-- its own conditions; 15 is for a record of a version 1 file, wherever it stands, whose challenge is above 65,535, and 22 for a
+-- buffer that is shorter than the result, whose challenges have two bytes for a file of version 1, else four
+abbrev pub convertConditions : Header → List ℕ → List ℕ → List Condition
+convertConditions h f buffer =
+    (12 if Refusal12 h f) ∷
+    (15 if
+    ((fileVersion f ≡ 1) × ((k : ℕ) × (k < countField f) ×
+    (65535 < numberAt 4 f (7 + k * recordSize 4 h + 4 * h .rows))))) ∷
+    (22 if
+    (((fileVersion f ≡ 1) × (length buffer < 7 + countField f * recordSize 2 h)) ⊎
+    ((fileVersion f ≢ 1) × (length buffer < 7 + countField f * recordSize 4 h)))) ∷ []

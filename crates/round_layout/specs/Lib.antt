@@ -1,0 +1,2 @@
+-- What the functions on records ask of a width.
+pub mod Width
