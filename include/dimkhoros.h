@@ -85,8 +85,8 @@ extern "C" {
 #define DIMKHOROS_MOST_ROUNDS 512       /* rounds in the fullest round file */
 #define DIMKHOROS_LONGEST_FILE 34823    /* bytes of the longest round file, which has version 1 */
 #define DIMKHOROS_LONGEST_FILE_2 33799  /* bytes of the longest round file of version 2 */
-#define DIMKHOROS_LONGEST_TEXT 7696     /* bytes that hold every text of the marker */
-#define DIMKHOROS_LONGEST_REASON 48     /* bytes that hold every line of the reason */
+#define DIMKHOROS_LONGEST_TEXT 14864    /* bytes that hold every text of the marker */
+#define DIMKHOROS_LONGEST_REASON 201    /* bytes that hold every line of the reason */
 #define DIMKHOROS_STORED_PROVER 79      /* bytes of a stored session of Peggy's */
 #define DIMKHOROS_STORED_VERIFIER 51    /* bytes of a stored session of Vic's */
 #define DIMKHOROS_STORED_OR_PROVER 151  /* bytes of a stored session of Peggy's of the OR proof */
@@ -237,10 +237,21 @@ typedef struct {
     uint32_t refusal;
 } DimkhorosComputed;
 
-/* A verdict. It is accepted only where `accepted` is 1: a refused round has 0 there too. */
+/*
+ * A verdict. It is accepted only where `accepted` is 1: a refused round has 0 there too.
+ *
+ * The rows of a rejected round in which the two sides differ are a mask, in which row i has the bit of value 2^i:
+ *
+ *     row      0   1   2   3   4   5   6   7
+ *     value    1   2   4   8  16  32  64 128
+ *
+ * The bit is set where the sides differ in the row, and not set where they agree. So 1 is row 0 alone, 128 is row 7 alone, and
+ * 133 is the rows 0, 2 and 7. No bit from 2^s on is set: the sheet has the rows 0 to s - 1. At least one bit is set in a
+ * rejected round, and none in an accepted or refused one. Row i differs where (verdict.rows >> i & 1) is 1.
+ */
 typedef struct {
     uint32_t accepted; /* 1 if the two sides agree in every row, else 0 */
-    uint32_t row;      /* of a rejected round, the first row, from 0, in which they differ */
+    uint32_t rows;     /* the mask of the rows, from 0, in which they differ */
     uint32_t refusal;
 } DimkhorosJudgement;
 
@@ -254,11 +265,14 @@ typedef struct {
     uint32_t challenge0;                    /* c0, side 0's challenge */
 } DimkhorosOrRound;
 
-/* A verdict on a round of the OR proof. It is accepted only where `accepted` is 1: a refused round has 0 there too. */
+/*
+ * A verdict on a round of the OR proof. It is accepted only where `accepted` is 1: a refused round has 0 there too. Of a
+ * rejected round each side has its own mask of rows, as in DimkhorosJudgement, and a side that is accepted has the mask 0.
+ */
 typedef struct {
     uint32_t accepted; /* 1 if both sides are accepted, else 0 */
-    uint32_t side;     /* of a rejected round, the first side, 0 or 1, that is rejected */
-    uint32_t row;      /* and the first row, from 0, in which that side's two values differ */
+    uint32_t rows0;    /* the mask of the rows in which side 0's two values differ */
+    uint32_t rows1;    /* the same of side 1 */
     uint32_t refusal;
 } DimkhorosOrJudgement;
 
@@ -652,9 +666,9 @@ DimkhorosWritten dimkhoros_convert(const uint8_t *sheet, size_t sheet_length, co
  *
  * A refused sheet gives the one line `sheet N`, N being 2 to 11; else a refused file gives `file 12`; else a refused level
  * gives `level 25`, a number that no call answers in another way. Else there are a line `rounds` with the count, a line for
- * each round (its number from 0 and `accepted`, `rejected` with the first row that differs, or `refused` with 14 to 16), and
- * `pass` if every round is accepted and the product of one K for each round is at least 2^w, else `fail`. The product is 1 for
- * no rounds, so that a file of none fails at every level. Each line ends in a newline.
+ * each round (its number from 0 and `accepted`, `rejected` with the rows that differ, as in `2 rejected 0 2 7`, or `refused`
+ * with 14 to 16), and `pass` if every round is accepted and the product of one K for each round is at least 2^w, else `fail`.
+ * The product is 1 for no rounds, so that a file of none fails at every level. Rows rise. Each line ends in a newline.
  */
 DIMKHOROS_CHECKED
 size_t dimkhoros_mark(const uint8_t *sheet, size_t sheet_length, const uint8_t *file, size_t file_length,
@@ -666,8 +680,8 @@ size_t dimkhoros_mark(const uint8_t *sheet, size_t sheet_length, const uint8_t *
  *
  *     refused N OFFSET           rule N, 2 to 16, is the lowest that is broken, by the value at OFFSET and by none before it
  *     refused N length LENGTH    the same of 2, 9 or 12 where the length of the sheet or the file, LENGTH bytes, breaks it
- *     rejected ROW LEFT RIGHT    nothing is refused; ROW, from 0, is the first row in which the two sides of round 0 differ,
- *                                LEFT is the value of [r] there and RIGHT that of t * z^c
+ *     rejected ROW LEFT RIGHT .. nothing is refused; each ROW, from 0 and rising, is one in which the two sides of round 0
+ *                                differ, LEFT is the value of [r] there and RIGHT that of t * z^c
  *     accepted                   Vic accepts round 0
  *
  * An offset is that of the value's first byte, from the start of the file that holds it: the sheet for 2 to 11, the round file

@@ -1,5 +1,5 @@
 /* Vic keeps a file of rounds, a marker judges each of them and says whether they are enough for a level, a student is told the
- * reason, and the file is converted to version 2 and back. */
+ * reason, and the file is converted to version 2 and back. A sheet of two rows shows how the rows that differ are named. */
 #include "common.h"
 #include <string.h>
 
@@ -16,6 +16,14 @@ static const DimkhorosRound accepted[] = {
     {{2}, 3, {0}},
 };
 
+/* Rounds of a sheet of two rows, whose two sides differ nowhere, in row 0, in row 1 and in both. */
+static const DimkhorosRound of_two_rows[] = {
+    {{9, 6}, 3, {4}},
+    {{6, 6}, 3, {4}},
+    {{9, 9}, 3, {4}},
+    {{6, 9}, 3, {4}},
+};
+
 /* Writes the file of so many rounds and answers its length. */
 static size_t write_file(const uint8_t *sheet, size_t length, const DimkhorosRound *rounds, size_t count,
                          uint8_t file[DIMKHOROS_LONGEST_FILE]) {
@@ -26,6 +34,23 @@ static size_t write_file(const uint8_t *sheet, size_t length, const DimkhorosRou
         expect(written.refusal);
     }
     return written.length;
+}
+
+/* Shows a verdict: the rows that differ are the bits of a mask. */
+static void show_verdict(DimkhorosJudgement verdict) {
+    if (verdict.refusal != 0) {
+        show_refusal(verdict.refusal);
+    } else if (verdict.accepted) {
+        printf("accepted\n");
+    } else {
+        printf("rejected in %s", (verdict.rows & (verdict.rows - 1)) == 0 ? "row" : "rows");
+        for (int row = 0; row < DIMKHOROS_PLACES; row++) {
+            if ((verdict.rows >> row & 1) == 1) {
+                printf(" %d", row);
+            }
+        }
+        printf("\n");
+    }
 }
 
 /* Shows a round of the file with the verdict on it, and where it stands in the file. */
@@ -39,14 +64,7 @@ static void show_round(const uint8_t *sheet, size_t length, const uint8_t *file,
     DimkhorosPart part = dimkhoros_part(sheet, length, file, file_length, number);
     printf("%zu bytes from byte %zu on, t = %u, c = %u, r = %u, ", part.length, part.offset,
            fetched.round.commitment[0], fetched.round.challenge, fetched.round.response[0]);
-    DimkhorosJudgement verdict = dimkhoros_judge(sheet, length, fetched.round);
-    if (verdict.refusal != 0) {
-        show_refusal(verdict.refusal);
-    } else if (verdict.accepted) {
-        printf("accepted\n");
-    } else {
-        printf("rejected in row %u\n", verdict.row);
-    }
+    show_verdict(dimkhoros_judge(sheet, length, fetched.round));
 }
 
 /* Shows the marker's text on a file at a level, the byte of a level file. */
@@ -56,11 +74,11 @@ static void show_mark(const uint8_t *sheet, size_t length, const uint8_t *file, 
     printf("The marker's text at the level %u:\n%.*s", level, (int)text_length, (const char *)text);
 }
 
-/* Shows the reason's line on a file of one round. */
-static void show_reason(const uint8_t *sheet, size_t length, size_t number) {
+/* Shows the reason's line on a file of one of these rounds. */
+static void show_reason(const uint8_t *sheet, size_t length, const DimkhorosRound *rounds, size_t number) {
     uint8_t file[DIMKHOROS_LONGEST_FILE];
     uint8_t line[DIMKHOROS_LONGEST_REASON];
-    size_t file_length = write_file(sheet, length, &mixed[number], 1, file);
+    size_t file_length = write_file(sheet, length, &rounds[number], 1, file);
     size_t line_length = dimkhoros_reason(sheet, length, file, file_length, line);
     printf("The reason on round %zu alone: %.*s", number, (int)line_length, (const char *)line);
 }
@@ -95,6 +113,28 @@ static void show_wide(const uint8_t *sheet, size_t length) {
     show_refusal(dimkhoros_empty(3, narrow, sizeof narrow).refusal);
 }
 
+/* Shows how the rows that differ are told: in a verdict, by the marker and by the reason. */
+static void show_rows(void) {
+    const uint32_t values[2] = {2, 16}, statement[2] = {13, 18};
+    uint8_t patterns[DIMKHOROS_SHIPPED_PATTERNS];
+    uint8_t sheet[DIMKHOROS_LONGEST_SHEET];
+    uint8_t file[DIMKHOROS_LONGEST_FILE];
+    expect(dimkhoros_patterns(patterns, sizeof patterns).refusal);
+    DimkhorosWritten made = dimkhoros_from_pattern(patterns, sizeof patterns, DIMKHOROS_PATTERN_DIFFIE_HELLMAN, 23, 11, 11,
+                                                   values, 2, statement, 2, sheet, sizeof sheet);
+    expect(made.refusal);
+    printf("\nA sheet of two rows: 2^x = 13 and 16^x = 18 modulo 23.\n");
+    for (size_t number = 0; number < 4; number++) {
+        printf("round %zu: ", number);
+        show_verdict(dimkhoros_judge(sheet, made.length, of_two_rows[number]));
+    }
+    size_t file_length = write_file(sheet, made.length, of_two_rows, 4, file);
+    show_mark(sheet, made.length, file, file_length, 7);
+    for (size_t number = 1; number < 4; number++) {
+        show_reason(sheet, made.length, of_two_rows, number);
+    }
+}
+
 int main(void) {
     uint8_t sheet[DIMKHOROS_LONGEST_SHEET];
     uint8_t file[DIMKHOROS_LONGEST_FILE];
@@ -115,7 +155,8 @@ int main(void) {
     }
     show_mark(sheet, length, file, file_length, 65);
     for (size_t number = 0; number < 4; number++) {
-        show_reason(sheet, length, number);
+        show_reason(sheet, length, mixed, number);
     }
+    show_rows();
     return 0;
 }

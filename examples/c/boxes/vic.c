@@ -66,6 +66,17 @@ static void ask(Vic *vic) {
     send_line(base, "challenge", vic->session.commitment, base->header.rows, &vic->session.challenge, 1);
 }
 
+/* Says the verdict, with the rows that differ where it is rejected. */
+static void say(DimkhorosJudgement verdict) {
+    fprintf(stderr, "vic says %s", verdict.accepted ? "accepted" : "rejected");
+    for (int row = 0; row < DIMKHOROS_PLACES; row++) {
+        if ((verdict.rows >> row & 1) == 1) {
+            fprintf(stderr, " %d", row);
+        }
+    }
+    fprintf(stderr, "\n");
+}
+
 /* Steps 6 and 7: judges a response, stores that it is judged, and only then says the verdict. */
 static void judge(Vic *vic, const uint32_t *response) {
     const Base *base = &vic->base;
@@ -76,7 +87,7 @@ static void judge(Vic *vic, const uint32_t *response) {
         return;
     }
     store_session(vic);
-    fprintf(stderr, "vic says %s\n", verdict.accepted ? "accepted" : "rejected");
+    say(verdict);
     vic->judged += 1;
     vic->accepted += verdict.accepted;
     if (vic->judged < vic->rounds) {

@@ -92,15 +92,15 @@ fn loaded<A>(answer: &Result<Sheet<A>, u32>) -> Loaded {
 
 /// What the library has to answer where judging in Rust gives this.
 fn judgement(answer: &Result<Verdict, u32>) -> Judgement {
-    let (refusal, accepted, row) = match *answer {
+    let (refusal, accepted, rows) = match *answer {
         Ok(Verdict::Accepted) => (0, 1, 0),
-        Ok(Verdict::Rejected(row)) => (0, 0, row),
+        Ok(Verdict::Rejected(rows)) => (0, 0, rows),
         Err(refusal) => (refusal, 0, 0),
     };
     Judgement {
         refusal,
         accepted,
-        row,
+        rows,
     }
 }
 

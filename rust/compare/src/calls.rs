@@ -168,7 +168,7 @@ impl Call {
     /// How many sides the call answers a verdict on.
     pub fn sides(self) -> usize {
         match self {
-            Call::Judge | Call::VerifierResponse | Call::Reason => 1,
+            Call::Judge | Call::VerifierResponse | Call::Mark | Call::Reason => 1,
             Call::OrJudge => 2,
             _ => 0,
         }

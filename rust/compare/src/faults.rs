@@ -12,6 +12,7 @@ mod patterns;
 mod prover;
 mod reasons;
 mod rounds;
+mod rows;
 mod sheets;
 mod teams;
 mod verifier;

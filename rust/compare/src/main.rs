@@ -4,10 +4,10 @@
 //! case is one call, or a run of both sessions, with inputs made from the seed.
 //! Both libraries get it, and every field of the answers and every byte of a
 //! lent buffer must be the same. The first difference is printed and ends the
-//! run. Last page K and files at every level are run in both, and demand 3 and
-//! cards 4 and 6 are tried on small sheets. Exit status: 0 no difference, 1 a
-//! difference, something met too seldom or a program that is missing, 2 wrong words
-//! or a place to which nothing can be written.
+//! run. Last page K, files at every level and all masks of rows are run in both,
+//! and demand 3 and cards 4 and 6 are tried on small sheets. Exit status: 0 no
+//! difference, 1 a difference, something met too seldom or a program that is
+//! missing, 2 wrong words or a place to which nothing can be written.
 
 #![forbid(unsafe_code)]
 
@@ -25,6 +25,7 @@ mod lent;
 mod levels;
 mod library;
 mod making;
+mod masks;
 mod one_of_two;
 mod options;
 mod outcome;
@@ -111,6 +112,7 @@ fn stages(options: &Options) -> Result<(), String> {
     }
     println!("{}", page_k::check(options.other)?);
     println!("{}", levels::check(options.other)?);
+    println!("{}", masks::check(options.other)?);
     println!("{}", demand_three::check(options.other)?);
     println!("{}", one_of_two::check(options.other)?);
     println!("{}", whole_rounds::check(options.other)?);

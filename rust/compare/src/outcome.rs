@@ -40,12 +40,12 @@ pub enum Answer {
     },
 }
 
-/// What a round that is not refused comes to: accepted, or the side and the row
-/// in which it is rejected. A round of one sheet has side 0.
+/// What a round that is not refused comes to: accepted, or the masks of the rows of
+/// side 0 and of side 1 in which it is rejected. A round of one sheet has side 0.
 #[derive(Clone, Copy, Debug, PartialEq, Eq)]
 pub enum Verdict {
     Accepted,
-    Rejected { side: u32, row: u32 },
+    Rejected([u32; 2]),
 }
 
 /// The answer of each call of a case, and the memory around and in the lent
@@ -83,20 +83,24 @@ impl Answer {
         }
     }
 
-    /// The verdict of an answer that has one and is not refused.
-    pub fn verdict(&self) -> Option<Verdict> {
-        let (accepted, side, row) = match self {
-            Answer::Judged(verdict) => (verdict.accepted, 0, verdict.row),
-            Answer::VerifierJudged(answer) => (answer.verdict.accepted, 0, answer.verdict.row),
-            Answer::OrJudged(verdict) => (verdict.accepted, verdict.side, verdict.row),
-            Answer::Told { text, .. } => return verdict_in(text),
-            _ => return None,
+    /// The verdicts of an answer: one where it has one and is not refused, and one
+    /// for each such round of a marker's text.
+    pub fn verdicts(&self) -> Vec<Verdict> {
+        let (accepted, rows) = match self {
+            Answer::Judged(verdict) => (verdict.accepted, [verdict.rows, 0]),
+            Answer::VerifierJudged(answer) => (answer.verdict.accepted, [answer.verdict.rows, 0]),
+            Answer::OrJudged(verdict) => (verdict.accepted, [verdict.rows0, verdict.rows1]),
+            Answer::Told { text, .. } => return text.lines().filter_map(verdict_in).collect(),
+            _ => return Vec::new(),
         };
         let verdict = match accepted {
             1 => Verdict::Accepted,
-            _ => Verdict::Rejected { side, row },
+            _ => Verdict::Rejected(rows),
         };
-        (self.refusal() == 0).then_some(verdict)
+        (self.refusal() == 0)
+            .then_some(verdict)
+            .into_iter()
+            .collect()
     }
 }
 
@@ -109,15 +113,18 @@ fn refusal_in(text: &str) -> u32 {
     found.and_then(|pair| pair[1].parse().ok()).unwrap_or(0)
 }
 
-/// The verdict that a reason's line begins with, if it does.
-fn verdict_in(text: &str) -> Option<Verdict> {
-    let mut words = text.split_whitespace();
-    match words.next()? {
-        "accepted" => Some(Verdict::Accepted),
-        "rejected" => {
-            let row = words.next().and_then(|row| row.parse().ok()).unwrap_or(0);
-            Some(Verdict::Rejected { side: 0, row })
-        }
+/// The verdict that a reason's line begins with, or that stands behind the number
+/// of a round in a marker's line.
+fn verdict_in(line: &str) -> Option<Verdict> {
+    let words: Vec<&str> = line.split_whitespace().collect();
+    let rejected = |rows: &mut dyn Iterator<Item = &&str>| {
+        let rows = rows.filter_map(|row| row.parse::<u32>().ok());
+        Some(Verdict::Rejected([rows.map(|row| 1 << row).sum(), 0]))
+    };
+    match &words[..] {
+        ["accepted"] | [_, "accepted"] => Some(Verdict::Accepted),
+        ["rejected", told @ ..] => rejected(&mut told.iter().step_by(3)),
+        [_, "rejected", rows @ ..] => rejected(&mut rows.iter()),
         _ => None,
     }
 }
@@ -147,7 +154,7 @@ mod tests {
         assert_eq!(refusal_in("file 12\n"), 12);
         assert_eq!(refusal_in("level 25\n"), 25);
         assert_eq!(refusal_in("rounds 0\nfail\n"), 0);
-        assert_eq!(refusal_in("rounds 1\n0 rejected 7\nfail\n"), 0);
+        assert_eq!(refusal_in("rounds 1\n0 rejected 0 7\nfail\n"), 0);
         let text = "rounds 3\n0 accepted\n1 refused 14\n2 refused 15\nfail\n";
         assert_eq!(refusal_in(text), 14);
         assert_eq!(refusal_in("refused 10 24\n"), 10);
@@ -156,11 +163,18 @@ mod tests {
     }
 
     #[test]
-    fn a_reasons_line_has_a_verdict_and_a_markers_text_has_none() {
-        assert_eq!(verdict_in("accepted\n"), Some(Verdict::Accepted));
-        let rejected = Verdict::Rejected { side: 0, row: 7 };
-        assert_eq!(verdict_in("rejected 7 4 2\n"), Some(rejected));
-        assert_eq!(verdict_in("refused 14 7\n"), None);
-        assert_eq!(verdict_in("rounds 1\n0 accepted\npass\n"), None);
+    fn a_reasons_line_has_a_verdict_and_so_has_a_round_of_a_markers_text() {
+        let verdicts = |text: &str| {
+            let (length, text) = (text.len(), text.to_string());
+            Answer::Told { length, text }.verdicts()
+        };
+        let rejected = |rows| Verdict::Rejected([rows, 0]);
+        assert_eq!(verdicts("accepted\n"), [Verdict::Accepted]);
+        assert_eq!(verdicts("rejected 7 4 2\n"), [rejected(128)]);
+        assert_eq!(verdicts("rejected 0 16 4 2 16 4\n"), [rejected(5)]);
+        assert_eq!(verdicts("refused 14 7\n"), []);
+        let text = "rounds 3\n0 accepted\n1 rejected 0 2 7\n2 refused 14\nfail\n";
+        assert_eq!(verdicts(text), [Verdict::Accepted, rejected(133)]);
+        assert_eq!(verdicts("level 25\n"), []);
     }
 }

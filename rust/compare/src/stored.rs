@@ -46,13 +46,15 @@ impl Stored {
     }
 }
 
-/// What the cases are to meet: each line, a round's without its number, an empty
-/// sheet, file and level, a level of two bytes, and accepted rounds that are not
-/// enough. Lines on a sheet that loads are to be met in each kind.
+/// What the cases are to meet: each line, a round's without its number and, where
+/// several rows differ, with how many do, an empty sheet, file and level, a level of
+/// two bytes, and accepted rounds that are not enough. Lines on a sheet that loads
+/// are to be met in each kind.
 fn wanted() -> BTreeSet<String> {
     let mut lines: Vec<String> = vec!["pass".into(), "fail".into(), "accepted".into()];
     lines.extend([0, 512].map(|count| format!("rounds {count}")));
     lines.extend((0..8).map(|row| format!("rejected {row}")));
+    lines.extend((2..=8).map(|count| format!("{count} rows")));
     lines.extend([14, 15, 16].map(|number| format!("refused {number}")));
     lines.extend(["file 12", "level 25"].map(String::from));
     let kinds = [1, 2].into_iter();
@@ -67,6 +69,10 @@ fn met(sheet: &[u8], file: &[u8], level: &[u8], text: &str) -> BTreeSet<String> 
     let mut met = BTreeSet::new();
     for line in text.lines() {
         let line = line.trim_start_matches(|letter: char| letter.is_ascii_digit() || letter == ' ');
+        let line = match line.split(' ').count() {
+            words @ 3.. => format!("{} rows", words - 1),
+            _ => line.to_string(),
+        };
         met.insert(match sheet.get(5) {
             Some(kind) if !line.starts_with("sheet") => format!("{line}, {kind}"),
             _ => line.to_string(),

@@ -8,9 +8,13 @@ use crate::cases::Case;
 use crate::outcome::{Outcome, Verdict};
 use crate::shapes::{Seen, Shapes};
 
-/// How many verdicts there are: accepted, and rejected in each of eight rows of
-/// each of two sides.
-const VERDICTS: usize = 1 + 2 * 8;
+/// What is counted of a side: each of eight rows that it is rejected in, and in how
+/// many, 1 to 8, it is.
+const OF_SIDE: usize = 2 * 8;
+
+/// What is counted of verdicts: accepted, what each of two sides is rejected in, and
+/// which sides are rejected: the first alone, the second alone, and both.
+const VERDICTS: usize = 1 + 2 * OF_SIDE + 3;
 
 /// A count for each call with each number and with each verdict, and for each
 /// shape.
@@ -42,20 +46,43 @@ fn is_of_sheet(number: u32) -> bool {
     earlier.any(|other| *other == number)
 }
 
-/// The place of a verdict among all.
-fn place(verdict: Verdict) -> usize {
-    match verdict {
-        Verdict::Accepted => 0,
-        Verdict::Rejected { side, row } => 1 + 8 * side as usize + row as usize,
+/// The places at which a verdict is counted.
+fn places(verdict: Verdict) -> Vec<usize> {
+    let Verdict::Rejected(rows) = verdict else {
+        return vec![0];
+    };
+    let mut places = Vec::new();
+    for (side, rows) in rows.into_iter().enumerate().filter(|(_, rows)| *rows != 0) {
+        let start = 1 + OF_SIDE * side;
+        places.extend(
+            (0..8)
+                .filter(|row| rows >> row & 1 == 1)
+                .map(|row| start + row),
+        );
+        places.push(start + 8 + rows.count_ones() as usize - 1);
     }
+    let rejected = rows.map(|rows| usize::from(rows != 0));
+    places.push(2 * OF_SIDE + rejected[0] + 2 * rejected[1]);
+    places
 }
 
-/// The name of the verdict at a place, of a call with so many sides.
+/// The name of what is counted at a place, of a call with so many sides.
 fn name(place: usize, sides: usize) -> String {
-    match (place, sides) {
-        (0, _) => "accepted".to_string(),
-        (_, 1) => format!("row {}", place - 1),
-        _ => format!("side {} row {}", (place - 1) / 8, (place - 1) % 8),
+    if place == 0 {
+        return "accepted".to_string();
+    }
+    let (side, of_side) = ((place - 1) / OF_SIDE, (place - 1) % OF_SIDE);
+    let what = match (side, of_side) {
+        (2, 0) => return "side 0 alone".to_string(),
+        (2, 1) => return "side 1 alone".to_string(),
+        (2, _) => return "both sides".to_string(),
+        (_, 0..8) => format!("row {of_side}"),
+        (_, 8) => "1 row".to_string(),
+        _ => format!("{} rows", of_side - 7),
+    };
+    match sides {
+        1 => what,
+        _ => format!("side {side} {what}"),
     }
 }
 
@@ -76,8 +103,8 @@ impl Tally {
             });
         }
         for (call, answer) in &judged.answers {
-            if let Some(verdict) = answer.verdict() {
-                self.verdicts[*call as usize][place(verdict)] += 1;
+            for place in answer.verdicts().into_iter().flat_map(places) {
+                self.verdicts[*call as usize][place] += 1;
             }
         }
     }
@@ -94,7 +121,7 @@ impl Tally {
     /// The verdicts that a call can answer, and how often it did.
     fn verdicts(&self, call: Call) -> impl Iterator<Item = (String, u64)> + '_ {
         let (sides, met) = (call.sides(), self.verdicts[call as usize]);
-        let count = if sides == 0 { 0 } else { 1 + 8 * sides };
+        let count = [0, 1 + OF_SIDE, VERDICTS][sides];
         (0..count).map(move |place| (name(place, sides), met[place]))
     }
 

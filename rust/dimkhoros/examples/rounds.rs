@@ -1,12 +1,12 @@
 //! Vic keeps a file of rounds, a marker judges each of them and says whether they are enough for a level, a student is told the
-//! reason, and the file is converted to version 2 and back.
+//! reason, and the file is converted to version 2 and back. A sheet of two rows shows how the rows that differ are named.
 
 mod common;
 
 use common::page_a;
 use dimkhoros::{
-    EMPTY_FILE, Instance, LONGEST_FILE, LONGEST_FILE_2, LONGEST_REASON, LONGEST_TEXT, Refusal,
-    Round, RoundFile, RoundWriter, mark, places, reason,
+    EMPTY_FILE, Instance, LONGEST_FILE, LONGEST_FILE_2, LONGEST_REASON, LONGEST_TEXT, Pattern,
+    Patterns, Plan, Refusal, Round, RoundFile, RoundWriter, mark, places, reason,
 };
 
 /// A round of page A's sheet.
@@ -86,6 +86,35 @@ fn show_wide(instance: &Instance) -> Result<(), Refusal> {
     Ok(())
 }
 
+/// Shows how the rows that differ are told: in a verdict, by the marker and by the reason.
+fn show_rows() -> Result<(), Refusal> {
+    let plan = Plan {
+        pattern: Pattern::DiffieHellman.number(),
+        modulus: 23,
+        order: 11,
+        challenges: 11,
+        values: &[2, 16],
+        statement: &[13, 18],
+    };
+    let instance = Instance::from_pattern(&Patterns::shipped(), &plan)?;
+    println!("\nA sheet of two rows: 2^x = 13 and 16^x = 18 modulo 23.");
+    // The two sides differ nowhere, in row 0, in row 1 and in both.
+    let rounds = [[9, 6], [6, 6], [9, 9], [6, 9]].map(|t| Round {
+        commitment: places(t),
+        challenge: 3,
+        response: places([4]),
+    });
+    for (number, round) in rounds.iter().enumerate() {
+        println!("round {number}: {}", instance.judge(round)?);
+    }
+    let mut buffer = [0; LONGEST_FILE];
+    show_mark(&instance, &write_file(&instance, &rounds, &mut buffer)?.file(), 7);
+    for (number, round) in rounds.into_iter().enumerate().skip(1) {
+        print!("The reason on round {number} alone: {}", reason_alone(&instance, round)?);
+    }
+    Ok(())
+}
+
 fn main() -> Result<(), Refusal> {
     let instance = page_a()?;
     let mut buffer = [0; LONGEST_FILE];
@@ -110,5 +139,5 @@ fn main() -> Result<(), Refusal> {
     for (number, round) in mixed.into_iter().enumerate() {
         print!("The reason on round {number} alone: {}", reason_alone(&instance, round)?);
     }
-    Ok(())
+    show_rows()
 }

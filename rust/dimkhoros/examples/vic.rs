@@ -5,7 +5,7 @@
 mod boxes;
 
 use boxes::{Base, Failure, Line, random_below};
-use dimkhoros::{PLACES, Places, Refused, Verifier, VerifierPhase};
+use dimkhoros::{PLACES, Places, Refused, Verdict, Verifier, VerifierPhase};
 use std::env;
 use std::process::ExitCode;
 
@@ -26,6 +26,16 @@ fn in_places(numbers: &[u32]) -> Places {
 /// Says why a line is not taken.
 fn say_refused(refused: &Refused<Verifier>) {
     eprintln!("vic does not take it: {}", refused.refusal.sentence());
+}
+
+/// Says the verdict, with the rows that differ where it is rejected.
+fn say(verdict: Verdict) {
+    let mut words = String::from("accepted");
+    if let Verdict::Rejected { rows } = verdict {
+        words =
+            rows.into_iter().fold(String::from("rejected"), |words, row| format!("{words} {row}"));
+    }
+    eprintln!("vic says {words}");
 }
 
 impl Vic {
@@ -92,7 +102,7 @@ impl Vic {
             }
         };
         self.base.store(&session.to_stored())?;
-        eprintln!("vic says {}", if verdict.is_accepted() { "accepted" } else { "rejected" });
+        say(verdict);
         self.judged += 1;
         self.accepted += u32::from(verdict.is_accepted());
         if self.judged < self.rounds {

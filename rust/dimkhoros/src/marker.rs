@@ -9,7 +9,8 @@ use dimkhoros_sys as sys;
 ///
 /// A refused sheet gives the one line `sheet N`, else a refused file `file 12`, else a refused level `level 25`: the number is
 /// [`Refusal::Level`]'s, which no call gives in another way. Else the text has the count of rounds, a line for each round, and
-/// `pass` if every round is accepted and the product of one K for each round is at least 2^w, or `fail`.
+/// `pass` if every round is accepted and the product of one K for each round is at least 2^w, or `fail`. The line of a rejected
+/// round names the rows that differ, rising, as in `2 rejected 0 2 7`.
 ///
 /// ```
 /// use dimkhoros::{LONGEST_TEXT, mark};

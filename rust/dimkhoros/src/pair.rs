@@ -1,6 +1,6 @@
 //! Two sheets, and the OR proof of a witness of one of them: judging and extracting.
 
-use crate::{Instance, OrRound, Places, Refusal};
+use crate::{Instance, OrRound, Places, Refusal, Rows};
 use core::fmt;
 use dimkhoros_sys as sys;
 
@@ -143,10 +143,11 @@ impl<'a> Pair<'a> {
         (self.first.bytes(), self.second.bytes())
     }
 
-    /// The verdict on a round, or a refusal 14 to 16: accepted where both sides are, else rejected with the first side that is.
+    /// The verdict on a round, or a refusal 14 to 16: accepted where both sides are, else rejected with the rows of each side in
+    /// which its two values differ.
     ///
     /// ```
-    /// use dimkhoros::{OrRound, OrVerdict, Pair, Refusal, Side, places};
+    /// use dimkhoros::{OrRound, OrVerdict, Pair, Refusal, Rows, places};
     /// # use dimkhoros::{Instance, Patterns, Plan};
     /// # let plan = Plan { pattern: 1, modulus: 23, order: 11, challenges: 11, values: &[2], statement: &[13] };
     /// # let first = Instance::from_pattern(&Patterns::shipped(), &plan)?;
@@ -163,7 +164,8 @@ impl<'a> Pair<'a> {
     /// };
     /// assert_eq!(pair.judge(&round), Ok(OrVerdict::Accepted));
     /// let other = OrRound { challenge: 7, ..round };
-    /// assert_eq!(pair.judge(&other), Ok(OrVerdict::Rejected { side: Side::Second, row: 0 }));
+    /// let rejected = OrVerdict::Rejected { first: Rows::default(), second: Rows::from_mask(1) };
+    /// assert_eq!(pair.judge(&other), Ok(rejected));
     /// assert_eq!(pair.judge(&OrRound { challenge: 11, ..round }), Err(Refusal::Challenge));
     /// # Ok::<(), Refusal>(())
     /// ```
@@ -174,7 +176,8 @@ impl<'a> Pair<'a> {
         if judged.accepted == 1 {
             return Ok(OrVerdict::Accepted);
         }
-        Ok(OrVerdict::Rejected { side: Side::from_number(judged.side), row: judged.row as usize })
+        let (first, second) = (Rows::from_mask(judged.rows0), Rows::from_mask(judged.rows1));
+        Ok(OrVerdict::Rejected { first, second })
     }
 
     /// The extractor: the witness that two accepted rounds with the same two commitments and different challenges c give away,
@@ -209,11 +212,15 @@ impl<'a> Pair<'a> {
 /// What is said of a round of the OR proof.
 ///
 /// ```
-/// use dimkhoros::{OrVerdict, Side};
+/// use dimkhoros::{OrVerdict, Rows};
 ///
 /// assert_eq!(OrVerdict::Accepted.to_string(), "accepted");
-/// let rejected = OrVerdict::Rejected { side: Side::Second, row: 0 };
-/// assert_eq!(rejected.to_string(), "rejected on side 1 in row 0");
+/// let rejected = |first, second| {
+///     let (first, second) = (Rows::from_mask(first), Rows::from_mask(second));
+///     OrVerdict::Rejected { first, second }.to_string()
+/// };
+/// assert_eq!(rejected(0, 1), "rejected on side 1 in row 0");
+/// assert_eq!(rejected(5, 1), "rejected on side 0 in rows 0 2 and on side 1 in row 0");
 /// ```
 #[derive(Clone, Copy, Debug, PartialEq, Eq, Hash)]
 #[must_use]
@@ -222,10 +229,10 @@ pub enum OrVerdict {
     Accepted,
     /// A side is rejected.
     Rejected {
-        /// The first side that is.
-        side: Side,
-        /// Its first row, from 0, in which the two values differ.
-        row: usize,
+        /// The rows, from 0, in which the first side's two values differ: none where that side is accepted.
+        first: Rows,
+        /// The same of the second side. At least one of the two has a row.
+        second: Rows,
     },
 }
 
@@ -233,22 +240,50 @@ impl OrVerdict {
     /// Whether the round is accepted.
     ///
     /// ```
-    /// use dimkhoros::{OrVerdict, Side};
+    /// use dimkhoros::{OrVerdict, Rows};
     ///
     /// assert!(OrVerdict::Accepted.is_accepted());
-    /// assert!(!OrVerdict::Rejected { side: Side::First, row: 1 }.is_accepted());
+    /// let rejected = OrVerdict::Rejected { first: Rows::from_mask(2), second: Rows::default() };
+    /// assert!(!rejected.is_accepted());
     /// ```
     pub fn is_accepted(self) -> bool {
         self == OrVerdict::Accepted
+    }
+
+    /// The rows in which a side's two values differ. It has none where it is accepted.
+    ///
+    /// ```
+    /// use dimkhoros::{OrVerdict, Rows, Side};
+    ///
+    /// let rejected = OrVerdict::Rejected { first: Rows::default(), second: Rows::from_mask(2) };
+    /// assert!(rejected.rows(Side::First).is_empty());
+    /// assert!(rejected.rows(Side::Second).into_iter().eq([1]));
+    /// assert!(OrVerdict::Accepted.rows(Side::Second).is_empty());
+    /// ```
+    pub fn rows(self, side: Side) -> Rows {
+        match (self, side) {
+            (OrVerdict::Accepted, _) => Rows::default(),
+            (OrVerdict::Rejected { first, .. }, Side::First) => first,
+            (OrVerdict::Rejected { second, .. }, Side::Second) => second,
+        }
     }
 }
 
 impl fmt::Display for OrVerdict {
     fn fmt(&self, f: &mut fmt::Formatter<'_>) -> fmt::Result {
-        match self {
-            OrVerdict::Accepted => f.write_str("accepted"),
-            OrVerdict::Rejected { side, row } => write!(f, "rejected on {side} in row {row}"),
+        if self.is_accepted() {
+            return f.write_str("accepted");
         }
+        f.write_str("rejected")?;
+        let mut between = "";
+        for side in [Side::First, Side::Second] {
+            let rows = self.rows(side);
+            if !rows.is_empty() {
+                write!(f, "{between} on {side} in {rows}")?;
+                between = " and";
+            }
+        }
+        Ok(())
     }
 }
 

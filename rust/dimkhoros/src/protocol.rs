@@ -1,20 +1,21 @@
 //! Judging, simulating and extracting.
 
-use crate::{Instance, Places, Refusal, Round, Verdict};
+use crate::{Instance, Places, Refusal, Round, Rows, Verdict};
 use dimkhoros_sys::{self as sys, Judgement};
 
 impl Instance {
     /// The verifier's verdict on a round, or a refusal 14 to 16.
     ///
     /// ```
-    /// use dimkhoros::{places, Refusal, Round, Verdict};
+    /// use dimkhoros::{places, Refusal, Round, Rows, Verdict};
     /// # use dimkhoros::{Instance, Patterns, Plan};
     /// # let plan = Plan { pattern: 1, modulus: 23, order: 11, challenges: 11, values: &[2], statement: &[13] };
     /// # let instance = Instance::from_pattern(&Patterns::shipped(), &plan)?;
     ///
     /// let round = Round { commitment: places([9]), challenge: 3, response: places([4]) };
     /// assert_eq!(instance.judge(&round), Ok(Verdict::Accepted));
-    /// assert_eq!(instance.judge(&Round { challenge: 2, ..round }), Ok(Verdict::Rejected { row: 0 }));
+    /// let rejected = Verdict::Rejected { rows: Rows::from_mask(1) };
+    /// assert_eq!(instance.judge(&Round { challenge: 2, ..round }), Ok(rejected));
     /// assert_eq!(instance.judge(&Round { challenge: 11, ..round }), Err(Refusal::Challenge));
     /// # Ok::<(), Refusal>(())
     /// ```
@@ -75,5 +76,5 @@ pub(crate) fn verdict(answer: &Judgement) -> Result<Verdict, Refusal> {
     if answer.accepted == 1 {
         return Ok(Verdict::Accepted);
     }
-    Ok(Verdict::Rejected { row: answer.row as usize })
+    Ok(Verdict::Rejected { rows: Rows::from_mask(answer.rows) })
 }

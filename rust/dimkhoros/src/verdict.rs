@@ -1,14 +1,17 @@
 //! Verdicts.
 
+use crate::Rows;
 use core::fmt;
 
 /// What the verifier says of a round.
 ///
 /// ```
-/// use dimkhoros::Verdict;
+/// use dimkhoros::{Rows, Verdict};
 ///
 /// assert_eq!(Verdict::Accepted.to_string(), "accepted");
-/// assert_eq!(Verdict::Rejected { row: 0 }.to_string(), "rejected in row 0");
+/// let rejected = |mask| Verdict::Rejected { rows: Rows::from_mask(mask) };
+/// assert_eq!(rejected(1).to_string(), "rejected in row 0");
+/// assert_eq!(rejected(0b1000_0101).to_string(), "rejected in rows 0 2 7");
 /// ```
 #[derive(Clone, Copy, Debug, PartialEq, Eq, Hash)]
 #[must_use]
@@ -17,8 +20,8 @@ pub enum Verdict {
     Accepted,
     /// The two sides differ.
     Rejected {
-        /// The first row, from 0, in which they differ.
-        row: usize,
+        /// The rows, from 0, in which they differ, and no other. There is at least one.
+        rows: Rows,
     },
 }
 
@@ -26,10 +29,10 @@ impl Verdict {
     /// Whether the round is accepted.
     ///
     /// ```
-    /// use dimkhoros::Verdict;
+    /// use dimkhoros::{Rows, Verdict};
     ///
     /// assert!(Verdict::Accepted.is_accepted());
-    /// assert!(!Verdict::Rejected { row: 1 }.is_accepted());
+    /// assert!(!Verdict::Rejected { rows: Rows::from_mask(2) }.is_accepted());
     /// ```
     pub fn is_accepted(self) -> bool {
         self == Verdict::Accepted
@@ -40,7 +43,7 @@ impl fmt::Display for Verdict {
     fn fmt(&self, f: &mut fmt::Formatter<'_>) -> fmt::Result {
         match self {
             Verdict::Accepted => f.write_str("accepted"),
-            Verdict::Rejected { row } => write!(f, "rejected in row {row}"),
+            Verdict::Rejected { rows } => write!(f, "rejected in {rows}"),
         }
     }
 }

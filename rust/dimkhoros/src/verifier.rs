@@ -142,7 +142,7 @@ impl Verifier {
     /// Brings the response to a session that has asked, and answers the verdict. Refused with 16 or 21.
     ///
     /// ```
-    /// use dimkhoros::{places, Verdict, Verifier, VerifierPhase};
+    /// use dimkhoros::{places, Rows, Verdict, Verifier, VerifierPhase};
     /// # use dimkhoros::{Instance, Patterns, Plan};
     /// # let plan = Plan { pattern: 1, modulus: 23, order: 11, challenges: 11, values: &[2], statement: &[13] };
     /// # let instance = Instance::from_pattern(&Patterns::shipped(), &plan)?;
@@ -150,7 +150,7 @@ impl Verifier {
     /// let vic = Verifier::new().take_commitment(&instance, &places([9]))?;
     /// let vic = vic.take_challenge(&instance, 3)?;
     /// let (vic, verdict) = vic.take_response(&instance, &places([5]))?;
-    /// assert_eq!(verdict, Verdict::Rejected { row: 0 });
+    /// assert_eq!(verdict, Verdict::Rejected { rows: Rows::from_mask(1) });
     /// assert_eq!(vic.phase(), VerifierPhase::Judged);
     /// # Ok::<(), dimkhoros::Refusal>(())
     /// ```

@@ -29,7 +29,7 @@ mod team;
 pub use marker::marker;
 pub use pattern::make;
 pub use pattern_file::Written;
-pub use protocol::{extract, judge, simulate, Round, Verdict};
+pub use protocol::{extract, judge, simulate, Round, Rows, Verdict};
 pub use reason::reason;
 pub use round_file::{append, check, convert, count, empty, part, read, same_commitment};
 pub use sessions::{

@@ -1,6 +1,6 @@
 //! The marker's text.
 
-use crate::protocol::{tested_verdict, Verdict};
+use crate::protocol::{row_numbers, tested_verdict, Rows, Verdict};
 use crate::round_file::{file_header, file_round};
 use crate::sheet::load;
 
@@ -26,6 +26,16 @@ fn is_enough(count: u32, challenges: u32, w: u32) -> bool {
         }
     }
     product >= wanted
+}
+
+/// The words on a rejected round: `rejected` and the numbers of the rows that
+/// differ, rising, with one space between.
+fn rejected(rows: &Rows) -> String {
+    let mut words = String::from("rejected");
+    for row in row_numbers(rows) {
+        words += &format!(" {row}");
+    }
+    words
 }
 
 /// Answers the marker's text for the bytes of a sheet, of a round file and of
@@ -60,7 +70,7 @@ pub fn marker(sheet: &[u8], file: &[u8], level: &[u8]) -> String {
         let verdict = round.and_then(|round| tested_verdict(&sheet, &round));
         let words = match verdict {
             Ok(Verdict::Accepted) => String::from("accepted"),
-            Ok(Verdict::Rejected(row)) => format!("rejected {row}"),
+            Ok(Verdict::Rejected(rows)) => rejected(&rows),
             Ok(Verdict::Refused(refusal)) | Err(refusal) => format!("refused {refusal}"),
         };
         passes = passes && verdict == Ok(Verdict::Accepted);

@@ -14,13 +14,18 @@ pub struct Round {
     pub response: [u32; 8],
 }
 
+/// The rows whose two sides differ: a flag for each of the rows 0 to 7.
+///
+/// The flags beyond the rows in use are false.
+pub type Rows = [bool; 8];
+
 /// What a judged round comes to.
 #[derive(Clone, Copy, Debug, PartialEq, Eq)]
 pub enum Verdict {
     /// Both sides agree in every row.
     Accepted,
-    /// The first row, from 0, whose two sides differ.
-    Rejected(u32),
+    /// The rows whose two sides differ. There is at least one.
+    Rejected(Rows),
     /// The number of the refusal.
     Refused(u32),
 }
@@ -83,6 +88,28 @@ pub(crate) fn sides(
     sides
 }
 
+/// The rows of a round whose two sides differ.
+///
+/// The values have passed 14 to 16.
+pub(crate) fn differing(
+    sheet: &Sheet,
+    commitment: &[u32; 8],
+    challenge: u32,
+    response: &[u32; 8],
+) -> Rows {
+    let sides = sides(sheet, commitment, challenge, response);
+    let mut rows = [false; 8];
+    for (differs, (left, right)) in rows.iter_mut().zip(sides) {
+        *differs = left != right;
+    }
+    rows
+}
+
+/// The numbers of these rows, from 0 and rising.
+pub(crate) fn row_numbers(rows: &Rows) -> Vec<usize> {
+    (0..8).filter(|row| rows[*row]).collect()
+}
+
 /// The verdict on a round whose values have passed 14 to 16.
 pub(crate) fn verdict(
     sheet: &Sheet,
@@ -90,10 +117,11 @@ pub(crate) fn verdict(
     challenge: u32,
     response: &[u32; 8],
 ) -> Verdict {
-    let sides = sides(sheet, commitment, challenge, response);
-    match sides.iter().position(|(left, right)| left != right) {
-        Some(row) => Verdict::Rejected(row as u32),
-        None => Verdict::Accepted,
+    let rows = differing(sheet, commitment, challenge, response);
+    if rows.contains(&true) {
+        Verdict::Rejected(rows)
+    } else {
+        Verdict::Accepted
     }
 }
 
@@ -111,7 +139,7 @@ pub(crate) fn tested_verdict(sheet: &Sheet, round: &Round) -> Result<Verdict, u3
 }
 
 /// Judges a round: accepted when `[r]` = t · z^c in every row, otherwise
-/// rejected with the first row, from 0, that differs.
+/// rejected with all the rows that differ.
 ///
 /// Refuses with 2 to 11 for the sheet, 14 for a commitment value that is no
 /// group element, 15 for a challenge of K or more and 16 for a response slot

@@ -1,7 +1,7 @@
 //! The reason: one line for a student who was turned down.
 
 use crate::bytes::number;
-use crate::protocol::{sides, tested_verdict, Round, Verdict};
+use crate::protocol::{row_numbers, sides, tested_verdict, Round, Rows, Verdict};
 use crate::round_file::{self, file_header, file_round, named_version, Version};
 use crate::sheet::{self, header, load, Sheet};
 
@@ -18,8 +18,8 @@ enum Place {
 ///
 /// The line is `refused`, the number and the offset of the first value that
 /// breaks that rule, or the word `length` and the length found instead of an
-/// offset. Otherwise it is `rejected`, the first differing row and its two
-/// sides, `[r]` first. Otherwise it is `accepted`.
+/// offset. Otherwise it is `rejected` and each differing row, rising, with its
+/// two sides after it, `[r]` first. Otherwise it is `accepted`.
 pub fn reason(sheet: &[u8], file: &[u8]) -> String {
     let loaded = match load(sheet) {
         Ok(loaded) => loaded,
@@ -36,7 +36,7 @@ pub fn reason(sheet: &[u8], file: &[u8]) -> String {
     };
     match tested_verdict(&loaded, &round) {
         Ok(Verdict::Accepted) => String::from("accepted\n"),
-        Ok(Verdict::Rejected(row)) => rejected(&loaded, &round, row),
+        Ok(Verdict::Rejected(rows)) => rejected(&loaded, &round, &rows),
         Ok(Verdict::Refused(number)) | Err(number) => {
             let offset = round_offset(number, &loaded, version, &round);
             refused(number, Place::Offset(offset))
@@ -52,11 +52,16 @@ fn refused(number: u32, place: Place) -> String {
     }
 }
 
-/// The line of a round that was rejected in this row.
-fn rejected(sheet: &Sheet, round: &Round, row: u32) -> String {
+/// The line of a round that was rejected in these rows.
+fn rejected(sheet: &Sheet, round: &Round, rows: &Rows) -> String {
+    // Decision: card 1 wants one line, so all the rows stand on it.
     let sides = sides(sheet, &round.commitment, round.challenge, &round.response);
-    let (left, right) = sides[row as usize];
-    format!("rejected {row} {left} {right}\n")
+    let mut line = String::from("rejected");
+    for row in row_numbers(rows) {
+        let (left, right) = sides[row];
+        line += &format!(" {row} {left} {right}");
+    }
+    line + "\n"
 }
 
 /// The place in a sheet that was refused by this number, 2 to 11.

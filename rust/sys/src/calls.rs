@@ -4,7 +4,7 @@
 //!
 //! - A slice crosses as its pointer and length, and the library reads or writes nothing outside it. It uses no pointer of an
 //!   empty slice, so that a dangling one does no harm.
-//! - An array crosses as the pointer to its 8 or 64 numbers or its 7,696 or 48 bytes.
+//! - An array crosses as the pointer to its 8 or 64 numbers or its 14,864 or 201 bytes.
 //! - What is written to is borrowed as `&mut`, so it shares no byte with the rest, and all borrows live through the call.
 //! - The structs have the layout of C, and any bits are values of their fields.
 

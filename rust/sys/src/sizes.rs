@@ -122,23 +122,21 @@ pub const LONGEST_FILE: usize = 34_823;
 pub const LONGEST_FILE_2: usize = 33_799;
 
 /// How many bytes are lent to the marker's text. They hold 512 lines of the longest, and so every text; the longest text has
-/// 7,586.
+/// 14,754.
 ///
 /// ```
 /// # use dimkhoros_sys::{LONGEST_TEXT, MOST_ROUNDS};
-/// let lines = ["rounds 512\n", "511 rejected 0\n", "fail\n"].map(str::len);
+/// let lines = ["rounds 512\n", "511 rejected 0 1 2 3 4 5 6 7\n", "fail\n"].map(str::len);
 /// assert_eq!(LONGEST_TEXT, lines[0] + MOST_ROUNDS * lines[1] + lines[2]);
 /// ```
-pub const LONGEST_TEXT: usize = 7696;
+pub const LONGEST_TEXT: usize = 14_864;
 
-/// How many bytes are lent to the reason's line. They hold every line; that on a round file of 2^64 - 1 bytes, the longest,
-/// has 39.
+/// How many bytes are lent to the reason's line. They hold every line: the longest tells eight rows.
 ///
 /// ```
 /// # use dimkhoros_sys::LONGEST_REASON;
-/// let longest = format!("refused 12 length {}\n", u64::MAX);
-/// assert_eq!(longest.len(), 39);
-/// assert!(longest.len() <= LONGEST_REASON);
-/// assert!(format!("rejected 7 {0} {0}\n", u32::MAX).len() <= longest.len());
+/// let row = format!(" 7 {0} {0}", u32::MAX);
+/// assert_eq!(LONGEST_REASON, "rejected".len() + 8 * row.len() + "\n".len());
+/// assert!(format!("refused 12 length {}\n", u64::MAX).len() <= LONGEST_REASON);
 /// ```
-pub const LONGEST_REASON: usize = 48;
+pub const LONGEST_REASON: usize = 201;

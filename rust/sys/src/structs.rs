@@ -118,13 +118,21 @@ pub struct Computed {
 }
 
 /// A verdict. It is accepted only where `accepted` is 1: a refused round has 0 there too.
+///
+/// ```
+/// # use dimkhoros_sys::Judgement;
+/// let verdict = Judgement { accepted: 0, rows: 0b1000_0101, refusal: 0 };
+/// let differ: Vec<u32> = (0..8).filter(|row| verdict.rows >> row & 1 == 1).collect();
+/// assert_eq!(differ, [0, 2, 7]);
+/// ```
 #[derive(Clone, Copy, Debug, Default, PartialEq, Eq, Hash)]
 #[repr(C)]
 pub struct Judgement {
     /// 1 if the two sides agree in every row, else 0.
     pub accepted: u32,
-    /// Of a rejected round, the first row, from 0, in which they differ.
-    pub row: u32,
+    /// The mask of the rows, from 0, in which they differ: bit i, of value 2^i, is set where row i is one of them. No bit from
+    /// 2^s on is set. It is 0 of an accepted and of a refused round.
+    pub rows: u32,
     /// The refusal.
     pub refusal: u32,
 }
@@ -159,10 +167,10 @@ pub struct OrRound {
 pub struct OrJudgement {
     /// 1 if both sides are accepted, else 0.
     pub accepted: u32,
-    /// Of a rejected round, the first side, 0 or 1, that is rejected.
-    pub side: u32,
-    /// And the first row, from 0, in which that side's two values differ.
-    pub row: u32,
+    /// The mask of the rows in which side 0's two values differ, as in [`Judgement`]. It is 0 where side 0 is accepted.
+    pub rows0: u32,
+    /// The same of side 1.
+    pub rows1: u32,
     /// The refusal.
     pub refusal: u32,
 }

@@ -83,9 +83,9 @@ impl Lines<'_> {
             self.decimal(number as u32);
             match sheet.judge(&round(sheet, record)) {
                 Ok(Verdict::Accepted) => self.word(b" accepted\n"),
-                Ok(Verdict::Rejected(row)) => {
+                Ok(Verdict::Rejected(rows)) => {
                     passed = false;
-                    self.numbered(b" rejected ", row);
+                    self.rejected(rows);
                 }
                 Err(number) => {
                     passed = false;
@@ -100,6 +100,15 @@ impl Lines<'_> {
     fn word(&mut self, word: &[u8]) {
         self.text[self.length..][..word.len()].copy_from_slice(word);
         self.length += word.len();
+    }
+
+    /// The word and the rows of a mask, rising, and the end of the line.
+    fn rejected(&mut self, rows: u32) {
+        self.word(b" rejected");
+        for row in (0..8).filter(|row| rows >> row & 1 == 1) {
+            self.word(&[b' ', b'0' + row]);
+        }
+        self.word(b"\n");
     }
 
     /// A word, a number and the end of the line.

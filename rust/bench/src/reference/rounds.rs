@@ -9,6 +9,7 @@ use super::sheet::{load, Kind, Sheet};
 #[derive(PartialEq, Eq)]
 pub enum Verdict {
     Accepted,
+    /// The mask of the rows that differ.
     Rejected(u32),
 }
 
@@ -53,9 +54,10 @@ impl<A: Arithmetic> Sheet<A> {
     fn verdict(&self, round: &Round) -> Verdict {
         let image = self.image(&round.response);
         let expected = self.expected_image(&round.commitment, round.challenge);
-        match (0..self.rows).find(|&i| image[i] != expected[i]) {
-            Some(row) => Verdict::Rejected(row as u32),
-            None => Verdict::Accepted,
+        let differ = (0..self.rows).filter(|&i| image[i] != expected[i]);
+        match differ.fold(0, |rows, i| rows | 1 << i) {
+            0 => Verdict::Accepted,
+            rows => Verdict::Rejected(rows),
         }
     }
 

@@ -1,5 +1,6 @@
 //! Faults of the marker.
 
+use crate::faults::rows::mark_rows;
 use crate::faults::Fault;
 use crate::files::version;
 use crate::library::Library::Judge;
@@ -18,7 +19,9 @@ pub fn mark(
         right = String::from("file 12\n");
     }
     let marked = if right.starts_with("rounds") {
-        let challenges = header(sheet).map_or(0, |header| header.challenges);
+        let (challenges, rows) =
+            header(sheet).map_or((0, 0), |header| (header.challenges, header.rows));
+        let right = named(fault, &right, rows);
         marked(fault, &right, challenges, level[0])
     } else {
         refused(fault, &right, sheet, file, level)
@@ -79,8 +82,7 @@ fn marked(fault: Fault, right: &str, challenges: u32, level: u8) -> String {
         Fault::MarkRefusedPasses if !right.contains("rejected") => {
             end(&mut lines, capped(challenges, count) >= 1 << level);
         }
-        Fault::MarkRowZero => {
-            accept_rows(&mut lines);
+        Fault::MarkRowZero | Fault::MarkEndRow => {
             let all = !lines.iter().any(|line| line.contains(" re"));
             end(&mut lines, all && capped(challenges, count) >= 1 << level);
         }
@@ -117,15 +119,36 @@ fn end(lines: &mut [String], passes: bool) {
     }
 }
 
-/// Accepts the rounds that are rejected in a row that is not 0.
-fn accept_rows(lines: &mut [String]) {
-    for line in lines.iter_mut() {
-        if let Some((number, row)) = line.split_once(" rejected ") {
-            if row != "0" {
-                *line = format!("{number} accepted");
+/// The text with the rows of rejected rounds as a fault has them, on a sheet of so
+/// many rows. A round of which no row is compared is accepted.
+fn named(fault: Fault, right: &str, count: u32) -> String {
+    let mut text = String::new();
+    for line in right.lines() {
+        text += &match line.split_once(" rejected ") {
+            Some((number, rows)) => {
+                let rows = match fault {
+                    Fault::MarkRowZero => without(rows, |row| row > 0),
+                    Fault::MarkEndRow => without(rows, |row| row + 1 == count),
+                    _ => mark_rows(fault, rows, count),
+                };
+                match rows.as_str() {
+                    "" if fault != Fault::MarkAgreeing => format!("{number} accepted\n"),
+                    "" => format!("{number} rejected\n"),
+                    _ => format!("{number} rejected {rows}\n"),
+                }
             }
-        }
+            None => format!("{line}\n"),
+        };
     }
+    text
+}
+
+/// The words but those of rows that are left out.
+fn without(rows: &str, is_left_out: impl Fn(u32) -> bool) -> String {
+    let kept = rows
+        .split(' ')
+        .filter(|word| !word.parse().is_ok_and(&is_left_out));
+    kept.collect::<Vec<_>>().join(" ")
 }
 
 /// Cuts the number at the start of a round's line to a byte.

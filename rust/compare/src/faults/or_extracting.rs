@@ -125,9 +125,7 @@ fn number(
             let [one, other] = [a, b].map(|round| sides(count, round)[0]);
             of_side(0, Judge.extract(first, &one, &other))
         }
-        (Fault::OrExtractOneSide, 20)
-            if verdicts.iter().all(|v| v.side == 1 || v.accepted == 1) =>
-        {
+        (Fault::OrExtractOneSide, 20) if verdicts.iter().all(|verdict| verdict.rows0 == 0) => {
             OrExtracted::default()
         }
         (Fault::OrExtractOneRound, 20) if verdicts[0].accepted == 1 => OrExtracted::default(),

@@ -2,6 +2,7 @@
 
 use crate::arithmetic::{multiply, power};
 use crate::faults::rounds::{bad_beyond, slot_bound};
+use crate::faults::rows::misnamed;
 use crate::faults::sheets::{with_word, word, CHALLENGES};
 use crate::faults::Fault;
 use crate::library::Library::Judge;
@@ -10,17 +11,25 @@ use crate::library::{OrJudgement, OrRound, Round};
 /// An accepted round.
 const ACCEPTED: OrJudgement = OrJudgement {
     accepted: 1,
-    side: 0,
-    row: 0,
+    rows0: 0,
+    rows1: 0,
     refusal: 0,
 };
 
-/// A round that is rejected on this side in this row.
-fn rejected(side: u32, row: u32) -> OrJudgement {
+/// A round that is rejected in these rows of side 0 and of side 1.
+fn rejected(rows0: u32, rows1: u32) -> OrJudgement {
     OrJudgement {
-        side,
-        row,
+        rows0,
+        rows1,
         ..OrJudgement::default()
+    }
+}
+
+/// The verdict of a judge in which these rows differ.
+fn compared(rows0: u32, rows1: u32) -> OrJudgement {
+    match rows0 | rows1 {
+        0 => ACCEPTED,
+        _ => rejected(rows0, rows1),
     }
 }
 
@@ -71,16 +80,11 @@ fn verdict(
     right: OrJudgement,
 ) -> OrJudgement {
     let (one, two) = (Judge.load(first).header, Judge.load(second).header);
-    let sides = sides(one.challenges, round);
-    let verdicts = [
-        Judge.judge(first, &sides[0]),
-        Judge.judge(second, &sides[1]),
-    ];
-    let accepted = verdicts.map(|verdict| verdict.accepted == 1);
+    let (rows0, rows1) = (right.rows0, right.rows1);
     let (c, c0) = (round.challenge, round.challenge0);
     match fault {
-        Fault::OrOneSide if accepted[0] || accepted[1] => ACCEPTED,
-        Fault::OrFirstSide if accepted[0] => ACCEPTED,
+        Fault::OrOneSide if rows0 == 0 || rows1 == 0 => ACCEPTED,
+        Fault::OrFirstSide => compared(rows0, 0),
         Fault::OrChallengeSame => with_second(first, second, round, c0),
         Fault::OrChallengeWhole => with_second(first, second, round, c),
         Fault::OrChallengeOrder => with_second(first, second, round, left(two.order, c, c0)),
@@ -89,8 +93,22 @@ fn verdict(
             let added = left(one.challenges, c, left(one.challenges, 0, c0));
             with_second(first, second, round, added)
         }
-        Fault::OrLastSide if !accepted[1] => rejected(1, verdicts[1].row),
-        Fault::OrRowsCounted if right.side == 1 => rejected(1, one.rows + right.row),
+        Fault::OrLastSide if rows1 != 0 => rejected(0, rows1),
+        Fault::OrSecondRows if rows0 != 0 => rejected(rows0, 0),
+        Fault::OrNoSecondRows if right != ACCEPTED => rejected(rows0, 0),
+        Fault::OrRowsCounted => compared(rows0, rows1 << one.rows),
+        Fault::OrRowsExchanged => compared(rows1, rows0),
+        Fault::OrRowsTogether => compared(rows0 | rows1, 0),
+        Fault::OrRowsOfFirst => compared(rows0, rows1 & ((1 << one.rows) - 1)),
+        Fault::OrEndRow => compared(
+            misnamed(fault, rows0, one.rows),
+            misnamed(fault, rows1, two.rows),
+        ),
+        Fault::OrAgreeing | Fault::OrFirstRow if right != ACCEPTED => rejected(
+            misnamed(fault, rows0, one.rows),
+            misnamed(fault, rows1, two.rows),
+        ),
+        Fault::OrRowsBeyond if rows1 != 0 => rejected(rows0, misnamed(fault, rows1, two.rows)),
         Fault::OrUnreadCommitment if bad_beyond(&round.commitment1, two.rows, two.modulus) => {
             refused(14)
         }
@@ -105,9 +123,6 @@ fn verdict(
 fn with_second(first: &[u8], second: &[u8], round: &OrRound, challenge: u32) -> OrJudgement {
     let header = Judge.load(first).header;
     let verdict = Judge.judge(first, &sides(header.challenges, round)[0]);
-    if verdict.accepted == 0 {
-        return rejected(0, verdict.row);
-    }
     let loaded = Judge.load(second);
     let (m, rows) = (loaded.header.modulus, loaded.header.rows as usize);
     let image = Judge.simulate(second, 0, &round.response1).values;
@@ -115,10 +130,10 @@ fn with_second(first: &[u8], second: &[u8], round: &OrRound, challenge: u32) -> 
         let factor = power(loaded.statement[*row], challenge, m);
         image[*row] != multiply(round.commitment1[*row], factor, m)
     };
-    match (0..rows).find(differs) {
-        Some(row) => rejected(1, row as u32),
-        None => ACCEPTED,
-    }
+    compared(
+        verdict.rows,
+        (0..rows).filter(differs).map(|row| 1 << row).sum(),
+    )
 }
 
 /// Judging where a sheet is refused, or both are.
@@ -175,7 +190,7 @@ fn bad_round(
                 number => refused(number),
             };
         }
-        (Fault::OrRefusedSide, _) => return OrJudgement { side: 1, ..right },
+        (Fault::OrRefusedRows, _) => return OrJudgement { rows1: 1, ..right },
         _ => return right,
     }
     Judge.or_judge(first, second, &changed)

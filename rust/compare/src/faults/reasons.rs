@@ -1,5 +1,6 @@
 //! Faults of the reason.
 
+use crate::faults::rows::{reason_rows, told_rows};
 use crate::faults::Fault;
 use crate::files::{record_in, version, width};
 use crate::groups::Group;
@@ -7,12 +8,11 @@ use crate::library::Library::Judge;
 use crate::library::LONGEST_REASON;
 
 /// A line, by its parts: a refusal's number with an offset or a length, a
-/// rejected round's row and its two sides.
-#[derive(Clone, Copy)]
+/// rejected round's rows, each with its two sides.
 enum Line {
     At(u32, usize),
     Length(u32, usize),
-    Rejected(u32, u32, u32),
+    Rejected(Vec<[u32; 3]>),
     Accepted,
 }
 
@@ -29,16 +29,19 @@ impl Line {
         match numbers[..] {
             [number, found] if text.contains("length") => Line::Length(number as u32, found),
             [number, offset] => Line::At(number as u32, offset),
-            [row, left, right] => Line::Rejected(row as u32, left as u32, right as u32),
-            _ => Line::Accepted,
+            [] => Line::Accepted,
+            _ => {
+                let (rows, _) = numbers.as_chunks::<3>();
+                Line::Rejected(rows.iter().map(|row| row.map(|word| word as u32)).collect())
+            }
         }
     }
 
-    fn text(self) -> String {
+    fn text(self, fault: Fault) -> String {
         match self {
             Line::At(number, offset) => format!("refused {number} {offset}\n"),
             Line::Length(number, found) => format!("refused {number} length {found}\n"),
-            Line::Rejected(row, left, right) => format!("rejected {row} {left} {right}\n"),
+            Line::Rejected(rows) => format!("rejected {}\n", told_rows(fault, &rows)),
             Line::Accepted => String::from("accepted\n"),
         }
     }
@@ -51,13 +54,13 @@ pub fn reason(fault: Fault, sheet: &[u8], file: &[u8], text: &mut [u8; LONGEST_R
         Line::At(12 | 13, _) | Line::Length(..) => of_file(fault, right, sheet, file),
         _ => of_round(fault, right, sheet, file),
     }
-    .text();
+    .text(fault);
     if fault == Fault::ReasonNoEnd {
         line.pop();
     }
     text[..line.len()].copy_from_slice(line.as_bytes());
-    if fault == Fault::ReasonByteAfter {
-        text[line.len()] = 0;
+    if let (Fault::ReasonByteAfter, Some(byte)) = (fault, text.get_mut(line.len())) {
+        *byte = 0;
     }
     line.len()
 }
@@ -88,7 +91,7 @@ fn of_sheet(fault: Fault, right: Line, sheet: &[u8], file: &[u8]) -> Line {
         (Fault::ReasonRootEntries, Line::At(11, offset)) if kind == 2 => {
             Line::At(11, offset + 4 * rows * columns)
         }
-        _ => right,
+        (_, right) => right,
     }
 }
 
@@ -105,7 +108,7 @@ fn of_file(fault: Fault, right: Line, sheet: &[u8], file: &[u8]) -> Line {
         (Fault::ReasonCountFirst, Line::Length(_, 7..)) => Line::At(12, 5),
         (Fault::ReasonLengthKept, Line::Length(_, found)) => Line::Length(12, found.min(34_824)),
         (Fault::ReasonNoRounds, Line::At(13, _)) => Line::Accepted,
-        _ => right,
+        (_, right) => right,
     }
 }
 
@@ -127,16 +130,16 @@ fn of_round(fault: Fault, right: Line, sheet: &[u8], file: &[u8]) -> Line {
             Line::At(16, offset + 4 - width(version(file)))
         }
         (Fault::ReasonVersionOne, _) if version(file) == 2 => Line::At(12, 3),
-        (Fault::ReasonSides, Line::Rejected(row, left, right)) => Line::Rejected(row, right, left),
-        (Fault::ReasonRowZero, Line::Rejected(1.., ..)) => Line::Accepted,
-        (Fault::ReasonRowFromOne, Line::Rejected(row, left, right)) => {
-            Line::Rejected(row + 1, left, right)
-        }
         (Fault::ReasonLastRound, _) => {
             let last = &file[file.len() - record_in(&header, file)..];
             Line::of(sheet, &[&file[..5], &[0, 1], last].concat())
         }
-        _ => right,
+        (_, Line::Rejected(told)) => {
+            let response = Judge.read(sheet, file, 0).round.response;
+            let image = Judge.simulate(sheet, 0, &response).values;
+            reason_rows(fault, told, &image[..rows]).map_or(Line::Accepted, Line::Rejected)
+        }
+        (_, right) => right,
     }
 }
 

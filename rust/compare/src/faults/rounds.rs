@@ -1,6 +1,7 @@
 //! Faults of judging and of simulating.
 
 use crate::arithmetic::{multiply, power};
+use crate::faults::rows::misnamed;
 use crate::faults::sheets::{
     below_order, one_in_range, restated, right_without, with_word, word, CHALLENGES, MODULUS,
 };
@@ -12,14 +13,22 @@ use crate::library::{Computed, Header, Judgement, Places, Round};
 pub const ACCEPTED: Judgement = Judgement {
     refusal: 0,
     accepted: 1,
-    row: 0,
+    rows: 0,
 };
 
-/// A round that is rejected in this row.
-pub fn rejected(row: u32) -> Judgement {
+/// A round that is rejected in these rows.
+pub fn rejected(rows: u32) -> Judgement {
     Judgement {
-        row,
+        rows,
         ..Judgement::default()
+    }
+}
+
+/// The verdict of a judge that compares these rows only, which are a mask.
+pub fn compared(right: Judgement, rows: u32) -> Judgement {
+    match right.rows & rows {
+        0 => ACCEPTED,
+        rows => rejected(rows),
     }
 }
 
@@ -58,13 +67,14 @@ pub fn judge(fault: Fault, sheet: &[u8], round: &Round) -> Judgement {
 fn verdict(fault: Fault, sheet: &[u8], round: &Round, right: Judgement) -> Judgement {
     let header = Judge.load(sheet).header;
     match fault {
-        Fault::JudgeRowZero if right.row > 0 => ACCEPTED,
-        Fault::JudgeLastRow if right.row == 7 => ACCEPTED,
-        Fault::JudgeRejectsAll => rejected(right.row),
-        Fault::JudgeLastDifference if right != ACCEPTED => {
-            let rows = differing(sheet, round);
-            rejected(rows.last().copied().unwrap_or(0))
-        }
+        Fault::JudgeRowZero => compared(right, 1),
+        Fault::JudgeLastRow => compared(right, 0x7f),
+        Fault::JudgeEndRow => compared(right, misnamed(fault, right.rows, header.rows)),
+        Fault::JudgeRejectsAll => rejected(right.rows.max(1)),
+        Fault::JudgeRowsAccepted if right == ACCEPTED => Judgement {
+            rows: (1 << header.rows) - 1,
+            ..right
+        },
         Fault::JudgeUnreadCommitment
             if bad_beyond(&round.commitment, header.rows, header.modulus) =>
         {
@@ -75,16 +85,18 @@ fn verdict(fault: Fault, sheet: &[u8], round: &Round, right: Judgement) -> Judge
         {
             refused(16)
         }
-        _ => right,
+        _ if right == ACCEPTED => right,
+        _ => rejected(misnamed(fault, right.rows, header.rows)),
     }
 }
 
-/// The rows of a round that differ, where its challenge and response pass.
-fn differing(sheet: &[u8], round: &Round) -> Vec<u32> {
+/// The mask of the rows of a round that differ, where its challenge and response
+/// pass.
+fn differing(sheet: &[u8], round: &Round) -> u32 {
     let rows = Judge.load(sheet).header.rows;
     let simulated = Judge.simulate(sheet, round.challenge, &round.response);
     let differs = |row: &u32| simulated.values[*row as usize] != round.commitment[*row as usize];
-    (0..rows).filter(differs).collect()
+    (0..rows).filter(differs).map(|row| 1 << row).sum()
 }
 
 /// The verdict on a round with a commitment value that is in range but is no
@@ -92,7 +104,7 @@ fn differing(sheet: &[u8], round: &Round) -> Vec<u32> {
 fn range_only(sheet: &[u8], round: &Round) -> Judgement {
     let simulated = Judge.simulate(sheet, round.challenge, &round.response);
     match simulated.refusal {
-        0 => rejected(differing(sheet, round)[0]),
+        0 => rejected(differing(sheet, round)),
         number => refused(number),
     }
 }
@@ -120,6 +132,7 @@ fn judge_bad_round(fault: Fault, sheet: &[u8], round: &Round, right: Judgement) 
     let mut changed = *round;
     let mut used = round.commitment.iter().take(header.rows as usize);
     match (fault, right.refusal) {
+        (Fault::JudgeRowsRefused, _) => Judgement { rows: 1, ..right },
         (Fault::JudgeRangeOnly, 14) if used.all(|t| (1..header.modulus).contains(t)) => {
             range_only(sheet, round)
         }

@@ -1,6 +1,7 @@
 //! Faults of the calls on Vic's session.
 
-use crate::faults::rounds::{bad_beyond, refused, rejected, ACCEPTED};
+use crate::faults::rounds::{bad_beyond, compared, refused, rejected, ACCEPTED};
+use crate::faults::rows::misnamed;
 use crate::faults::Fault;
 use crate::library::phases::verifier::{ASKED, HOLDING, JUDGED, WAITING};
 use crate::library::Library::Judge;
@@ -182,8 +183,17 @@ fn answered(
 ) -> VerifierJudgement {
     let header = Judge.load(sheet).header;
     match fault {
-        Fault::AnswerRowZero if right.verdict.row > 0 => right.verdict = ACCEPTED,
-        Fault::AnswerRejectsAll => right.verdict = rejected(right.verdict.row),
+        Fault::AnswerRowZero => right.verdict = compared(right.verdict, 1),
+        Fault::AnswerEndRow => {
+            let rows = misnamed(fault, right.verdict.rows, header.rows);
+            right.verdict = compared(right.verdict, rows);
+        }
+        Fault::AnswerRejectsAll => right.verdict = rejected(right.verdict.rows.max(1)),
+        Fault::AnswerFirstRow | Fault::AnswerAgreeing | Fault::AnswerRowsBeyond
+            if right.verdict != ACCEPTED =>
+        {
+            right.verdict.rows = misnamed(fault, right.verdict.rows, header.rows);
+        }
         Fault::AnswerRejectedStays if right.verdict != ACCEPTED => right.session = session,
         Fault::AnswerClears => {
             right.session.commitment = [0; 8];

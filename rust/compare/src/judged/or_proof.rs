@@ -2,6 +2,7 @@
 
 use judge::or_proof::{self, OrProver, OrVerdict};
 
+use super::values::mask;
 use crate::library::{OrAnswer, OrExtracted, OrJudgement, OrRound, OrSession, Places};
 
 /// A round for the judge.
@@ -60,15 +61,16 @@ fn answer(result: Result<([Places; 2], u32), u32>, next: OrProver) -> OrAnswer {
 }
 
 pub fn or_judge(first: &[u8], second: &[u8], judged: &OrRound) -> OrJudgement {
-    let (accepted, side, row, refusal) = match or_proof::judge([first, second], &round(judged)) {
-        OrVerdict::Accepted => (1, 0, 0, 0),
-        OrVerdict::Rejected { side, row } => (0, side, row, 0),
-        OrVerdict::Refused(number) => (0, 0, 0, number),
+    let (accepted, rows, refusal) = match or_proof::judge([first, second], &round(judged)) {
+        OrVerdict::Accepted => (1, [0; 2], 0),
+        OrVerdict::Rejected(rows) => (0, rows.each_ref().map(mask), 0),
+        OrVerdict::Refused(number) => (0, [0; 2], number),
     };
+    let [rows0, rows1] = rows;
     OrJudgement {
         accepted,
-        side,
-        row,
+        rows0,
+        rows1,
         refusal,
     }
 }

@@ -1,6 +1,6 @@
 //! Sheets, rounds and results, as the judge and as the library have them.
 
-use judge::Verdict;
+use judge::{Rows, Verdict};
 
 use crate::library::{Computed, Header, Judgement, Loaded, Places, Round, Written};
 
@@ -70,16 +70,23 @@ pub fn computed(result: Result<Places, u32>) -> Computed {
     }
 }
 
+/// The mask of these rows: row i has the bit of value 2^i.
+pub fn mask(rows: &Rows) -> u32 {
+    let values = [1, 2, 4, 8, 16, 32, 64, 128];
+    let differing = values.iter().zip(rows).filter(|(_, differs)| **differs);
+    differing.map(|(value, _)| value).sum()
+}
+
 /// A verdict as three numbers.
 pub fn judgement(verdict: Verdict) -> Judgement {
-    let (refusal, accepted, row) = match verdict {
+    let (refusal, accepted, rows) = match verdict {
         Verdict::Accepted => (0, 1, 0),
-        Verdict::Rejected(row) => (0, 0, row),
+        Verdict::Rejected(rows) => (0, 0, mask(&rows)),
         Verdict::Refused(refusal) => (refusal, 0, 0),
     };
     Judgement {
         refusal,
         accepted,
-        row,
+        rows,
     }
 }

@@ -77,16 +77,17 @@ pub fn change(random: &mut Random, instance: &Instance, round: &mut Round) {
     }
 }
 
-/// Changes one row of a commitment and, now and then, the rows behind it. The
+/// Changes one row of a commitment, or that row and those behind it, or any. The
 /// factor is the largest of four elements, which is seldom 1.
 pub fn change_rows(random: &mut Random, instance: &Instance, commitment: &mut Places) {
     let first = random.place(instance.rows());
-    let last = if random.once_in(3) {
-        instance.rows()
-    } else {
-        first + 1
+    let rows = match random.below(3) {
+        0 => 1 << first,
+        1 => 0xff << first,
+        _ => 1 + random.below((1 << instance.rows()) - 1),
     };
-    for value in &mut commitment[first..last] {
+    let used = commitment[..instance.rows()].iter_mut().enumerate();
+    for (_, value) in used.filter(|(row, _)| rows >> row & 1 == 1) {
         let factor = (0..4).map(|_| instance.group.element(random)).max();
         *value = multiply(*value, factor.unwrap_or(1), instance.group.modulus);
     }

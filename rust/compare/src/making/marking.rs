@@ -126,12 +126,14 @@ mod tests {
             "accepted\nfail\n",
             "rejected 0\n",
             "rejected 7\n",
+            "rejected 0 1\n",
+            "rejected 0 1 2 3 4 5 6 7\n",
             "refused 14\n",
             "refused 15\n",
             "refused 16\nfail\n",
             "rounds 512\n",
         ];
-        let mut met = [0; 12];
+        let mut met = [0; 14];
         for seed in 0..1500 {
             let outcome = mark(&mut Random::new(seed)).run(Judge);
             let text = String::from_utf8_lossy(&outcome.memory).into_owned();

@@ -195,7 +195,7 @@ mod tests {
         if let [round] = rounds {
             let judged = Judge.or_judge(first, second, round);
             if judged.refusal == 0 {
-                let verdict = (judged.accepted, judged.side);
+                let verdict = (judged.accepted, judged.rows0 != 0, judged.rows1 != 0);
                 shapes.push(format!("{verdict:?}, c below c0 {}", wraps(round)));
             }
             let one = [round.challenge >= count, round.challenge0 >= count];
@@ -229,7 +229,7 @@ mod tests {
     #[test]
     fn rounds_of_every_shape_are_met() {
         let mut met = BTreeMap::new();
-        for seed in 0..6000 {
+        for seed in 0..8000 {
             let mut random = Random::new(seed);
             for case in [judge_case(&mut random), extract_case(&mut random)] {
                 for shape in shapes(&case) {
@@ -238,10 +238,11 @@ mod tests {
             }
         }
         for wanted in [
-            "(1, 0), c below c0 false",
-            "(1, 0), c below c0 true",
-            "(0, 0), c below c0 true",
-            "(0, 1), c below c0 true",
+            "(1, false, false), c below c0 false",
+            "(1, false, false), c below c0 true",
+            "(0, true, false), c below c0 true",
+            "(0, false, true), c below c0 true",
+            "(0, true, true), c below c0 true",
             "15, of c and c0 [true, false]",
             "15, of c and c0 [false, true]",
             "15, of c and c0 [true, true]",

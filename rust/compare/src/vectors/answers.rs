@@ -51,11 +51,22 @@ fn verifier(session: &VerifierSession) -> String {
     format!("state={state} commitment={commitment} challenge={challenge}")
 }
 
+/// The rows of a mask, rising.
+pub fn rows(mask: u32) -> Vec<String> {
+    let rows = (0..u32::BITS).filter(|row| mask >> row & 1 == 1);
+    rows.map(|row| row.to_string()).collect()
+}
+
 fn verdict(judgement: Judgement) -> String {
-    match judgement.accepted {
-        1 => "accepted".to_string(),
-        _ => format!("rejected {}", judgement.row),
-    }
+    let mut words = rows(judgement.rows);
+    words.insert(
+        0,
+        match judgement.accepted {
+            1 => "accepted".to_string(),
+            _ => "rejected".to_string(),
+        },
+    );
+    words.join(" ")
 }
 
 /// A buffer that a call was lent, and what it answered.
@@ -237,7 +248,7 @@ impl Given {
         let (s, n) = self.sizes();
         if call == Call::Judge {
             let judged = library.judge(&self.sheet, &inputs.round("")?);
-            let clean = judged.accepted == 0 && judged.row == 0;
+            let clean = judged.accepted == 0 && judged.rows == 0;
             return Ok(told(judged.refusal, clean, || verdict(judged)));
         }
         let (computed, name, used) = if call == Call::Simulate {
@@ -298,7 +309,7 @@ impl Given {
         if call == Call::VerifierResponse {
             let answer = library.verifier_response(&self.sheet, given, &inputs.brought("r")?);
             let judged = answer.verdict;
-            let clean = answer.session == given && judged.accepted == 0 && judged.row == 0;
+            let clean = answer.session == given && judged.accepted == 0 && judged.rows == 0;
             return Ok(told(judged.refusal, clean, || {
                 format!("{} {}", verdict(judged), verifier(&answer.session))
             }));

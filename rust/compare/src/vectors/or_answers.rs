@@ -1,6 +1,6 @@
 //! The answers of the OR proof's calls as the vectors have them.
 
-use super::answers::{list, sizes, state, told};
+use super::answers::{list, rows, sizes, state, told};
 use super::inputs::{Inputs, PROVER_STATES};
 use super::Given;
 use crate::calls::Call;
@@ -41,14 +41,18 @@ impl Given {
             let judged = library.or_judge(first, second, &round);
             let OrJudgement {
                 accepted,
-                side,
-                row,
+                rows0,
+                rows1,
                 refusal,
             } = judged;
-            let clean = accepted == 0 && side == 0 && row == 0;
+            let clean = accepted == 0 && rows0 == 0 && rows1 == 0;
+            let [rows0, rows1] = [rows0, rows1].map(|mask| match mask {
+                0 => "-".to_string(),
+                _ => rows(mask).join(","),
+            });
             return Ok(told(refusal, clean, || match accepted {
                 1 => "accepted".to_string(),
-                _ => format!("rejected side={side} row={row}"),
+                _ => format!("rejected rows0={rows0} rows1={rows1}"),
             }));
         }
         let other = inputs.or_round("_2")?;

@@ -17,6 +17,7 @@ mod reasons;
 mod refusals;
 mod repeats;
 mod rounds;
+mod rows;
 mod run;
 mod sessions;
 mod sheets;

@@ -63,7 +63,7 @@ fn a_level_is_one_byte_from_1_to_64() {
 }
 
 #[test]
-fn the_longest_text_has_a_line_for_each_of_512_rounds() {
+fn a_text_has_a_line_for_each_of_512_rounds() {
     let text = marked(&page_a(), &[round(9, 1, 2); MOST_ROUNDS], &[64]);
     assert_eq!(text.lines().count(), MOST_ROUNDS + 2);
     assert!(text.ends_with("511 rejected 0\nfail\n"));

@@ -2,7 +2,8 @@
 
 use crate::pages::{PLANS, SCHNORR, made};
 use dimkhoros::{
-    Instance, OrProver, OrRound, OrVerdict, OrWitness, Pair, Places, Plan, Refusal, Side, places,
+    Instance, OrProver, OrRound, OrVerdict, OrWitness, Pair, Places, Plan, Refusal, Rows, Side,
+    places,
 };
 
 /// A product sheet of two rows and three columns, with K = 5, and its witness.
@@ -27,24 +28,27 @@ fn round(
 }
 
 #[test]
-fn a_verdict_names_the_first_side_and_its_first_row() {
+fn a_verdict_names_the_rows_of_both_sides() {
     let (first, second) = (product().0, root().0);
     let pair = Pair::new(&first, &second).unwrap();
     // The challenge is below the simulated one.
     let right = round(&pair, (Side::First, places([1, 2, 3]), 4, places([6])), 1);
     assert_eq!((right.challenge, right.challenge0), (1, 2));
     assert_eq!(pair.judge(&right), Ok(OrVerdict::Accepted));
-    let rejected = |side, row| Ok(OrVerdict::Rejected { side, row });
+    let rejected = |first, second| {
+        let (first, second) = (Rows::from_mask(first), Rows::from_mask(second));
+        Ok(OrVerdict::Rejected { first, second })
+    };
     let second_row =
         OrRound { response0: places([right.response0[0], right.response0[1], 9]), ..right };
-    assert_eq!(pair.judge(&second_row), rejected(Side::First, 1));
+    assert_eq!(pair.judge(&second_row), rejected(0b10, 0));
     let root_row = OrRound { response1: places([8]), ..right };
-    assert_eq!(pair.judge(&root_row), rejected(Side::Second, 0));
+    assert_eq!(pair.judge(&root_row), rejected(0, 1));
     let both = OrRound { response1: places([8]), ..second_row };
-    assert_eq!(pair.judge(&both), rejected(Side::First, 1));
+    assert_eq!(pair.judge(&both), rejected(0b10, 1));
     // Another c leaves the first side's challenge alone, another c0 changes both.
-    assert_eq!(pair.judge(&OrRound { challenge: 2, ..right }), rejected(Side::Second, 0));
-    assert_eq!(pair.judge(&OrRound { challenge0: 3, ..right }), rejected(Side::First, 0));
+    assert_eq!(pair.judge(&OrRound { challenge: 2, ..right }), rejected(0, 1));
+    assert_eq!(pair.judge(&OrRound { challenge0: 3, ..right }), rejected(0b11, 1));
 }
 
 #[test]

@@ -2,7 +2,8 @@
 
 use crate::pages::{PLANS, made, page_a, round};
 use dimkhoros::{
-    Instance, LONGEST_FILE, LONGEST_REASON, LONGEST_TEXT, Refusal, Round, RoundWriter, mark, reason,
+    Instance, LONGEST_FILE, LONGEST_REASON, LONGEST_TEXT, Places, Refusal, Round, RoundWriter,
+    mark, places, reason,
 };
 
 /// The line on these bytes.
@@ -31,6 +32,20 @@ fn round_0_is_accepted_rejected_or_refused() {
     assert_eq!(of(&[round(9, 11, 0)]), "refused 15 11\n");
     assert_eq!(of(&[round(9, 0, 11)]), "refused 16 15\n");
     assert_eq!(of(&[]), "refused 13 5\n");
+}
+
+/// Each row that differs has its two sides behind it. 2^4 is 16 and 16^4 is 9 modulo 23, 13^3 is 12 and 18^3 is 13.
+#[test]
+fn every_row_that_differs_is_told() {
+    let two_rows = made(&PLANS[3]).unwrap();
+    let of = |commitment: Places| {
+        let round = Round { commitment, challenge: 3, response: places([4]) };
+        line(two_rows.bytes(), &file(&two_rows, &[round]))
+    };
+    assert_eq!(of(places([9, 6])), "accepted\n");
+    assert_eq!(of(places([6, 6])), "rejected 0 16 3\n");
+    assert_eq!(of(places([9, 9])), "rejected 1 9 2\n");
+    assert_eq!(of(places([6, 9])), "rejected 0 16 3 1 9 2\n");
 }
 
 #[test]

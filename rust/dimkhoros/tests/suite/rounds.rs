@@ -2,19 +2,20 @@
 
 use crate::pages::{PLANS, made, page_a, round};
 use dimkhoros::{
-    EMPTY_FILE, Instance, LONGEST_FILE, MOST_ROUNDS, Refusal, Round, RoundFile, RoundWriter,
+    EMPTY_FILE, Instance, LONGEST_FILE, MOST_ROUNDS, Refusal, Round, RoundFile, RoundWriter, Rows,
     Values, Verdict, places,
 };
 
 #[test]
-fn a_verdict_names_the_first_row_that_differs() {
+fn a_verdict_names_the_rows_that_differ() {
     let instance = made(&PLANS[3]).unwrap();
     let right = Round { commitment: places([9, 6]), challenge: 3, response: places([4]) };
     assert_eq!(instance.judge(&right), Ok(Verdict::Accepted));
-    let second = Round { commitment: places([9, 9]), ..right };
-    assert_eq!(instance.judge(&second), Ok(Verdict::Rejected { row: 1 }));
-    let both = Round { commitment: places([6, 9]), ..right };
-    assert_eq!(instance.judge(&both), Ok(Verdict::Rejected { row: 0 }));
+    for (commitment, mask) in [([6, 6], 0b01), ([9, 9], 0b10), ([6, 9], 0b11)] {
+        let round = Round { commitment: places(commitment), ..right };
+        let rows = Rows::from_mask(mask);
+        assert_eq!(instance.judge(&round), Ok(Verdict::Rejected { rows }));
+    }
 }
 
 #[test]

@@ -84,7 +84,7 @@ fn a_team_makes_the_round_of_a_single_peggy() {
     }
 }
 
-/// Where one player's response is wrong, the whole is rejected with the row of that player's round.
+/// Where one player's response is wrong, the whole is rejected with the rows of that player's round.
 fn one_wrong_part(team: &Team<'_>, images: &[Places], rounds: &[Round]) {
     let sheet = team.instance();
     for player in 0..team.players() {

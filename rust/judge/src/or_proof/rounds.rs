@@ -2,7 +2,7 @@
 
 use super::{left, load_both};
 use crate::protocol::{
-    combine, differ, test_challenge, test_commitment, test_slots, verdict, Round, Verdict,
+    combine, differ, differing, test_challenge, test_commitment, test_slots, Round, Rows,
 };
 use crate::sheet::Sheet;
 
@@ -24,13 +24,9 @@ pub struct OrRound {
 pub enum OrVerdict {
     /// Both sides are accepted.
     Accepted,
-    /// The first side that is rejected and its first differing row.
-    Rejected {
-        /// The side, 0 or 1.
-        side: u32,
-        /// The row, from 0.
-        row: u32,
-    },
+    /// The differing rows of side 0 and of side 1. A side that is accepted has
+    /// none, and there is at least one side that is not.
+    Rejected([Rows; 2]),
     /// The number of the refusal.
     Refused(u32),
 }
@@ -79,19 +75,22 @@ fn test_responses(sheets: &[Sheet; 2], round: &OrRound) -> Result<(), u32> {
 
 /// The verdict on an OR round whose values have passed 14 to 16.
 fn both_sides(sheets: &[Sheet; 2], round: &OrRound) -> OrVerdict {
-    for (side, sheet) in sheets.iter().enumerate() {
+    // Decision: card 4's first rejected side is not given apart, since it is
+    // the first that has a differing row.
+    let rows = [0, 1].map(|side: usize| {
         let part = round.of_side(sheets, side);
-        let verdict = verdict(sheet, &part.commitment, part.challenge, &part.response);
-        if let Verdict::Rejected(row) = verdict {
-            let side = side as u32;
-            return OrVerdict::Rejected { side, row };
-        }
+        let sheet = &sheets[side];
+        differing(sheet, &part.commitment, part.challenge, &part.response)
+    });
+    if rows == [[false; 8]; 2] {
+        OrVerdict::Accepted
+    } else {
+        OrVerdict::Rejected(rows)
     }
-    OrVerdict::Accepted
 }
 
 /// Judges an OR round: accepted when both sides are, otherwise rejected with
-/// the first side that is rejected and its first differing row.
+/// all the differing rows of both sides.
 ///
 /// Refuses with 2 to 11 for the sheets, the lowest number over both, and 26
 /// when their counts K differ. Then with 14 for a commitment value that is no

@@ -3,6 +3,7 @@
 mod commitments;
 mod converting;
 mod demand_three;
+mod differing_rows;
 mod files;
 mod levels;
 mod marking;

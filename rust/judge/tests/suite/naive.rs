@@ -1,6 +1,6 @@
 //! The rules again, in the slowest form, for small sheets.
 
-use judge::Sheet;
+use judge::{Rows, Sheet, Verdict};
 
 pub fn slow_power(base: u32, exponent: u32, m: u32) -> u32 {
     let mut product = 1 % u64::from(m);
@@ -78,15 +78,32 @@ pub fn slow_product(challenges: u32, rounds: u32) -> Vec<bool> {
     bits
 }
 
-/// The first row that differs, for values that are in range.
-pub fn slow_row(sheet: &Sheet, t: &[u32; 8], c: u32, r: &[u32; 8]) -> Option<u32> {
+/// The two sides of a row, for values that are in range.
+pub fn slow_sides(sheet: &Sheet, t: &[u32; 8], c: u32, r: &[u32; 8], row: usize) -> [u32; 2] {
     let m = u64::from(sheet.modulus);
-    let image = slow_image(sheet, r);
-    (0..sheet.rows).find(|row| {
-        let i = *row as usize;
-        let power = u64::from(slow_power(sheet.statement[i], c, sheet.modulus));
-        u64::from(image[i]) != u64::from(t[i]) * power % m
+    let power = u64::from(slow_power(sheet.statement[row], c, sheet.modulus));
+    let right = u64::from(t[row]) * power % m;
+    [slow_image(sheet, r)[row], right as u32]
+}
+
+/// The rows that differ, for values that are in range.
+pub fn slow_rows(sheet: &Sheet, t: &[u32; 8], c: u32, r: &[u32; 8]) -> Rows {
+    std::array::from_fn(|row| {
+        let [left, right] = match row < sheet.rows as usize {
+            true => slow_sides(sheet, t, c, r, row),
+            false => [0, 0],
+        };
+        left != right
     })
+}
+
+/// The verdict, for values that are in range.
+pub fn slow_verdict(sheet: &Sheet, t: &[u32; 8], c: u32, r: &[u32; 8]) -> Verdict {
+    let rows = slow_rows(sheet, t, c, r);
+    match rows.iter().any(|differs| *differs) {
+        true => Verdict::Rejected(rows),
+        false => Verdict::Accepted,
+    }
 }
 
 /// The product of the parts mod m, row by row, with 0 beyond the rows.

@@ -64,20 +64,20 @@ fn pair(raw: [Raw; 2]) -> Pair {
 }
 
 /// The slow verdict of both sides, for values that are in range.
-fn slow_verdict(sheets: &[Sheet; 2], round: &OrRound) -> OrVerdict {
+fn slow_or_verdict(sheets: &[Sheet; 2], round: &OrRound) -> OrVerdict {
     let c0 = round.first_challenge;
     // c1 is the one challenge that adds up to c with c0.
     let k = sheets[0].challenges;
     let adds_up = |c1: &u32| (c0 + c1) % k == round.challenge;
     let c1 = (0..k).find(adds_up).unwrap();
-    for (side, challenge) in [c0, c1].into_iter().enumerate() {
+    let rows = [(0, c0), (1, c1)].map(|(side, challenge): (usize, u32)| {
         let (t, r) = (&round.commitments[side], &round.responses[side]);
-        if let Some(row) = slow_row(&sheets[side], t, challenge, r) {
-            let side = side as u32;
-            return OrVerdict::Rejected { side, row };
-        }
+        slow_rows(&sheets[side], t, challenge, r)
+    });
+    match rows.as_flattened().contains(&true) {
+        true => OrVerdict::Rejected(rows),
+        false => OrVerdict::Accepted,
     }
-    OrVerdict::Accepted
 }
 
 /// All accepted rounds with challenge c, by judging every choice.
@@ -90,7 +90,7 @@ fn accepted(pair: &Pair, c: u32) -> BTreeSet<Numbers> {
                     for r1 in &pair.domains[1] {
                         let round = whole_round(([*t0, *t1], c, c0, [*r0, *r1]));
                         let verdict = judge(lent(&pair.bytes), &round);
-                        assert_eq!(verdict, slow_verdict(&pair.sheets, &round));
+                        assert_eq!(verdict, slow_or_verdict(&pair.sheets, &round));
                         if verdict == OrVerdict::Accepted {
                             found.insert(numbers(&round));
                         }

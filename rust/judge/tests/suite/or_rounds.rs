@@ -6,8 +6,9 @@ use crate::tools::*;
 
 const ACCEPTED: OrVerdict = OrVerdict::Accepted;
 
-fn rejected(side: u32, row: u32) -> OrVerdict {
-    OrVerdict::Rejected { side, row }
+/// The verdict on a round of two one by one sheets whose sides these are.
+fn with(first: bool, second: bool) -> OrVerdict {
+    OrVerdict::Rejected([first, second].map(|differs| rows_of(differs.into())))
 }
 
 /// A round on two one by one sheets, as t0, t1, c, c0, r0, r1.
@@ -37,20 +38,19 @@ fn two_bases_are_judged() {
     // c and c0 are equal, so c1 is 0 and 3^6 = 16.
     assert_eq!(verdict([9, 16, 3, 3, 4, 6]), ACCEPTED);
     // Each number counts.
-    assert_eq!(verdict([8, 16, 5, 3, 4, 3]), rejected(0, 0));
-    assert_eq!(verdict([9, 18, 5, 3, 4, 3]), rejected(1, 0));
-    assert_eq!(verdict([9, 16, 6, 3, 4, 3]), rejected(1, 0));
-    assert_eq!(verdict([9, 16, 5, 4, 4, 3]), rejected(0, 0));
-    assert_eq!(verdict([9, 16, 5, 3, 5, 3]), rejected(0, 0));
-    assert_eq!(verdict([9, 16, 5, 3, 4, 2]), rejected(1, 0));
-    // Where both sides are rejected, it is the first.
-    assert_eq!(verdict([9, 16, 5, 3, 5, 2]), rejected(0, 0));
-    // The sheets have an order.
+    let (first, second, both) = (with(true, false), with(false, true), with(true, true));
+    assert_eq!(verdict([8, 16, 5, 3, 4, 3]), first);
+    assert_eq!(verdict([9, 18, 5, 3, 4, 3]), second);
+    assert_eq!(verdict([9, 16, 6, 3, 4, 3]), second);
+    assert_eq!(verdict([9, 16, 5, 3, 5, 3]), first);
+    assert_eq!(verdict([9, 16, 5, 3, 4, 2]), second);
+    assert_eq!(verdict([9, 16, 5, 3, 5, 2]), both);
+    // Another c0 makes another c1. 3^3 = 4, and 16 · 12 = 8.
+    assert_eq!(verdict([9, 16, 5, 4, 4, 3]), both);
+    // The sheets have an order. Side 0 has 12 against 4, side 1 has 8 against
+    // 13.
     let other_way = [&sheets[1][..], &sheets[0][..]];
-    assert_eq!(
-        judge(other_way, &short([9, 16, 5, 3, 4, 3])),
-        rejected(0, 0)
-    );
+    assert_eq!(judge(other_way, &short([9, 16, 5, 3, 4, 3])), both);
     assert_eq!(judge(other_way, &short([16, 9, 5, 2, 3, 4])), ACCEPTED);
 }
 
@@ -63,26 +63,10 @@ fn a_base_and_a_root_are_judged() {
     assert_eq!(verdict([9, 33, 1, 3, 4, 24]), ACCEPTED);
     // c0 is 4 and c1 is 1, not −4 mod 11.
     assert_eq!(verdict([9, 33, 0, 4, 0, 6]), ACCEPTED);
-    assert_eq!(verdict([9, 33, 0, 4, 0, 24]), rejected(1, 0));
-    assert_eq!(verdict([9, 33, 4, 3, 5, 24]), rejected(0, 0));
-}
-
-#[test]
-fn the_first_side_and_its_first_row_are_given() {
-    let tall = |z| exponent(23, 11, 11, &[&[2], &[2], &[2]], &[z; 3]).bytes();
-    let sheets = [tall(13), tall(1)];
-    let right = or_round([&[9; 3], &[9; 3]], 3, 3, [&[4], &[5]]);
-    assert_eq!(judge(lent(&sheets), &right), ACCEPTED);
-    for wrong in 1..64_u32 {
-        let mut round = right.clone();
-        for bit in 0..6 {
-            if wrong >> bit & 1 == 1 {
-                round.commitments[bit / 3][bit % 3] = 8;
-            }
-        }
-        let first = wrong.trailing_zeros();
-        assert_eq!(judge(lent(&sheets), &round), rejected(first / 3, first % 3));
-    }
+    assert_eq!(verdict([9, 33, 0, 4, 0, 24]), with(false, true));
+    assert_eq!(verdict([9, 33, 4, 3, 5, 6]), with(true, false));
+    // 24^5 mod 35 is 19, and 33 · 32 mod 35 is 6.
+    assert_eq!(verdict([9, 33, 4, 3, 5, 24]), with(true, true));
 }
 
 #[test]
@@ -130,7 +114,7 @@ fn a_base_and_a_root_give_either_witness() {
 #[test]
 fn unused_places_are_not_read() {
     let sheets = base_and_root();
-    let with = |numbers, rest| {
+    let filled = |numbers, rest| {
         let mut round = short(numbers);
         for side in 0..2 {
             round.commitments[side][1..].fill(rest);
@@ -138,11 +122,11 @@ fn unused_places_are_not_read() {
         }
         round
     };
-    let one = with([9, 33, 4, 3, 4, 6], u32::MAX);
+    let one = filled([9, 33, 4, 3, 4, 6], u32::MAX);
     assert_eq!(judge(lent(&sheets), &one), ACCEPTED);
-    let other = with([9, 33, 1, 3, 4, 24], 5);
+    let other = filled([9, 33, 1, 3, 4, 24], 5);
     assert_eq!(extract(lent(&sheets), &one, &other), found(1, 2));
-    let other = with([9, 33, 0, 4, 0, 6], 5);
+    let other = filled([9, 33, 0, 4, 0, 6], 5);
     assert_eq!(extract(lent(&sheets), &one, &other), found(0, 7));
 }
 

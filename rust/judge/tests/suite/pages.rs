@@ -99,7 +99,7 @@ fn page_j_elements_and_slots() {
     let sheet = page_a();
     let verdict = |t, r| judge(&sheet, &round(&[t], 0, &[r]));
     assert_eq!(verdict(5, 0), Verdict::Refused(14));
-    assert_eq!(verdict(9, 10), Verdict::Rejected(0));
+    assert_eq!(verdict(9, 10), rejected(&[0]));
     assert_eq!(verdict(9, 11), Verdict::Refused(16));
 }
 

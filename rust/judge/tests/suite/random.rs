@@ -60,15 +60,14 @@ fn random_sheets_follow_the_slow_rules() {
         let r = shifts.picks(&slots);
         let t = simulate(&bytes, c, &r).unwrap();
         assert!(t[s..].iter().all(|value| *value == 0));
-        assert_eq!(slow_row(&sheet, &t, c, &r), None);
+        assert_eq!(slow_rows(&sheet, &t, c, &r), [false; 8]);
         assert_eq!(judge(&bytes, &round(&t, c, &r)), Verdict::Accepted);
-        // One value of the commitment is picked anew.
+        // Up to three values of the commitment are picked anew.
         let mut other = t;
-        other[shifts.below(s as u64) as usize] = shifts.pick(&elements);
-        let expected = match slow_row(&sheet, &other, c, &r) {
-            Some(row) => Verdict::Rejected(row),
-            None => Verdict::Accepted,
-        };
+        for _ in 0..1 + shifts.below(3) {
+            other[shifts.below(s as u64) as usize] = shifts.pick(&elements);
+        }
+        let expected = slow_verdict(&sheet, &other, c, &r);
         assert_eq!(judge(&bytes, &round(&other, c, &r)), expected);
         if expected == Verdict::Accepted {
             accepted += 1;
@@ -176,6 +175,14 @@ fn try_files(sheet: &[u8], file: &[u8], number: u64) {
     let line = reason(sheet, file);
     assert!(line.starts_with(&reason_start(&text)), "{text} {line}");
     assert_eq!(line.find('\n'), Some(line.len() - 1));
+    if line.starts_with("rejected ") {
+        // The reason has two values after each row, and the marker none.
+        let words: Vec<&str> = line.split_whitespace().skip(1).collect();
+        let rows: Vec<&str> = words.iter().copied().step_by(3).collect();
+        assert_eq!(words.len(), 3 * rows.len());
+        let marked = format!("\n0 rejected {}\n", rows.join(" "));
+        assert!(text.contains(&marked), "{text} {line}");
+    }
 }
 
 /// How the reason's line must start beside this text of the marker.
@@ -184,6 +191,7 @@ fn reason_start(text: &str) -> String {
     match first.split_once(' ').unwrap() {
         ("rounds", "0") => String::from("refused 13 "),
         ("rounds", _) if rest.starts_with("0 accepted\n") => String::from("accepted\n"),
+        ("rounds", _) if rest.starts_with("0 rejected ") => String::from("rejected "),
         ("rounds", _) => format!("{} ", &rest[2..rest.find('\n').unwrap()]),
         (_, number) => format!("refused {number} "),
     }

@@ -1,7 +1,7 @@
 //! Random OR rounds and sessions against the slow rules.
 
 use judge::or_proof::*;
-use judge::{encode, load, Sheet};
+use judge::{encode, load, Rows, Sheet};
 
 use crate::naive::*;
 use crate::random::{bytes, small};
@@ -83,17 +83,17 @@ fn slow_refusal(sheets: &[Sheet; 2], round: &OrRound) -> Option<u32> {
     ])
 }
 
-/// The first rejected side and its row, for values that are in range.
-fn slow_rejection(sheets: &[Sheet; 2], round: &OrRound) -> Option<(u32, u32)> {
+/// The differing rows of both sides, for values that are in range.
+fn slow_rejection(sheets: &[Sheet; 2], round: &OrRound) -> [Rows; 2] {
     let (c, c0) = (round.challenge, round.first_challenge);
     let c1 = if c < c0 {
         c + sheets[0].challenges - c0
     } else {
         c - c0
     };
-    [c0, c1].into_iter().enumerate().find_map(|(side, own)| {
+    [(0, c0), (1, c1)].map(|(side, own): (usize, u32)| {
         let (t, r) = (&round.commitments[side], &round.responses[side]);
-        slow_row(&sheets[side], t, own, r).map(|row| (side as u32, row))
+        slow_rows(&sheets[side], t, own, r)
     })
 }
 
@@ -117,18 +117,22 @@ fn random_rounds_are_judged_by_the_slow_rules() {
         let expected = match slow_refusal(&sheets, &round) {
             Some(number) => OrVerdict::Refused(number),
             None => match slow_rejection(&sheets, &round) {
-                Some((side, row)) => OrVerdict::Rejected { side, row },
-                None => OrVerdict::Accepted,
+                rows if rows == [[false; 8]; 2] => OrVerdict::Accepted,
+                rows => OrVerdict::Rejected(rows),
             },
         };
         assert_eq!(judge(lent(&bytes), &round), expected);
         met.insert(match expected {
             OrVerdict::Accepted => 0,
-            OrVerdict::Rejected { side, row } => 100 * (side + 1) + row,
+            OrVerdict::Rejected(rows) => {
+                // How many rows of each side differ, up to two.
+                let [first, second] = rows.map(|side| side.iter().filter(|row| **row).count());
+                100 + 10 * first.min(2) as u32 + second.min(2) as u32
+            }
             OrVerdict::Refused(number) => number,
         });
     }
-    for wanted in [0, 14, 15, 16, 26, 100, 101, 200, 201] {
+    for wanted in [0, 14, 15, 16, 26, 101, 102, 110, 111, 112, 120, 121, 122] {
         assert!(met.contains(&wanted), "{wanted} in {met:?}");
     }
 }

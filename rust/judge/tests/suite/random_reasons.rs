@@ -124,18 +124,20 @@ fn slow_line(sheet: &[u8], file: &[u8]) -> Result<String, String> {
     let words = slow_round(&sheet, file)?;
     let s = sheet.rows as usize;
     let (t, c, r) = (eight(&words[..s]), words[s], eight(&words[s + 1..]));
-    let Some(row) = slow_row(&sheet, &t, c, &r) else {
-        return Ok(String::from("accepted\n"));
-    };
-    let i = row as usize;
-    let power = slow_power(sheet.statement[i], c, sheet.modulus);
-    let right = t[i] * power % sheet.modulus;
-    let left = slow_image(&sheet, &r)[i];
-    Ok(format!("rejected {row} {left} {right}\n"))
+    let rows = slow_rows(&sheet, &t, c, &r);
+    let mut line = String::new();
+    for row in (0..s).filter(|row| rows[*row]) {
+        let [left, right] = slow_sides(&sheet, &t, c, &r, row);
+        line += &format!(" {row} {left} {right}");
+    }
+    Ok(match line.as_str() {
+        "" => String::from("accepted\n"),
+        _ => format!("rejected{line}\n"),
+    })
 }
 
 /// A file of either version, of up to three rounds. Each is accepted, or has
-/// one t anew.
+/// up to three t anew.
 fn rounds(shifts: &mut Shifts, bytes: &[u8], sheet: &Sheet) -> Vec<u8> {
     let count = shifts.below(8).min(3);
     let mut words = Vec::new();
@@ -143,7 +145,7 @@ fn rounds(shifts: &mut Shifts, bytes: &[u8], sheet: &Sheet) -> Vec<u8> {
         let c = shifts.below(u64::from(sheet.challenges)) as u32;
         let r = shifts.picks(&slots(sheet));
         let mut t = simulate(bytes, c, &r).unwrap();
-        if shifts.below(2) == 0 {
+        for _ in 0..shifts.below(6).saturating_sub(2) {
             let row = shifts.below(u64::from(sheet.rows)) as usize;
             t[row] = shifts.pick(&elements(sheet));
         }
@@ -179,13 +181,15 @@ fn spoil(shifts: &mut Shifts, bytes: &mut Vec<u8>, header: &[usize], values: usi
     }
 }
 
-/// A line without its values: a verdict, or `refused`, the number and the word
+/// A line without its values: `accepted`, or `rejected` and the word `more`
+/// where there is more than one row, or `refused`, the number and the word
 /// `length` where it is there.
 fn form(line: &str) -> String {
     let words: Vec<&str> = line.split_whitespace().collect();
     match words[..] {
         ["refused", _, "length", _] => words[..3].join(" "),
         ["refused", ..] => words[..2].join(" "),
+        ["rejected", ..] if words.len() > 4 => String::from("rejected more"),
         _ => words[0].to_string(),
     }
 }
@@ -218,9 +222,9 @@ fn random_files_follow_the_slow_rules() {
     // Every refusal with each form it has, and both verdicts, in both kinds
     // and both versions. Kind 2 has no entries, so no 10, unless its kind was
     // made 1.
-    let forms = "accepted,rejected,refused 2,refused 2 length,refused 3,refused 4,refused 5,\
-                 refused 6,refused 7,refused 8,refused 9 length,refused 11,refused 12,\
-                 refused 12 length,refused 13,refused 14,refused 15,refused 16";
+    let forms = "accepted,rejected,rejected more,refused 2,refused 2 length,refused 3,\
+                 refused 4,refused 5,refused 6,refused 7,refused 8,refused 9 length,refused 11,\
+                 refused 12,refused 12 length,refused 13,refused 14,refused 15,refused 16";
     for (kind, version) in [(1, 1), (1, 2), (2, 1), (2, 2)] {
         for form in forms.split(',') {
             let wanted = (kind, form.to_string(), version);

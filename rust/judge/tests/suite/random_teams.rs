@@ -101,7 +101,7 @@ fn a_team_sends_what_one_peggy_sends() {
 }
 
 #[test]
-fn one_rejected_part_makes_the_whole_rejected_in_its_row() {
+fn one_rejected_part_makes_the_whole_rejected_in_its_rows() {
     let mut shifts = Shifts(0x0ABE_7EA1_0ABE_7EA1);
     let mut rejected = 0;
     for _ in 0..3000 {

@@ -70,7 +70,7 @@ fn the_calculator_pages() {
 }
 
 #[test]
-fn the_first_differing_row_and_its_two_sides() {
+fn the_differing_rows_and_their_two_sides() {
     // Page E: t (9, 6), c 3, r 4. 16^4 mod 23 is 9 and 18^3 mod 23 is 13.
     let sheet = exponent(23, 11, 11, &[&[2], &[16]], &[13, 18]).bytes();
     let line = |t: [u32; 2]| reason(&sheet, &file(1, &[t[0], t[1], 3, 4]));
@@ -78,7 +78,7 @@ fn the_first_differing_row_and_its_two_sides() {
     assert_eq!(line([9, 1]), "rejected 1 9 13\n");
     // 2^4 is 16 and 1 · 13^3 mod 23 is 12, in row 0 and before row 1.
     assert_eq!(line([1, 6]), "rejected 0 16 12\n");
-    assert_eq!(line([1, 1]), "rejected 0 16 12\n");
+    assert_eq!(line([1, 1]), "rejected 0 16 12 1 9 13\n");
     // The last of eight rows of kind 2.
     let sheet = root(35, 5, 5, &[32; 8]).bytes();
     let mut words = [33; 17];

@@ -111,7 +111,7 @@ fn each_side_is_tested_by_its_own_sheet() {
     assert_eq!(verdict([9, 33], 4, 3, [24, 6]), OrVerdict::Refused(16));
     assert_eq!(verdict([9, 33], 4, 3, [4, 0]), OrVerdict::Refused(16));
     assert_eq!(verdict([9, 33], 4, 3, [4, 7]), OrVerdict::Refused(16));
-    let rejected = OrVerdict::Rejected { side: 0, row: 0 };
+    let rejected = OrVerdict::Rejected([rows_of(1), rows_of(0)]);
     assert_eq!(verdict([9, 33], 4, 3, [0, 6]), rejected);
 }
 

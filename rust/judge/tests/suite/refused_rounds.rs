@@ -20,25 +20,9 @@ fn judging_refuses_in_order() {
     assert_eq!(verdict([1, 1], u32::MAX, [1, 11]), Verdict::Refused(15));
     assert_eq!(verdict([1, 1], 10, [1, 11]), Verdict::Refused(16));
     assert_eq!(verdict([1, 1], 10, [u32::MAX, 1]), Verdict::Refused(16));
-    assert_eq!(verdict([1, 1], 10, [1, 2]), Verdict::Rejected(0));
+    // 18 against 18^10 = 9, and 12 against 12^10 = 2.
+    assert_eq!(verdict([1, 1], 10, [1, 2]), rejected(&[0, 1]));
     assert_eq!(verdict([1, 1], 1, [1, 2]), Verdict::Accepted);
-}
-
-#[test]
-fn judging_gives_the_first_differing_row() {
-    let table: Vec<&[u32]> = vec![&[2]; 8];
-    let sheet = exponent(23, 11, 11, &table, &[13; 8]).bytes();
-    assert_eq!(judge(&sheet, &round(&[9; 8], 3, &[4])), Verdict::Accepted);
-    for wrong in 1..256_u32 {
-        let mut t = [9; 8];
-        for (row, value) in t.iter_mut().enumerate() {
-            if wrong >> row & 1 == 1 {
-                *value = 8;
-            }
-        }
-        let expected = Verdict::Rejected(wrong.trailing_zeros());
-        assert_eq!(judge(&sheet, &round(&t, 3, &[4])), expected);
-    }
 }
 
 #[test]
@@ -50,7 +34,7 @@ fn judging_kind_2_refuses_in_order() {
     assert_eq!(verdict(33, 1, 7), Verdict::Refused(16));
     assert_eq!(verdict(33, 1, 0), Verdict::Refused(16));
     assert_eq!(verdict(33, 1, 41), Verdict::Refused(16));
-    assert_eq!(verdict(33, 1, 3), Verdict::Rejected(0));
+    assert_eq!(verdict(33, 1, 3), rejected(&[0]));
     assert_eq!(verdict(33, 1, 6), Verdict::Accepted);
 }
 
@@ -140,6 +124,6 @@ fn a_later_row_alone_makes_18_and_20() {
     let other = round(&[1, 2], 2, &[2, 4]);
     assert_eq!(extract(&sheet, &first, &other), Err(18));
     let first = round(&[1, 2], 1, &[1, 2]);
-    assert_eq!(judge(&sheet, &first), Verdict::Rejected(1));
+    assert_eq!(judge(&sheet, &first), rejected(&[1]));
     assert_eq!(extract(&sheet, &first, &other), Err(20));
 }

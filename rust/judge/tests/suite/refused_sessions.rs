@@ -179,7 +179,7 @@ fn taking_a_response_refuses_in_order() {
             let session = verifier(phase, eight_with(&[held], 98), challenge);
             let (answer, back) = take_response(&sheet, session.clone(), &eight(&[11]));
             assert_eq!((answer, &back), (Verdict::Refused(16), &session));
-            for (r, verdict) in [(4, Verdict::Accepted), (5, Verdict::Rejected(0))] {
+            for (r, verdict) in [(4, Verdict::Accepted), (5, rejected(&[0]))] {
                 let (answer, back) = take_response(&sheet, session.clone(), &eight(&[r]));
                 if phase == VerifierPhase::Asked && (held, challenge) == (9, 3) {
                     let next = verifier(VerifierPhase::Judged, eight_with(&[9], 98), 3);

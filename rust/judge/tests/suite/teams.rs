@@ -94,8 +94,8 @@ fn one_rejected_part_spoils_the_whole_and_two_may_not() {
         judge(&sheet, &whole)
     };
     assert_eq!(verdict([[8, 4, 0], [16, 8, 4]]), Verdict::Accepted);
-    assert_eq!(verdict([[8, 4, 1], [16, 8, 4]]), Verdict::Rejected(0));
-    assert_eq!(verdict([[8, 4, 0], [16, 9, 4]]), Verdict::Rejected(0));
+    assert_eq!(verdict([[8, 4, 1], [16, 8, 4]]), rejected(&[0]));
+    assert_eq!(verdict([[8, 4, 0], [16, 9, 4]]), rejected(&[0]));
     // Here each part is rejected, and the two flaws make up for each other.
     assert_eq!(verdict([[8, 4, 1], [16, 8, 3]]), Verdict::Accepted);
 }

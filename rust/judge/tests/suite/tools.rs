@@ -1,7 +1,7 @@
 //! Builders that write bytes on their own, and a small generator.
 
 use judge::or_proof::OrRound;
-use judge::{Round, Verdict};
+use judge::{Round, Rows, Verdict};
 
 /// The bytes of a sheet, written field by field without any test.
 #[derive(Clone)]
@@ -163,6 +163,16 @@ pub fn rows_with(rows: &[&[u32]], rest: u32) -> [[u32; 8]; 8] {
         *row = eight_with(values, rest);
     }
     all
+}
+
+/// The rows whose bits are set, the lowest bit for row 0.
+pub fn rows_of(bits: u32) -> Rows {
+    std::array::from_fn(|row| bits >> row & 1 == 1)
+}
+
+/// The verdict on a round that differs in these rows.
+pub fn rejected(rows: &[usize]) -> Verdict {
+    Verdict::Rejected(std::array::from_fn(|row| rows.contains(&row)))
 }
 
 /// The verdict as a result, so that refusals compare alike everywhere.

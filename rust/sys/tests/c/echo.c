@@ -71,7 +71,7 @@ static void print_computed(DimkhorosComputed a) {
 }
 
 static void print_verdict(DimkhorosJudgement a) {
-    printf("Judgement { accepted: %u, row: %u, refusal: %u }", a.accepted, a.row, a.refusal);
+    printf("Judgement { accepted: %u, rows: %u, refusal: %u }", a.accepted, a.rows, a.refusal);
 }
 
 static void print_judgement(DimkhorosJudgement a) {
@@ -120,7 +120,7 @@ static void print_compared(DimkhorosCompared a) {
 }
 
 static void print_or_judgement(DimkhorosOrJudgement a) {
-    printf("OrJudgement { accepted: %u, side: %u, row: %u, refusal: %u }\n", a.accepted, a.side, a.row, a.refusal);
+    printf("OrJudgement { accepted: %u, rows0: %u, rows1: %u, refusal: %u }\n", a.accepted, a.rows0, a.rows1, a.refusal);
 }
 
 static void print_or_extracted(DimkhorosOrExtracted a) {
@@ -363,15 +363,17 @@ static void verifiers(void) {
 static void or_rounds(void) {
     print_or_judgement(dimkhoros_or_judge(wide, sizeof wide, roots, sizeof roots, or_round(0, 1)));
     print_or_judgement(dimkhoros_or_judge(roots, sizeof roots, wide, sizeof wide, rising_or_round(1)));
-    DimkhorosOrRound wrong[4];
-    for (int i = 0; i < 4; i++) {
+    DimkhorosOrRound wrong[5];
+    for (int i = 0; i < 5; i++) {
         wrong[i] = or_round(0, 1);
     }
     wrong[0].response0[5] = 2;
     wrong[1].response1[6] = 1;
     wrong[2].challenge0 = 5;
     wrong[3].commitment1[7] = 7;
-    for (int i = 0; i < 4; i++) {
+    wrong[4].response0[4] = 1;
+    wrong[4].response1[2] = 1;
+    for (int i = 0; i < 5; i++) {
         print_or_judgement(dimkhoros_or_judge(wide, sizeof wide, roots, sizeof roots, wrong[i]));
     }
     print_or_extracted(dimkhoros_or_extract(wide, sizeof wide, roots, sizeof roots, or_round(0, 1), or_round(0, 3)));

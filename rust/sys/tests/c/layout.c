@@ -44,7 +44,7 @@ static void print_answers_and_sessions(void) {
     FIELD(DimkhorosComputed, refusal);
     STRUCT(DimkhorosJudgement);
     FIELD(DimkhorosJudgement, accepted);
-    FIELD(DimkhorosJudgement, row);
+    FIELD(DimkhorosJudgement, rows);
     FIELD(DimkhorosJudgement, refusal);
     STRUCT(DimkhorosProverSession);
     FIELD(DimkhorosProverSession, nonce);
@@ -76,8 +76,8 @@ static void print_or_proof(void) {
     FIELD(DimkhorosOrRound, challenge0);
     STRUCT(DimkhorosOrJudgement);
     FIELD(DimkhorosOrJudgement, accepted);
-    FIELD(DimkhorosOrJudgement, side);
-    FIELD(DimkhorosOrJudgement, row);
+    FIELD(DimkhorosOrJudgement, rows0);
+    FIELD(DimkhorosOrJudgement, rows1);
     FIELD(DimkhorosOrJudgement, refusal);
     STRUCT(DimkhorosOrExtracted);
     FIELD(DimkhorosOrExtracted, values);

@@ -234,11 +234,13 @@ fn verifiers(text: &mut String) {
 
 fn or_rounds(text: &mut String) {
     let (wide, roots) = (wide(), roots());
-    let mut wrong = [or_round(0, 1); 4];
+    let mut wrong = [or_round(0, 1); 5];
     wrong[0].response0[5] = 2;
     wrong[1].response1[6] = 1;
     wrong[2].challenge0 = 5;
     wrong[3].commitment1[7] = 7;
+    wrong[4].response0[4] = 1;
+    wrong[4].response1[2] = 1;
     print!(text: or_judge(&wide, &roots, &or_round(0, 1)), or_judge(&roots, &wide, &rising_or_round(1)));
     for round in wrong {
         print!(text: or_judge(&wide, &roots, &round));

@@ -35,7 +35,7 @@ fn every_struct_is_laid_out_as_in_c() {
     describe!(text, Part { offset, length });
     describe!(text, Compared { same, refusal });
     describe!(text, Computed { values, refusal });
-    describe!(text, Judgement { accepted, row, refusal });
+    describe!(text, Judgement { accepted, rows, refusal });
     describe!(text, ProverSession { nonce, commitment, phase });
     describe!(text, ProverAnswer { session, values, refusal });
     describe!(text, VerifierSession { commitment, challenge, phase });
@@ -45,7 +45,7 @@ fn every_struct_is_laid_out_as_in_c() {
         text,
         OrRound { commitment0, commitment1, response0, response1, challenge, challenge0 }
     );
-    describe!(text, OrJudgement { accepted, side, row, refusal });
+    describe!(text, OrJudgement { accepted, rows0, rows1, refusal });
     describe!(text, OrExtracted { values, side, refusal });
     describe!(
         text,
