@@ -3,8 +3,9 @@ use image::expected_image;
 use image::image;
 use reason_lines::write_refused;
 use reason_lines::write_rejected;
-use round_file::START;
 use round_file::round_at;
+use round_layout::START;
+use round_layout::file_width;
 use round_lines::verdict_at;
 use spots::round_spot;
 use text::write_word;
@@ -69,7 +70,7 @@ pub fn write_judged(
     match verdict_at(h, entries, statement, file, 0) {
         Verdict::Accepted => write_word(text, 0, b"accepted\n"),
         Verdict::Rejected(row) => {
-            let round = round_at(h, file, START);
+            let round = round_at(h, file_width(file), file, START);
             write_sides(text, h, entries, statement, round, row)
         }
         Verdict::Refused(number) => write_refused(text, number, round_spot(h, file, number)),

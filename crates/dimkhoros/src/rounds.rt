@@ -7,6 +7,7 @@ use types::Round;
 use types::Written;
 ghost use mathlib.Core.Path.{_≡_};
 ghost use Rattle.formats.specs.Append.{append, emptyFile};
+ghost use Rattle.formats.specs.Convert.{convert};
 ghost use Rattle.formats.specs.RoundCalls.{checkRound, countRounds, fetchRound, locateRound};
 ghost use Rattle.formats.specs.SameCommitment.{sameCommitment};
 
@@ -56,18 +57,18 @@ pub extern "C" fn dimkhoros_same_commitment(
     round_words::same_commitment(sheet, file, first, second)
 }
 
-// Puts the file of no rounds at the start of buffer and answers its length. No byte behind it is changed, and a buffer that
-// is shorter, 22, keeps its bytes.
+// Puts the file of no rounds in a version at the start of buffer and answers its length. No byte behind it is changed. A
+// version other than 1 and 2 gets 12, a buffer that is shorter 22, and buffer keeps its bytes.
 #[no_mangle]
-pub extern "C" fn dimkhoros_empty(buffer: &mut [u8]) -> Written
-    ensures answer { λ r. ⌜ r ≡ emptyFile (now (buffer .entry)) .answer ⌝ }
-    ensures bytes { λ _. ⌜ now (buffer .exit) ≡ emptyFile (now (buffer .entry)) .buffer ⌝ }
+pub extern "C" fn dimkhoros_empty(version: u32, buffer: &mut [u8]) -> Written
+    ensures answer { λ r. ⌜ r ≡ emptyFile version (now (buffer .entry)) .answer ⌝ }
+    ensures bytes { λ _. ⌜ now (buffer .exit) ≡ emptyFile version (now (buffer .entry)) .buffer ⌝ }
 {
-    round_writer::empty(buffer)
+    round_writer::empty(version, buffer)
 }
 
-// Writes round straight behind the first used bytes of buffer, which are a round file, raises its count by one and answers
-// the count of bytes in use. Where it is refused, with 2 to 12 or 22, buffer keeps its bytes.
+// Writes round straight behind the first used bytes of buffer, which are a round file, in their version, raises its count by
+// one and answers the count of bytes in use. Where it is refused, with 2 to 12, 15 or 22, buffer keeps its bytes.
 #[no_mangle]
 pub extern "C" fn dimkhoros_append(
     sheet: &[u8],
@@ -79,4 +80,14 @@ pub extern "C" fn dimkhoros_append(
     ensures bytes { λ _. ⌜ now (buffer .exit) ≡ append (now (sheet .entry)) (now (buffer .entry)) used round .buffer ⌝ }
 {
     round_writer::append(sheet, buffer, used, round)
+}
+
+// Puts the rounds of a file in the other version at the start of buffer and answers the length of that file. No byte behind it
+// is changed. Where the call is refused, with 2 to 12, 15 or 22, buffer keeps its bytes.
+#[no_mangle]
+pub extern "C" fn dimkhoros_convert(sheet: &[u8], file: &[u8], buffer: &mut [u8]) -> Written
+    ensures answer { λ r. ⌜ r ≡ convert (now (sheet .entry)) (now (file .entry)) (now (buffer .entry)) .answer ⌝ }
+    ensures bytes { λ _. ⌜ now (buffer .exit) ≡ convert (now (sheet .entry)) (now (file .entry)) (now (buffer .entry)) .buffer ⌝ }
+{
+    converter::convert(sheet, file, buffer)
 }

@@ -2,8 +2,9 @@
 use crate::lines::write_round;
 use image::verdict;
 use protocol::round_refusal;
-use round_file::record_start;
 use round_file::round_at;
+use round_layout::file_width;
+use round_layout::record_start;
 use types::Header;
 use types::Verdict;
 ghost use Prim.Native.Nat.{_+_, _≤_, _<_};
@@ -37,8 +38,9 @@ pub fn verdict_at(
     requires number { ⌜ k < countField (now file) ⌝ }
     ensures { λ r. ⌜ r ≡ verdictIn (instanceWith h entries statement) (now (file .entry)) k ⌝ }
 {
-    let start = record_start(h, k as usize);
-    let round = round_at(h, file, start);
+    let width = file_width(file);
+    let start = record_start(h, width, k as usize);
+    let round = round_at(h, width, file, start);
     let t = round.commitment;
     let r = round.response;
     let refusal = round_refusal(h, t, round.challenge, r);

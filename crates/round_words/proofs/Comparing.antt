@@ -20,11 +20,11 @@ use Rattle.sigma.specs.Comparison.{differ, firstDifference}
 use Rattle.sigma.proofs.Answer.{unlessRefused-positive, unlessRefused-zero}
 use Rattle.sigma.proofs.Calculus.{both-fail}
 use Rattle.formats.specs.RoundCalls.{fileRules}
-use Rattle.formats.specs.RoundFile.{challengeWidth, countField, recordLength, recordStart, widthOf}
+use Rattle.formats.specs.RoundFile.{challengeWidth, countField, recordLength, recordStart}
 use Rattle.formats.specs.SameCommitment.{commitmentBytes, sameAfter, sameRules}
-use Rattle.formats.proofs.Files.{file-width, number-passes}
-use Rattle.round_file.proofs.FileReading.{check-passes, record-there, record-fits}
-use Rattle.round_file.proofs.FileTest.{file-clear}
+use Rattle.formats.proofs.Files.{number-passes}
+use Rattle.formats.proofs.Part.{record-inside}
+use Rattle.round_layout.proofs.FileTest.{file-clear}
 
 -- ---- after the rules of the sheet
 
@@ -85,32 +85,33 @@ module _ (h : Header) (f : List ℕ) {n : ℕ} (tested : n ≡ lowest (fileRules
 
     -- a number below the count is below 512
     pub number-small : (k : ℕ) → k < countField f → k < 512
-    number-small k inside = record-there h f k (check-passes h f tested k passed inside) refl .0
+    number-small k inside = omega (arith, file-clear h f tested passed .few)
 
-    -- and the commitment of its record lies inside the file
-    pub commitment-fits : (k : ℕ) → k < countField f → {start : ℕ} → start ≡ recordStart (widthOf 1) h k
-        → start + 4 * h .rows ≤ length f
-    unfolding recordLength
-    commitment-fits k inside is-start =
-        omega (arith, record-fits h f k (check-passes h f tested k passed inside) refl is-start)
+    module _ {width : ℕ} (is-width : width ≡ challengeWidth f) where
+      -- and the commitment of its record lies inside the file
+      pub commitment-fits : (k : ℕ) → k < countField f → {start : ℕ} → start ≡ recordStart width h k
+          → start + 4 * h .rows ≤ length f
+      unfolding recordLength
+      commitment-fits k inside is-start =
+          omega (arith, record-inside (file-clear h f tested passed) k inside, rw is-width at is-start)
 
-    -- for two such numbers the answer is whether the commitments agree
-    pub same-compared : (i j : ℕ) → i < countField f → j < countField f → {a b : ℕ} → a ≡ recordStart (widthOf 1) h i
-        → b ≡ recordStart (widthOf 1) h j → {agree answer : Bool} → agree ≡ not (differ (4 * h .rows) (drop a f) (drop b f))
-        → agree ≡ answer → record { same = cond answer 1 0; refusal = 0 } ≡ sameAfter [] h f i j
-    unfolding sameAfter sameRules fileRules
-    same-compared i j first second is-first is-second is-agree is-answer =
-        let inside = both-fail (leb (countField f) i) (leb (countField f) j) .1 (number-passes f i .1 first, number-passes f j .1 second) in
-        let number : lowest (sameRules h f i j) ≡ 0 =
-        lowest-append-zero (fileRules h f) _ tt tt .1 (sym tested ∙ passed, (inside, tt)) in
-        rw (
-          number,
-          commitments-differ h f i j,
-          file-width (file-clear h f tested passed),
-          ← is-first,
-          ← is-second,
-          ← is-answer,
-          is-agree,
-          unlessRefused-zero,
-          one-unless,
-        )
+      -- for two such numbers the answer is whether the commitments agree
+      pub same-compared : (i j : ℕ) → i < countField f → j < countField f → {a b : ℕ} → a ≡ recordStart width h i
+          → b ≡ recordStart width h j → {agree answer : Bool} → agree ≡ not (differ (4 * h .rows) (drop a f) (drop b f))
+          → agree ≡ answer → record { same = cond answer 1 0; refusal = 0 } ≡ sameAfter [] h f i j
+      unfolding sameAfter sameRules fileRules
+      same-compared i j first second is-first is-second is-agree is-answer =
+          let inside = both-fail (leb (countField f) i) (leb (countField f) j) .1 (number-passes f i .1 first, number-passes f j .1 second) in
+          let number : lowest (sameRules h f i j) ≡ 0 =
+          lowest-append-zero (fileRules h f) _ tt tt .1 (sym tested ∙ passed, (inside, tt)) in
+          rw (
+            number,
+            commitments-differ h f i j,
+            ← is-width,
+            ← is-first,
+            ← is-second,
+            ← is-answer,
+            is-agree,
+            unlessRefused-zero,
+            one-unless,
+          )

@@ -3,8 +3,9 @@ use fields::read_u16;
 use fields::read_u32;
 use formats::Compared;
 use instance::load;
-use round_file::file_refusal;
-use round_file::record_start;
+use round_layout::file_refusal;
+use round_layout::file_width;
+use round_layout::record_start;
 use types::Header;
 ghost use Prim.Native.Nat.{_+_, _*_, _≤_};
 ghost use mathlib.Core.Path.{_≡_};
@@ -51,8 +52,9 @@ pub fn same_in(h: Header, file: &[u8], i: usize, j: usize) -> Compared
             refusal: 13,
         };
     }
-    let a = record_start(h, i);
-    let b = record_start(h, j);
+    let width = file_width(file);
+    let a = record_start(h, width, i);
+    let b = record_start(h, width, j);
     if words_agree(file, a, b, h.rows as usize) {
         return Compared {
             same: 1,

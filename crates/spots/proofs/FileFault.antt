@@ -12,7 +12,7 @@ use borrow.Author.Tests.{eq-eqb, le-ltb, lt-ltb, ne-eqb}
 use Rattle.fields.specs.Mark.{hasMark}
 use Rattle.rules.proofs.Says.{says-false, says-less}
 use Rattle.sigma.specs.Comparison.{differ}
-use Rattle.formats.specs.RoundFile.{countField, fileVersion, roundMark}
+use Rattle.formats.specs.RoundFile.{countField, fileVersion, roundMark, unknownVersion}
 use Rattle.instance.proofs.ShapeNumber.{mark-differs}
 use Rattle.reasons.specs.declared.Spot.the-variants.{At, Length}
 use Rattle.reasons.specs.Reason.{fileSpot}
@@ -42,20 +42,25 @@ module _ (f : List ℕ) (found n : ℕ) (other : n ≢ 13) (same : (found < 7) �
     unfolding fileSpot
     mark-told wrong = rw (ne-eqb n 13 other, whole, differs wrong)
 
-    module _ (right : not marked ≡ false) where
+    module _ (right : not marked ≡ false) {version : ℕ} {unknown : Bool} (is-version : version ≡ fileVersion f)
+        (asked : unknown ≡ unknownVersion version) where
+      -- what the test of the version says
+      versioned : {b : Bool} → unknown ≡ b → unknownVersion (fileVersion f) ≡ b
+      versioned e = ap unknownVersion (sym is-version) ∙ sym asked ∙ e
+
       -- another version
-      pub version-told : fileVersion f ≢ 1 → At 3 ≡ fileSpot f found n
+      pub version-told : unknown ≡ true → At 3 ≡ fileSpot f found n
       unfolding fileSpot
-      version-told wrong = rw (ne-eqb n 13 other, whole, differs right, ne-eqb (fileVersion f) 1 wrong)
+      version-told wrong = rw (ne-eqb n 13 other, whole, differs right, versioned wrong)
 
       -- too high a count
-      pub count-told : fileVersion f ≡ 1 → 512 < countField f → At 5 ≡ fileSpot f found n
+      pub count-told : unknown ≡ false → 512 < countField f → At 5 ≡ fileSpot f found n
       unfolding fileSpot
-      count-told one many =
-          rw (ne-eqb n 13 other, whole, differs right, eq-eqb (fileVersion f) 1 one, lt-ltb 512 (countField f) many)
+      count-told known many =
+          rw (ne-eqb n 13 other, whole, differs right, versioned known, lt-ltb 512 (countField f) many)
 
       -- a length that does not fit
-      pub length-told : fileVersion f ≡ 1 → countField f ≤ 512 → Length found ≡ fileSpot f found n
+      pub length-told : unknown ≡ false → countField f ≤ 512 → Length found ≡ fileSpot f found n
       unfolding fileSpot
-      length-told one few =
-          rw (ne-eqb n 13 other, whole, differs right, eq-eqb (fileVersion f) 1 one, le-ltb 512 (countField f) few)
+      length-told known few =
+          rw (ne-eqb n 13 other, whole, differs right, versioned known, le-ltb 512 (countField f) few)

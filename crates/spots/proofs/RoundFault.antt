@@ -12,7 +12,7 @@ use Rattle.numbers.proofs.Search.{find-agree}
 use Rattle.encoding.specs.Bytes.{wordsAt}
 use Rattle.lists.specs.Places.{pad8}
 use Rattle.sigma.specs.Element.{isCoordinate}
-use Rattle.formats.specs.RoundFile.{challengeWidth, widthOf}
+use Rattle.formats.specs.RoundFile.{challengeWidth}
 use Rattle.formats.proofs.ByteLayout.{word-at}
 use Rattle.modular.specs.FirstFailing.{firstFailing}
 use Rattle.reasons.specs.declared.Spot.the-variants.{At}
@@ -26,9 +26,9 @@ slots-first h f start n =
     find-agree _ _ 0 n (λ i low below. ap (λ (v : ℕ). not (isCoordinate h v)) (word-at f start n i (omega arith)))
 
 -- neither 14 nor 15
-pub slot-told : (h : Header) (f : List ℕ) (n : ℕ) → n ≢ 14 → n ≢ 15 → {slots : List ℕ} {j : ℕ}
-    → slots ≡ pad8 0 (wordsAt f (7 + 4 * h .rows + 4) (h .columns)) → j ≡ firstFailing (isCoordinate h) (h .columns) slots
-    → At (7 + 4 * h .rows + 4 + 4 * j) ≡ roundSpot h f n
-unfolding roundSpot challengeWidth widthOf
-slot-told h f n a b read found =
-    rw (ne-eqb n 14 a, ne-eqb n 15 b, found, read, slots-first h f (7 + 4 * h .rows + 4) (h .columns))
+pub slot-told : (h : Header) (f : List ℕ) (n : ℕ) → n ≢ 14 → n ≢ 15 → {width : ℕ} → width ≡ challengeWidth f
+    → {slots : List ℕ} {j : ℕ} → slots ≡ pad8 0 (wordsAt f (7 + 4 * h .rows + width) (h .columns))
+    → j ≡ firstFailing (isCoordinate h) (h .columns) slots → At (7 + 4 * h .rows + width + 4 * j) ≡ roundSpot h f n
+unfolding roundSpot
+slot-told h f n a b {width} is-width read found =
+    rw (ne-eqb n 14 a, ne-eqb n 15 b, ← is-width, found, read, slots-first h f (7 + 4 * h .rows + width) (h .columns))

@@ -11,9 +11,11 @@ use instance::header;
 use modular::first_non_coordinate;
 use modular::is_element;
 use reasons::Spot;
-use round_file::MARK;
-use round_file::MOST_ROUNDS;
-use round_file::START;
+use round_layout::MARK;
+use round_layout::MOST_ROUNDS;
+use round_layout::START;
+use round_layout::file_width;
+use round_layout::unknown_version;
 use types::Header;
 ghost use Prim.Native.Nat.{ℕ, _+_, _*_, _≤_, _<_};
 ghost use mathlib.Core.List.{List};
@@ -134,7 +136,7 @@ pub fn file_spot(file: &[u8], found: usize, number: u32) -> Spot
     if !has_mark(file, MARK) {
         return Spot::At(0);
     }
-    if read_u16(file, 3) != 1 {
+    if unknown_version(read_u16(file, 3)) {
         return Spot::At(3);
     }
     if read_u16(file, 5) > MOST_ROUNDS {
@@ -160,7 +162,10 @@ pub fn round_spot(h: Header, file: &[u8], number: u32) -> Spot
     if number == 15 {
         return Spot::At(challenge);
     }
-    let response = challenge + 4;
+    let width = file_width(file);
+    let response = challenge + width;
     let slots = read_words(file, response, columns);
-    Spot::At(response + 4 * first_non_coordinate(h, slots, columns))
+    let slot = first_non_coordinate(h, slots, columns);
+    let offset = response + 4 * slot;
+    Spot::At(offset)
 }

@@ -1,14 +1,14 @@
-// Page K of 01, and the largest sheet and round file.
+// Page K of 01, and the largest sheet and round files.
 use instance::load;
 use lines::front;
 use lines::length;
 use lines::line;
 use lines::loading;
 use lines::store;
-use round_file::MOST_ROUNDS;
 use round_file::check;
 use round_file::count;
 use round_file::read;
+use round_layout::MOST_ROUNDS;
 use round_writer::append;
 use round_writer::empty;
 use types::Header;
@@ -71,9 +71,9 @@ fn append_one(sheet: &[u8], file: &mut [u8], used: usize, number: u32) -> Writte
     append(sheet, file, used, round)
 }
 
-// Makes a file of no rounds, appends 512 rounds, one by one, and answers how many bytes are in use.
-fn append_all(sheet: &[u8], file: &mut [u8]) -> usize {
-    let mut used = empty(file).length;
+// Makes a file of no rounds in a version, appends 512 rounds, one by one, and answers how many bytes are in use.
+fn append_all(sheet: &[u8], file: &mut [u8], version: u32) -> usize {
+    let mut used = empty(version, file).length;
     for number in 0..MOST_ROUNDS {
         used = append_one(sheet, file, used, number).length;
     }
@@ -101,14 +101,15 @@ fn beyond(sheet: &[u8], file: &mut [u8], used: usize) {
     line(b"513 rounds: ", count(sheet, file).refusal);
 }
 
-// The trials of round files, in a buffer that has room for 513 rounds.
-fn rounds(sheet: &[u8], file: &mut [u8]) {
-    let used = append_all(sheet, file);
+// The trials of round files of a version, in a buffer that has room for 513 rounds and no more.
+fn rounds(sheet: &[u8], file: &mut [u8], version: u32) {
+    line(b"version: ", version);
+    let used = append_all(sheet, file, version);
     full(sheet, front(file, used));
     beyond(sheet, file, used);
 }
 
-// Page K, and the largest sheet and round file.
+// Page K, the largest sheet, and the largest round file of each version.
 pub fn all() {
     rows();
     let mut sheet = [0u8; 400];
@@ -116,5 +117,7 @@ pub fn all() {
     largest(front(&sheet, length));
     last_entry(front(&sheet, length));
     let mut file = [0u8; 34891];
-    rounds(front(&sheet, length), &mut file);
+    rounds(front(&sheet, length), &mut file, 1);
+    let mut narrow = [0u8; 33865];
+    rounds(front(&sheet, length), &mut narrow, 2);
 }

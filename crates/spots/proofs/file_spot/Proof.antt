@@ -1,6 +1,5 @@
 -- `spots::file_spot` meets its contract: each return is the branch of the definition that its tests choose.
 -- Assumes nothing.
-use mathlib.Core.Path.{_∙_}
 use native.Mathlib.Omega.{arith}
 use Rattle.encoding.specs.Text.{ascii}
 use Rattle.formats.specs.RoundFile.{countField, fileVersion, roundMark}
@@ -27,14 +26,18 @@ returns-3 c same =
 read-u16-requires : tie.Need-read-u16-requires
 read-u16-requires c κs = omega arith
 
+unknown-version-requires : tie.Need-unknown-version-requires
+unknown-version-requires c κs = omega arith
+
 returns-4 : tie.Need-returns-4
 unfolding roundMark ascii fileVersion
 returns-4 c same =
-    let right = c .before .before in
+    let asked = c .before in
+    let right = asked .before .before in
     let marked = right .before in
     let other = marked .before .before .if1 .left in
     version-told _ _ _ other same (marked .before .if2 .left) (marked .has-mark .ensures) (right .if3 .left)
-    (λ one. c .if4 .taken (c .before .read-u16 .ensures .0 ∙ one))
+    (asked .before .read-u16 .ensures .0) (asked .unknown-version .ensures) (c .if4 .taken)
 
 read-u16-requires-2 : tie.Need-read-u16-requires-2
 read-u16-requires-2 c κs = omega arith
@@ -42,22 +45,24 @@ read-u16-requires-2 c κs = omega arith
 returns-5 : tie.Need-returns-5
 unfolding roundMark ascii fileVersion countField
 returns-5 c same =
-    let one = c .before .before in
-    let right = one .before .before in
+    let known = c .before .before in
+    let asked = known .before in
+    let right = asked .before .before in
     let marked = right .before in
     let other = marked .before .before .if1 .left in
-    count-told _ _ _ other same (marked .before .if2 .left) (marked .has-mark .ensures) (right .if3 .left) (omega arith)
-    (omega arith)
+    count-told _ _ _ other same (marked .before .if2 .left) (marked .has-mark .ensures) (right .if3 .left)
+    (asked .before .read-u16 .ensures .0) (asked .unknown-version .ensures) (known .if4 .left) (omega arith)
 
 returns-6 : tie.Need-returns-6
 unfolding roundMark ascii fileVersion countField
 returns-6 c same =
-    let one = c .before .before in
-    let right = one .before .before in
+    let known = c .before .before in
+    let asked = known .before in
+    let right = asked .before .before in
     let marked = right .before in
     let other = marked .before .before .if1 .left in
-    length-told _ _ _ other same (marked .before .if2 .left) (marked .has-mark .ensures) (right .if3 .left) (omega arith)
-    (omega arith)
+    length-told _ _ _ other same (marked .before .if2 .left) (marked .has-mark .ensures) (right .if3 .left)
+    (asked .before .read-u16 .ensures .0) (asked .unknown-version .ensures) (known .if4 .left) (omega arith)
 
 pub file-spot-spec : {M : Type 1} → statement M
 file-spot-spec =
@@ -68,6 +73,7 @@ file-spot-spec =
     has-mark-requires
     returns-3
     read-u16-requires
+    unknown-version-requires
     returns-4
     read-u16-requires-2
     returns-5

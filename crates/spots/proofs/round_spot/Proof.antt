@@ -2,7 +2,7 @@
 -- Assumes nothing.
 use native.Mathlib.Omega.{arith}
 use borrow.Author.Tests.{eq-eqb, ne-eqb}
-use Rattle.formats.specs.RoundFile.{challengeWidth, recordLength, widthOf}
+use Rattle.formats.specs.RoundFile.{recordLength}
 use Rattle.reasons.specs.Reason.{roundSpot}
 use Rattle.spots.proofs.RoundFault.{slot-told}
 use Rattle.spots.proofs.round_spot.Statement.{statement}
@@ -21,7 +21,7 @@ add-challenge : tie.Need-add-challenge
 add-challenge c = omega arith
 
 element-spot-requires : tie.Need-element-spot-requires
-unfolding recordLength challengeWidth widthOf
+unfolding recordLength
 element-spot-requires c κs = omega arith
 
 returns : tie.Need-returns
@@ -32,27 +32,31 @@ returns-2 : tie.Need-returns-2
 unfolding roundSpot
 returns-2 c = rw (ne-eqb _ _ (c .before .if1 .left), eq-eqb _ _ (c .if2 .taken))
 
+file-width-requires : tie.Need-file-width-requires
+file-width-requires c κs = omega arith
+
 add-response : tie.Need-add-response
 add-response c = omega arith
 
 read-words-requires : tie.Need-read-words-requires
-unfolding recordLength challengeWidth widthOf
+unfolding recordLength
 read-words-requires c κs = omega arith
 
 first-non-coordinate-requires : tie.Need-first-non-coordinate-requires
 first-non-coordinate-requires c κs = omega arith
 
-mul-t11 : tie.Need-mul-t11
-mul-t11 c = omega arith
+mul-offset : tie.Need-mul-offset
+mul-offset c = omega arith
 
-add-t12 : tie.Need-add-t12
-add-t12 c = omega arith
+add-offset : tie.Need-add-offset
+add-offset c = omega arith
 
 returns-3 : tie.Need-returns-3
 returns-3 c =
     let read = c .before in
-    slot-told _ _ _ (read .before .before .if1 .left) (read .before .if2 .left) (read .read-words .ensures)
-    (c .first-non-coordinate .ensures .0)
+    let measured = read .before in
+    slot-told _ _ _ (measured .before .before .if1 .left) (measured .before .if2 .left) (measured .file-width .ensures .0)
+    (read .read-words .ensures) (c .first-non-coordinate .ensures .0)
 
 pub round-spot-spec : {M : Type 1} → statement M
 round-spot-spec =
@@ -65,9 +69,10 @@ round-spot-spec =
     element-spot-requires
     returns
     returns-2
+    file-width-requires
     add-response
     read-words-requires
     first-non-coordinate-requires
-    mul-t11
-    add-t12
+    mul-offset
+    add-offset
     returns-3)

@@ -3,6 +3,7 @@
 use native.Mathlib.Omega.{arith}
 use borrow.Author.Needs.{needs}
 use Rattle.encoding.specs.Text.{ascii}
+use Rattle.formats.proofs.Growing.{file-long}
 use Rattle.diagnosis.proofs.JudgedLine.{accepted-told, first-inside, refused-told, rejected-inside, rejected-told}
 use Rattle.diagnosis.proofs.judged.write_judged.Statement.{statement}
 use Rattle.diagnosis.proofs.judged.write_judged.Tie as tie
@@ -24,14 +25,18 @@ write-word-requires c κs = omega arith
 enum-known-row : tie.Need-enum-known-row
 enum-known-row c = search needs
 
+file-width-requires : tie.Need-file-width-requires
+file-width-requires c κs = omega (arith, file-long (c .before .before .before .before .before .before .pre .1 .0))
+
 round-at-requires : tie.Need-round-at-requires
 round-at-requires c κs =
-    let (valid, (file, (some, room))) = c .before .before .before .before .before .before .pre in
-    (valid .table .few-rows, (valid .table .few-columns, first-inside file some))
+    let (valid, (file, (some, room))) = c .before .before .before .before .before .before .before .pre in
+    let (width, (small, known)) = c .file-width .ensures in
+    (valid .table .few-rows, (valid .table .few-columns, (known, rw width (first-inside file some))))
 
 write-sides-requires : tie.Need-write-sides-requires
 write-sides-requires c κs =
-    let row = c .before .before .before in
+    let row = c .before .before .before .before in
     let judged = row .before .before in
     let valid = judged .before .before .before .pre .0 in
     (valid, (rejected-inside _ _ (judged .verdict-at .ensures) valid _ (row .row .given .1), omega arith))
@@ -66,9 +71,10 @@ returns-2 : tie.Need-returns-2
 returns-2 c =
     let written = c .before .before in
     let read = written .before .before in
-    let row = read .before .before in
+    let row = read .before .before .before in
     let judged = row .before .before in
-    let line = rejected-told _ _ (judged .verdict-at .ensures) (read .round-at .ensures) _ (row .row .given .1) in
+    let round = rw (read .before .file-width .ensures .0) at (read .round-at .ensures) in
+    let line = rejected-told _ _ (judged .verdict-at .ensures) round _ (row .row .given .1) in
     (rw line (written .write-sides .ensures .0), written .write-sides .ensures .1)
 
 same-length-3 : tie.Need-same-length-3
@@ -92,6 +98,7 @@ write-judged-spec =
     slice-aggregate-write-word
     write-word-requires
     enum-known-row
+    file-width-requires
     round-at-requires
     write-sides-requires
     enum-known-number

@@ -9,10 +9,10 @@ use Rattle.trials.proofs.limits.append_all.Statement.{statement}
 use Rattle.trials.proofs.limits.append_all.Tie as tie
 
 abbrev Inv-loop : tie.InvT-loop
-Inv-loop sheet file₀ used₀ number₀ file used number = (number ≤ 512) × (length file ≡ length file₀)
+Inv-loop sheet file₀ version used₀ number₀ file used number = (number ≤ 512) × (length file ≡ length file₀)
 
 abbrev μ-loop : tie.MeasureT-loop
-μ-loop sheet file₀ used₀ number₀ file used number = 512 - number
+μ-loop sheet file₀ version used₀ number₀ file used number = 512 - number
 
 empty-requires : tie.Need-empty-requires Inv-loop μ-loop
 empty-requires c κs = omega arith
