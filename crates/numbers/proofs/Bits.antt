@@ -130,7 +130,3 @@ true-together false false same = refl
 pub mask-is : (n : ℕ) (p : ℕ → Bool) (mask : ℕ) → mask < 2 ^ n → ((i : ℕ) → i < n → (p i ≡ true) ↔ (bit mask i ≡ true))
     → maskBelow n p ≡ mask
 mask-is n p mask small same = mask-agree n p (bit mask) (λ i h. true-together (p i) (bit mask i) (same i h)) ∙ mask-of-bits n mask small
-
--- two numbers below 2^n with the same bits are equal
-pub same-bits : (n a b : ℕ) → a < 2 ^ n → b < 2 ^ n → ((i : ℕ) → i < n → (bit a i ≡ true) ↔ (bit b i ≡ true)) → a ≡ b
-same-bits n a b small small′ same = sym (mask-of-bits n a small) ∙ mask-is n (bit a) b small′ same

@@ -1,18 +1,17 @@
--- Answers: each verdict has its outcome, two verdicts with masks of eight bits never have the same, and a refusal's number decides
--- between a value and a refusal.
+-- Answers: each verdict has its outcome, and a refusal's number decides between a value and a refusal.
 -- Assumes nothing.
-use Prim.Native.Nat.{ℕ, zero, suc, _^_, _<_}
+use Prim.Native.Nat.{ℕ, zero, suc, _<_}
 use mathlib.Core.Path.{_≡_, refl, sym, ap, _∙_}
 use mathlib.Core.Logic.{_↔_, _≢_}
-use mathlib.Core.List.{List, tail-eq-of-cons-eq}
+use mathlib.Core.List.{List}
 use native.Mathlib.Omega.{arith}
 use borrow.Author.Tests.{ne-eqb}
 use Rattle.types.specs.declared.Verdict.{Verdict}
 use Rattle.types.specs.declared.Verdict.the-variants.{Accepted, Rejected, Refused}
 use Rattle.lists.specs.Places.{pad8, zeros8}
 use Rattle.rules.specs.Answer.{unlessRefused}
-use Rattle.sigma.specs.Answer.{Outcome, outcome, VerdictOutcomes, judged, eightPlaces, computed}
-use Rattle.sigma.proofs.Rows.{rows-digit, rows-injective, rows-rising}
+use Rattle.sigma.specs.Answer.{outcome, VerdictOutcomes, judged, eightPlaces, computed}
+use Rattle.sigma.proofs.Rows.{rows-digit, rows-rising}
 
 -- each verdict has its outcome
 pub verdict-outcomes : VerdictOutcomes
@@ -24,28 +23,6 @@ verdict-outcomes = record {
   rows = rows-digit;
   rising = rows-rising;
 }
-
--- a verdict has no bit at 8 or beyond
-abbrev pub EightBits : Verdict → Type 0
-EightBits v = (mask : ℕ) → v ≡ Rejected mask → mask < 2 ^ 8
-
--- two such verdicts with the same outcome are the same
-pub outcome-injective : (v w : Verdict) → EightBits v → EightBits w → outcome v ≡ outcome w → v ≡ w
-unfolding outcome
-outcome-injective v w few few′ e = compare v w few few′ (ap (λ (o : Outcome). o .number) e) (ap (λ (o : Outcome). o .values) e)
-  where
-    compare : (v w : Verdict) → EightBits v → EightBits w → outcome v .number ≡ outcome w .number → outcome v .values ≡ outcome w .values
-        → v ≡ w
-    compare Accepted Accepted few few′ m e = refl
-    compare Accepted (Rejected mask) few few′ m e = cc
-    compare Accepted (Refused n) few few′ m e = cc
-    compare (Rejected mask) Accepted few few′ m e = cc
-    compare (Rejected mask) (Rejected mask′) few few′ m e =
-        ap Rejected (rows-injective mask mask′ (few mask refl) (few′ mask′ refl) (tail-eq-of-cons-eq e))
-    compare (Rejected mask) (Refused n) few few′ m e = cc
-    compare (Refused n) Accepted few few′ m e = cc
-    compare (Refused n) (Rejected mask) few few′ m e = cc
-    compare (Refused n) (Refused n′) few few′ m e = cc
 
 module _ {ℓ} {A : Type ℓ} (value other : A) where
   -- where nothing is refused the value is given

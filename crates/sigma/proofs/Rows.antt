@@ -1,13 +1,13 @@
--- The rows of a mask: its bits below 8, rising, and one mask below 256 for each list of rows.
+-- The rows of a mask: its bits below 8, rising.
 -- Assumes nothing.
 use Prim.Native.Nat.{ℕ, zero, suc, _/_, _%_, _^_, _<_}
-use mathlib.Core.Path.{_≡_, subst, sym}
+use mathlib.Core.Path.{_≡_}
 use mathlib.Core.Bool.{true}
 use native.Mathlib.Omega.{arith}
 use lib.ListN.{length}
 use mathlib.Core.Logic.{_↔_, Iff·rfl, Iff·and, Iff·trans}
 use Rattle.numbers.specs.Bits.{bit}
-use Rattle.numbers.proofs.Bits.{bit-digit, same-bits}
+use Rattle.numbers.proofs.Bits.{bit-digit}
 use Rattle.lists.specs.Choices.{selected}
 use Rattle.lists.specs.Member.{Member, Rising}
 use Rattle.lists.proofs.Choices.{selected-member}
@@ -33,11 +33,3 @@ pub rows-some : (mask : ℕ) → 0 < length (rowsOf mask) → 0 < mask
 unfolding rowsOf selected bit
 rows-some zero some = some
 rows-some (suc mask) some = omega arith
-
--- masks of eight bits with the same rows are equal
-pub rows-injective : (a b : ℕ) → a < 2 ^ 8 → b < 2 ^ 8 → rowsOf a ≡ rowsOf b → a ≡ b
-rows-injective a b small small′ same =
-    same-bits 8 a b small small′ (λ i below. (
-      λ set. rows-bit b i .0 (subst (Member i) same (rows-bit a i .1 (below, set))) .1,
-      λ set. rows-bit a i .0 (subst (Member i) (sym same) (rows-bit b i .1 (below, set))) .1,
-    ))
