@@ -10,7 +10,7 @@ use dimkhoros_sys as sys;
 /// |---|---|
 /// | `refused N OFFSET` | rule N, 2 to 16, is the lowest that is broken, by the value at the offset and by none before it |
 /// | `refused N length LENGTH` | the same of 2, 9 or 12 where the length of the sheet or the file breaks it |
-/// | `rejected ROW LEFT RIGHT ..` | the two sides of round 0 differ in these rows, rising: each row, the value of \[r\] there, and that of t · z^c |
+/// | `rejected ROW LEFT RIGHT ..` | the two sides of round 0 differ in each ROW, rising: the value of \[r\], and that of t · z^c |
 /// | `accepted` | Vic accepts round 0 |
 ///
 /// An offset is that of the value's first byte, from the start of the file that holds it: the sheet for 2 to 11, the round file

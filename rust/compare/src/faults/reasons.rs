@@ -31,8 +31,9 @@ impl Line {
             [number, offset] => Line::At(number as u32, offset),
             [] => Line::Accepted,
             _ => {
-                let (rows, _) = numbers.as_chunks::<3>();
-                Line::Rejected(rows.iter().map(|row| row.map(|word| word as u32)).collect())
+                let rows = numbers.chunks_exact(3);
+                let rows = rows.map(|row| [row[0], row[1], row[2]].map(|word| word as u32));
+                Line::Rejected(rows.collect())
             }
         }
     }

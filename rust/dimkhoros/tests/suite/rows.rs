@@ -2,8 +2,8 @@
 
 use crate::pages::{page_a, round};
 use dimkhoros::{
-    Instance, LONGEST_FILE, LONGEST_REASON, LONGEST_TEXT, MOST_ROUNDS, OrRound, OrVerdict, Pair,
-    Round, RoundWriter, Rows, Values, Verdict, Verifier, mark, places, reason,
+    Header, Instance, LONGEST_FILE, LONGEST_REASON, LONGEST_TEXT, MOST_ROUNDS, OrRound, OrVerdict,
+    Pair, ROOT, Round, RoundWriter, Rows, Values, Verdict, Verifier, mark, places, reason,
 };
 
 /// A sheet of so many rows and one column, with page A's numbers.
@@ -14,7 +14,7 @@ fn sheet(rows: u32) -> Instance {
         values.entries[row][0] = 2;
         values.statement[row] = 13;
     }
-    Instance::encode(&Values { ..values }).unwrap()
+    Instance::encode(&values).unwrap()
 }
 
 /// The round with the challenge 0 and the response 4, whose image is 16 in each row: t is 4 in the rows of a mask and 16 in the
@@ -127,16 +127,9 @@ fn the_longest_text_and_the_longest_line_fit() {
     assert!(text[length..].iter().all(|byte| *byte == 0xee));
 
     // Both sides of each row have ten digits: m is 2^32 - 1, [r] is its largest unit and t · z^0 one of ten digits.
-    let mut values = Values::default();
-    values.header = dimkhoros::Header {
-        kind: dimkhoros::ROOT,
-        modulus: u32::MAX,
-        order: 65_537,
-        challenges: 2,
-        rows: 8,
-        columns: 8,
-    };
-    values.statement = [1; 8];
+    let header =
+        Header { kind: ROOT, modulus: u32::MAX, order: 65_537, challenges: 2, rows: 8, columns: 8 };
+    let values = Values { header, statement: [1; 8], ..Values::default() };
     let roots = Instance::encode(&values).unwrap();
     let round = Round { commitment: [u32::MAX - 2; 8], challenge: 0, response: [u32::MAX - 1; 8] };
     let file = self::file(&roots, &[round]);
