@@ -53,6 +53,17 @@ pub fn answer_line(label: &[u8], refusal: u32, values: [u32; 8], count: usize) {
     io::write_all(1, b"\n");
 }
 
+// Prints the rows of a mask, rising, each with a space before it.
+fn print_rows(mask: u32) {
+    let mut rest = mask;
+    for row in 0..8u32 {
+        if rest % 2 == 1 {
+            spaced(row);
+        }
+        rest = rest / 2;
+    }
+}
+
 // Prints a label and a verdict, in the words of the marker, and ends the line.
 pub fn verdict(label: &[u8], verdict: Verdict) {
     io::write_all(1, label);
@@ -60,7 +71,11 @@ pub fn verdict(label: &[u8], verdict: Verdict) {
         Verdict::Accepted => {
             io::write_all(1, b"accepted\n");
         }
-        Verdict::Rejected(row) => line(b"rejected ", row),
+        Verdict::Rejected(mask) => {
+            io::write_all(1, b"rejected");
+            print_rows(mask);
+            io::write_all(1, b"\n");
+        }
         Verdict::Refused(number) => line(b"refused ", number),
     }
 }
