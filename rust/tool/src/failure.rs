@@ -1,0 +1,58 @@
+//! Why a command ends without having done what it was asked for.
+
+use dimkhoros::Refusal;
+use std::fmt;
+use std::io;
+
+/// Why a command fails, in one line.
+#[derive(Debug)]
+pub enum Failure {
+    /// The words of the command are wrong.
+    Words(String),
+    /// The library refused something, or it cannot be had, read or written.
+    Failed(String),
+}
+
+/// What a command answers.
+pub type Outcome<T = ()> = Result<T, Failure>;
+
+impl Failure {
+    /// The words are wrong.
+    pub fn words(why: impl fmt::Display) -> Failure {
+        Failure::Words(why.to_string())
+    }
+
+    /// Something else went wrong.
+    pub fn failed(why: impl fmt::Display) -> Failure {
+        Failure::Failed(why.to_string())
+    }
+
+    /// The exit status: 2 for wrong words, else 1.
+    pub fn status(&self) -> u8 {
+        match self {
+            Failure::Words(_) => 2,
+            Failure::Failed(_) => 1,
+        }
+    }
+}
+
+impl fmt::Display for Failure {
+    fn fmt(&self, f: &mut fmt::Formatter<'_>) -> fmt::Result {
+        match self {
+            Failure::Words(why) | Failure::Failed(why) => f.write_str(why),
+        }
+    }
+}
+
+impl From<Refusal> for Failure {
+    fn from(refusal: Refusal) -> Failure {
+        Failure::failed(refusal)
+    }
+}
+
+/// Only what is printed is written by way of `?`; a file names itself.
+impl From<io::Error> for Failure {
+    fn from(error: io::Error) -> Failure {
+        Failure::failed(format!("the text cannot be written: {error}"))
+    }
+}

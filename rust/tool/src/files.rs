@@ -1,0 +1,90 @@
+//! Reading and writing files.
+
+use crate::failure::{Failure, Outcome};
+use crate::words::Words;
+use std::fmt::Display;
+use std::fs::{File, OpenOptions};
+use std::io::{self, ErrorKind, Read, Write};
+use std::path::{Path, PathBuf};
+
+/// The most bytes that are read of a file. No file of ours has as many.
+const MOST: u64 = 1 << 20;
+
+/// The bytes of a file, or of standard input where it is called `-`.
+pub fn read(path: &Path) -> Outcome<Vec<u8>> {
+    let read = match is_standard(path) {
+        true => read_all(io::stdin().lock()),
+        false => File::open(path).and_then(read_all),
+    };
+    let bytes = read.map_err(|error| failure(path, "read", &error))?;
+    if bytes.len() as u64 > MOST {
+        return Err(Failure::failed(format!("{} has more than {MOST} bytes", name(path))));
+    }
+    Ok(bytes)
+}
+
+/// All bytes up to one more than the most.
+fn read_all(file: impl Read) -> io::Result<Vec<u8>> {
+    let mut bytes = Vec::new();
+    file.take(MOST + 1).read_to_end(&mut bytes)?;
+    Ok(bytes)
+}
+
+/// Where a command writes its file: behind `-o`, to standard output where that is `-`. With `--force` it may be there already.
+pub struct Target {
+    path: PathBuf,
+    force: bool,
+}
+
+impl Target {
+    /// What the words say.
+    pub fn of(words: &Words) -> Outcome<Target> {
+        let path =
+            words.option("-o").ok_or(Failure::words("-o FILE is missing: where to write"))?;
+        Ok(Target { path: PathBuf::from(path), force: words.flag("--force") })
+    }
+
+    /// Writes the bytes, and a line that says so unless the bytes themselves went there.
+    pub fn write(&self, bytes: &[u8], out: &mut dyn Write) -> Outcome {
+        if is_standard(&self.path) {
+            return Ok(out.write_all(bytes)?);
+        }
+        let mut options = OpenOptions::new();
+        match self.force {
+            true => options.create(true).truncate(true),
+            false => options.create_new(true),
+        };
+        let written =
+            options.write(true).open(&self.path).and_then(|mut file| file.write_all(bytes));
+        match written {
+            Ok(()) => Ok(writeln!(out, "{} has {} bytes", name(&self.path), bytes.len())?),
+            Err(error) if error.kind() == ErrorKind::AlreadyExists => Err(Failure::failed(
+                format!("{} is there already; --force writes over it", name(&self.path)),
+            )),
+            Err(error) => Err(failure(&self.path, "written", &error)),
+        }
+    }
+}
+
+/// A file's name as it is printed.
+pub fn name(path: &Path) -> String {
+    match is_standard(path) {
+        true => "standard input".to_string(),
+        false => path.display().to_string(),
+    }
+}
+
+/// Says which file cannot be read or written, and why.
+pub fn failure(path: &Path, what: &str, error: &io::Error) -> Failure {
+    Failure::failed(format!("{} cannot be {what}: {error}", name(path)))
+}
+
+/// Whether a file's name means standard input or output.
+fn is_standard(path: &Path) -> bool {
+    path.as_os_str() == "-"
+}
+
+/// A line on standard error. Where that is closed there is nobody to tell.
+pub fn note(line: &dyn Display) {
+    let _ = writeln!(io::stderr(), "dimkhoros: {line}");
+}

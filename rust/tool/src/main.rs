@@ -1,0 +1,92 @@
+//! The program `dimkhoros`: sheets, rounds and lecture pages from the command line.
+//!
+//! What it says of sheets and rounds it has from the proved library; it reads and writes files, and lays out what it was told.
+
+mod check;
+mod command;
+mod extract;
+mod failure;
+mod faults;
+mod files;
+mod grid;
+mod lecture;
+mod make;
+mod mark;
+mod notation;
+mod or_proof;
+mod patterns;
+mod reason;
+mod rounds;
+mod sheets;
+mod show;
+mod simulate;
+mod small;
+mod table;
+mod team;
+mod words;
+
+use command::{COMMANDS, Command};
+use failure::{Failure, Outcome};
+use std::env;
+use std::ffi::OsString;
+use std::io::{self, BufWriter, Write};
+use std::process::ExitCode;
+
+fn main() -> ExitCode {
+    let mut words = env::args_os().skip(1);
+    let name = words.next().unwrap_or_default();
+    let mut out = BufWriter::new(io::stdout().lock());
+    let ended = run(&name, words.collect(), &mut out);
+    let ended = ended.and_then(|()| Ok(out.flush()?));
+    match ended {
+        Ok(()) => ExitCode::SUCCESS,
+        Err(failure) => {
+            // What was printed before the failure belongs before its line.
+            let _ = out.flush();
+            files::note(&failure);
+            if let Failure::Words(_) = failure {
+                files::note(&whose_help(&name));
+            }
+            ExitCode::from(failure.status())
+        }
+    }
+}
+
+/// Runs the command of a name, or prints a help.
+fn run(name: &OsString, words: Vec<OsString>, out: &mut dyn Write) -> Outcome {
+    if name.is_empty() {
+        return Err(Failure::words("no command is named"));
+    }
+    if name == "--help" || name == "help" && words.is_empty() {
+        out.write_all(command::overview().as_bytes())?;
+        return Ok(());
+    }
+    if name == "--version" {
+        writeln!(out, "dimkhoros {}", env!("CARGO_PKG_VERSION"))?;
+        return Ok(());
+    }
+    if name == "help" {
+        out.write_all(found(&words[0])?.help.as_bytes())?;
+        return Ok(());
+    }
+    let command = found(name)?;
+    if words.iter().take_while(|word| *word != "--").any(|word| word == "--help") {
+        out.write_all(command.help.as_bytes())?;
+        return Ok(());
+    }
+    (command.run)(words, out)
+}
+
+/// The command of a name.
+fn found(name: &OsString) -> Outcome<&'static Command> {
+    let named = COMMANDS.iter().find(|command| name == command.name);
+    named.ok_or_else(|| Failure::words(format!("there is no command {}", name.to_string_lossy())))
+}
+
+/// Which help has the words that are right.
+fn whose_help(name: &OsString) -> String {
+    match found(name) {
+        Ok(command) => format!("`dimkhoros {} --help` says which words it takes", command.name),
+        Err(_) => "`dimkhoros --help` lists the commands".to_string(),
+    }
+}

@@ -1,0 +1,56 @@
+//! Sheets as commands take them.
+
+use crate::failure::{Failure, Outcome};
+use crate::words::Value;
+use crate::{faults, files};
+use dimkhoros::{Instance, PLACES, Places, RoundFile};
+use std::path::Path;
+
+/// The sheet in a file. A bad one fails with what is wrong and where.
+pub fn load(path: &Path) -> Outcome<Instance> {
+    let bytes = files::read(path)?;
+    let fault = |_| Failure::failed(format!("{}: {}", files::name(path), faults::of_sheet(&bytes)));
+    Instance::load(&bytes).map_err(fault)
+}
+
+/// The round file of a sheet in these bytes, which were read from a path.
+pub fn rounds<'a>(sheet: &'a Instance, path: &Path, bytes: &'a [u8]) -> Outcome<RoundFile<'a>> {
+    let fault =
+        |_| Failure::failed(format!("{}: {}", files::name(path), faults::of_rounds(sheet, bytes)));
+    RoundFile::open(sheet, bytes).map_err(fault)
+}
+
+/// How many rows a sheet has.
+pub fn row_count(sheet: &Instance) -> usize {
+    sheet.values().header.rows as usize
+}
+
+/// How many columns a sheet has.
+pub fn column_count(sheet: &Instance) -> usize {
+    sheet.values().header.columns as usize
+}
+
+/// A value for each row of a sheet.
+pub fn by_row(sheet: &Instance, value: &Value) -> Outcome<Places> {
+    in_places(value, row_count(sheet), "row")
+}
+
+/// A value for each column of a sheet.
+pub fn by_column(sheet: &Instance, value: &Value) -> Outcome<Places> {
+    in_places(value, column_count(sheet), "column")
+}
+
+/// Exactly so many numbers, in places.
+fn in_places(value: &Value, count: usize, of: &str) -> Outcome<Places> {
+    let (letter, numbers) = (value.letter, value.numbers()?);
+    if numbers.len() != count {
+        let plural = if count == 1 { "" } else { "s" };
+        let found = numbers.len();
+        return Err(Failure::words(format!(
+            "{letter}= has a value for each {of}: the sheet has {count} {of}{plural}, and {found} stand there"
+        )));
+    }
+    let mut places = [0; PLACES];
+    places[..count].copy_from_slice(numbers);
+    Ok(places)
+}

@@ -1,0 +1,57 @@
+//! All coordinates and elements of a sheet, where they are few.
+
+use crate::sheets::column_count;
+use dimkhoros::{EXPONENT, Instance, PLACES, Places, Prover};
+
+/// The most values that are tried one by one.
+pub const MOST: u32 = 4096;
+
+/// The values of a coordinate, rising: none where there are too many to try.
+pub fn coordinates(sheet: &Instance) -> Option<Vec<u32>> {
+    let header = sheet.values().header;
+    match header.kind == EXPONENT {
+        true => (header.order <= MOST).then(|| (0..header.order).collect()),
+        false => elements(sheet),
+    }
+}
+
+/// The elements of the group, rising: none where the modulus is too large to try. The library says of each whether it is one.
+pub fn elements(sheet: &Instance) -> Option<Vec<u32>> {
+    let modulus = sheet.values().header.modulus;
+    let is_element = |value: &u32| sheet.with_statement(&[*value; PLACES]).is_ok();
+    (modulus <= MOST).then(|| (1..modulus).filter(is_element).collect())
+}
+
+/// All choices of coordinates, those that differ first in the last column behind each other: none where there are more than
+/// `most`.
+pub fn domain(sheet: &Instance, most: usize) -> Option<Vec<Places>> {
+    let values = coordinates(sheet)?;
+    let columns = column_count(sheet);
+    let count = values.len().checked_pow(columns as u32)?;
+    if count > most {
+        return None;
+    }
+    let choice = |number: usize| {
+        let mut places = [0; PLACES];
+        let mut rest = number;
+        for place in places[..columns].iter_mut().rev() {
+            *place = values[rest % values.len()];
+            rest /= values.len();
+        }
+        places
+    };
+    Some((0..count).map(choice).collect())
+}
+
+/// The image of coordinates, which is the commitment that Peggy makes for them as a nonce: none where they are no coordinates.
+pub fn image(sheet: &Instance, coordinates: &Places) -> Option<Places> {
+    Prover::new().commit(sheet, coordinates).ok().map(|(_, image)| image)
+}
+
+/// All witnesses of a sheet, found by trying all coordinates: none where there are more than `most`.
+pub fn witnesses(sheet: &Instance, most: usize) -> Option<Vec<Places>> {
+    let statement = sheet.values().statement;
+    let mut all = domain(sheet, most)?;
+    all.retain(|coordinates| image(sheet, coordinates) == Some(statement));
+    Some(all)
+}

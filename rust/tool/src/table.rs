@@ -1,0 +1,30 @@
+//! Tables whose columns stand below each other.
+
+/// How a column is set.
+#[derive(Clone, Copy, PartialEq)]
+pub enum Set {
+    /// Words, which begin below each other.
+    Left,
+    /// Numbers, which end below each other.
+    Right,
+}
+
+/// The lines of a table, its columns two spaces apart, each line behind the indent and without spaces at its end.
+pub fn lines(indent: &str, set: &[Set], rows: &[Vec<String>]) -> String {
+    let width = |column: usize| {
+        let cells = rows.iter().filter_map(|row| row.get(column));
+        cells.map(|cell| cell.chars().count()).max().unwrap_or(0)
+    };
+    let widths: Vec<usize> = (0..set.len()).map(width).collect();
+    rows.iter().map(|row| line(indent, set, &widths, row)).collect()
+}
+
+/// A line of a table.
+fn line(indent: &str, set: &[Set], widths: &[usize], row: &[String]) -> String {
+    let cell = |((cell, set), width): ((&String, &Set), &usize)| match set {
+        Set::Left => format!("{cell:<width$}"),
+        Set::Right => format!("{cell:>width$}"),
+    };
+    let cells: Vec<String> = row.iter().zip(set).zip(widths).map(cell).collect();
+    format!("{indent}{}", cells.join("  ")).trim_end().to_string() + "\n"
+}

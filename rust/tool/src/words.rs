@@ -1,0 +1,219 @@
+//! The words of a command: names of files, values by their letters such as `c=3` or `x=1,2`, and options.
+
+use crate::failure::{Failure, Outcome};
+use std::ffi::{OsStr, OsString};
+use std::path::PathBuf;
+
+/// What words a command takes.
+pub struct Grammar {
+    /// What the plain words are, in their order, as the help calls them.
+    pub plain: &'static [&'static str],
+    /// How many of them can be left out, from the last on. Where the last one ends in `...` it may come often.
+    pub optional: usize,
+    /// The letters of values.
+    pub letters: &'static [&'static str],
+    /// Options that stand alone.
+    pub flags: &'static [&'static str],
+    /// Options that take the next word.
+    pub options: &'static [&'static str],
+}
+
+/// Numbers under a letter, as in `x=1,2`, or in rows, as in `table=1,2/2,3`.
+#[derive(Clone, Debug, PartialEq)]
+pub struct Value {
+    /// The letter.
+    pub letter: &'static str,
+    /// The numbers, row by row. There is at least one row, and at least one number in each.
+    pub rows: Vec<Vec<u32>>,
+}
+
+/// The words of a command, sorted.
+#[derive(Debug, Default)]
+pub struct Words {
+    plain: Vec<OsString>,
+    values: Vec<Value>,
+    flags: Vec<&'static str>,
+    options: Vec<(&'static str, OsString)>,
+}
+
+impl Words {
+    /// Sorts words, of which those behind `--` are plain.
+    pub fn sort(words: Vec<OsString>, grammar: &Grammar) -> Outcome<Words> {
+        let mut sorted = Words::default();
+        let mut words = words.into_iter();
+        while let Some(word) = words.next() {
+            if word == "--" {
+                sorted.plain.extend(words);
+                break;
+            }
+            sorted.take(word, &mut words, grammar)?;
+        }
+        sorted.check_plain(grammar)?;
+        Ok(sorted)
+    }
+
+    /// Takes a word, and the next one where it is an option that needs it.
+    fn take(
+        &mut self,
+        word: OsString,
+        rest: &mut impl Iterator<Item = OsString>,
+        grammar: &Grammar,
+    ) -> Outcome {
+        let text = word.to_string_lossy().into_owned();
+        if let Some(option) = find(grammar.options, &text) {
+            let value = rest.next().filter(|value| !value.is_empty());
+            let value = value.ok_or(Failure::words(format!("nothing stands behind {option}")))?;
+            if self.option(option).is_some() {
+                return Err(Failure::words(format!("{option} is there twice")));
+            }
+            self.options.push((option, value));
+        } else if let Some(flag) = find(grammar.flags, &text) {
+            self.flags.push(flag);
+        } else if text.starts_with('-') && text != "-" {
+            return Err(Failure::words(format!("there is no option {text}")));
+        } else if let Some((letter, numbers)) = letter_of(&text) {
+            let letter = find(grammar.letters, letter)
+                .ok_or_else(|| Failure::words(no_letter(letter, grammar)))?;
+            self.values.push(Value::read(letter, numbers)?);
+        } else if word.is_empty() {
+            return Err(Failure::words("a word is empty"));
+        } else {
+            self.plain.push(word);
+        }
+        Ok(())
+    }
+
+    /// There are as many plain words as the grammar says.
+    fn check_plain(&self, grammar: &Grammar) -> Outcome {
+        let (most, count) = (grammar.plain.len(), self.plain.len());
+        let repeats = grammar.plain.last().is_some_and(|last| last.ends_with("..."));
+        if count > most && !repeats {
+            let word = self.plain[most].to_string_lossy();
+            return Err(Failure::words(format!("the word {word} is one too many")));
+        }
+        if count + grammar.optional < most {
+            return Err(Failure::words(format!("the word {} is missing", grammar.plain[count])));
+        }
+        Ok(())
+    }
+
+    /// The plain words.
+    pub fn plain(&self) -> &[OsString] {
+        &self.plain
+    }
+
+    /// A plain word that the grammar asks for or that is known to be there.
+    pub fn path(&self, place: usize) -> PathBuf {
+        self.plain.get(place).map(PathBuf::from).unwrap_or_default()
+    }
+
+    /// Whether a flag is there.
+    pub fn flag(&self, name: &str) -> bool {
+        self.flags.contains(&name)
+    }
+
+    /// What stands behind an option.
+    pub fn option(&self, name: &str) -> Option<&OsStr> {
+        let found = self.options.iter().find(|(option, _)| *option == name);
+        found.map(|(_, value)| value.as_os_str())
+    }
+
+    /// All values, in their order.
+    pub fn values(&self) -> &[Value] {
+        &self.values
+    }
+
+    /// The values of a letter, in their order.
+    pub fn all(&self, letter: &str) -> Vec<&Value> {
+        self.values.iter().filter(|value| value.letter == letter).collect()
+    }
+
+    /// The value of a letter that may come once.
+    pub fn once(&self, letter: &str) -> Outcome<Option<&Value>> {
+        match self.all(letter)[..] {
+            [] => Ok(None),
+            [value] => Ok(Some(value)),
+            _ => Err(Failure::words(format!("{letter}= is there twice"))),
+        }
+    }
+
+    /// The number of a letter that may come once.
+    pub fn number(&self, letter: &str) -> Outcome<Option<u32>> {
+        self.once(letter)?.map(Value::number).transpose()
+    }
+
+    /// The numbers of a letter that may come once.
+    pub fn numbers(&self, letter: &str) -> Outcome<Option<&[u32]>> {
+        self.once(letter)?.map(Value::numbers).transpose()
+    }
+
+    /// The values in groups: a group ends where one of its letters comes again.
+    pub fn groups(&self) -> Vec<Vec<Value>> {
+        let mut groups: Vec<Vec<Value>> = Vec::new();
+        for value in &self.values {
+            match groups.last_mut() {
+                Some(group) if group.iter().all(|other| other.letter != value.letter) => {
+                    group.push(value.clone());
+                }
+                _ => groups.push(vec![value.clone()]),
+            }
+        }
+        groups
+    }
+}
+
+impl Value {
+    /// What a word of this letter says.
+    fn read(letter: &'static str, text: &str) -> Outcome<Value> {
+        let row = |text: &str| text.split(',').map(number).collect::<Result<Vec<u32>, String>>();
+        let rows = text.split('/').map(row).collect::<Result<_, _>>();
+        let rows = rows.map_err(|why| Failure::words(format!("{letter}={text}: {why}")))?;
+        Ok(Value { letter, rows })
+    }
+
+    /// The one number.
+    pub fn number(&self) -> Outcome<u32> {
+        match self.numbers()? {
+            [number] => Ok(*number),
+            _ => Err(Failure::words(format!("{}= takes one number", self.letter))),
+        }
+    }
+
+    /// The numbers of the one row.
+    pub fn numbers(&self) -> Outcome<&[u32]> {
+        match &self.rows[..] {
+            [row] => Ok(row),
+            _ => Err(Failure::words(format!("{}= takes no rows", self.letter))),
+        }
+    }
+}
+
+/// The number of a decimal text.
+fn number(text: &str) -> Result<u32, String> {
+    if text.is_empty() || !text.bytes().all(|byte| byte.is_ascii_digit()) {
+        return Err(format!("`{text}` is no number"));
+    }
+    text.parse().map_err(|_| format!("{text} has more than 32 bits"))
+}
+
+/// The letter and the rest of a word such as `c0=3`. A path with such a start is written `./c0=3`.
+fn letter_of(word: &str) -> Option<(&str, &str)> {
+    let (letter, rest) = word.split_once('=')?;
+    let alone = letter.bytes().all(|byte| byte.is_ascii_alphanumeric());
+    (alone && letter.starts_with(|first: char| first.is_ascii_alphabetic()))
+        .then_some((letter, rest))
+}
+
+/// The name in a list that a word is.
+fn find(names: &'static [&'static str], word: &str) -> Option<&'static str> {
+    names.iter().copied().find(|name| *name == word)
+}
+
+/// Says that a letter is none of the grammar's.
+fn no_letter(letter: &str, grammar: &Grammar) -> String {
+    let letters: Vec<String> = grammar.letters.iter().map(|letter| format!("{letter}=")).collect();
+    match letters.is_empty() {
+        true => format!("there is no value {letter}= here"),
+        false => format!("there is no value {letter}= here, but {}", letters.join(", ")),
+    }
+}

@@ -1,0 +1,5 @@
+//! The tests of the program `dimkhoros`.
+
+mod desk;
+mod examples;
+mod transcripts;
