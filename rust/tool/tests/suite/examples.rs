@@ -13,7 +13,8 @@ fn example(help: &str) -> String {
 
 /// The names of the commands, which the help of the whole tool lists.
 fn names(help: &str) -> Vec<String> {
-    let lines = help.lines().filter_map(|line| line.strip_prefix("    "));
+    let list = help.split("\nExample:").next().unwrap();
+    let lines = list.lines().filter_map(|line| line.strip_prefix("    "));
     let names = lines.filter(|line| line.starts_with(|first: char| first.is_ascii_lowercase()));
     names.map(|line| line.split_whitespace().next().unwrap().to_string()).collect()
 }
