@@ -49,7 +49,8 @@ def exactly(count: int, values: Iterable[int], name: str) -> tuple[int, ...]:
     """The values as a tuple, if there are so many and each is a number of 32 bits."""
     listed = numbers(values, name)
     if len(listed) != count:
-        raise ValueError(f"{name} has to have {count} values on this sheet, and has {len(listed)}")
+        words = "1 value" if count == 1 else f"{count} values"
+        raise ValueError(f"{name} has to have {words} on this sheet, and has {len(listed)}")
     return listed
 
 

@@ -177,7 +177,8 @@ def _table(values: Values) -> _structs.Entries:
     header = values.header
     expected = header.rows if header.kind == EXPONENT else 0
     if header.kind == EXPONENT and len(values.entries) != expected:
-        raise ValueError(f"the table has to have {expected} rows on this sheet, and has {len(values.entries)}")
+        words = "1 row" if expected == 1 else f"{expected} rows"
+        raise ValueError(f"the table has to have {words} on this sheet, and has {len(values.entries)}")
     table = _structs.Entries()
     for row in range(expected):
         entries = exactly(header.columns, values.entries[row], f"row {row} of the table")

@@ -122,7 +122,7 @@ class RoundWriter:
     def resume(cls, instance: Instance, file: bytes) -> RoundWriter:
         """Goes on with a file, or refuses it with 12."""
         opened = RoundFile(instance, file)
-        writer = cls(instance, opened.version)
+        writer = cls(instance)
         writer._used = len(opened.bytes)
         writer._buffer[: writer._used] = opened.bytes
         return writer

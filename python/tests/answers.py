@@ -107,7 +107,8 @@ class Answers:
     """The answers to the calls of lines for which these bytes are given, a method for each call."""
 
     def __init__(self, given, expected):
-        """The bytes that are given, and the answer that is expected, for what the module refuses earlier than the call."""
+        """The bytes that are given, and the answer that is expected, for what the module refuses earlier than the
+        call."""
         self.given, self.expected = given, expected
 
     @property

@@ -104,7 +104,7 @@ class Taken(unittest.TestCase):
         """In a sentence with both counts."""
         with self.assertRaisesRegex(ValueError, "^the response has to have 2 values on this sheet, and has 1$"):
             page_d().judge(Round([1], 1, [1]))
-        with self.assertRaisesRegex(ValueError, "^the commitment has to have 1 values on this sheet, and has 2$"):
+        with self.assertRaisesRegex(ValueError, "^the commitment has to have 1 value on this sheet, and has 2$"):
             page_d().judge(Round([1, 1], 1, [1, 2]))
         for call in [
             lambda: page_d().simulate(1, [1]),
@@ -327,7 +327,8 @@ class Face(unittest.TestCase):
 
     def test_every_name_is_there(self):
         """`__all__` names what is there, and what stands there by an import is in it."""
-        public = {name for name, value in vars(dimkhoros).items() if getattr(value, "__module__", "").startswith("dimk")}
+        found = vars(dimkhoros).items()
+        public = {name for name, value in found if getattr(value, "__module__", "").startswith("dimkhoros")}
         self.assertEqual({name for name in public if not name.startswith("_")} - set(dimkhoros.__all__), set())
         for name in dimkhoros.__all__:
             self.assertTrue(hasattr(dimkhoros, name), name)

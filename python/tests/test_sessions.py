@@ -1,9 +1,12 @@
 """Sessions: each object answers once, a refused call spends nothing, and none is copied."""
 
 import copy
+import ctypes
 import pickle
 import threading
+import time
 import unittest
+from concurrent.futures import ThreadPoolExecutor
 
 from dimkhoros import (
     Damaged,
@@ -16,7 +19,9 @@ from dimkhoros import (
     Side,
     Verifier,
     VerifierPhase,
+    _stored,
 )
+from dimkhoros._library import calls
 
 from .pages import page_a, page_d
 from .repository import refused, run_c
@@ -109,6 +114,26 @@ class Spending(unittest.TestCase):
         for thread in threads:
             thread.join()
         self.assertEqual((len(answers), len(spent)), (1, 7))
+
+    def test_a_thread_waits_for_a_call_that_is_refused(self):
+        """And is answered then."""
+        peggy, sheet = committed(), page_a()
+        inside, go_on = threading.Event(), threading.Event()
+
+        def slow(held):
+            """A call that is refused, once it may go on."""
+            inside.set()
+            go_on.wait()
+            return calls.prover_respond(sheet.bytes, len(sheet.bytes), held, 11, (ctypes.c_uint32 * 8)(7))
+
+        with ThreadPoolExecutor() as threads:
+            first = threads.submit(peggy._step, slow)
+            inside.wait()
+            second = threads.submit(peggy.respond, sheet, 3, [7])
+            time.sleep(0.05)
+            go_on.set()
+            self.assertEqual(first.exception().number, 15)
+            self.assertEqual(second.result()[1], (4,))
 
     def test_whatever_ends_a_call_leaves_the_object_spent(self):
         """An answer that got lost is not asked for again."""
@@ -203,8 +228,6 @@ class Storing(unittest.TestCase):
 
     def test_a_state_or_side_that_is_none_is_refused(self):
         """Though the check value is right."""
-        from dimkhoros import _stored
-
         for values, mark, kind in [(17, b"PRV", Prover), (10, b"VRF", Verifier), (35, b"ORP", OrProver)]:
             self.assertEqual(kind.from_stored(_stored.write(mark, (0,) * values)).to_stored()[:3], mark)
             bad = _stored.write(mark, (0,) * (values - 1) + (4,))

@@ -20,7 +20,7 @@ def answer(given, name, words, expected):
     except Refusal as refusal:
         return f"refused {refusal.number}"
     except ValueError as error:
-        if "values on this sheet" not in str(error):
+        if "on this sheet, and has" not in str(error):
             raise
         raise NoCall("a list has another count of values than the sheet asks for") from error
 
@@ -31,8 +31,8 @@ def spread(expected):
 
 
 def compared(wanted=None):
-    """How many lines of each call were asked, why others were not, and each line whose answer is another; of the calls of
-    this name, if one is named."""
+    """How many lines of each call were asked, why others were not, and each line whose answer is another; of the
+    calls of this name, if one is named."""
     asked, left, wrong = Counter(), Counter(), []
     for number, given, name, words, expected in lines():
         if wanted not in (None, name):
