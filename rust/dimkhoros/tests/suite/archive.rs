@@ -1,5 +1,5 @@
-//! The archive is found by one rule, in C and in Rust: in the folder whose whole path is in DIMKHOROS_LIB, and else in
-//! target/staticlib of the repository. Where it is not found, one line says so.
+//! The archive is found by one rule, in C, in Rust and for the shared library: in the folder whose whole path is in DIMKHOROS_LIB,
+//! and else in target/staticlib of the repository. Where it is not found, one line says so.
 
 use crate::cc;
 
@@ -8,14 +8,16 @@ use std::env;
 use std::path::Path;
 use std::process::Command;
 
-/// The commands that look for the archive: the script of the C examples, and the build of `dimkhoros-sys`.
-fn commands() -> [Command; 2] {
+/// The commands that look for the archive: the script of the C examples, that of the shared library, and the build of
+/// `dimkhoros-sys`.
+fn commands() -> [Command; 3] {
     let mut script = Command::new(cc::root().join("examples/c/build"));
     script.arg(cc::scratch("archive-c"));
+    let library = Command::new(cc::root().join("scripts/shared_library"));
     let mut cargo = Command::new(env::var_os("CARGO").unwrap_or_else(|| "cargo".into()));
     cargo.args(["build", "--offline", "--quiet", "-p", "dimkhoros-sys", "--target-dir"]);
     cargo.arg(cc::scratch("archive-rust")).current_dir(cc::root().join("rust"));
-    [script, cargo]
+    [script, library, cargo]
 }
 
 /// Each command fails under this DIMKHOROS_LIB and says why in this one line, to which cargo adds lines of its own.
@@ -25,8 +27,8 @@ fn assert_fails(folder: &str, expected: &str) {
         assert!(!output.status.success(), "{command:?} takes DIMKHOROS_LIB={folder}");
         String::from_utf8(output.stderr).unwrap()
     });
-    assert_eq!(said[0], format!("{expected}\n"));
-    assert!(said[1].lines().any(|line| line.trim() == expected), "cargo says:\n{}", said[1]);
+    assert_eq!(said[..2], [format!("{expected}\n"), format!("{expected}\n")]);
+    assert!(said[2].lines().any(|line| line.trim() == expected), "cargo says:\n{}", said[2]);
 }
 
 #[test]

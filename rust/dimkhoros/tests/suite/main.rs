@@ -1,4 +1,5 @@
-//! The tests of this crate's public face, of the header's words, of the examples and of the script that marks folders.
+//! The tests of this crate's public face, of the header's words, of the examples, of the script that marks folders and of the
+//! Python module.
 
 mod archive;
 mod boxes;
@@ -12,6 +13,7 @@ mod or_rounds;
 mod or_sessions;
 mod pages;
 mod patterns;
+mod python;
 mod readme;
 mod reasons;
 mod refusals;

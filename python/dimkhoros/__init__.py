@@ -1,0 +1,55 @@
+"""Proofs of knowledge of a preimage under a group homomorphism (U. Maurer, 2015), on numbers of at most 32 bits.
+
+What is computed here is computed by the proved library, which is found as a shared library. README.md beside this
+package has a lecture, a table of the calls and the rules on sessions."""
+
+from ._library import VERSION as __version__
+from ._library import version
+from ._sizes import EXPONENT, ROOT
+from ._stored import Damaged
+from .instance import Header, Instance, Values
+from .marker import mark, reason
+from .or_prover import OrProver
+from .pair import Pair
+from .patterns import Layout, Pattern, Patterns
+from .prover import Prover, ProverPhase
+from .refusals import Refusal
+from .round_file import RoundFile, RoundWriter
+from .rounds import OrRound, OrVerdict, OrWitness, Round, Side, Verdict
+from .session import NotStored, SessionSpent
+from .team import Team
+from .verifier import Verifier, VerifierPhase
+
+__all__ = [
+    "EXPONENT",
+    "ROOT",
+    "Damaged",
+    "Header",
+    "Instance",
+    "Layout",
+    "NotStored",
+    "OrProver",
+    "OrRound",
+    "OrVerdict",
+    "OrWitness",
+    "Pair",
+    "Pattern",
+    "Patterns",
+    "Prover",
+    "ProverPhase",
+    "Refusal",
+    "Round",
+    "RoundFile",
+    "RoundWriter",
+    "SessionSpent",
+    "Side",
+    "Team",
+    "Values",
+    "Verdict",
+    "Verifier",
+    "VerifierPhase",
+    "__version__",
+    "mark",
+    "reason",
+    "version",
+]

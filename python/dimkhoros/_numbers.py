@@ -1,0 +1,95 @@
+"""Numbers and bytes on their way into the library and out of it.
+
+No message shows a value: it may be one of a nonce or a witness."""
+
+from __future__ import annotations
+
+import ctypes
+import operator
+from collections.abc import Iterable
+
+from ._sizes import PLACES
+from ._structs import U32, Parts, Places
+
+MOST = 2**32 - 1
+MOST_SIZE = 2**64 - 1
+
+
+def _whole(value: int, most: int, name: str) -> int:
+    """The value, if it is a whole number from 0 to `most`."""
+    try:
+        whole = operator.index(value)
+    except TypeError:
+        raise TypeError(f"{name} has to be a whole number") from None
+    if not 0 <= whole <= most:
+        raise ValueError(f"{name} has to be a number from 0 to {most}")
+    return whole
+
+
+def number(value: int, name: str) -> int:
+    """The value, if it is a number of 32 bits."""
+    return _whole(value, MOST, name)
+
+
+def size(value: int, name: str) -> int:
+    """The value, if it is a number of 64 bits, as the number of a round may be."""
+    return _whole(value, MOST_SIZE, name)
+
+
+def numbers(values: Iterable[int], name: str) -> tuple[int, ...]:
+    """The values as a tuple, if each is a number of 32 bits."""
+    try:
+        listed = tuple(values)
+    except TypeError:
+        raise TypeError(f"{name} has to be a list of values") from None
+    return tuple(number(value, f"a value of {name}") for value in listed)
+
+
+def exactly(count: int, values: Iterable[int], name: str) -> tuple[int, ...]:
+    """The values as a tuple, if there are so many and each is a number of 32 bits."""
+    listed = numbers(values, name)
+    if len(listed) != count:
+        words = "1 value" if count == 1 else f"{count} values"
+        raise ValueError(f"{name} has to have {words} on this sheet, and has {len(listed)}")
+    return listed
+
+
+def places(values: tuple[int, ...]) -> ctypes.Array:
+    """Eight places that begin with these values and go on with zeros."""
+    return Places(*values)
+
+
+def several(values: tuple[int, ...]) -> ctypes.Array:
+    """An array of just these values."""
+    return (U32 * len(values))(*values)
+
+
+def parts(brought: list[tuple[int, ...]]) -> ctypes.Array:
+    """What a team's players bring, eight places for each and one player behind the other."""
+    all_parts = Parts()
+    for player, values in enumerate(brought):
+        all_parts[PLACES * player : PLACES * player + len(values)] = values
+    return all_parts
+
+
+def held(values: ctypes.Array) -> tuple[int, ...]:
+    """The values that a session holds in eight places, without the zeros behind them. No group element is 0."""
+    last = max((place + 1 for place, value in enumerate(values) if value), default=0)
+    return tuple(values[:last])
+
+
+def rows(mask: int) -> tuple[int, ...]:
+    """The rows of a mask, rising: row i has the bit of value 2^i."""
+    return tuple(row for row in range(32) if mask >> row & 1)
+
+
+def data(value: bytes | bytearray | memoryview, name: str) -> bytes:
+    """The value as bytes. A number is none, though bytes could be made of it."""
+    if not isinstance(value, (bytes, bytearray, memoryview)):
+        raise TypeError(f"{name} has to be bytes")
+    return bytes(value)
+
+
+def given(value: bytes) -> tuple[bytes, int]:
+    """Bytes as the library takes them, with their length."""
+    return value, len(value)

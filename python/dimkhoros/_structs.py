@@ -1,0 +1,158 @@
+"""The structs of include/dimkhoros.h, under their names without the library's."""
+
+import ctypes
+
+from ._sizes import ENTRIES, PARTS, PLACES
+
+U32 = ctypes.c_uint32
+Size = ctypes.c_size_t
+
+Places = U32 * PLACES
+Entries = U32 * ENTRIES
+Parts = U32 * PARTS
+
+
+class Header(ctypes.Structure):
+    """The fixed fields of a sheet."""
+
+    _fields_ = [("kind", U32), ("modulus", U32), ("order", U32), ("challenges", U32), ("rows", U32), ("columns", U32)]
+
+
+class Loaded(ctypes.Structure):
+    """A loaded sheet, but for its entries."""
+
+    _fields_ = [("header", Header), ("statement", Places), ("refusal", U32)]
+
+
+class Written(ctypes.Structure):
+    """What a call that writes to a buffer answers."""
+
+    _fields_ = [("length", Size), ("refusal", U32)]
+
+
+class Round(ctypes.Structure):
+    """One run of the protocol."""
+
+    _fields_ = [("commitment", Places), ("challenge", U32), ("response", Places)]
+
+
+class Counted(ctypes.Structure):
+    """How many rounds a round file has."""
+
+    _fields_ = [("count", U32), ("refusal", U32)]
+
+
+class Fetched(ctypes.Structure):
+    """A round that was read from a round file."""
+
+    _fields_ = [("round", Round), ("refusal", U32)]
+
+
+class Part(ctypes.Structure):
+    """Where a round stands in a round file."""
+
+    _fields_ = [("offset", Size), ("length", Size)]
+
+
+class Compared(ctypes.Structure):
+    """Whether two rounds of a file have the same commitment."""
+
+    _fields_ = [("same", U32), ("refusal", U32)]
+
+
+class Computed(ctypes.Structure):
+    """A simulated commitment, an extracted witness, or a commitment or response of a team."""
+
+    _fields_ = [("values", Places), ("refusal", U32)]
+
+
+class Judgement(ctypes.Structure):
+    """A verdict."""
+
+    _fields_ = [("accepted", U32), ("rows", U32), ("refusal", U32)]
+
+
+class ProverSession(ctypes.Structure):
+    """Peggy's session."""
+
+    _fields_ = [("nonce", Places), ("commitment", Places), ("phase", U32)]
+
+
+class ProverAnswer(ctypes.Structure):
+    """What a call on Peggy's session answers."""
+
+    _fields_ = [("session", ProverSession), ("values", Places), ("refusal", U32)]
+
+
+class VerifierSession(ctypes.Structure):
+    """Vic's session."""
+
+    _fields_ = [("commitment", Places), ("challenge", U32), ("phase", U32)]
+
+
+class VerifierAnswer(ctypes.Structure):
+    """What bringing a commitment or a challenge to Vic's session answers."""
+
+    _fields_ = [("session", VerifierSession), ("refusal", U32)]
+
+
+class VerifierJudgement(ctypes.Structure):
+    """What bringing a response to Vic's session answers."""
+
+    _fields_ = [("verdict", Judgement), ("session", VerifierSession)]
+
+    @property
+    def refusal(self) -> int:
+        """The refusal, which stands in the verdict."""
+        return self.verdict.refusal
+
+
+class OrRound(ctypes.Structure):
+    """One run of the OR proof."""
+
+    _fields_ = [
+        ("commitment0", Places),
+        ("commitment1", Places),
+        ("response0", Places),
+        ("response1", Places),
+        ("challenge", U32),
+        ("challenge0", U32),
+    ]
+
+
+class OrJudgement(ctypes.Structure):
+    """A verdict on a round of the OR proof."""
+
+    _fields_ = [("accepted", U32), ("rows0", U32), ("rows1", U32), ("refusal", U32)]
+
+
+class OrExtracted(ctypes.Structure):
+    """An extracted witness of one of two sheets."""
+
+    _fields_ = [("values", Places), ("side", U32), ("refusal", U32)]
+
+
+class OrSession(ctypes.Structure):
+    """Peggy's session of the OR proof."""
+
+    _fields_ = [
+        ("nonce", Places),
+        ("response", Places),
+        ("commitment0", Places),
+        ("commitment1", Places),
+        ("challenge", U32),
+        ("side", U32),
+        ("phase", U32),
+    ]
+
+
+class OrAnswer(ctypes.Structure):
+    """What a call on Peggy's session of the OR proof answers."""
+
+    _fields_ = [
+        ("session", OrSession),
+        ("values0", Places),
+        ("values1", Places),
+        ("challenge0", U32),
+        ("refusal", U32),
+    ]

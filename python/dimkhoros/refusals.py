@@ -1,0 +1,68 @@
+"""What calls are refused with."""
+
+from __future__ import annotations
+
+# Every refusal's sentence. They are those of include/dimkhoros.h, to which a test holds them.
+SENTENCES = {
+    1: "the pattern file has no pattern of this number, or it takes another count of values",
+    2: "the sheet is shorter than a header or does not begin with HOM",
+    3: "the sheet's version is another than 1",
+    4: "the kind has to be 1, exponent, or 2, root",
+    5: "the modulus has to be 3 or more",
+    6: "the order or exponent has to be 2 or more",
+    7: "rows and columns have to be 1 to 8 each, and equal in a root sheet",
+    8: "the challenge count K has to be 2 to 65536, and no number from 2 to K - 1 may divide the order or exponent",
+    9: "the sheet is longer or shorter than its header says",
+    10: "a table entry or public value lies outside the group",
+    11: "a value of the statement or of a player's image lies outside the group",
+    12: "the bytes are no round file of this sheet, the file is full, or the version asked for is another than 1 and 2",
+    13: "the file has no round of this number",
+    14: "a commitment value lies outside the group",
+    15: "the challenge has to be below the sheet's challenge count, or 65535 at most where it is written to a round"
+    " file of version 2",
+    16: "a value of the witness, nonce or response lies outside the domain",
+    17: "the table does not carry the witness to the statement",
+    18: "the two rounds have different commitments",
+    19: "the two rounds have the same challenge",
+    20: "one of the two rounds, or both, would be rejected",
+    21: "the session's state does not allow the call, or what it holds does not fit this sheet",
+    22: "the buffer is too short for the result",
+    23: "the bytes are no pattern file: the mark, version, count, rows, columns, number of values or length is wrong",
+    24: "a pattern has a digit above its number of values, or a value that no digit names",
+    25: "the level has to be one byte from 1 to 64",
+    26: "the two sheets have different challenge counts",
+    27: "the team has to have 2 to 8 players",
+    28: "the images of the team's players do not multiply to the statement",
+}
+
+
+class Refusal(Exception):
+    """A call that was refused. It has changed nothing.
+
+    Where several refusals apply, the earliest in the order 23, 24, 1 to 9, 27, 10, 11, 26, 12, 25, 13 to 16, 28, 17
+    to 22 is given."""
+
+    def __init__(self, number: int) -> None:
+        """The refusal of a number."""
+        super().__init__(number)
+        self._number = number
+
+    @property
+    def number(self) -> int:
+        """The refusal's number, from 1 on."""
+        return self._number
+
+    @property
+    def sentence(self) -> str:
+        """What the refusal says, in one sentence without its number."""
+        return SENTENCES.get(self._number, "no refusal has this number")
+
+    def __str__(self) -> str:
+        """The number with the sentence."""
+        return f"refusal {self.number}: {self.sentence}"
+
+
+def check(number: int) -> None:
+    """Nothing where an answer of the library refuses nothing, and else the refusal is raised."""
+    if number != 0:
+        raise Refusal(number)

@@ -1,0 +1,127 @@
+"""Rounds and the verdicts on them."""
+
+from __future__ import annotations
+
+from dataclasses import dataclass
+from enum import IntEnum
+
+from . import _structs
+from ._numbers import exactly, number, numbers, places
+
+
+def _hold(instance: object, name: str, value: object) -> None:
+    """Sets a field of a dataclass that is frozen, while it is made."""
+    object.__setattr__(instance, name, value)
+
+
+@dataclass(frozen=True)
+class Round:
+    """One run of the protocol: the commitment t, s values, the challenge c, and the response r, n values."""
+
+    commitment: tuple[int, ...]
+    challenge: int
+    response: tuple[int, ...]
+
+    def __post_init__(self) -> None:
+        """Lists become tuples."""
+        _hold(self, "commitment", numbers(self.commitment, "the commitment"))
+        _hold(self, "challenge", number(self.challenge, "the challenge"))
+        _hold(self, "response", numbers(self.response, "the response"))
+
+
+@dataclass(frozen=True)
+class OrRound:
+    """One run of the OR proof: both commitments, c, the first side's challenge c0, and both responses. The second
+    side has the challenge (c - c0) mod K."""
+
+    commitment0: tuple[int, ...]
+    commitment1: tuple[int, ...]
+    challenge: int
+    challenge0: int
+    response0: tuple[int, ...]
+    response1: tuple[int, ...]
+
+    def __post_init__(self) -> None:
+        """Lists become tuples."""
+        _hold(self, "commitment0", numbers(self.commitment0, "the commitment of side 0"))
+        _hold(self, "commitment1", numbers(self.commitment1, "the commitment of side 1"))
+        _hold(self, "challenge", number(self.challenge, "the challenge"))
+        _hold(self, "challenge0", number(self.challenge0, "the challenge of side 0"))
+        _hold(self, "response0", numbers(self.response0, "the response of side 0"))
+        _hold(self, "response1", numbers(self.response1, "the response of side 1"))
+
+
+def round_struct(round: Round, rows: int, columns: int) -> _structs.Round:
+    """A round as the library takes it, if it has the values of a sheet of so many rows and columns."""
+    commitment = exactly(rows, round.commitment, "the commitment")
+    response = exactly(columns, round.response, "the response")
+    return _structs.Round(places(commitment), round.challenge, places(response))
+
+
+def _rows_in_words(rows: tuple[int, ...]) -> str:
+    """Rows as a verdict names them."""
+    return " ".join(["row" if len(rows) == 1 else "rows", *map(str, rows)])
+
+
+@dataclass(frozen=True)
+class Verdict:
+    """What the verifier says of a round. It is true where the round is accepted."""
+
+    accepted: bool
+    rows: tuple[int, ...] = ()
+    """The rows, from 0 and rising, in which the two sides differ: at least one where the round is rejected."""
+
+    def __bool__(self) -> bool:
+        """Whether the round is accepted."""
+        return self.accepted
+
+    def __str__(self) -> str:
+        """`accepted`, or `rejected` with the rows."""
+        return "accepted" if self.accepted else f"rejected in {_rows_in_words(self.rows)}"
+
+
+@dataclass(frozen=True)
+class OrVerdict:
+    """What is said of a round of the OR proof. It is true where both sides are accepted."""
+
+    accepted: bool
+    rows0: tuple[int, ...] = ()
+    """The rows in which side 0's two values differ: none where that side is accepted."""
+    rows1: tuple[int, ...] = ()
+    """The same of side 1."""
+
+    def __bool__(self) -> bool:
+        """Whether the round is accepted."""
+        return self.accepted
+
+    def __str__(self) -> str:
+        """`accepted`, or `rejected` with the rows of each side that is rejected."""
+        sides = [
+            f"on side {side} in {_rows_in_words(rows)}" for side, rows in enumerate((self.rows0, self.rows1)) if rows
+        ]
+        return "accepted" if self.accepted else f"rejected {' and '.join(sides)}"
+
+
+class Side(IntEnum):
+    """One of two sheets."""
+
+    FIRST = 0
+    SECOND = 1
+
+    @classmethod
+    def _missing_(cls, value: object) -> Side:
+        """No other number is a side."""
+        raise ValueError("a side has to be 0 or 1")
+
+    @property
+    def other(self) -> Side:
+        """The other side."""
+        return Side(1 - self)
+
+
+@dataclass(frozen=True)
+class OrWitness:
+    """A witness of one of two sheets: the side that it is a witness of, and its values."""
+
+    side: Side
+    values: tuple[int, ...]

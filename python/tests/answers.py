@@ -1,0 +1,348 @@
+"""The answers of the module's calls, in the words of docs/vectors.txt."""
+
+import struct
+import zlib
+
+from dimkhoros import (
+    EXPONENT,
+    Header,
+    Instance,
+    OrProver,
+    OrRound,
+    Pair,
+    Patterns,
+    Prover,
+    Refusal,
+    Round,
+    RoundFile,
+    RoundWriter,
+    Team,
+    Values,
+    Verifier,
+    mark,
+    reason,
+)
+
+from .pages import page_a
+from .vectors import NoCall
+
+PROVER_STATES = ["new", "committed", "answered", "dropped"]
+VERIFIER_STATES = ["waiting", "holding", "asked", "judged"]
+
+# What a session holds, in the order in which it is stored: names with the number of places, and its states.
+SESSIONS = {
+    Prover: (b"PRV", [("nonce", 8), ("commitment", 8)], PROVER_STATES),
+    Verifier: (b"VRF", [("commitment", 8), ("challenge", 1)], VERIFIER_STATES),
+    OrProver: (
+        b"ORP",
+        [("nonce", 8), ("response", 8), ("commitment0", 8), ("commitment1", 8), ("challenge", 1), ("side", 1)],
+        PROVER_STATES,
+    ),
+}
+
+# The order in which a line names what a session of the OR proof holds.
+OR_ORDER = ["side", "nonce", "challenge", "response", "commitment0", "commitment1"]
+
+
+def listed(values):
+    """A list of numbers."""
+    return ",".join(map(str, values))
+
+
+def written(made, buffer):
+    """What stands in a buffer of these bytes once a file was written to its start. The module lends no buffer."""
+    if len(made) > len(buffer):
+        raise NoCall("the buffer is too short, and no caller of the module lends one")
+    return f"length={len(made)} buffer={(made + buffer[len(made):]).hex()}"
+
+
+def found_session(kind, inputs):
+    """The session that a line describes."""
+    mark_of, fields, states = SESSIONS[kind]
+    values = []
+    for name, count in fields:
+        some = inputs.list(name)
+        values += some + [0] * (count - len(some))
+    state = inputs.text("state")
+    if state not in states or (kind is OrProver and values[-1] > 1):
+        raise NoCall("the module makes no session of a state or a side that is none")
+    values.append(states.index(state))
+    before = struct.pack(f">3sHH{len(values)}I", mark_of, 1, 11 + 4 * len(values), *values)
+    return kind.from_stored(before + struct.pack(">I", zlib.crc32(before)))
+
+
+def shown_session(session):
+    """What a session holds, as a line has it. Lists are shown up to the last number that is not 0."""
+    _, fields, states = SESSIONS[type(session)]
+    stored = session.to_stored()
+    values = list(struct.unpack(f">{(len(stored) - 11) // 4}I", stored[7:-4]))
+    shown, rest = {}, values
+    for name, count in fields:
+        places, rest = rest[:count], rest[count:]
+        last = max([1] + [place + 1 for place, value in enumerate(places) if value])
+        shown[name] = listed(places[:last])
+    order = OR_ORDER if isinstance(session, OrProver) else shown
+    return " ".join([f"state={states[rest[0]]}"] + [f"{name}={shown[name]}" for name in order])
+
+
+def stepped(session, call):
+    """What a call on a session answers. One that is refused leaves the session as it was, and usable."""
+    before = session.to_stored()
+    try:
+        return call()
+    except Refusal:
+        if session.to_stored() != before:
+            raise AssertionError("a refused call changed the session") from None
+        raise
+
+
+def or_round(inputs, behind):
+    """The round of the OR proof whose names end so."""
+    t0, t1 = inputs.list("t0" + behind), inputs.list("t1" + behind)
+    c, c0 = inputs.number("c" + behind), inputs.number("c0" + behind)
+    return OrRound(t0, t1, c, c0, inputs.list("r0" + behind), inputs.list("r1" + behind))
+
+
+class Answers:
+    """The answers to the calls of lines for which these bytes are given, a method for each call."""
+
+    def __init__(self, given, expected):
+        """The bytes that are given, and the answer that is expected, for what the module refuses earlier than the
+        call."""
+        self.given, self.expected = given, expected
+
+    @property
+    def sheet(self):
+        """The sheet."""
+        return Instance.load(self.given["sheet"])
+
+    @property
+    def file(self):
+        """The round file."""
+        return RoundFile.open(self.sheet, self.given["file"])
+
+    @property
+    def pair(self):
+        """Both sheets. Each number is asked of both before the next."""
+        refused, sheets = [], []
+        for name in ["sheet", "second_sheet"]:
+            try:
+                sheets.append(Instance.load(self.given[name]))
+            except Refusal as refusal:
+                refused.append(refusal.number)
+        if refused:
+            raise Refusal(min(refused))
+        return Pair(*sheets)
+
+    def load(self, inputs):
+        """The sheet's fields and its statement."""
+        header = self.sheet.header
+        fields = [header.kind, header.modulus, header.order, header.challenges, header.rows, header.columns]
+        words = [f"{name}={value}" for name, value in zip(["kind", "m", "l", "K", "s", "n"], fields)]
+        return " ".join([*words, f"z={listed(self.sheet.values.statement)}"])
+
+    def entries(self, inputs):
+        """The table, which the module does not have of a root sheet."""
+        header = self.sheet.header
+        zeros = [[0] * header.columns] * header.rows
+        table = self.sheet.values.entries if header.kind == EXPONENT else zeros
+        return f"entries={'/'.join(map(listed, table))}"
+
+    def encode(self, inputs):
+        """The sheet of values."""
+        header = Header(*(inputs.number(name) for name in ["kind", "m", "l", "K", "s", "n"]))
+        values = Values(header, inputs.rows("entries"), inputs.list("z"))
+        return written(Instance.encode(values).bytes, inputs.bytes("buffer"))
+
+    def patterns(self, inputs):
+        """The shipped pattern file."""
+        return written(Patterns.shipped().bytes, inputs.bytes("buffer"))
+
+    def from_pattern(self, inputs):
+        """The sheet of a pattern."""
+        patterns = Patterns.load(self.given["pattern_file"])
+        fields = {"modulus": "m", "order": "l", "challenges": "K"}
+        fixed = {field: inputs.number(name) for field, name in fields.items()}
+        lists = {"values": inputs.list("values"), "statement": inputs.list("z")}
+        made = Instance.from_pattern(patterns, inputs.number("pattern"), **fixed, **lists)
+        return written(made.bytes, inputs.bytes("buffer"))
+
+    def count(self, inputs):
+        """How many rounds the file has."""
+        return f"count={len(self.file)}"
+
+    def check(self, inputs):
+        """Whether a round can be read."""
+        self.file.part(inputs.number("round"))
+        return "0"
+
+    def part(self, inputs):
+        """Where a round stands. The part is empty where the round is refused."""
+        try:
+            part = self.file.part(inputs.number("round"))
+        except Refusal:
+            part = slice(0, 0)
+        return f"offset={part.start} length={part.stop - part.start}"
+
+    def read(self, inputs):
+        """The values of a round."""
+        found = self.file.read(inputs.number("round"))
+        return f"t={listed(found.commitment)} c={found.challenge} r={listed(found.response)}"
+
+    def same_commitment(self, inputs):
+        """Whether two rounds have the same commitment."""
+        return f"same={int(self.file.same_commitment(inputs.number('i'), inputs.number('j')))}"
+
+    def empty(self, inputs):
+        """A file of no rounds, which is the same for every sheet."""
+        made = RoundWriter.start(page_a(), inputs.number("version"))
+        return written(made.file.bytes, inputs.bytes("buffer"))
+
+    def append(self, inputs):
+        """A round more in a file."""
+        buffer, used, sheet = inputs.bytes("buffer"), inputs.number("used"), self.sheet
+        if used > len(buffer):
+            raise NoCall("more bytes are in use than the buffer has, and no caller of the module lends one")
+        writer = RoundWriter.resume(sheet, buffer[:used])
+        writer.append(self.round(inputs, ""))
+        return written(writer.file.bytes, buffer)
+
+    def convert(self, inputs):
+        """The file in its other version."""
+        return written(self.file.convert().bytes, inputs.bytes("buffer"))
+
+    @staticmethod
+    def round(inputs, behind):
+        """The round whose names end so."""
+        return Round(inputs.list("t" + behind), inputs.number("c" + behind), inputs.list("r" + behind))
+
+    def judge(self, inputs):
+        """A verdict."""
+        return self.verdict(self.sheet.judge(self.round(inputs, "")))
+
+    @staticmethod
+    def verdict(verdict):
+        """A verdict in words."""
+        return " ".join(["accepted" if verdict else "rejected", *map(str, verdict.rows)])
+
+    def simulate(self, inputs):
+        """A simulated commitment."""
+        return f"t={listed(self.sheet.simulate(inputs.number('c'), inputs.list('r')))}"
+
+    def extract(self, inputs):
+        """An extracted witness."""
+        return f"x={listed(self.sheet.extract(self.round(inputs, ''), self.round(inputs, '2')))}"
+
+    def or_judge(self, inputs):
+        """A verdict on a round of the OR proof."""
+        verdict = self.pair.judge(or_round(inputs, ""))
+        rows = [f"rows{side}={listed(rows) or '-'}" for side, rows in enumerate([verdict.rows0, verdict.rows1])]
+        return "accepted" if verdict else " ".join(["rejected", *rows])
+
+    def or_extract(self, inputs):
+        """An extracted witness of one of two sheets."""
+        found = self.pair.extract(or_round(inputs, ""), or_round(inputs, "_2"))
+        return f"side={int(found.side)} x={listed(found.values)}"
+
+    def team_commitment(self, inputs):
+        """The players' commitments joined."""
+        return f"t={listed(self.team(inputs, 't', Team.join_commitments))}"
+
+    def team_response(self, inputs):
+        """The players' responses joined."""
+        return f"r={listed(self.team(inputs, 'r', Team.join_responses))}"
+
+    def team(self, inputs, name, join):
+        """What one of the two calls joins. Players beyond those of the line bring what the first one does."""
+        players, images, brought = inputs.number("players"), inputs.rows("images"), inputs.rows(name)
+        if self.expected == "refused 27" and players > 300:
+            raise NoCall("so many players are not listed")
+        try:
+            sheet = self.sheet
+            team = Team(sheet, (images + images[:1] * players)[:players])
+        except Refusal as refusal:
+            self.refused_early(refusal.number)
+            raise
+        return join(team, brought[:players])
+
+    def refused_early(self, number):
+        """The module refuses a sheet before it looks at a team, and a team before it looks at what that brings."""
+        later = {10: ["refused 27"], 11: ["refused 27"], 28: ["refused 14", "refused 16"]}
+        if self.expected in later.get(number, []):
+            raise NoCall("the sheet or the team is refused before the call is made")
+
+    def mark(self, inputs):
+        """The marker's text."""
+        return mark(self.given["sheet"], self.given["file"], inputs.bytes("level")).replace("\n", "\\n")
+
+    def reason(self, inputs):
+        """The reason's line."""
+        return reason(self.given["sheet"], self.given["file"]).replace("\n", "\\n")
+
+    def prover_new(self, inputs):
+        """A new session of Peggy's."""
+        return shown_session(Prover())
+
+    def prover_commit(self, inputs):
+        """A commitment."""
+        peggy, k, sheet = found_session(Prover, inputs), inputs.list("k"), self.sheet
+        after, t = stepped(peggy, lambda: peggy.commit(sheet, k))
+        return f"t={listed(t)} {shown_session(after)}"
+
+    def prover_respond(self, inputs):
+        """A response."""
+        peggy, c, x, sheet = found_session(Prover, inputs), inputs.number("c"), inputs.list("x"), self.sheet
+        after, r = stepped(peggy, lambda: peggy.respond(sheet, c, x))
+        return f"r={listed(r)} {shown_session(after)}"
+
+    def prover_drop(self, inputs):
+        """A session that is given up."""
+        peggy = found_session(Prover, inputs)
+        return shown_session(stepped(peggy, peggy.drop))
+
+    def verifier_new(self, inputs):
+        """A new session of Vic's."""
+        return shown_session(Verifier())
+
+    def verifier_commitment(self, inputs):
+        """A commitment that is brought."""
+        vic, t, sheet = found_session(Verifier, inputs), inputs.list("t"), self.sheet
+        return shown_session(stepped(vic, lambda: vic.take_commitment(sheet, t)))
+
+    def verifier_challenge(self, inputs):
+        """A challenge that is brought."""
+        vic, c, sheet = found_session(Verifier, inputs), inputs.number("c"), self.sheet
+        return shown_session(stepped(vic, lambda: vic.take_challenge(sheet, c)))
+
+    def verifier_response(self, inputs):
+        """A response that is brought."""
+        vic, r, sheet = found_session(Verifier, inputs), inputs.list("r"), self.sheet
+        after, verdict = stepped(vic, lambda: vic.take_response(sheet, r))
+        return f"{self.verdict(verdict)} {shown_session(after)}"
+
+    def or_prover_new(self, inputs):
+        """A new session of Peggy's of the OR proof."""
+        return shown_session(OrProver())
+
+    def or_prover_commit(self, inputs):
+        """Both commitments."""
+        peggy, pair, known = found_session(OrProver, inputs), self.pair, inputs.number("known")
+        if known > 1:
+            raise NoCall("the module takes no side but 0 and 1")
+        k, d, r = inputs.list("k"), inputs.number("d"), inputs.list("r")
+        after, (t0, t1) = stepped(peggy, lambda: peggy.commit(pair, known, k, d, r))
+        return f"t0={listed(t0)} t1={listed(t1)} {shown_session(after)}"
+
+    def or_prover_respond(self, inputs):
+        """A round of the OR proof, of which the line has all but the commitments and c."""
+        peggy, pair, c, x = found_session(OrProver, inputs), self.pair, inputs.number("c"), inputs.list("x")
+        after, made = stepped(peggy, lambda: peggy.respond(pair, c, x))
+        if (made.commitment0, made.commitment1) != after.commitments or made.challenge != c:
+            raise AssertionError("the round has not the session's commitments and the challenge")
+        r0, r1 = listed(made.response0), listed(made.response1)
+        return f"c0={made.challenge0} r0={r0} r1={r1} {shown_session(after)}"
+
+    def or_prover_drop(self, inputs):
+        """A session of the OR proof that is given up."""
+        peggy = found_session(OrProver, inputs)
+        return shown_session(stepped(peggy, peggy.drop))

@@ -1,0 +1,40 @@
+"""The sheets of 01's calculator pages."""
+
+from dimkhoros import Instance, Pattern, Patterns, Round
+
+
+def made(pattern, values, statement, challenges=11):
+    """A sheet with m 23 and q 11, by a pattern of the shipped file."""
+    fields = {"modulus": 23, "order": 11, "challenges": challenges, "values": values, "statement": statement}
+    return Instance.from_pattern(Patterns.shipped(), pattern, **fields)
+
+
+def page_a(challenges=11):
+    """Schnorr: 2^7 is 13 modulo 23."""
+    return made(Pattern.SCHNORR, [2], [13], challenges)
+
+
+def page_d():
+    """Okamoto: 2^1 * 3^2 is 18."""
+    return made(Pattern.OKAMOTO, [2, 3], [18])
+
+
+def page_e():
+    """Diffie-Hellman: 2^7 is 13 and 16^7 is 18."""
+    return made(Pattern.DIFFIE_HELLMAN, [2, 16], [13, 18])
+
+
+def page_f():
+    """The product: the image of (2, 1, 0) is (12, 9)."""
+    return made(Pattern.PRODUCT, [2, 3, 3], [12, 9])
+
+
+def page_g():
+    """A root: 2^5 is 32 modulo 35."""
+    shipped = Patterns.shipped()
+    return Instance.from_pattern(shipped, Pattern.ROOT, modulus=35, order=5, challenges=5, statement=[32])
+
+
+def round_of(t, c, r):
+    """A round of a sheet of one row and one column."""
+    return Round([t], c, [r])

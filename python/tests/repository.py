@@ -1,0 +1,28 @@
+"""The repository that the tests stand in, its programs in C, and refusals by number."""
+
+import contextlib
+import subprocess
+import tempfile
+from pathlib import Path
+
+from dimkhoros import Refusal
+
+ROOT = Path(__file__).resolve().parents[2]
+PACKAGE = ROOT / "python" / "dimkhoros"
+
+
+def run_c(path, given=""):
+    """What a program in C of the repository, which needs the header alone, prints on this input."""
+    with tempfile.TemporaryDirectory() as folder:
+        program = Path(folder) / "program"
+        command = ["cc", "-std=c99", "-I", ROOT / "include", ROOT / path, "-o", program]
+        subprocess.run(command, check=True)
+        return subprocess.run([program], input=given, check=True, capture_output=True, text=True).stdout
+
+
+@contextlib.contextmanager
+def refused(test, number):
+    """What is done in here has to be refused with this number."""
+    with test.assertRaises(Refusal) as caught:
+        yield
+    test.assertEqual(caught.exception.number, number)

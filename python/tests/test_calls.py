@@ -1,0 +1,338 @@
+"""The calls without sessions: what they answer, refuse and do not take."""
+
+import dataclasses
+import pickle
+import random
+import unittest
+
+import dimkhoros
+from dimkhoros import (
+    EXPONENT,
+    ROOT,
+    Damaged,
+    Header,
+    Instance,
+    OrProver,
+    OrRound,
+    OrVerdict,
+    OrWitness,
+    Pair,
+    Pattern,
+    Patterns,
+    Prover,
+    Refusal,
+    Round,
+    RoundFile,
+    RoundWriter,
+    Side,
+    Team,
+    Values,
+    Verdict,
+    Verifier,
+    mark,
+    reason,
+)
+
+from .pages import page_a, page_d, page_e, page_f, page_g, round_of
+from .repository import ROOT as REPOSITORY
+from .repository import refused
+
+
+def changed(place, byte):
+    """Page A's sheet with another byte."""
+    sheet = bytearray(page_a().bytes)
+    sheet[place] = byte
+    return bytes(sheet)
+
+
+class Refusals(unittest.TestCase):
+    """Refusals are exceptions."""
+
+    def test_every_number_is_given(self):
+        """But 25, which stands in the marker's text alone, and 22, since no buffer is lent."""
+        a, first = page_a(), round_of(9, 3, 4)
+        empty = RoundWriter.start(a).file
+        made = {"modulus": 23, "order": 11, "challenges": 11, "values": [2], "statement": [13]}
+        peggy, _ = Prover().commit(a, [5])
+        given = {
+            1: lambda: Instance.from_pattern(Patterns.shipped(), 257, **made),
+            2: lambda: Instance.load(changed(0, 0)),
+            3: lambda: Instance.load(changed(4, 2)),
+            4: lambda: Instance.load(changed(5, 3)),
+            5: lambda: Instance.load(changed(9, 2)),
+            6: lambda: Instance.load(changed(13, 1)),
+            7: lambda: Instance.load(changed(18, 9)),
+            8: lambda: Instance.load(changed(17, 12)),
+            9: lambda: Instance.load(a.bytes + b"\0"),
+            10: lambda: Instance.load(changed(23, 5)),
+            11: lambda: a.with_statement([5]),
+            12: lambda: RoundFile.open(a, b"RND"),
+            13: lambda: empty.read(0),
+            14: lambda: a.judge(round_of(5, 3, 4)),
+            15: lambda: a.judge(round_of(9, 11, 4)),
+            16: lambda: a.judge(round_of(9, 3, 11)),
+            17: lambda: peggy.respond(a, 3, [8]),
+            18: lambda: a.extract(first, round_of(8, 1, 1)),
+            19: lambda: a.extract(first, first),
+            20: lambda: a.extract(first, round_of(9, 1, 2)),
+            21: lambda: Prover().respond(a, 3, [7]),
+            23: lambda: Patterns.load(b"PAT\0\1\0"),
+            24: lambda: Patterns.load(b"PAT\0\1\1\1\1\1\0"),
+            26: lambda: Pair(a, page_a(5)),
+            27: lambda: Team(a, [[13]]),
+            28: lambda: Team(a, [[8], [8]]),
+        }
+        self.assertEqual(set(range(1, 29)) - set(given), {22, 25})
+        for number, call in given.items():
+            with refused(self, number):
+                call()
+
+    def test_a_refusal_has_number_and_sentence(self):
+        """In words, and after it was pickled too."""
+        with self.assertRaises(Refusal) as caught:
+            Instance.load(b"HAM")
+        for refusal in [caught.exception, pickle.loads(pickle.dumps(caught.exception))]:
+            self.assertEqual(refusal.number, 2)
+            self.assertEqual(refusal.sentence, "the sheet is shorter than a header or does not begin with HOM")
+            self.assertEqual(str(refusal), f"refusal 2: {refusal.sentence}")
+
+
+class Taken(unittest.TestCase):
+    """What is no number or no bytes, or of a wrong count, is not taken."""
+
+    def test_wrong_counts_are_told(self):
+        """In a sentence with both counts."""
+        with self.assertRaisesRegex(ValueError, "^the response has to have 2 values on this sheet, and has 1$"):
+            page_d().judge(Round([1], 1, [1]))
+        with self.assertRaisesRegex(ValueError, "^the commitment has to have 1 value on this sheet, and has 2$"):
+            page_d().judge(Round([1, 1], 1, [1, 2]))
+        for call in [
+            lambda: page_d().simulate(1, [1]),
+            lambda: page_a().with_statement([8, 8]),
+            lambda: Verifier().take_commitment(page_e(), [9]),
+            lambda: Team(page_a(), [[8], [16, 1]]),
+            lambda: Team(page_a(), [[8], [16]]).join_responses([[1], []]),
+            lambda: RoundWriter.start(page_a()).append(Round([9], 3, [4, 0])),
+            lambda: Pair(page_a(), page_d()).judge(OrRound([9], [1], 1, 1, [1], [1])),
+        ]:
+            self.assertRaises(ValueError, call)
+
+    def test_numbers_outside_32_bits_are_told(self):
+        """Negative ones and those above."""
+        for value in [-1, 2**32, 10**30]:
+            with self.assertRaisesRegex(ValueError, "^the challenge has to be a number from 0 to 4294967295$"):
+                page_a().simulate(value, [0])
+            with self.assertRaisesRegex(ValueError, "^a value of the response has to be a number from 0 to"):
+                page_a().simulate(3, [value])
+            self.assertRaises(ValueError, Round, [value], 3, [4])
+            self.assertRaises(ValueError, Header, 1, value, 11, 11, 1, 1)
+            self.assertRaises(ValueError, RoundWriter.start, page_a(), value)
+        self.assertRaises(ValueError, RoundWriter.start(page_a()).file.read, -1)
+        self.assertRaises(ValueError, RoundWriter.start(page_a()).file.part, 2**64)
+
+    def test_what_is_no_number_or_no_bytes(self):
+        """A number is no bytes, though Python would make bytes of it."""
+        for value in ["3", 3.0, None, b"3"]:
+            self.assertRaises(TypeError, page_a().simulate, value, [0])
+        for value in [3, None, [3.0], ["3"], "3"]:
+            self.assertRaises(TypeError, page_a().simulate, 3, value)
+        for value in [28, "HOM", None, [1]]:
+            for call in [Instance.load, Patterns.load, Prover.from_stored]:
+                self.assertRaises(TypeError, call, value)
+            self.assertRaises(TypeError, RoundFile.open, page_a(), value)
+            self.assertRaises(TypeError, mark, b"", b"", value)
+            self.assertRaises(TypeError, reason, b"", value)
+
+    def test_bytes_in_other_forms_are_taken(self):
+        """And kept as they were when they were given."""
+        sheet = bytearray(page_a().bytes)
+        loaded = Instance.load(memoryview(sheet))
+        sheet[0] = 0
+        self.assertEqual(loaded, page_a())
+
+
+class Sheets(unittest.TestCase):
+    """Sheets and patterns."""
+
+    def test_values_make_the_sheet_again(self):
+        """Of every page."""
+        for page in [page_a(), page_d(), page_e(), page_f(), page_g()]:
+            self.assertEqual(Instance.encode(page.values), page)
+            self.assertEqual(Instance.load(page.bytes).values, page.values)
+
+    def test_values_are_of_just_the_sheet(self):
+        """Rows of columns, and none in a root sheet."""
+        self.assertEqual(page_f().values.entries, ((2, 3, 1), (3, 1, 3)))
+        self.assertEqual(page_f().values.statement, (12, 9))
+        self.assertEqual(page_g().values, Values(Header(ROOT, 35, 5, 5, 1, 1), (), (32,)))
+        self.assertEqual(page_a().header, Header(EXPONENT, 23, 11, 11, 1, 1))
+
+    def test_a_table_of_another_shape_is_told(self):
+        """A row too few, a column too many, and a statement value too many."""
+        header = page_e().header
+        for entries, statement in [([[2]], [13, 18]), ([[2], [16, 1]], [13, 18]), ([[2], [16]], [13])]:
+            self.assertRaises(ValueError, Instance.encode, Values(header, entries, statement))
+        with refused(self, 7):
+            Instance.encode(Values(dataclasses.replace(header, rows=9), [], []))
+
+    def test_patterns(self):
+        """The shipped file, and a lecturer's own."""
+        shipped = Patterns.shipped()
+        self.assertEqual(shipped.bytes, (REPOSITORY / "share" / "patterns.bin").read_bytes())
+        self.assertEqual((len(shipped), len(shipped.layouts)), (5, 5))
+        self.assertEqual(shipped.layouts[Pattern.PRODUCT - 1].digits, ((1, 2, 0), (3, 0, 2)))
+        own = Patterns.load(b"PAT\0\1\1\2\2\2\0\1\1\2")
+        plan = {"modulus": 23, "order": 11, "challenges": 11, "values": [2, 3], "statement": [9, 8]}
+        self.assertEqual(Instance.from_pattern(own, 1, **plan).values.entries, ((1, 2), (2, 3)))
+
+    def test_nothing_can_be_changed(self):
+        """Rounds, verdicts and values are frozen, and lists in them became tuples."""
+        made = Round([9], 3, [4])
+        self.assertEqual(made, Round((9,), 3, (4,)))
+        for value, field in [(made, "challenge"), (Verdict(True), "accepted"), (page_a().header, "rows")]:
+            self.assertRaises(dataclasses.FrozenInstanceError, setattr, value, field, 1)
+        for value, field in [(page_a(), "bytes"), (page_a(), "other"), (Patterns.shipped(), "bytes")]:
+            self.assertRaises(AttributeError, setattr, value, field, 1)
+
+
+class Rounds(unittest.TestCase):
+    """Verdicts, pairs, teams and round files."""
+
+    def test_a_rejected_verdict_is_false(self):
+        """So that `if instance.judge(round)` means what it says."""
+        self.assertFalse(page_a().judge(round_of(9, 1, 2)))
+        self.assertFalse(OrVerdict(False, (0, 2), (1,)))
+        self.assertEqual(str(Verdict(False, (0, 2, 7))), "rejected in rows 0 2 7")
+        self.assertEqual(
+            str(OrVerdict(False, (0, 2), (0,))), "rejected on side 0 in rows 0 2 and on side 1 in row 0"
+        )
+        self.assertEqual(str(OrVerdict(False, (), (1,))), "rejected on side 1 in row 1")
+
+    def test_the_or_proof(self):
+        """Both extractions of FORMATS.md's example."""
+        pair = Pair(page_a(5), page_g())
+        one = OrRound([16], [33], 2, 4, [10], [24])
+        self.assertEqual(pair.judge(one), OrVerdict(True))
+        self.assertEqual(pair.extract(one, OrRound([16], [33], 0, 4, [10], [6])), OrWitness(Side.SECOND, (2,)))
+        self.assertEqual(pair.extract(one, OrRound([16], [33], 4, 1, [0], [24])), OrWitness(Side.FIRST, (7,)))
+        self.assertEqual(pair.instance(Side.SECOND), page_g())
+
+    def test_a_team(self):
+        """Its joined round is page A's."""
+        team = Team(page_a(), [[8], [6], [18]])
+        self.assertEqual(team.players, 3)
+        self.assertEqual(team.join_commitments([[4], [16], [12]]), (9,))
+        self.assertEqual(team.join_responses([[0], [9], [6]]), (4,))
+        with refused(self, 27):
+            team.join_responses([[0], [9]])
+        with refused(self, 27):
+            Team(page_a(), [[1]] * 300)
+
+    def test_a_round_file(self):
+        """Written, read, compared, converted and marked."""
+        writer = RoundWriter.start(page_a())
+        rounds = [round_of(9, 3, 4), round_of(9, 1, 1), round_of(9, 1, 2), round_of(5, 0, 0)]
+        for made in rounds:
+            writer.append(made)
+        file = writer.file
+        self.assertEqual((len(file), file.version, list(file)), (4, 1, rounds))
+        self.assertEqual(file.bytes[file.part(1)], bytes([0, 0, 0, 9, 0, 0, 0, 1, 0, 0, 0, 1]))
+        self.assertEqual((file.same_commitment(0, 1), file.same_commitment(0, 3)), (True, False))
+        narrow = file.convert()
+        self.assertEqual((narrow.version, list(narrow), narrow.convert()), (2, rounds, file))
+        expected = "rounds 4\n0 accepted\n1 accepted\n2 rejected 0\n3 refused 14\nfail\n"
+        for found in [file, narrow]:
+            self.assertEqual(mark(page_a().bytes, found.bytes, b"\7"), expected)
+            self.assertEqual(reason(page_a().bytes, found.bytes), "accepted\n")
+
+    def test_a_writer_goes_on(self):
+        """In the version that it finds, and up to 512 rounds."""
+        narrow = RoundWriter.start(page_a(), 2)
+        narrow.append(round_of(9, 3, 4))
+        writer = RoundWriter.resume(page_a(), narrow.file.bytes)
+        with refused(self, 15):
+            writer.append(round_of(9, 65536, 4))
+        for _ in range(511):
+            writer.append(round_of(9, 1, 1))
+        with refused(self, 12):
+            writer.append(round_of(9, 1, 1))
+        self.assertEqual((len(writer.file), writer.file.version), (512, 2))
+
+
+class AnyBytes(unittest.TestCase):
+    """Any bytes and numbers end in an answer or a refusal."""
+
+    def setUp(self):
+        """The bytes are the same in every run."""
+        self.random = random.Random(23)
+
+    def bytes_like(self, right):
+        """Random bytes, or these with some changed or cut."""
+        if self.random.randrange(4) == 0:
+            return self.random.randbytes(self.random.randrange(len(right) + 9))
+        found = bytearray(right)
+        for _ in range(self.random.randrange(4)):
+            found[self.random.randrange(len(found))] = self.random.randrange(256)
+        return bytes(found[: self.random.choice([len(found), self.random.randrange(len(found) + 1)])])
+
+    def number(self):
+        """A number of 32 bits, small ones more often."""
+        return self.random.randrange(2 ** self.random.choice([1, 3, 5, 32]))
+
+    def numbers(self, count):
+        """So many of them."""
+        return [self.number() for _ in range(count)]
+
+    def tried(self, call, *others):
+        """The call's answer, or nothing where it is refused; no other error is let through."""
+        try:
+            return call()
+        except (Refusal, *others):
+            return None
+
+    def test_files_of_any_bytes(self):
+        """Sheets, patterns, round files, levels and stored sessions."""
+        writer = RoundWriter.start(page_a())
+        writer.append(round_of(9, 3, 4))
+        stored = [session().to_stored() for session in (Prover, Verifier, OrProver)]
+        for _ in range(2000):
+            sheet, file = self.bytes_like(page_f().bytes), self.bytes_like(writer.file.bytes)
+            self.tried(lambda: Instance.load(sheet))
+            self.tried(lambda: Patterns.load(self.bytes_like(Patterns.shipped().bytes)))
+            opened = self.tried(lambda: RoundFile.open(page_a(), file))
+            self.tried(lambda: opened and [opened.convert(), list(opened)])
+            self.assertTrue(mark(page_a().bytes, file, self.bytes_like(b"\7")).endswith("\n"))
+            self.assertTrue(reason(sheet, file).endswith("\n"))
+            for kind, right in zip((Prover, Verifier, OrProver), stored):
+                self.tried(lambda: kind.from_stored(self.bytes_like(right)), Damaged)
+
+    def test_calls_of_any_numbers(self):
+        """On sheets of many shapes that load."""
+        pages = [page_a(), page_d(), page_e(), page_f(), page_g()]
+        for _ in range(1000):
+            page = self.random.choice(pages)
+            s, n = page.header.rows, page.header.columns
+            first, second = (Round(self.numbers(s), self.number(), self.numbers(n)) for _ in range(2))
+            self.tried(lambda: page.judge(first))
+            self.tried(lambda: page.simulate(first.challenge, first.response))
+            self.tried(lambda: page.extract(first, second))
+            self.tried(lambda: Team(page, [first.commitment, second.commitment]).join_responses([first.response] * 2))
+            self.tried(lambda: Prover().commit(page, first.response)[0].respond(page, first.challenge, second.response))
+            self.tried(lambda: Verifier().take_commitment(page, first.commitment).take_challenge(page, first.challenge))
+            self.tried(lambda: Instance.encode(Values(Header(*self.numbers(6)), [], [])), ValueError)
+
+
+class Face(unittest.TestCase):
+    """What the module shows."""
+
+    def test_every_name_is_there(self):
+        """`__all__` names what is there, and what stands there by an import is in it."""
+        found = vars(dimkhoros).items()
+        public = {name for name, value in found if getattr(value, "__module__", "").startswith("dimkhoros")}
+        self.assertEqual({name for name in public if not name.startswith("_")} - set(dimkhoros.__all__), set())
+        for name in dimkhoros.__all__:
+            self.assertTrue(hasattr(dimkhoros, name), name)
+
+
+if __name__ == "__main__":
+    unittest.main()

@@ -1,0 +1,277 @@
+"""Sessions: each object answers once, a refused call spends nothing, and none is copied."""
+
+import copy
+import ctypes
+import pickle
+import threading
+import time
+import unittest
+from concurrent.futures import ThreadPoolExecutor
+
+from dimkhoros import (
+    Damaged,
+    NotStored,
+    OrProver,
+    Pair,
+    Prover,
+    ProverPhase,
+    SessionSpent,
+    Side,
+    Verifier,
+    VerifierPhase,
+    _stored,
+)
+from dimkhoros._library import calls
+
+from .pages import page_a, page_d
+from .repository import refused, run_c
+
+
+def committed():
+    """Peggy's session on page A's sheet with the nonce 5."""
+    peggy, _ = Prover().commit(page_a(), [5])
+    return peggy
+
+
+def or_committed():
+    """Peggy's session of the OR proof on page A's sheet beside page D's, of which she knows (1, 2). The nonce gives
+    2^4 * 3^9, which leaves 12, and the simulated side 2^2 * 13^(-6), which leaves 16."""
+    pair = Pair(page_a(), page_d())
+    peggy, _ = OrProver().commit(pair, Side.SECOND, [4, 9], 6, [2])
+    return pair, peggy
+
+
+class Spending(unittest.TestCase):
+    """A call spends the object that it is made on."""
+
+    def test_a_second_challenge_is_not_answered(self):
+        """Neither by the spent object nor by the one that was handed back."""
+        a, peggy = page_a(), committed()
+        after, _ = peggy.respond(a, 3, [7])
+        with self.assertRaises(SessionSpent):
+            peggy.respond(a, 1, [7])
+        with refused(self, 21):
+            after.respond(a, 1, [7])
+        self.assertEqual(after.phase, ProverPhase.ANSWERED)
+
+    def test_a_spent_object_allows_nothing(self):
+        """Not even to be looked at or stored."""
+        pair, either = or_committed()
+        vic = Verifier()
+        spent = [committed(), vic, either]
+        spent[0].drop()
+        vic.take_commitment(page_a(), [9])
+        either.respond(pair, 4, [1, 2])
+        for session in spent:
+            for use in [lambda: session.phase, session.to_stored]:
+                self.assertRaises(SessionSpent, use)
+            self.assertIn("spent", repr(session))
+        self.assertRaises(SessionSpent, lambda: spent[0].commitment)
+        self.assertRaises(SessionSpent, spent[0].drop)
+        self.assertRaises(SessionSpent, lambda: vic.take_commitment(page_a(), [9]))
+        self.assertRaises(SessionSpent, lambda: vic.challenge)
+        self.assertRaises(SessionSpent, lambda: either.respond(pair, 4, [1, 2]))
+        self.assertRaises(SessionSpent, lambda: either.commitments)
+
+    def test_a_refused_call_spends_nothing(self):
+        """A wrong witness, a challenge that is none, and values that are none."""
+        a, peggy = page_a(), committed()
+        before = peggy.to_stored()
+        with refused(self, 17):
+            peggy.respond(a, 3, [8])
+        with refused(self, 15):
+            peggy.respond(a, 11, [7])
+        for witness in [[7, 7], [-1], [2**32], []]:
+            self.assertRaises(ValueError, peggy.respond, a, 3, witness)
+        self.assertRaises(AttributeError, peggy.respond, b"no instance", 3, [7])
+        self.assertEqual(peggy.to_stored(), before)
+        self.assertEqual(peggy.respond(a, 3, [7])[1], (4,))
+
+    def test_a_challenge_cannot_come_first(self):
+        """Vic hears the commitment before he asks."""
+        vic = Verifier()
+        with refused(self, 21):
+            vic.take_challenge(page_a(), 3)
+        self.assertRaises(AttributeError, vic.take_challenge, b"no instance", 3)
+        self.assertEqual(vic.take_commitment(page_a(), [9]).phase, VerifierPhase.HOLDING)
+
+    def test_threads_get_one_answer(self):
+        """Of many threads that ask one object, one is answered."""
+        answers, spent, peggy, sheet = [], [], committed(), page_a()
+        start = threading.Barrier(8)
+
+        def ask(challenge):
+            """Asks, and keeps how it went."""
+            start.wait()
+            try:
+                answers.append(peggy.respond(sheet, challenge, [7]))
+            except SessionSpent as error:
+                spent.append(error)
+
+        threads = [threading.Thread(target=ask, args=[challenge]) for challenge in range(8)]
+        for thread in threads:
+            thread.start()
+        for thread in threads:
+            thread.join()
+        self.assertEqual((len(answers), len(spent)), (1, 7))
+
+    def test_a_thread_waits_for_a_call_that_is_refused(self):
+        """And is answered then."""
+        peggy, sheet = committed(), page_a()
+        inside, go_on = threading.Event(), threading.Event()
+
+        def slow(held):
+            """A call that is refused, once it may go on."""
+            inside.set()
+            go_on.wait()
+            return calls.prover_respond(sheet.bytes, len(sheet.bytes), held, 11, (ctypes.c_uint32 * 8)(7))
+
+        with ThreadPoolExecutor() as threads:
+            first = threads.submit(peggy._step, slow)
+            inside.wait()
+            second = threads.submit(peggy.respond, sheet, 3, [7])
+            time.sleep(0.05)
+            go_on.set()
+            self.assertEqual(first.exception().number, 15)
+            self.assertEqual(second.result()[1], (4,))
+
+    def test_whatever_ends_a_call_leaves_the_object_spent(self):
+        """An answer that got lost is not asked for again."""
+        peggy = committed()
+        with self.assertRaises(KeyboardInterrupt):
+            peggy._step(self.interrupted)
+        self.assertRaises(SessionSpent, peggy.respond, page_a(), 3, [7])
+
+    @staticmethod
+    def interrupted(_):
+        """A call that is ended by its user."""
+        raise KeyboardInterrupt
+
+    def test_no_session_is_copied(self):
+        """Neither by copying nor by pickling."""
+        for session in [committed(), Verifier(), or_committed()[1]]:
+            for way in [copy.copy, copy.deepcopy, pickle.dumps, lambda held: copy.deepcopy([held])]:
+                self.assertRaisesRegex(TypeError, "a session cannot be copied", way, session)
+
+    def test_no_secret_is_shown(self):
+        """Neither the nonce nor the known side, nor a value in a message."""
+        peggy, _ = Prover().commit(page_d(), [7, 8])
+        self.assertEqual(repr(peggy), f"Prover(phase=COMMITTED, commitment={peggy.commitment})")
+        shown = repr(or_committed()[1])
+        self.assertEqual(shown, "OrProver(phase=COMMITTED, commitments=((16,), (12,)))")
+        for nonce in [[77777777777, 0], [77777777777], ["77777777777", 0], 77777777777]:
+            with self.assertRaises((TypeError, ValueError)) as caught:
+                Prover().commit(page_d(), nonce)
+            self.assertNotIn("7777", str(caught.exception))
+
+
+class Or(unittest.TestCase):
+    """The OR proof's session on two sheets of different columns."""
+
+    def test_a_round_is_accepted(self):
+        """By a witness of two values."""
+        pair, peggy = or_committed()
+        for witness in [[1], [1, 2, 3]]:
+            self.assertRaises(ValueError, peggy.respond, pair, 4, witness)
+        after, made = peggy.respond(pair, 4, [1, 2])
+        self.assertTrue(pair.judge(made))
+        self.assertEqual((len(made.response0), len(made.response1), made.challenge0), (1, 2, 6))
+        with refused(self, 16):
+            after.respond(pair, 4, [11, 2])
+        with refused(self, 17):
+            after.respond(pair, 4, [1, 2])
+        with refused(self, 21):
+            after.respond(pair, 4, [7])
+
+    def test_a_side_is_0_or_1(self):
+        """Any other number is none."""
+        pair, _ = or_committed()
+        self.assertRaisesRegex(ValueError, "a side has to be 0 or 1", OrProver().commit, pair, 2, [5], 3, [0, 0])
+
+
+class Storing(unittest.TestCase):
+    """The stored form, and answering after it is stored."""
+
+    def sessions(self):
+        """A session of each kind."""
+        vic = Verifier().take_commitment(page_a(), [9]).take_challenge(page_a(), 3)
+        return [committed(), vic, or_committed()[1]]
+
+    def test_c_reads_the_sessions_and_writes_the_same_bytes(self):
+        """The program prints of each session its values, its bytes, and how many damaged forms it takes."""
+        sessions = self.sessions()
+        stored = [session.to_stored().hex() for session in sessions]
+        printed = run_c("rust/dimkhoros/tests/c/stored.c", "".join(line + "\n" for line in stored)).splitlines()
+        self.assertEqual(printed[1::3], stored)
+        zeros = " 0" * 7
+        self.assertEqual(printed[0], f"peggy 5{zeros} 9{zeros} 1")
+        self.assertEqual(printed[3], f"vic 9{zeros} 3 2")
+        self.assertEqual(printed[6], f"either 4 9{zeros[2:]} 2{zeros} 16{zeros} 12{zeros} 6 1 1")
+
+    def test_a_stored_session_goes_on(self):
+        """As if it had not been stored."""
+        peggy = Prover.from_stored(committed().to_stored())
+        self.assertEqual(peggy.respond(page_a(), 3, [7])[1], (4,))
+        for session in self.sessions():
+            stored = session.to_stored()
+            self.assertEqual(type(session).from_stored(bytearray(stored)).to_stored(), stored)
+
+    def test_damaged_bytes_are_refused(self):
+        """Every byte changed, every cut, a byte behind, and another's session."""
+        for session in self.sessions():
+            kind, stored = type(session), session.to_stored()
+            changed = [stored[:i] + bytes([stored[i] ^ 1]) + stored[i + 1 :] for i in range(len(stored))]
+            cut = [stored[:i] for i in range(len(stored))]
+            others = [other.to_stored() for other in self.sessions() if not isinstance(other, kind)]
+            for bad in [*changed, *cut, *others, stored + b"\0"]:
+                self.assertRaises(Damaged, kind.from_stored, bad)
+
+    def test_a_state_or_side_that_is_none_is_refused(self):
+        """Though the check value is right."""
+        for values, mark, kind in [(17, b"PRV", Prover), (10, b"VRF", Verifier), (35, b"ORP", OrProver)]:
+            self.assertEqual(kind.from_stored(_stored.write(mark, (0,) * values)).to_stored()[:3], mark)
+            bad = _stored.write(mark, (0,) * (values - 1) + (4,))
+            self.assertRaises(Damaged, kind.from_stored, bad)
+        side = _stored.write(b"ORP", (0,) * 33 + (2, 0))
+        self.assertRaises(Damaged, OrProver.from_stored, side)
+
+    def test_the_response_comes_after_the_store(self):
+        """What is stored answers no challenge."""
+        disk = []
+        _, response = committed().respond_after(page_a(), 3, [7], disk.append)
+        self.assertEqual(response, (4,))
+        found = Prover.from_stored(disk[0])
+        self.assertEqual(found.phase, ProverPhase.ANSWERED)
+        with refused(self, 21):
+            found.respond(page_a(), 1, [7])
+        pair, peggy = or_committed()
+        after, made = peggy.respond_after(pair, 4, [1, 2], disk.append)
+        self.assertTrue(pair.judge(made))
+        self.assertEqual(after.to_stored(), disk[1])
+
+    def test_a_store_that_fails_hands_out_no_response(self):
+        """The error has the session, and the object is spent."""
+        peggy = committed()
+        with self.assertRaises(NotStored) as caught:
+            peggy.respond_after(page_a(), 3, [7], self.full)
+        self.assertEqual(str(caught.exception), "the session is not stored: the disk is full")
+        self.assertIsInstance(caught.exception.error, OSError)
+        self.assertEqual(caught.exception.session.phase, ProverPhase.ANSWERED)
+        self.assertRaises(SessionSpent, peggy.respond, page_a(), 3, [7])
+
+    @staticmethod
+    def full(_):
+        """A store that fails."""
+        raise OSError("the disk is full")
+
+    def test_a_refused_call_stores_nothing(self):
+        """And the session can still answer."""
+        disk, peggy = [], committed()
+        with refused(self, 17):
+            peggy.respond_after(page_a(), 3, [8], disk.append)
+        self.assertEqual(disk, [])
+        self.assertEqual(peggy.respond(page_a(), 3, [7])[1], (4,))
+
+
+if __name__ == "__main__":
+    unittest.main()
