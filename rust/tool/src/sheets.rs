@@ -8,9 +8,13 @@ use std::path::Path;
 
 /// The sheet in a file. A bad one fails with what is wrong and where.
 pub fn load(path: &Path) -> Outcome<Instance> {
-    let bytes = files::read(path)?;
-    let fault = |_| Failure::failed(format!("{}: {}", files::name(path), faults::of_sheet(&bytes)));
-    Instance::load(&bytes).map_err(fault)
+    of_bytes(path, &files::read(path)?)
+}
+
+/// The sheet in these bytes, which were read from a path. A bad one fails with what is wrong and where.
+pub fn of_bytes(path: &Path, bytes: &[u8]) -> Outcome<Instance> {
+    let fault = |_| Failure::failed(format!("{}: {}", files::name(path), faults::of_sheet(bytes)));
+    Instance::load(bytes).map_err(fault)
 }
 
 /// The round file of a sheet in these bytes, which were read from a path.
