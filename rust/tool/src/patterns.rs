@@ -27,7 +27,7 @@ Example:
     $ dimkhoros patterns own.bin
     own.bin is a pattern file of 17 bytes with 2 patterns.
 
-    Pattern 1, schnorr: 1 row, 1 column, 1 value
+    Pattern 1, schnorr: 1 row, 1 column, 1 value (h)
         row  x
           0  1
         x ↦ [x] = h^x mod m

@@ -6,8 +6,10 @@ use crate::notation::{self, counted};
 use crate::sheets::row_count;
 use crate::table::{self, Set};
 use crate::words::{Grammar, Words};
-use crate::{files, small};
-use dimkhoros::{Instance, LONGEST_REASON, Round, RoundFile, reason};
+use crate::{files, make, small};
+use dimkhoros::{
+    EXPONENT, Header, Instance, LONGEST_REASON, PLACES, Refusal, Round, RoundFile, Values, reason,
+};
 use std::ffi::OsString;
 use std::io::Write;
 
@@ -42,10 +44,13 @@ pub fn run(words: Vec<OsString>, out: &mut dyn Write) -> Outcome {
     let [sheet, rounds] = [files::read(&paths[0])?, files::read(&paths[1])?];
     let mut text = [0; LONGEST_REASON];
     let line = reason(&sheet, &rounds, &mut text);
+    let header = faults::sheet_header(&sheet);
+    let in_words =
+        |fault: Fault, place: usize| refused(&fault, &files::name(&paths[place]), &header);
     let said = match Instance::load(&sheet) {
-        Err(_) => faults::in_sheet(&sheet).map(|fault| refused(&fault, &files::name(&paths[0]))),
+        Err(_) => faults::in_sheet(&sheet).map(|fault| in_words(fault, 0)),
         Ok(sheet) => match faults::in_rounds(&sheet, &rounds) {
-            Some(fault) => Some(refused(&fault, &files::name(&paths[1]))),
+            Some(fault) => Some(in_words(fault, 1)),
             None => judged(&sheet, &rounds, line),
         },
     };
@@ -53,17 +58,57 @@ pub fn run(words: Vec<OsString>, out: &mut dyn Write) -> Outcome {
     Ok(())
 }
 
-/// A fault of a file in words.
-fn refused(fault: &Fault, name: &str) -> String {
+/// A fault of a file of a name in words.
+fn refused(fault: &Fault, name: &str, header: &Header) -> String {
     let (number, sentence) = (fault.refusal.number(), fault.refusal.sentence());
     let place = match &fault.found {
         Found::Length { found, needed } => {
             let needed = needed.map_or(String::new(), |needed| format!(" in place of {needed}"));
             format!("{name} has {}{needed}.", counted(*found, "byte"))
         }
-        Found::Value { offset, value } => format!("Byte {offset} of {name} has {value}."),
+        Found::Value { offset, value } => format!("{name} has {value} at byte {offset}."),
     };
-    format!("Refusal {number}: {sentence}.\n{place}\n")
+    let of = if number > Refusal::RoundNumber.number() { "Round 0 of " } else { "" };
+    format!("Refusal {number}: {sentence}.\n{of}{place}{}\n", allowed(fault.refusal, header))
+}
+
+/// What a rule on values allows on a sheet with this header.
+fn allowed(refusal: Refusal, header: &Header) -> String {
+    let Header { modulus, order, challenges, .. } = header;
+    let exponent = header.kind == EXPONENT;
+    match refusal {
+        Refusal::Challenges => {
+            let letter = if exponent { "q" } else { "e" };
+            format!(" The largest K that {letter} = {order} allows is {}.", largest(header))
+        }
+        Refusal::Challenge => format!(" Challenges are the numbers from 0 to {}.", challenges - 1),
+        Refusal::Coordinate if exponent => {
+            format!(" The domain has the numbers from 0 to {}.", order - 1)
+        }
+        Refusal::Entry | Refusal::Statement | Refusal::Commitment if exponent => {
+            format!(
+                " The group has the numbers v from 1 to {} with v^{order} mod {modulus} = 1.",
+                modulus - 1
+            )
+        }
+        Refusal::Statement | Refusal::Commitment | Refusal::Coordinate => {
+            format!(
+                " The group has the numbers from 1 to {} without a factor in common with {modulus}.",
+                modulus - 1
+            )
+        }
+        _ => String::new(),
+    }
+}
+
+/// The largest challenge count that the order or exponent of a header allows.
+fn largest(header: &Header) -> u32 {
+    let with = |challenges| {
+        let header = Header { challenges, ..*header };
+        let ones = Values { header, entries: [[1; PLACES]; PLACES], statement: [1; PLACES] };
+        Instance::encode(&ones)
+    };
+    make::largest(with)
 }
 
 /// The verdict on round 0 with both sides of each row, of which the library's line has those that differ.

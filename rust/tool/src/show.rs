@@ -57,6 +57,7 @@ Example:
     $ printf 'RND\\0\\1\\0\\1\\0\\0\\0\\11\\0\\0\\0\\1\\0\\0\\0\\2' > rounds.bin
     $ dimkhoros show sheet.bin rounds.bin
     rounds.bin is a round file of 19 bytes with 1 round, in version 1.
+    Vic accepts where [r] = t · z^c, with x ↦ [x] = 2^x mod 23 and z = 13.
 
     round  t  c  r  verdict
         0  9  1  2  rejected in row 0

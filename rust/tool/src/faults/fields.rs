@@ -63,17 +63,22 @@ fn in_row(letter: &str, value: usize, row: usize, rows: usize) -> String {
     }
 }
 
-/// How many bytes a sheet has to have by its header: those of the sheet that the library makes with ones in all places.
-pub fn sheet_length(sheet: &[u8]) -> Option<usize> {
+/// The header of a sheet, as far as its bytes go.
+pub fn sheet_header(sheet: &[u8]) -> Header {
     let field = |offset, width| number(sheet, offset, width) as u32;
-    let header = Header {
+    Header {
         kind: kind(sheet),
         modulus: field(6, 4),
         order: field(10, 4),
         challenges: field(14, 4),
         rows: field(18, 1),
         columns: field(19, 1),
-    };
+    }
+}
+
+/// How many bytes a sheet has to have by its header: those of the sheet that the library makes with ones in all places.
+pub fn sheet_length(sheet: &[u8]) -> Option<usize> {
+    let header = sheet_header(sheet);
     let ones = Values { header, entries: [[1; PLACES]; PLACES], statement: [1; PLACES] };
     Instance::encode(&ones).ok().map(|sheet| sheet.bytes().len())
 }

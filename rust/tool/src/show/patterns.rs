@@ -1,9 +1,9 @@
 //! A pattern file in words and tables.
 
 use crate::notation::{self, counted, numbered};
-use crate::patterns::NAMES;
+use crate::patterns::{NAMES, value_names};
 use crate::table::{self, Set};
-use dimkhoros::{Layout, Patterns};
+use dimkhoros::{Layout, Pattern, Patterns};
 
 /// The text on a pattern file of a name, or on the shipped one.
 pub fn text(name: Option<&str>, patterns: &Patterns) -> String {
@@ -20,24 +20,28 @@ pub fn text(name: Option<&str>, patterns: &Patterns) -> String {
     text
 }
 
-/// The names of the shipped patterns with the digits of a pattern. In the shipped file a pattern has its own name alone.
-fn names(shipped: &Patterns, patterns: &Patterns, number: u32) -> Vec<&'static str> {
+/// The shipped patterns with the digits of a pattern, each with its name. A pattern of the shipped file is itself alone.
+fn names(shipped: &Patterns, patterns: &Patterns, number: u32) -> Vec<(&'static str, Pattern)> {
     let same = |other: u32| match patterns == shipped {
         true => other == number,
         false => other > 0 && shipped.layout(other) == patterns.layout(number),
     };
-    NAMES.iter().filter(|(_, pattern)| same(pattern.number())).map(|(name, _)| *name).collect()
+    NAMES.into_iter().filter(|(_, pattern)| same(pattern.number())).collect()
 }
 
 /// The text on a pattern: its sizes, its digits and its formula.
-fn pattern(number: u32, names: &[&str], layout: &Layout<'_>) -> String {
-    let name = match names.is_empty() {
-        true => String::new(),
-        false => format!(", {}", names.join(" or ")),
+fn pattern(number: u32, names: &[(&str, Pattern)], layout: &Layout<'_>) -> String {
+    let words: Vec<&str> = names.iter().map(|(name, _)| *name).collect();
+    let (name, values) = match names {
+        [] => (String::new(), String::new()),
+        [(name, pattern)] => {
+            (format!(", {name}"), format!(" ({})", value_names(*pattern).join(", ")))
+        }
+        _ => (format!(", {}", words.join(" or ")), String::new()),
     };
     let sizes = [(layout.rows, "row"), (layout.columns, "column"), (layout.values, "value")]
         .map(|(count, thing)| counted(count, thing));
-    let heading = format!("Pattern {number}{name}: {}\n", sizes.join(", "));
+    let heading = format!("Pattern {number}{name}: {}{values}\n", sizes.join(", "));
     heading + &digits(layout) + &format!("    {}\n", formula(layout))
 }
 

@@ -19,9 +19,16 @@ pub fn text(name: &str, sheet: &Instance, file: &RoundFile<'_>) -> String {
     let rounds: Vec<Round> = file.rounds().collect();
     let accepted: Vec<bool> = rounds.iter().map(|round| is_accepted(sheet, round)).collect();
     let sum = accepted.iter().filter(|accepted| **accepted).count();
-    let mut text = heading + "\n" + &table(sheet, file, &rounds);
+    let mut text = heading + &equation(sheet) + "\n" + &table(sheet, file, &rounds);
     text += &format!("\nAccepted: {sum} of {}.\n", file.count());
     text + &repeats(sheet, file, &rounds, &accepted)
+}
+
+/// Where Vic accepts, in a line.
+fn equation(sheet: &Instance) -> String {
+    let statement = notation::by_row(sheet, &sheet.values().statement);
+    let homomorphism = notation::homomorphism(sheet);
+    format!("Vic accepts where [r] = t · z^c, with {homomorphism} and z = {statement}.\n")
 }
 
 /// The table of the rounds, each with its verdict.
