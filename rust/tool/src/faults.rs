@@ -44,17 +44,23 @@ pub enum Found {
 
 impl fmt::Display for Fault {
     fn fmt(&self, f: &mut fmt::Formatter<'_>) -> fmt::Result {
-        let (number, sentence) = (self.refusal.number(), self.refusal.sentence());
-        match &self.found {
-            Found::Length { found, needed } => {
-                let bytes = counted(*found, "byte");
-                let needed =
-                    needed.map_or(String::new(), |needed| format!(" in place of {needed}"));
-                write!(f, "refusal {number}, by the length of {bytes}{needed}: {sentence}")
+        let Fault { refusal, found } = self;
+        let by = match found {
+            Found::Length { .. } => "by the length of",
+            Found::Value { .. } => "by",
+        };
+        write!(f, "refusal {}, {by} {found}: {}", refusal.number(), refusal.sentence())
+    }
+}
+
+impl fmt::Display for Found {
+    fn fmt(&self, f: &mut fmt::Formatter<'_>) -> fmt::Result {
+        match self {
+            Found::Length { found, needed: None } => f.write_str(&counted(*found, "byte")),
+            Found::Length { found, needed: Some(needed) } => {
+                write!(f, "{} in place of {needed}", counted(*found, "byte"))
             }
-            Found::Value { offset, value } => {
-                write!(f, "refusal {number}, by {value} at byte {offset}: {sentence}")
-            }
+            Found::Value { offset, value } => write!(f, "{value} at byte {offset}"),
         }
     }
 }

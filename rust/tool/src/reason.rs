@@ -1,15 +1,13 @@
 //! The command `reason`: why a sheet, a round file or its first round is turned down.
 
 use crate::failure::Outcome;
-use crate::faults::{self, Fault, Found};
-use crate::notation::{self, counted};
-use crate::sheets::row_count;
+use crate::faults::{self, Fault};
+use crate::notation;
+use crate::sheets::{order_letter, row_count};
 use crate::table::{self, Set};
 use crate::words::{Grammar, Words};
 use crate::{files, make, small};
-use dimkhoros::{
-    EXPONENT, Header, Instance, LONGEST_REASON, PLACES, Refusal, Round, RoundFile, Values, reason,
-};
+use dimkhoros::{EXPONENT, Header, Instance, LONGEST_REASON, Refusal, Round, RoundFile, reason};
 use std::ffi::OsString;
 use std::io::Write;
 
@@ -58,57 +56,42 @@ pub fn run(words: Vec<OsString>, out: &mut dyn Write) -> Outcome {
     Ok(())
 }
 
-/// A fault of a file of a name in words.
+/// A fault of a file of a name in words, with what the rule allows on a sheet with this header.
 fn refused(fault: &Fault, name: &str, header: &Header) -> String {
-    let (number, sentence) = (fault.refusal.number(), fault.refusal.sentence());
-    let place = match &fault.found {
-        Found::Length { found, needed } => {
-            let needed = needed.map_or(String::new(), |needed| format!(" in place of {needed}"));
-            format!("{name} has {}{needed}.", counted(*found, "byte"))
-        }
-        Found::Value { offset, value } => format!("{name} has {value} at byte {offset}."),
-    };
+    let Fault { refusal, found } = fault;
+    let (number, sentence) = (refusal.number(), refusal.sentence());
     let of = if number > Refusal::RoundNumber.number() { "Round 0 of " } else { "" };
-    format!("Refusal {number}: {sentence}.\n{of}{place}{}\n", allowed(fault.refusal, header))
+    format!("Refusal {number}: {sentence}.\n{of}{name} has {found}.{}\n", allowed(*refusal, header))
 }
 
 /// What a rule on values allows on a sheet with this header.
 fn allowed(refusal: Refusal, header: &Header) -> String {
     let Header { modulus, order, challenges, .. } = header;
-    let exponent = header.kind == EXPONENT;
+    // The numbers of a header are tested before the values that these refusals are about, so that none is 0.
+    let group = || match header.kind {
+        EXPONENT => {
+            format!("the numbers v from 1 to {} with v^{order} mod {modulus} = 1", modulus - 1)
+        }
+        _ => format!(
+            "the numbers from 1 to {} without a factor in common with {modulus}",
+            modulus - 1
+        ),
+    };
     match refusal {
         Refusal::Challenges => {
-            let letter = if exponent { "q" } else { "e" };
-            format!(" The largest K that {letter} = {order} allows is {}.", largest(header))
+            let (letter, largest) = (order_letter(header), make::largest_of(header));
+            format!(" The largest K that {letter} = {order} allows is {largest}.")
+        }
+        Refusal::Entry | Refusal::Statement | Refusal::Commitment => {
+            format!(" The group has {}.", group())
         }
         Refusal::Challenge => format!(" Challenges are the numbers from 0 to {}.", challenges - 1),
-        Refusal::Coordinate if exponent => {
+        Refusal::Coordinate if header.kind == EXPONENT => {
             format!(" The domain has the numbers from 0 to {}.", order - 1)
         }
-        Refusal::Entry | Refusal::Statement | Refusal::Commitment if exponent => {
-            format!(
-                " The group has the numbers v from 1 to {} with v^{order} mod {modulus} = 1.",
-                modulus - 1
-            )
-        }
-        Refusal::Statement | Refusal::Commitment | Refusal::Coordinate => {
-            format!(
-                " The group has the numbers from 1 to {} without a factor in common with {modulus}.",
-                modulus - 1
-            )
-        }
+        Refusal::Coordinate => format!(" The domain has {}.", group()),
         _ => String::new(),
     }
-}
-
-/// The largest challenge count that the order or exponent of a header allows.
-fn largest(header: &Header) -> u32 {
-    let with = |challenges| {
-        let header = Header { challenges, ..*header };
-        let ones = Values { header, entries: [[1; PLACES]; PLACES], statement: [1; PLACES] };
-        Instance::encode(&ones)
-    };
-    make::largest(with)
 }
 
 /// The verdict on round 0 with both sides of each row, of which the library's line has those that differ.

@@ -3,7 +3,7 @@
 use crate::failure::{Failure, Outcome};
 use crate::words::Value;
 use crate::{faults, files};
-use dimkhoros::{Instance, PLACES, Places, RoundFile};
+use dimkhoros::{Header, Instance, PLACES, Places, ROOT, Refusal, RoundFile, Values};
 use std::path::Path;
 
 /// The sheet in a file. A bad one fails with what is wrong and where.
@@ -32,6 +32,19 @@ pub fn row_count(sheet: &Instance) -> usize {
 /// How many columns a sheet has.
 pub fn column_count(sheet: &Instance) -> usize {
     sheet.values().header.columns as usize
+}
+
+/// The letter of the order or exponent in a header.
+pub fn order_letter(header: &Header) -> &'static str {
+    match header.kind {
+        ROOT => "e",
+        _ => "q",
+    }
+}
+
+/// The sheet with a header and with ones for all entries and for the statement, which are elements of every group.
+pub fn with_ones(header: Header) -> Result<Instance, Refusal> {
+    Instance::encode(&Values { header, entries: [[1; PLACES]; PLACES], statement: [1; PLACES] })
 }
 
 /// A value for each row of a sheet.

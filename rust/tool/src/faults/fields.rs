@@ -1,8 +1,8 @@
 //! The fields of sheets and round files by their offsets, each with its value.
 
 use crate::notation::{coordinate, counted, numbered};
-use crate::sheets::row_count;
-use dimkhoros::{EMPTY_FILE, Header, Instance, PLACES, ROOT, Values};
+use crate::sheets::{order_letter, row_count, with_ones};
+use dimkhoros::{EMPTY_FILE, Header, Instance, ROOT};
 
 /// How many bytes stand before the entries of a sheet.
 const SHEET_HEADER: usize = 20;
@@ -26,8 +26,7 @@ pub fn in_sheet(sheet: &[u8], offset: usize) -> String {
         3 => format!("version {}", at(2)),
         5 => format!("kind {}", at(1)),
         6 => format!("m = {}", at(4)),
-        10 if kind(sheet) == ROOT => format!("e = {}", at(4)),
-        10 => format!("q = {}", at(4)),
+        10 => format!("{} = {}", order_letter(&sheet_header(sheet)), at(4)),
         14 => format!("K = {}", at(4)),
         18 => counted(at(1), "row"),
         19 => counted(at(1), "column"),
@@ -35,15 +34,11 @@ pub fn in_sheet(sheet: &[u8], offset: usize) -> String {
     }
 }
 
-/// A sheet's kind.
-fn kind(sheet: &[u8]) -> u32 {
-    number(sheet, 5, 1) as u32
-}
-
 /// The entry or the statement value at an offset of a sheet.
 fn entry_or_statement(sheet: &[u8], offset: usize) -> String {
-    let (rows, columns) = (number(sheet, 18, 1), number(sheet, 19, 1));
-    let entries = if kind(sheet) == ROOT { 0 } else { rows * columns };
+    let header = sheet_header(sheet);
+    let (rows, columns) = (header.rows as usize, header.columns as usize);
+    let entries = if header.kind == ROOT { 0 } else { rows * columns };
     let place = offset.saturating_sub(SHEET_HEADER) / 4;
     let value = number(sheet, offset, 4);
     match place.checked_sub(entries) {
@@ -67,7 +62,7 @@ fn in_row(letter: &str, value: usize, row: usize, rows: usize) -> String {
 pub fn sheet_header(sheet: &[u8]) -> Header {
     let field = |offset, width| number(sheet, offset, width) as u32;
     Header {
-        kind: kind(sheet),
+        kind: field(5, 1),
         modulus: field(6, 4),
         order: field(10, 4),
         challenges: field(14, 4),
@@ -78,9 +73,7 @@ pub fn sheet_header(sheet: &[u8]) -> Header {
 
 /// How many bytes a sheet has to have by its header: those of the sheet that the library makes with ones in all places.
 pub fn sheet_length(sheet: &[u8]) -> Option<usize> {
-    let header = sheet_header(sheet);
-    let ones = Values { header, entries: [[1; PLACES]; PLACES], statement: [1; PLACES] };
-    Instance::encode(&ones).ok().map(|sheet| sheet.bytes().len())
+    with_ones(sheet_header(sheet)).ok().map(|sheet| sheet.bytes().len())
 }
 
 /// The version and the count in the header of a round file, where it has one.

@@ -1,7 +1,7 @@
 //! The shipped patterns that a sheet's table has the form of, and the words that make the sheet.
 
 use crate::patterns::{NAMES, value_names};
-use crate::sheets::{column_count, row_count};
+use crate::sheets::{column_count, order_letter, row_count};
 use dimkhoros::{Instance, Layout, Pattern, Patterns, Plan, ROOT};
 
 /// A shipped pattern by which a sheet can be made.
@@ -72,7 +72,7 @@ pub fn made_by(sheet: &Instance, form: Option<&Form>) -> String {
     let entries = values.entries.iter().take(row_count(sheet));
     let table: Vec<String> = entries.map(|row| list(&row[..column_count(sheet)], ",")).collect();
     let first = form.map_or(format!("table={}", table.join("/")), |form| form.name.to_string());
-    let order = if header.kind == ROOT { "e" } else { "q" };
+    let order = order_letter(&header);
     let public = form.filter(|form| !form.values.is_empty());
     let public = public.map_or(String::new(), |form| format!(" h={}", list(&form.values, ",")));
     format!(

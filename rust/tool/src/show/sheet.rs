@@ -2,10 +2,10 @@
 
 use super::forms::{self, Form};
 use crate::notation::{self, counted};
-use crate::sheets::{column_count, row_count};
+use crate::sheets::{column_count, order_letter, row_count};
 use crate::table::{self, Set};
 use crate::{make, small};
-use dimkhoros::{EXPONENT, Header, Instance, Values};
+use dimkhoros::{EXPONENT, Header, Instance};
 
 /// The most coordinates that are tried as witnesses.
 const MOST: usize = 1 << 20;
@@ -43,7 +43,7 @@ fn fields(sheet: &Instance, forms: &[Form]) -> String {
         ("pattern", pattern),
         ("modulus m", header.modulus.to_string()),
         (if exponent { "order q" } else { "exponent e" }, header.order.to_string()),
-        ("challenge count K", challenges(sheet)),
+        ("challenge count K", challenges(&header)),
         ("rows", header.rows.to_string()),
         ("columns", header.columns.to_string()),
         ("domain", domain(sheet)),
@@ -54,14 +54,9 @@ fn fields(sheet: &Instance, forms: &[Form]) -> String {
 }
 
 /// The challenge count, with the largest one that the order or exponent allows.
-fn challenges(sheet: &Instance) -> String {
-    let values = sheet.values();
-    let with = |challenges| {
-        let header = Header { challenges, ..values.header };
-        Instance::encode(&Values { header, ..*values })
-    };
-    let letter = if values.header.kind == EXPONENT { "q" } else { "e" };
-    match (values.header.challenges, make::largest(with)) {
+fn challenges(header: &Header) -> String {
+    let letter = order_letter(header);
+    match (header.challenges, make::largest_of(header)) {
         (count, largest) if count == largest => {
             format!("{count}, the largest that {letter} allows")
         }
