@@ -41,29 +41,26 @@ fn walked(file: &[u8]) -> Option<(Refusal, Found)> {
 
 #[test]
 fn a_pattern_file_has_a_fault_exactly_where_it_is_refused() {
-    for file in pattern_files() {
-        assert_eq!(walked(&file), None);
-        let changed = changed(&file).map(|(_, changed)| changed);
-        for damaged in changed.chain(cut_and_extended(&file)) {
-            let refusal = Patterns::load(&damaged).err();
-            let walked = walked(&damaged);
-            assert_eq!(walked.as_ref().map(|(refusal, _)| *refusal), refusal, "{damaged:?}");
-            let fault = in_patterns(&damaged).map(|fault| (fault.refusal, fault.found));
-            assert_eq!(fault, walked, "{damaged:?}");
-        }
+    let files = pattern_files();
+    assert!(files.iter().all(|file| walked(file).is_none()));
+    let changed = files.iter().flat_map(|file| changed(file)).map(|(_, damaged)| damaged);
+    for damaged in changed.chain(files.iter().flat_map(|file| cut_and_extended(file))) {
+        let walked = walked(&damaged);
+        let refusal = walked.as_ref().map(|(refusal, _)| *refusal);
+        assert_eq!(refusal, Patterns::load(&damaged).err(), "{damaged:?}");
+        let fault = in_patterns(&damaged).map(|fault| (fault.refusal, fault.found));
+        assert_eq!(fault, walked, "{damaged:?}");
     }
 }
 
 #[test]
 fn a_fault_of_a_pattern_file_does_not_stand_before_the_byte_that_was_changed() {
-    for file in pattern_files() {
-        for (place, damaged) in changed(&file) {
-            let Some(fault) = in_patterns(&damaged) else { continue };
-            let Found::Value { offset, value } = fault.found else { continue };
-            let width = [3, 0, 0, 2].get(offset).copied().unwrap_or(1);
-            let unnamed = value.contains("no digit names");
-            assert!(unnamed || offset + width > place, "{damaged:?}: {value} at byte {offset}");
-        }
+    for (place, damaged) in pattern_files().iter().flat_map(|file| changed(file)) {
+        let Some(fault) = in_patterns(&damaged) else { continue };
+        let Found::Value { offset, value } = fault.found else { continue };
+        let width = [3, 0, 0, 2].get(offset).copied().unwrap_or(1);
+        let unnamed = value.contains("no digit names");
+        assert!(unnamed || offset + width > place, "{damaged:?}: {value} at byte {offset}");
     }
 }
 
@@ -106,85 +103,96 @@ fn sheets() -> Vec<Instance> {
     ]
 }
 
-/// Whether a value as it is printed has a number in it.
-fn has(value: &str, number: usize) -> bool {
-    value.split(' ').any(|word| word == number.to_string())
+/// Whether a value as it is printed has the number that stands at its offset of a sheet.
+fn has_its_number(sheet: &[u8], offset: usize, value: &str) -> bool {
+    let width = match offset {
+        3 => 2,
+        5 | 18 | 19 => 1,
+        _ => 4,
+    };
+    let number = fields::number(sheet, offset, width).to_string();
+    offset == 0 || value.split(' ').any(|word| word == number)
 }
 
 #[test]
 fn a_sheet_has_a_fault_exactly_where_it_is_refused() {
-    for sheet in sheets() {
-        for (_, damaged) in changed(sheet.bytes()) {
-            let fault = in_sheet(&damaged);
-            let refusal = fault.as_ref().map(|fault| fault.refusal);
-            assert_eq!(refusal, Instance::load(&damaged).err(), "{damaged:?}");
-            if let Some(Found::Value { offset: offset @ 1.., value }) =
-                fault.map(|fault| fault.found)
-            {
-                let width =
-                    [(3, 2), (5, 1), (18, 1), (19, 1)].into_iter().find(|(at, _)| *at == offset);
-                let number = fields::number(&damaged, offset, width.map_or(4, |(_, width)| width));
-                assert!(has(&value, number), "{damaged:?}: {value} at byte {offset}");
-            }
+    for (_, damaged) in sheets().iter().flat_map(|sheet| changed(sheet.bytes())) {
+        let fault = in_sheet(&damaged);
+        let refusal = fault.as_ref().map(|fault| fault.refusal);
+        assert_eq!(refusal, Instance::load(&damaged).err(), "{damaged:?}");
+        if let Some(Found::Value { offset, value }) = fault.map(|fault| fault.found) {
+            assert!(has_its_number(&damaged, offset, &value), "{damaged:?}: {value} at {offset}");
         }
     }
 }
 
 #[test]
 fn a_sheet_that_is_cut_or_extended_is_told_how_long_it_has_to_be() {
-    for sheet in sheets() {
-        for damaged in cut_and_extended(sheet.bytes()) {
-            let fault = in_sheet(&damaged).unwrap();
-            let needed = (damaged.len() >= 20).then_some(sheet.bytes().len());
-            assert_eq!(fault.found, Found::Length { found: damaged.len(), needed });
-            assert_eq!(Some(fault.refusal), Instance::load(&damaged).err());
-        }
+    let sheets = sheets();
+    let damaged = |sheet| cut_and_extended(Instance::bytes(sheet)).map(move |cut| (sheet, cut));
+    for (sheet, damaged) in sheets.iter().flat_map(damaged) {
+        let fault = in_sheet(&damaged).unwrap();
+        let needed = (damaged.len() >= 20).then_some(sheet.bytes().len());
+        assert_eq!(fault.found, Found::Length { found: damaged.len(), needed });
+        assert_eq!(Some(fault.refusal), Instance::load(&damaged).err());
     }
 }
 
-/// The file of a version with three rounds of a sheet, all with the response 1 or its like.
-fn rounds(sheet: &Instance, version: u32) -> Vec<u8> {
-    let mut buffer = [0; 1000];
-    let mut writer = RoundWriter::start(sheet, version, &mut buffer).unwrap();
-    for challenge in [1, 2, 1] {
-        let [commitment, response] = [[1; PLACES]; 2];
-        writer.append(&Round { commitment, challenge, response }).unwrap();
-    }
-    writer.file().bytes().to_vec()
+/// Each sheet with a file of three rounds in each version, of which none is refused.
+fn round_files() -> Vec<(Instance, Vec<u8>)> {
+    let file = |sheet: &Instance, version| {
+        let mut buffer = [0; 1000];
+        let mut writer = RoundWriter::start(sheet, version, &mut buffer).unwrap();
+        for challenge in [1, 2, 1] {
+            let [commitment, response] = [[1; PLACES]; 2];
+            writer.append(&Round { commitment, challenge, response }).unwrap();
+        }
+        writer.file().bytes().to_vec()
+    };
+    let files = |sheet: Instance| [1, 2].map(|version| (sheet.clone(), file(&sheet, version)));
+    sheets().into_iter().flat_map(files).collect()
+}
+
+/// The files of a sheet's rounds that differ from a file in one byte, each with that byte's offset.
+fn changed_rounds(
+    (sheet, file): &(Instance, Vec<u8>),
+) -> impl Iterator<Item = (&Instance, usize, Vec<u8>)> {
+    changed(file).map(move |(place, damaged)| (sheet, place, damaged))
 }
 
 #[test]
 fn a_round_has_a_fault_exactly_where_it_is_refused() {
-    for (sheet, version) in sheets().iter().flat_map(|sheet| [(sheet, 1), (sheet, 2)]) {
-        for (place, damaged) in changed(&rounds(sheet, version)) {
-            let Ok(file) = RoundFile::open(sheet, &damaged) else { continue };
-            let faults: Vec<_> = (0..3).map(|number| in_round(sheet, &file, number)).collect();
-            let refusals = file.rounds().map(|round| sheet.judge(&round).err());
-            assert!(
-                refusals.eq(faults.iter().map(|fault| fault.as_ref().map(|fault| fault.refusal)))
-            );
-            // Nothing else in the file is wrong, so the fault has the changed byte.
-            if let Some(Found::Value { offset, .. }) =
-                faults.into_iter().flatten().next().map(|f| f.found)
-            {
-                assert!((offset..offset + 4).contains(&place), "byte {place}, told {offset}");
-            }
+    for (sheet, place, damaged) in round_files().iter().flat_map(changed_rounds) {
+        let Ok(file) = RoundFile::open(sheet, &damaged) else { continue };
+        let faults: Vec<_> = (0..3).map(|number| in_round(sheet, &file, number)).collect();
+        let refusals = file.rounds().map(|round| sheet.judge(&round).err());
+        assert!(refusals.eq(faults.iter().map(|fault| fault.as_ref().map(|fault| fault.refusal))));
+        // Nothing else in the file is wrong, so the fault has the changed byte.
+        let first = faults.into_iter().flatten().next().map(|fault| fault.found);
+        if let Some(Found::Value { offset, .. }) = first {
+            assert!((offset..offset + 4).contains(&place), "byte {place}, told {offset}");
         }
     }
 }
 
 #[test]
 fn a_round_file_has_a_fault_exactly_where_it_is_refused() {
-    for (sheet, version) in sheets().iter().flat_map(|sheet| [(sheet, 1), (sheet, 2)]) {
-        let whole = rounds(sheet, version);
-        for (_, damaged) in changed(&whole) {
-            let of_file = in_rounds(sheet, &damaged).filter(|fault| fault.refusal == Refusal::File);
-            assert_eq!(of_file.map(|fault| fault.refusal), RoundFile::open(sheet, &damaged).err());
-        }
-        for damaged in cut_and_extended(&whole) {
-            let needed = (damaged.len() >= 7).then_some(whole.len());
-            let found = Found::Length { found: damaged.len(), needed };
-            assert_eq!(in_rounds(sheet, &damaged).map(|fault| fault.found), Some(found));
-        }
+    for (sheet, _, damaged) in round_files().iter().flat_map(changed_rounds) {
+        let of_file = in_rounds(sheet, &damaged).filter(|fault| fault.refusal == Refusal::File);
+        assert_eq!(of_file.map(|fault| fault.refusal), RoundFile::open(sheet, &damaged).err());
+    }
+}
+
+#[test]
+fn a_round_file_that_is_cut_or_extended_is_told_how_long_it_has_to_be() {
+    let files = round_files();
+    let damaged = |(sheet, file): &'_ (Instance, Vec<u8>)| {
+        let cut = cut_and_extended(file);
+        cut.map(|damaged| (sheet.clone(), file.len(), damaged)).collect::<Vec<_>>()
+    };
+    for (sheet, length, damaged) in files.iter().flat_map(damaged) {
+        let needed = (damaged.len() >= 7).then_some(length);
+        let found = Found::Length { found: damaged.len(), needed };
+        assert_eq!(in_rounds(&sheet, &damaged).map(|fault| fault.found), Some(found));
     }
 }
