@@ -1,6 +1,17 @@
 //! What is wrong with a file, and where.
 
-use dimkhoros::{Instance, LONGEST_REASON, Refusal, reason};
+mod fields;
+mod patterns;
+#[cfg(test)]
+mod tests;
+
+pub use fields::{round_header, sheet_header};
+
+use crate::notation::counted;
+use dimkhoros::{
+    EMPTY_FILE, Instance, LONGEST_REASON, PLACES, Pattern, Patterns, Plan, Refusal, Round,
+    RoundFile, RoundWriter, reason,
+};
 use std::fmt;
 
 /// A refusal with what breaks its rule.
@@ -16,39 +27,107 @@ pub struct Fault {
 #[derive(Clone, Debug, PartialEq)]
 pub enum Found {
     /// The length of the file.
-    Length(usize),
-    /// The value at an offset, as it is printed.
+    Length {
+        /// How many bytes it has.
+        found: usize,
+        /// How many it has to have, where the rest of it says so.
+        needed: Option<usize>,
+    },
+    /// The value at an offset.
     Value {
         /// The offset of its first byte.
         offset: usize,
-        /// The value.
+        /// The value with its field, as it is printed, such as `K = 12`.
         value: String,
     },
 }
 
 impl fmt::Display for Fault {
     fn fmt(&self, f: &mut fmt::Formatter<'_>) -> fmt::Result {
-        let (number, sentence) = (self.refusal.number(), self.refusal.sentence());
-        match &self.found {
-            Found::Length(length) => {
-                write!(f, "refusal {number}, by the length of {length} bytes: {sentence}")
+        let Fault { refusal, found } = self;
+        let by = match found {
+            Found::Length { .. } => "by the length of",
+            Found::Value { .. } => "by",
+        };
+        write!(f, "refusal {}, {by} {found}: {}", refusal.number(), refusal.sentence())
+    }
+}
+
+impl fmt::Display for Found {
+    fn fmt(&self, f: &mut fmt::Formatter<'_>) -> fmt::Result {
+        match self {
+            Found::Length { found, needed: None } => f.write_str(&counted(*found, "byte")),
+            Found::Length { found, needed: Some(needed) } => {
+                write!(f, "{} in place of {needed}", counted(*found, "byte"))
             }
-            Found::Value { offset, value } => {
-                write!(f, "refusal {number}, by {value} at byte {offset}: {sentence}")
-            }
+            Found::Value { offset, value } => write!(f, "{value} at byte {offset}"),
         }
     }
 }
 
-/// What is wrong with a sheet that does not load.
+/// What is wrong with a sheet that does not load, in a line.
 pub fn of_sheet(sheet: &[u8]) -> String {
-    told(sheet, &[]).map_or_else(String::new, |told| told.fault(sheet, sheet_width).to_string())
+    in_sheet(sheet).map_or_else(String::new, |fault| fault.to_string())
 }
 
-/// What is wrong with a round file of a sheet, or with its first round.
+/// What is wrong with a round file of a sheet, or with its first round, in a line.
 pub fn of_rounds(sheet: &Instance, file: &[u8]) -> String {
-    let width = |offset| round_width(sheet, file, offset);
-    told(sheet.bytes(), file).map_or_else(String::new, |told| told.fault(file, width).to_string())
+    in_rounds(sheet, file).map_or_else(String::new, |fault| fault.to_string())
+}
+
+/// The fault of a sheet that does not load.
+pub fn in_sheet(sheet: &[u8]) -> Option<Fault> {
+    let told = told(sheet, &[]).filter(|told| told.refusal.number() < Refusal::File.number())?;
+    let needed = (told.refusal == Refusal::SheetLength).then(|| fields::sheet_length(sheet));
+    Some(told.fault(needed.flatten(), |offset| fields::in_sheet(sheet, offset)))
+}
+
+/// The fault of a round file of a sheet, or of its first round.
+pub fn in_rounds(sheet: &Instance, file: &[u8]) -> Option<Fault> {
+    let told = told(sheet.bytes(), file)?;
+    let needed = file_length(sheet, file);
+    Some(told.fault(needed, |offset| fields::in_rounds(sheet, file, offset)))
+}
+
+/// The fault of the header of a round file whose sheet is not known. The library tells it in the same way with every sheet.
+pub fn in_round_header(file: &[u8]) -> Option<Fault> {
+    let plan = Plan {
+        pattern: Pattern::Schnorr.number(),
+        modulus: 3,
+        order: 2,
+        challenges: 2,
+        values: &[1],
+        statement: &[1],
+    };
+    let sheet = Instance::from_pattern(&Patterns::shipped(), &plan).ok()?;
+    let told = in_rounds(&sheet, file).filter(|fault| fault.refusal == Refusal::File)?;
+    // A length that does not fit this sheet may fit another.
+    let of_header = match told.found {
+        Found::Length { found, .. } => found < EMPTY_FILE,
+        Found::Value { .. } => true,
+    };
+    of_header.then_some(told)
+}
+
+/// The fault of a round in a round file. The library tells that of a file's first round, so the round is put alone in a file.
+pub fn in_round(sheet: &Instance, file: &RoundFile<'_>, number: usize) -> Option<Fault> {
+    let mut buffer = [0; LONGEST_ROUND];
+    let alone = alone(sheet, file.version(), &file.read(number).ok()?, &mut buffer).ok()?;
+    let mut fault = in_rounds(sheet, alone)?;
+    if let Found::Value { offset, .. } = &mut fault.found {
+        *offset += number * (alone.len() - EMPTY_FILE);
+    }
+    Some(fault)
+}
+
+/// The fault of a pattern file. The number is the library's, and the place is found here.
+pub fn in_patterns(file: &[u8]) -> Option<Fault> {
+    let refusal = Patterns::load(file).err()?;
+    let found = match refusal {
+        Refusal::PatternFile => patterns::wrong_shape(file),
+        _ => patterns::wrong_digit(file),
+    };
+    Some(Fault { refusal, found: found? })
 }
 
 /// A refusal as the library's line tells it.
@@ -73,50 +152,36 @@ fn told(sheet: &[u8], file: &[u8]) -> Option<Told> {
 }
 
 impl Told {
-    /// The fault in these bytes, in which the value at an offset has so many bytes.
-    fn fault(&self, bytes: &[u8], width: impl Fn(usize) -> usize) -> Fault {
+    /// The fault in a file that has to have so many bytes, and in which this value stands at an offset.
+    fn fault(&self, needed: Option<usize>, value: impl Fn(usize) -> String) -> Fault {
         let found = match self.length {
-            true => Found::Length(self.number),
-            false => Found::Value {
-                offset: self.number,
-                value: value(bytes, self.number, width(self.number)),
-            },
+            true => Found::Length { found: self.number, needed },
+            false => Found::Value { offset: self.number, value: value(self.number) },
         };
         Fault { refusal: self.refusal, found }
     }
 }
 
-/// How many bytes the mark at the start of each file has.
-const MARK: usize = 3;
+/// The most bytes of a file of one round.
+const LONGEST_ROUND: usize = EMPTY_FILE + 4 * (2 * PLACES + 1);
 
-/// The value of so many bytes at an offset: a mark in quotes, else a number.
-pub fn value(bytes: &[u8], offset: usize, width: usize) -> String {
-    let rest = bytes.get(offset..).unwrap_or_default();
-    let found = &rest[..width.min(rest.len())];
-    match offset {
-        0 => format!("\"{}\"", found[..MARK.min(found.len())].escape_ascii()),
-        _ => found.iter().fold(0u64, |number, byte| number << 8 | u64::from(*byte)).to_string(),
-    }
+/// The file of a version with one round alone.
+fn alone<'a>(
+    sheet: &'a Instance,
+    version: u32,
+    round: &Round,
+    buffer: &'a mut [u8],
+) -> Result<&'a [u8], Refusal> {
+    let mut writer = RoundWriter::start(sheet, version, buffer)?;
+    writer.append(round)?;
+    let length = writer.file().bytes().len();
+    Ok(&buffer[..length])
 }
 
-/// How many bytes the value at an offset of a sheet has.
-fn sheet_width(offset: usize) -> usize {
-    match offset {
-        0 => MARK,
-        3 => 2,
-        5 | 18 | 19 => 1,
-        _ => 4,
-    }
-}
-
-/// How many bytes the value at an offset of a round file of a sheet has. In version 2 a challenge has two.
-fn round_width(sheet: &Instance, file: &[u8], offset: usize) -> usize {
-    let rows = sheet.values().header.rows as usize;
-    let narrow = file.get(3..5) == Some(&[0, 2]);
-    match offset {
-        0 => MARK,
-        3 | 5 => 2,
-        _ if narrow && offset == 7 + 4 * rows => 2,
-        _ => 4,
-    }
+/// How many bytes a round file of a sheet has to have by the version and the count in its header.
+fn file_length(sheet: &Instance, file: &[u8]) -> Option<usize> {
+    let [version, count] = fields::round_header(file)?;
+    let mut buffer = [0; LONGEST_ROUND];
+    let alone = alone(sheet, version as u32, &Round::default(), &mut buffer).ok()?;
+    Some(EMPTY_FILE + count * (alone.len() - EMPTY_FILE))
 }

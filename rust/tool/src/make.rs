@@ -174,6 +174,11 @@ pub fn largest(sheet: impl Fn(u32) -> Result<Instance, Refusal>) -> u32 {
     taken
 }
 
+/// The largest challenge count that the order or exponent in a header allows.
+pub fn largest_of(header: &Header) -> u32 {
+    largest(|challenges| sheets::with_ones(Header { challenges, ..*header }))
+}
+
 /// The sheet with the statement that the words have, or with that of their witness.
 fn with_statement(words: &Words, sheet: &Instance) -> Outcome<Instance> {
     let stated = stated(words)?;

@@ -24,23 +24,52 @@ pub fn by_column(sheet: &Instance, places: &Places) -> String {
 
 /// The name of a coordinate, such as x, or x1 and x2 where a sheet has several columns.
 pub fn coordinate(sheet: &Instance, letter: &str, column: usize) -> String {
-    match column_count(sheet) {
+    numbered(letter, column_count(sheet), column)
+}
+
+/// The names of all coordinates of a letter.
+fn coordinates(sheet: &Instance, letter: &str) -> Vec<String> {
+    (0..column_count(sheet)).map(|column| coordinate(sheet, letter, column)).collect()
+}
+
+/// The names of all coordinates of a letter: one alone, several as a tuple.
+pub fn names(sheet: &Instance, letter: &str) -> String {
+    joined(&coordinates(sheet, letter))
+}
+
+/// The name of one of several things of a letter: the letter alone where there is one, else with its number from 1.
+pub fn numbered(letter: &str, count: usize, place: usize) -> String {
+    match count {
         1 => letter.to_string(),
-        _ => format!("{letter}{}", column + 1),
+        _ => format!("{letter}{}", place + 1),
     }
 }
 
 /// What a row of a sheet's table makes of the coordinates of a letter, such as `2^x1 · 3^x2`. Entries 1 are left out.
 pub fn row_image(sheet: &Instance, row: usize, letter: &str) -> String {
+    row_powers(sheet, row, &coordinates(sheet, letter))
+}
+
+/// What a row of a sheet's table makes of coordinates that are numbers, such as `2^4 · 3^0`. Entries 1 are left out.
+pub fn row_image_of(sheet: &Instance, row: usize, values: &Places) -> String {
+    let values: Vec<String> = values.iter().map(u32::to_string).collect();
+    row_powers(sheet, row, &values)
+}
+
+/// What a row of a sheet's table makes of coordinates with these names.
+fn row_powers(sheet: &Instance, row: usize, names: &[String]) -> String {
     let values = sheet.values();
     if values.header.kind != EXPONENT {
-        return format!("{}^{}", coordinate(sheet, letter, row), values.header.order);
+        return format!("{}^{}", names[row], values.header.order);
     }
-    let entries = values.entries[row].iter().take(column_count(sheet)).enumerate();
-    let factors: Vec<String> = entries
-        .filter(|(_, entry)| **entry != 1)
-        .map(|(column, entry)| format!("{entry}^{}", coordinate(sheet, letter, column)))
-        .collect();
+    let entries = values.entries[row].iter().take(column_count(sheet));
+    powers(entries.map(|entry| (*entry != 1).then(|| entry.to_string())), names)
+}
+
+/// A product of powers, such as `2^x1 · 3^x2`, of bases with their exponents. A base that is none stands for 1 and is left out.
+pub fn powers(bases: impl Iterator<Item = Option<String>>, exponents: &[String]) -> String {
+    let power = |(base, exponent): (Option<String>, &String)| Some(format!("{}^{exponent}", base?));
+    let factors: Vec<String> = bases.zip(exponents).filter_map(power).collect();
     match factors.is_empty() {
         true => "1".to_string(),
         false => factors.join(" · "),
@@ -49,16 +78,22 @@ pub fn row_image(sheet: &Instance, row: usize, letter: &str) -> String {
 
 /// The homomorphism, such as `x ↦ [x] = 2^x mod 23`.
 pub fn homomorphism(sheet: &Instance) -> String {
-    let coordinates: Vec<String> =
-        (0..column_count(sheet)).map(|column| coordinate(sheet, "x", column)).collect();
     let images: Vec<String> = (0..row_count(sheet)).map(|row| row_image(sheet, row, "x")).collect();
-    let argument = joined(&coordinates);
+    mapping(&coordinates(sheet, "x"), &images, &sheet.values().header.modulus.to_string())
+}
+
+/// A homomorphism that carries coordinates to images, such as `x ↦ [x] = h^x mod m`.
+pub fn mapping(coordinates: &[String], images: &[String], modulus: &str) -> String {
     let bracketed = coordinates.join(", ");
-    format!(
-        "{argument} ↦ [{bracketed}] = {} mod {}",
-        joined(&images),
-        sheet.values().header.modulus
-    )
+    format!("{} ↦ [{bracketed}] = {} mod {modulus}", joined(coordinates), joined(images))
+}
+
+/// So many things of a name, such as `1 row` and `2 rows`.
+pub fn counted(count: usize, thing: &str) -> String {
+    match count {
+        1 => format!("1 {thing}"),
+        _ => format!("{count} {thing}s"),
+    }
 }
 
 /// The statement row by row, such as `13 = 2^x mod 23`.
@@ -73,6 +108,15 @@ pub fn statement(sheet: &Instance) -> Vec<String> {
         )
     };
     (0..row_count(sheet)).map(line).collect()
+}
+
+/// Numbers in a sentence, such as `0, 1 and 2`.
+pub fn and(numbers: &[usize]) -> String {
+    let numbers: Vec<String> = numbers.iter().map(usize::to_string).collect();
+    match numbers.split_last() {
+        Some((last, rest)) if !rest.is_empty() => format!("{} and {last}", rest.join(", ")),
+        _ => numbers.concat(),
+    }
 }
 
 /// One word alone, several as a tuple.

@@ -3,14 +3,18 @@
 use crate::failure::{Failure, Outcome};
 use crate::words::Value;
 use crate::{faults, files};
-use dimkhoros::{Instance, PLACES, Places, RoundFile};
+use dimkhoros::{Header, Instance, PLACES, Places, ROOT, Refusal, RoundFile, Values};
 use std::path::Path;
 
 /// The sheet in a file. A bad one fails with what is wrong and where.
 pub fn load(path: &Path) -> Outcome<Instance> {
-    let bytes = files::read(path)?;
-    let fault = |_| Failure::failed(format!("{}: {}", files::name(path), faults::of_sheet(&bytes)));
-    Instance::load(&bytes).map_err(fault)
+    of_bytes(path, &files::read(path)?)
+}
+
+/// The sheet in these bytes, which were read from a path. A bad one fails with what is wrong and where.
+pub fn of_bytes(path: &Path, bytes: &[u8]) -> Outcome<Instance> {
+    let fault = |_| Failure::failed(format!("{}: {}", files::name(path), faults::of_sheet(bytes)));
+    Instance::load(bytes).map_err(fault)
 }
 
 /// The round file of a sheet in these bytes, which were read from a path.
@@ -28,6 +32,19 @@ pub fn row_count(sheet: &Instance) -> usize {
 /// How many columns a sheet has.
 pub fn column_count(sheet: &Instance) -> usize {
     sheet.values().header.columns as usize
+}
+
+/// The letter of the order or exponent in a header.
+pub fn order_letter(header: &Header) -> &'static str {
+    match header.kind {
+        ROOT => "e",
+        _ => "q",
+    }
+}
+
+/// The sheet with a header and with ones for all entries and for the statement, which are elements of every group.
+pub fn with_ones(header: Header) -> Result<Instance, Refusal> {
+    Instance::encode(&Values { header, entries: [[1; PLACES]; PLACES], statement: [1; PLACES] })
 }
 
 /// A value for each row of a sheet.

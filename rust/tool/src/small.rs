@@ -1,7 +1,7 @@
 //! All coordinates and elements of a sheet, where they are few.
 
 use crate::sheets::column_count;
-use dimkhoros::{EXPONENT, Instance, PLACES, Places, Prover};
+use dimkhoros::{EXPONENT, Header, Instance, PLACES, Places, Prover, Values};
 
 /// The most values that are tried one by one.
 pub const MOST: u32 = 4096;
@@ -18,7 +18,8 @@ pub fn coordinates(sheet: &Instance) -> Option<Vec<u32>> {
 /// The elements of the group, rising: none where the modulus is too large to try. The library says of each whether it is one.
 pub fn elements(sheet: &Instance) -> Option<Vec<u32>> {
     let modulus = sheet.values().header.modulus;
-    let is_element = |value: &u32| sheet.with_statement(&[*value; PLACES]).is_ok();
+    let light = light(sheet);
+    let is_element = |value: &u32| light.with_statement(&[*value; PLACES]).is_ok();
     (modulus <= MOST).then(|| (1..modulus).filter(is_element).collect())
 }
 
@@ -48,10 +49,19 @@ pub fn image(sheet: &Instance, coordinates: &Places) -> Option<Places> {
     Prover::new().commit(sheet, coordinates).ok().map(|(_, image)| image)
 }
 
+/// The sheet with the challenge count 2. It has the same elements, coordinates and images, and its bytes are tested faster, which
+/// counts where many values are tried.
+fn light(sheet: &Instance) -> Instance {
+    let values = sheet.values();
+    let header = Header { challenges: 2, ..values.header };
+    Instance::encode(&Values { header, ..*values }).unwrap_or_else(|_| sheet.clone())
+}
+
 /// All witnesses of a sheet, found by trying all coordinates: none where there are more than `most`.
 pub fn witnesses(sheet: &Instance, most: usize) -> Option<Vec<Places>> {
     let statement = sheet.values().statement;
     let mut all = domain(sheet, most)?;
-    all.retain(|coordinates| image(sheet, coordinates) == Some(statement));
+    let light = light(sheet);
+    all.retain(|coordinates| image(&light, coordinates) == Some(statement));
     Some(all)
 }

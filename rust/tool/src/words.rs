@@ -94,6 +94,9 @@ impl Words {
         if count + grammar.optional < most {
             return Err(Failure::words(format!("the word {} is missing", grammar.plain[count])));
         }
+        if self.plain.iter().filter(|word| *word == "-").count() > 1 {
+            return Err(Failure::words("only one file can be -, standard input"));
+        }
         Ok(())
     }
 
