@@ -243,3 +243,6 @@ fn root_column(
     let inverse = inverse_of_second;
     Some(Column::Root { inverse, quotient, statement_inverse, first, second, witness })
 }
+
+#[cfg(test)]
+mod tests;
