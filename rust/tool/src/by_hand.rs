@@ -16,6 +16,27 @@ pub struct Power {
     pub rest: u32,
 }
 
+/// The most that a class's calculator shows: ten digits.
+pub const CALCULATOR: u64 = 9_999_999_999;
+
+impl Power {
+    /// The power before it is reduced, where a calculator shows it.
+    pub fn whole(&self) -> Option<u64> {
+        let whole = match self.base {
+            0 | 1 => Some(u64::from(self.base).pow(self.exponent.min(1))),
+            base => u64::from(base).checked_pow(self.exponent),
+        };
+        whole.filter(|whole| *whole <= CALCULATOR)
+    }
+
+    /// The powers with the exponents 2, 4, 8 and so on up to this one's, each the square of the one before.
+    pub fn squares(&self, modulus: u32) -> Vec<Power> {
+        let exponents =
+            (1..32).map(|bit| 1 << bit).take_while(|exponent| *exponent <= self.exponent);
+        exponents.map(|exponent| power(self.base, exponent, modulus)).collect()
+    }
+}
+
 /// What a power of a base leaves.
 pub fn power(base: u32, exponent: u32, modulus: u32) -> Power {
     let (mut rest, mut square, mut left) = (1 % modulus, base % modulus, exponent);
