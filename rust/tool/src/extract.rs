@@ -79,15 +79,24 @@ pub fn run(words: Vec<OsString>, out: &mut dyn Write) -> Outcome {
     }
 }
 
+/// Says that words are not two rounds.
+fn not_two() -> Failure {
+    Failure::words("two rounds have to be there: t= c= r= c= r=, or t= c= r= t= c= r=")
+}
+
 /// Extracts from two rounds in words.
 fn of_words(words: &Words, out: &mut dyn Write) -> Outcome {
+    let letters: Vec<&str> = words.values().iter().map(|value| value.letter).collect();
+    if !matches!(letters[..], ["t", "c", "r", "c", "r"] | ["t", "c", "r", "t", "c", "r"]) {
+        return Err(not_two());
+    }
     let sheet = sheets::load(&words.path(0))?;
     let rounds = match round_words::asked(&sheet, words)?[..] {
         [Asked::Stands(first), Asked::Stands(second)] => [first, second],
         [Asked::Stands(first), Asked::Simulated { challenge, response }] => {
             [first, Round { commitment: first.commitment, challenge, response }]
         }
-        _ => return Err(Failure::words("two rounds have to be there: t= c= r= [t=] c= r=")),
+        _ => return Err(not_two()),
     };
     if let Err(refusal) = sheet.extract(&rounds[0], &rounds[1]) {
         out.write_all(round_table::lines("", &sheet, (0..).zip(rounds)).as_bytes())?;
@@ -149,7 +158,7 @@ fn of_group(
     let commitment = notation::by_row(sheet, &rounds[first].commitment);
     let count = group.len();
     writeln!(out, "\nCommitment {commitment}, in {count} rounds\n")?;
-    let pair = commitments::first_pair(sheet, rounds, group);
+    let pair = commitments::first_pair(sheet, rounds, group).ok();
     match pair {
         Some(pair) => by_hand(sheet, rounds, pair, out)?,
         None => {
@@ -159,7 +168,7 @@ fn of_group(
     }
     let with = pair.map_or(first, |pair| pair[0]);
     let tried = commitments::tried(sheet, rounds, group, (!all).then_some(with));
-    out.write_all(further(sheet, &tried, pair).as_bytes())?;
+    out.write_all(further(sheet, tried, pair).as_bytes())?;
     if !all {
         let pairs = commitments::pair_count(group);
         writeln!(
@@ -170,16 +179,17 @@ fn of_group(
     Ok(pair.is_some())
 }
 
-/// What pairs give besides the one that was worked out by hand, a line for each answer.
-fn further(sheet: &Instance, tried: &[Tried], by_hand: Option<[usize; 2]>) -> String {
+/// What pairs give besides the one that was worked out by hand, a line for each answer: the same witness first, refusals last.
+fn further(sheet: &Instance, mut tried: Vec<Tried>, by_hand: Option<[usize; 2]>) -> String {
+    let same = |tried: &Tried| by_hand.is_some_and(|pair| tried.pairs.contains(&pair));
+    tried.sort_by_key(|tried| (!same(tried), tried.answer.is_err()));
     let lines = tried.iter().filter_map(|tried| {
         let pairs: Vec<[usize; 2]> =
             tried.pairs.iter().filter(|pair| by_hand != Some(**pair)).copied().collect();
-        let same = pairs.len() < tried.pairs.len();
         let line = match (&tried.answer, pairs.len()) {
             (_, 0) => return None,
-            (Ok(_), 1) if same => "1 further pair gives the same witness".to_string(),
-            (Ok(_), count) if same => format!("{count} further pairs give the same witness"),
+            (Ok(_), 1) if same(tried) => "1 further pair gives the same witness".to_string(),
+            (Ok(_), count) if same(tried) => format!("{count} further pairs give the same witness"),
             (Ok(witness), _) => another(sheet, witness, &pairs),
             (Err(refusal), _) => format!("{}: {refusal}", named(&pairs)),
         };

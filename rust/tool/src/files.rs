@@ -60,7 +60,7 @@ impl Target {
     /// The file that is read, of which nothing gets lost.
     pub fn in_place(path: &Path) -> Outcome<Target> {
         if is_standard(path) {
-            return Err(Failure::words("-o FILE is missing: what is read from - needs another"));
+            return Err(Failure::words("-o FILE is missing: where to write what is read from -"));
         }
         Ok(Target { path: path.to_path_buf(), how: How::InPlace })
     }
@@ -100,11 +100,11 @@ fn write_new(path: &Path, bytes: &[u8]) -> io::Result<()> {
 
 /// Puts a file with these bytes in the place of one that is there: written whole beside it, and then renamed.
 fn replace(path: &Path, bytes: &[u8]) -> io::Result<()> {
-    let path = fs::canonicalize(path)?;
-    let there = fs::metadata(&path)?;
+    let there = fs::metadata(path)?;
     if !there.is_file() {
         return Err(io::Error::other("it is no plain file, and -o FILE is missing"));
     }
+    let path = fs::canonicalize(path)?;
     let mut beside = path.clone().into_os_string();
     beside.push(format!(".{}", process::id()));
     let beside = PathBuf::from(beside);

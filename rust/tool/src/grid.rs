@@ -114,7 +114,7 @@ impl Grid {
         }
         let responses = small::domain(sheet, MOST_RESPONSES).ok_or_else(|| {
             Failure::failed(format!(
-                "the sheet has more than {MOST_RESPONSES} responses, and a grid has no more"
+                "the sheet has more than {MOST_RESPONSES} responses, and a grid has {MOST_RESPONSES} at most"
             ))
         })?;
         let row = |response: &Places| -> Result<Vec<Places>, Refusal> {

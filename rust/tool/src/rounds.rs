@@ -49,23 +49,21 @@ Example:
     narrow.bin has 47 bytes in version 2; rounds.bin has 55 in version 1
 ";
 
-/// What the command does, by its first word.
-const DEEDS: [(&str, fn(Vec<OsString>, &mut dyn Write) -> Outcome); 5] =
-    [("make", make), ("append", append), ("list", list), ("convert", convert), ("equal", equal)];
+/// What the command's first word can be.
+const DEEDS: &str = "make, append, list, convert or equal";
 
 /// Runs the command.
-pub fn run(mut words: Vec<OsString>, out: &mut dyn Write) -> Outcome {
-    let names = DEEDS.map(|(name, _)| name).join(", ");
-    if words.is_empty() {
-        return Err(Failure::words(format!("the first word is missing: {names}")));
-    }
-    let first = words.remove(0);
-    match DEEDS.iter().find(|(name, _)| first == *name) {
-        Some((_, deed)) => deed(words, out),
-        None => Err(Failure::words(format!(
-            "the first word is {}, and has to be one of {names}",
-            first.to_string_lossy()
-        ))),
+pub fn run(words: Vec<OsString>, out: &mut dyn Write) -> Outcome {
+    let mut words = words.into_iter();
+    let first = words.next().ok_or_else(|| Failure::words(format!("{DEEDS} is missing")))?;
+    let words = words.collect();
+    match first.to_string_lossy().as_ref() {
+        "make" => make(words, out),
+        "append" => append(words, out),
+        "list" => list(words, out),
+        "convert" => convert(words, out),
+        "equal" => equal(words, out),
+        other => Err(Failure::words(format!("the first word is {other}, and has to be {DEEDS}"))),
     }
 }
 
@@ -218,8 +216,8 @@ fn alike(sheet: &Instance, rounds: &[Round], group: &[usize]) -> Vec<String> {
         group.iter().map(|number| rounds[*number].challenge.to_string()).collect();
     let pair = commitments::first_pair(sheet, rounds, group);
     let extractor = match pair {
-        Some([first, second]) => format!("rounds {first} and {second} give a witness"),
-        None => "no two accepted rounds with different challenges".to_string(),
+        Ok([first, second]) => format!("rounds {first} and {second} give a witness"),
+        Err(why) => why.to_string(),
     };
     let commitment = group.first().map(|first| rounds[*first].commitment).unwrap_or_default();
     vec![notation::by_row(sheet, &commitment), numbers.join(" "), challenges.join(" "), extractor]

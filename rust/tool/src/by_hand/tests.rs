@@ -42,7 +42,7 @@ fn sheet(kind: u32, random: &mut Random) -> Instance {
         let header = Header { challenges, ..header };
         Instance::encode(&Values { header, entries, statement: [1; PLACES] })
     };
-    with(largest(&with)).unwrap()
+    with(largest(with)).unwrap()
 }
 
 /// The library's extractor and the steps by hand agree on two rounds.
