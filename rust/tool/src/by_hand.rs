@@ -266,4 +266,4 @@ fn root_column(
 }
 
 #[cfg(test)]
-mod tests;
+pub mod tests;

@@ -252,3 +252,6 @@ fn image(sheet: &Instance, witness: &Places) -> String {
     let lines: String = powers.iter().zip(image).enumerate().map(line).collect();
     lines + &by_squaring(powers.into_iter().flatten(), modulus)
 }
+
+#[cfg(test)]
+mod tests;

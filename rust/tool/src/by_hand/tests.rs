@@ -9,7 +9,7 @@ use dimkhoros::{
 };
 
 /// Numbers that look random, the same ones in each run.
-struct Random(u64);
+pub struct Random(pub u64);
 
 impl Random {
     /// A number below a bound.
@@ -63,8 +63,8 @@ fn agree(sheet: &Instance, first: &Round, second: &Round) {
     }
 }
 
-/// Two honest rounds with one commitment, on a sheet of this kind.
-fn honest(kind: u32, random: &mut Random) {
+/// A sheet of this kind, and two honest rounds of it with one commitment.
+pub fn honest(kind: u32, random: &mut Random) -> (Instance, Round, Round) {
     let table = sheet(kind, random);
     let domain = small::coordinates(&table).unwrap();
     let (witness, nonce) = (random.places(&domain), random.places(&domain));
@@ -77,15 +77,16 @@ fn honest(kind: u32, random: &mut Random) {
         let (_, response) = peggy.respond(&sheet, challenge, &witness).unwrap();
         Round { commitment, challenge, response }
     });
-    agree(&sheet, &first, &second);
-    agree(&sheet, &second, &first);
+    (sheet, first, second)
 }
 
 #[test]
 fn the_steps_end_in_the_librarys_witness_on_honest_rounds() {
     let mut random = Random(7);
     for kind in [EXPONENT, ROOT].repeat(2000) {
-        honest(kind, &mut random);
+        let (sheet, first, second) = honest(kind, &mut random);
+        agree(&sheet, &first, &second);
+        agree(&sheet, &second, &first);
     }
 }
 
