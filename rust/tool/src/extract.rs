@@ -1,13 +1,219 @@
-//! The command `extract`.
+//! The command `extract`: the witness that rounds with one commitment give away, by hand.
 
+use crate::commitments::{self, Tried};
 use crate::failure::{Failure, Outcome};
+use crate::round_words::{self, Asked};
+use crate::words::{Grammar, Words};
+use crate::{by_hand, files, notation, round_table, sheets, steps};
+use dimkhoros::{Instance, Places, Round};
 use std::ffi::OsString;
 use std::io::Write;
 
 /// The command's help.
-pub const HELP: &str = "usage: dimkhoros extract\n\nExample:\n";
+pub const HELP: &str = "\
+usage: dimkhoros extract SHEET ROUNDS
+       dimkhoros extract SHEET t=VALUE,... c=CHALLENGE r=VALUE,... [t=VALUE,...] c=CHALLENGE r=VALUE,...
+
+Takes the pairs of rounds that have one commitment, are accepted and have different challenges, and computes the witness from
+them: of a round file, or of two rounds in words. The first pair of each commitment is worked out line by line, with a and b
+such that ℓ·a + (c - c')·b = 1; the further ones are counted. Where no pair gives a witness, the exit status is 1.
+
+    ROUNDS       a round file
+    t=VALUE,...  the commitment, a value for each row; the second round has the first one's where it is left out
+    c=CHALLENGE  the challenge
+    r=VALUE,...  the response, a value for each column
+
+Example:
+    $ dimkhoros make schnorr m=23 q=11 h=2 x=7 -o sheet.bin
+    sheet.bin has 28 bytes
+    $ dimkhoros extract sheet.bin t=9 c=3 r=4 c=1 r=1
+    x ↦ [x] = 2^x mod 23, z = 13, q = 11, K = 11
+
+    Rounds 0 and 1 by hand:
+
+    1. Both rounds are accepted, since [r] = t · z^c mod 23 in every row:
+
+           round  t  c  r  [r]       z^c               t · z^c
+               0  9  3  4  2^4 = 16  13^3 = 2197 ≡ 12  9 · 12 = 108 ≡ 16
+               1  9  1  1  2^1 = 2   13^1 = 13         9 · 13 = 117 ≡ 2
+
+    2. c - c' = 3 - 1 = 2
+
+    3. a and b with 11·a + 2·b = 1, by Euclid's algorithm:
+
+           11 =  11·1  + 2·0
+            2 =  11·0  + 2·1
+            1 =  11·1  + 2·(-5)  11 - 5·2
+           b = -5 + 11 = 6 and a = 1 - 2 = -1 will do too, and b is not negative
+           11·(-1) + 2·6 = -11 + 12 = 1
+
+    4. x = b·(r - r') mod 11:
+
+           x = 6·(4 - 1) = 6·3 = 18, and 18 - 1·11 = 7
+
+    5. The witness is x = 7, since [x] = 13 = z:
+
+           [x] = 2^7 = 128 ≡ 13
+";
+
+const GRAMMAR: Grammar = Grammar {
+    plain: &["SHEET", "ROUNDS"],
+    optional: 1,
+    letters: &["t", "c", "r"],
+    flags: &[],
+    options: &[],
+};
+
+/// The most pairs that a line names.
+const MOST_NAMED: usize = 8;
 
 /// Runs the command.
-pub fn run(_words: Vec<OsString>, _out: &mut dyn Write) -> Outcome {
-    Err(Failure::failed("not written"))
+pub fn run(words: Vec<OsString>, out: &mut dyn Write) -> Outcome {
+    let words = Words::sort(words, &GRAMMAR)?;
+    let in_words = !words.values().is_empty();
+    match (words.plain().len(), in_words) {
+        (1, true) => of_words(&words, out),
+        (2, false) => of_file(&words, out),
+        (1, false) => Err(Failure::words("ROUNDS or two rounds as words are missing")),
+        _ => Err(Failure::words("ROUNDS and rounds as words are both there")),
+    }
+}
+
+/// Says that words are not two rounds.
+fn not_two() -> Failure {
+    Failure::words("two rounds have to be there: t= c= r= c= r=, or t= c= r= t= c= r=")
+}
+
+/// Extracts from two rounds in words.
+fn of_words(words: &Words, out: &mut dyn Write) -> Outcome {
+    let letters: Vec<&str> = words.values().iter().map(|value| value.letter).collect();
+    if !matches!(letters[..], ["t", "c", "r", "c", "r"] | ["t", "c", "r", "t", "c", "r"]) {
+        return Err(not_two());
+    }
+    let sheet = sheets::load(&words.path(0))?;
+    let rounds = match round_words::asked(&sheet, words)?[..] {
+        [Asked::Stands(first), Asked::Stands(second)] => [first, second],
+        [Asked::Stands(first), Asked::Simulated { challenge, response }] => {
+            [first, Round { commitment: first.commitment, challenge, response }]
+        }
+        _ => return Err(not_two()),
+    };
+    if let Err(refusal) = sheet.extract(&rounds[0], &rounds[1]) {
+        out.write_all(round_table::lines("", &sheet, (0..).zip(rounds)).as_bytes())?;
+        return Err(refusal.into());
+    }
+    writeln!(out, "{}\n", notation::headline(&sheet))?;
+    by_hand(&sheet, &rounds, [0, 1], out)
+}
+
+/// Prints the steps of a pair, which end in the library's witness.
+fn by_hand(sheet: &Instance, rounds: &[Round], pair: [usize; 2], out: &mut dyn Write) -> Outcome {
+    let [first, second] = pair.map(|number| rounds[number]);
+    let witness = sheet.extract(&first, &second)?;
+    let steps = by_hand::steps(sheet, &first, &second).filter(|steps| steps.witness == witness);
+    let steps = steps.ok_or_else(|| {
+        let witness = notation::by_column(sheet, &witness);
+        Failure::failed(format!("the witness is {witness}, and the steps by hand end elsewhere"))
+    })?;
+    writeln!(out, "Rounds {} and {} by hand:\n", pair[0], pair[1])?;
+    out.write_all(steps::text(sheet, pair, &steps).as_bytes())?;
+    Ok(())
+}
+
+/// Extracts from a round file.
+fn of_file(words: &Words, out: &mut dyn Write) -> Outcome {
+    let (sheet, path) = (sheets::load(&words.path(0))?, words.path(1));
+    let bytes = files::read(&path)?;
+    let file = sheets::rounds(&sheet, &path, &bytes)?;
+    let groups = commitments::groups(&file);
+    if groups.is_empty() {
+        let name = files::name(&path);
+        return Err(Failure::failed(format!("no two rounds of {name} have one commitment")));
+    }
+    let rounds: Vec<Round> = file.rounds().collect();
+    let all = groups.iter().map(|group| commitments::pair_count(group)).sum::<usize>();
+    writeln!(out, "{}", notation::headline(&sheet))?;
+    let mut found = false;
+    for group in &groups {
+        found |= of_group(&sheet, &rounds, group, all <= commitments::MOST, out)?;
+    }
+    match found {
+        true => Ok(()),
+        false => {
+            Err(Failure::failed(format!("no two rounds of {} give a witness", files::name(&path))))
+        }
+    }
+}
+
+/// Extracts from a group of rounds with one commitment, trying all pairs or those with one round alone. Answers whether a pair
+/// gives a witness.
+fn of_group(
+    sheet: &Instance,
+    rounds: &[Round],
+    group: &[usize],
+    all: bool,
+    out: &mut dyn Write,
+) -> Outcome<bool> {
+    let first = group.first().copied().unwrap_or_default();
+    let commitment = notation::by_row(sheet, &rounds[first].commitment);
+    let count = group.len();
+    writeln!(out, "\nCommitment {commitment}, in {count} rounds\n")?;
+    let pair = commitments::first_pair(sheet, rounds, group).ok();
+    match pair {
+        Some(pair) => by_hand(sheet, rounds, pair, out)?,
+        None => {
+            let numbered = group.iter().map(|number| (*number, rounds[*number]));
+            out.write_all(round_table::lines("", sheet, numbered).as_bytes())?;
+        }
+    }
+    let with = pair.map_or(first, |pair| pair[0]);
+    let tried = commitments::tried(sheet, rounds, group, (!all).then_some(with));
+    out.write_all(further(sheet, tried, pair).as_bytes())?;
+    if !all {
+        let pairs = commitments::pair_count(group);
+        writeln!(
+            out,
+            "The {pairs} pairs are too many to try; those with round {with} were tried."
+        )?;
+    }
+    Ok(pair.is_some())
+}
+
+/// What pairs give besides the one that was worked out by hand, a line for each answer: the same witness first, refusals last.
+fn further(sheet: &Instance, mut tried: Vec<Tried>, by_hand: Option<[usize; 2]>) -> String {
+    let same = |tried: &Tried| by_hand.is_some_and(|pair| tried.pairs.contains(&pair));
+    tried.sort_by_key(|tried| (!same(tried), tried.answer.is_err()));
+    let lines = tried.iter().filter_map(|tried| {
+        let pairs: Vec<[usize; 2]> =
+            tried.pairs.iter().filter(|pair| by_hand != Some(**pair)).copied().collect();
+        let line = match (&tried.answer, pairs.len()) {
+            (_, 0) => return None,
+            (Ok(_), 1) if same(tried) => "1 further pair gives the same witness".to_string(),
+            (Ok(_), count) if same(tried) => format!("{count} further pairs give the same witness"),
+            (Ok(witness), _) => another(sheet, witness, &pairs),
+            (Err(refusal), _) => format!("{}: {refusal}", named(&pairs)),
+        };
+        Some(line + "\n")
+    });
+    let lines: String = lines.collect();
+    if lines.is_empty() { lines } else { format!("\n{lines}") }
+}
+
+/// Says that pairs give another witness than the one that was worked out.
+fn another(sheet: &Instance, witness: &Places, pairs: &[[usize; 2]]) -> String {
+    format!("{}: another witness, {}", named(pairs), notation::by_column(sheet, witness))
+}
+
+/// The first pairs by their numbers, and how many more there are.
+fn named(pairs: &[[usize; 2]]) -> String {
+    let names: Vec<String> = pairs
+        .iter()
+        .take(MOST_NAMED)
+        .map(|[first, second]| format!("{first} and {second}"))
+        .collect();
+    let names = names.join(", ");
+    match pairs.len().saturating_sub(MOST_NAMED) {
+        0 => format!("rounds {names}"),
+        more => format!("rounds {names} and {more} more pairs"),
+    }
 }

@@ -3,9 +3,10 @@
 use crate::failure::{Failure, Outcome};
 use crate::words::Words;
 use std::fmt::Display;
-use std::fs::{File, OpenOptions};
+use std::fs::{self, File, OpenOptions};
 use std::io::{self, ErrorKind, Read, Write};
 use std::path::{Path, PathBuf};
+use std::process;
 
 /// The most bytes that are read of a file. No file of ours has as many.
 const MOST: u64 = 1 << 20;
@@ -33,7 +34,18 @@ fn read_all(file: impl Read) -> io::Result<Vec<u8>> {
 /// Where a command writes its file: behind `-o`, to standard output where that is `-`. With `--force` it may be there already.
 pub struct Target {
     path: PathBuf,
-    force: bool,
+    how: How,
+}
+
+/// How a file is written.
+#[derive(PartialEq)]
+enum How {
+    /// Where none is there.
+    New,
+    /// Over one that may be there.
+    Over,
+    /// In the place of one that is there, which stays as it is until the whole new one is on the disk.
+    InPlace,
 }
 
 impl Target {
@@ -41,29 +53,69 @@ impl Target {
     pub fn of(words: &Words) -> Outcome<Target> {
         let path =
             words.option("-o").ok_or(Failure::words("-o FILE is missing: where to write"))?;
-        Ok(Target { path: PathBuf::from(path), force: words.flag("--force") })
+        let how = if words.flag("--force") { How::Over } else { How::New };
+        Ok(Target { path: PathBuf::from(path), how })
+    }
+
+    /// The file that is read, of which nothing gets lost.
+    pub fn in_place(path: &Path) -> Outcome<Target> {
+        if is_standard(path) {
+            return Err(Failure::words("-o FILE is missing: where to write what is read from -"));
+        }
+        Ok(Target { path: path.to_path_buf(), how: How::InPlace })
     }
 
     /// Writes the bytes, and a line that says so unless the bytes themselves went there.
     pub fn write(&self, bytes: &[u8], out: &mut dyn Write) -> Outcome {
+        self.write_saying(bytes, "", out)
+    }
+
+    /// Writes the bytes, and a line that says so and more unless the bytes themselves went there.
+    pub fn write_saying(&self, bytes: &[u8], more: &str, out: &mut dyn Write) -> Outcome {
         if is_standard(&self.path) {
             return Ok(out.write_all(bytes)?);
         }
-        let mut options = OpenOptions::new();
-        match self.force {
-            true => options.create(true).truncate(true),
-            false => options.create_new(true),
+        let written = match self.how {
+            How::New => write_new(&self.path, bytes),
+            How::Over => File::create(&self.path).and_then(|mut file| file.write_all(bytes)),
+            How::InPlace => replace(&self.path, bytes),
         };
-        let written =
-            options.write(true).open(&self.path).and_then(|mut file| file.write_all(bytes));
         match written {
-            Ok(()) => Ok(writeln!(out, "{} has {} bytes", name(&self.path), bytes.len())?),
-            Err(error) if error.kind() == ErrorKind::AlreadyExists => Err(Failure::failed(
-                format!("{} is there already; --force writes over it", name(&self.path)),
-            )),
+            Ok(()) => Ok(writeln!(out, "{} has {} bytes{more}", name(&self.path), bytes.len())?),
+            Err(error) if error.kind() == ErrorKind::AlreadyExists && self.how == How::New => {
+                Err(Failure::failed(format!(
+                    "{} is there already; --force writes over it",
+                    name(&self.path)
+                )))
+            }
             Err(error) => Err(failure(&self.path, "written", &error)),
         }
     }
+}
+
+/// Writes a file where none is there.
+fn write_new(path: &Path, bytes: &[u8]) -> io::Result<()> {
+    OpenOptions::new().write(true).create_new(true).open(path)?.write_all(bytes)
+}
+
+/// Puts a file with these bytes in the place of one that is there: written whole beside it, and then renamed.
+fn replace(path: &Path, bytes: &[u8]) -> io::Result<()> {
+    let there = fs::metadata(path)?;
+    if !there.is_file() {
+        return Err(io::Error::other("it is no plain file, and -o FILE is missing"));
+    }
+    let path = fs::canonicalize(path)?;
+    let mut beside = path.clone().into_os_string();
+    beside.push(format!(".{}", process::id()));
+    let beside = PathBuf::from(beside);
+    let mut file = OpenOptions::new().write(true).create_new(true).open(&beside)?;
+    let written = file.write_all(bytes).and_then(|()| file.sync_all());
+    let written = written.and_then(|()| fs::set_permissions(&beside, there.permissions()));
+    let renamed = written.and_then(|()| fs::rename(&beside, &path));
+    if renamed.is_err() {
+        let _ = fs::remove_file(&beside);
+    }
+    renamed
 }
 
 /// A file's name as it is printed.

@@ -2,8 +2,10 @@
 //!
 //! What it says of sheets and rounds it has from the proved library; it reads and writes files, and lays out what it was told.
 
+mod by_hand;
 mod check;
 mod command;
+mod commitments;
 mod extract;
 mod failure;
 mod faults;
@@ -16,11 +18,14 @@ mod notation;
 mod or_proof;
 mod patterns;
 mod reason;
+mod round_table;
+mod round_words;
 mod rounds;
 mod sheets;
 mod show;
 mod simulate;
 mod small;
+mod steps;
 mod table;
 mod team;
 mod words;

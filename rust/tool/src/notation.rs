@@ -96,6 +96,14 @@ pub fn counted(count: usize, thing: &str) -> String {
     }
 }
 
+/// The homomorphism and the sheet's other numbers, such as `x ↦ [x] = 2^x mod 23, z = 13, q = 11, K = 11`.
+pub fn headline(sheet: &Instance) -> String {
+    let (header, z) = (sheet.values().header, by_row(sheet, &sheet.values().statement));
+    let letter = if header.kind == EXPONENT { "q" } else { "e" };
+    let (map, order, challenges) = (homomorphism(sheet), header.order, header.challenges);
+    format!("{map}, z = {z}, {letter} = {order}, K = {challenges}")
+}
+
 /// The statement row by row, such as `13 = 2^x mod 23`.
 pub fn statement(sheet: &Instance) -> Vec<String> {
     let values = sheet.values();

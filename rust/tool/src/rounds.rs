@@ -1,13 +1,224 @@
-//! The command `rounds`.
+//! The command `rounds`: round files, made, extended, listed and converted.
 
 use crate::failure::{Failure, Outcome};
-use std::ffi::OsString;
+use crate::faults::{Fault, Found};
+use crate::files::{self, Target};
+use crate::round_words::{self, Asked};
+use crate::table::{self, Set};
+use crate::words::{Grammar, Words};
+use crate::{commitments, notation, round_table, sheets};
+use dimkhoros::{Instance, LONGEST_FILE, Refusal, Round, RoundFile, RoundWriter};
+use std::ffi::{OsStr, OsString};
 use std::io::Write;
+use std::path::Path;
 
 /// The command's help.
-pub const HELP: &str = "usage: dimkhoros rounds\n\nExample:\n";
+pub const HELP: &str = "\
+usage: dimkhoros rounds make SHEET [ROUND...] [--version 2] -o FILE
+       dimkhoros rounds append SHEET FILE ROUND... [-o OUT]
+       dimkhoros rounds list SHEET FILE
+       dimkhoros rounds convert SHEET FILE -o OUT
+       dimkhoros rounds equal SHEET FILE
+
+Makes a round file of 0 to 512 rounds, adds rounds to one, lists one with Vic's verdicts, turns version 1 into 2 or 2 into 1, and
+finds rounds with equal commitments, from which `dimkhoros extract` reads the witness. A round's values are written as they
+stand, without being tested: `list` shows what Vic says of them.
+
+    ROUND        t=.. c=.. r=.. as it stands; or c=.. r=.. simulated, with the commitment that fits them; or x=.. k=.. c=.. as a
+                 Peggy with this witness and nonce makes it. A round is whole before the next one begins
+    --version 2  writes a challenge in 16 bits; version 1, in 32, where it is left out
+    -o FILE      where the file is written; --force writes over a file that is there. `append` without -o adds to FILE itself
+
+Example:
+    $ dimkhoros make schnorr m=23 q=11 h=2 x=7 -o sheet.bin
+    sheet.bin has 28 bytes
+    $ dimkhoros rounds make sheet.bin x=7 k=5 c=3 c=3 r=0 -o rounds.bin
+    rounds.bin has 31 bytes
+    $ dimkhoros rounds append sheet.bin rounds.bin t=9 c=1 r=1 t=9 c=1 r=2
+    rounds.bin has 55 bytes
+    $ dimkhoros rounds list sheet.bin rounds.bin
+    round  t  c  r  verdict
+        0  9  3  4  accepted
+        1  2  3  0  accepted
+        2  9  1  1  accepted
+        3  9  1  2  rejected in row 0
+    $ dimkhoros rounds equal sheet.bin rounds.bin
+    t  rounds  challenges  extractor
+    9  0 2 3   3 1 1       rounds 0 and 2 give a witness
+    $ dimkhoros rounds convert sheet.bin rounds.bin -o narrow.bin
+    narrow.bin has 47 bytes in version 2; rounds.bin has 55 in version 1
+";
+
+/// What the command's first word can be.
+const DEEDS: &str = "make, append, list, convert or equal";
 
 /// Runs the command.
-pub fn run(_words: Vec<OsString>, _out: &mut dyn Write) -> Outcome {
-    Err(Failure::failed("not written"))
+pub fn run(words: Vec<OsString>, out: &mut dyn Write) -> Outcome {
+    let mut words = words.into_iter();
+    let first = words.next().ok_or_else(|| Failure::words(format!("{DEEDS} is missing")))?;
+    let words = words.collect();
+    match first.to_string_lossy().as_ref() {
+        "make" => make(words, out),
+        "append" => append(words, out),
+        "list" => list(words, out),
+        "convert" => convert(words, out),
+        "equal" => equal(words, out),
+        other => Err(Failure::words(format!("the first word is {other}, and has to be {DEEDS}"))),
+    }
+}
+
+/// Makes a file.
+fn make(words: Vec<OsString>, out: &mut dyn Write) -> Outcome {
+    let words = Words::sort(
+        words,
+        &Grammar {
+            plain: &["SHEET"],
+            optional: 0,
+            letters: round_words::LETTERS,
+            flags: &["--force"],
+            options: &["-o", "--version"],
+        },
+    )?;
+    let target = Target::of(&words)?;
+    let version = words.option("--version").map_or(Ok(1), version)?;
+    let sheet = sheets::load(&words.path(0))?;
+    let rounds = round_words::asked(&sheet, &words)?;
+    let mut buffer = vec![0; LONGEST_FILE];
+    let mut writer = RoundWriter::start(&sheet, version, &mut buffer)?;
+    add(&sheet, &mut writer, &rounds)?;
+    target.write(writer.file().bytes(), out)
+}
+
+/// The version that a word asks for.
+fn version(word: &OsStr) -> Outcome<u32> {
+    let word = word.to_string_lossy();
+    word.parse().map_err(|_| Failure::words(format!("--version {word}: a version is 1 or 2")))
+}
+
+/// Adds rounds. A refusal says for which of them it is.
+fn add(sheet: &Instance, writer: &mut RoundWriter<'_>, rounds: &[Asked]) -> Outcome {
+    for (number, asked) in (1..).zip(rounds) {
+        let added = asked.round(sheet).and_then(|round| writer.append(&round));
+        added.map_err(|refusal| {
+            Failure::failed(format!("round {number} of the words cannot be added: {refusal}"))
+        })?;
+    }
+    Ok(())
+}
+
+/// Adds rounds to a file.
+fn append(words: Vec<OsString>, out: &mut dyn Write) -> Outcome {
+    let words = Words::sort(
+        words,
+        &Grammar {
+            letters: round_words::LETTERS,
+            flags: &["--force"],
+            options: &["-o"],
+            ..TWO_FILES
+        },
+    )?;
+    let target = match words.option("-o") {
+        Some(_) => Target::of(&words)?,
+        None => Target::in_place(&words.path(1))?,
+    };
+    let (sheet, path) = (sheets::load(&words.path(0))?, words.path(1));
+    let rounds = round_words::asked(&sheet, &words)?;
+    if rounds.is_empty() {
+        return Err(Failure::words("no round is there to be added"));
+    }
+    let bytes = files::read(&path)?;
+    let used = sheets::rounds(&sheet, &path, &bytes)?.bytes().len();
+    let mut buffer = bytes.clone();
+    buffer.resize(LONGEST_FILE.max(used), 0);
+    let mut writer = RoundWriter::resume(&sheet, &mut buffer, used)?;
+    add(&sheet, &mut writer, &rounds)?;
+    target.write(writer.file().bytes(), out)
+}
+
+/// The words of what reads a sheet and a round file and takes no more.
+const TWO_FILES: Grammar =
+    Grammar { plain: &["SHEET", "FILE"], optional: 0, letters: &[], flags: &[], options: &[] };
+
+/// Lists a file.
+fn list(words: Vec<OsString>, out: &mut dyn Write) -> Outcome {
+    let words = Words::sort(words, &TWO_FILES)?;
+    let (sheet, path) = (sheets::load(&words.path(0))?, words.path(1));
+    let bytes = files::read(&path)?;
+    let file = sheets::rounds(&sheet, &path, &bytes)?;
+    if file.count() == 0 {
+        writeln!(out, "{} has no rounds", files::name(&path))?;
+        return Ok(());
+    }
+    let rounds = file.rounds().enumerate();
+    out.write_all(round_table::lines("", &sheet, rounds).as_bytes())?;
+    Ok(())
+}
+
+/// Converts a file.
+fn convert(words: Vec<OsString>, out: &mut dyn Write) -> Outcome {
+    let words =
+        Words::sort(words, &Grammar { flags: &["--force"], options: &["-o"], ..TWO_FILES })?;
+    let target = Target::of(&words)?;
+    let (sheet, path) = (sheets::load(&words.path(0))?, words.path(1));
+    let bytes = files::read(&path)?;
+    let file = sheets::rounds(&sheet, &path, &bytes)?;
+    let mut buffer = vec![0; LONGEST_FILE];
+    let converted = file
+        .convert_into(&mut buffer)
+        .map_err(|refusal| not_converted(&sheet, &path, &file, refusal))?;
+    let versions = format!(
+        " in version {}; {} has {} in version {}",
+        converted.version(),
+        files::name(&path),
+        bytes.len(),
+        file.version()
+    );
+    target.write_saying(converted.bytes(), &versions, out)
+}
+
+/// Why a file is not converted: the first challenge that 16 bits do not hold, where that is why.
+fn not_converted(sheet: &Instance, path: &Path, file: &RoundFile<'_>, refusal: Refusal) -> Failure {
+    let too_large = |round: &Round| round.challenge > u16::MAX.into();
+    let found = file.rounds().enumerate().find(|(_, round)| too_large(round));
+    let Some((number, round)) = found.filter(|_| refusal == Refusal::Challenge) else {
+        return Failure::failed(format!("{}: {refusal}", files::name(path)));
+    };
+    let (rows, columns) = (sheets::row_count(sheet), sheets::column_count(sheet));
+    let offset = dimkhoros::EMPTY_FILE + number * 4 * (rows + 1 + columns) + 4 * rows;
+    let found = Found::Value { offset, value: round.challenge.to_string() };
+    Failure::failed(format!("{}: {}", files::name(path), Fault { refusal, found }))
+}
+
+/// Lists the rounds with equal commitments.
+fn equal(words: Vec<OsString>, out: &mut dyn Write) -> Outcome {
+    let words = Words::sort(words, &TWO_FILES)?;
+    let (sheet, path) = (sheets::load(&words.path(0))?, words.path(1));
+    let bytes = files::read(&path)?;
+    let file = sheets::rounds(&sheet, &path, &bytes)?;
+    let groups = commitments::groups(&file);
+    if groups.is_empty() {
+        writeln!(out, "no two rounds of {} have one commitment", files::name(&path))?;
+        return Ok(());
+    }
+    let rounds: Vec<Round> = file.rounds().collect();
+    let heading = ["t", "rounds", "challenges", "extractor"].map(str::to_string).to_vec();
+    let lines = groups.iter().map(|group| alike(&sheet, &rounds, group));
+    let rows: Vec<Vec<String>> = std::iter::once(heading).chain(lines).collect();
+    let set = [Set::Right, Set::Left, Set::Left, Set::Left];
+    out.write_all(table::lines("", &set, &rows).as_bytes())?;
+    Ok(())
+}
+
+/// A group of rounds with one commitment as a row of the table.
+fn alike(sheet: &Instance, rounds: &[Round], group: &[usize]) -> Vec<String> {
+    let numbers: Vec<String> = group.iter().map(usize::to_string).collect();
+    let challenges: Vec<String> =
+        group.iter().map(|number| rounds[*number].challenge.to_string()).collect();
+    let pair = commitments::first_pair(sheet, rounds, group);
+    let extractor = match pair {
+        Ok([first, second]) => format!("rounds {first} and {second} give a witness"),
+        Err(why) => why.to_string(),
+    };
+    let commitment = group.first().map(|first| rounds[*first].commitment).unwrap_or_default();
+    vec![notation::by_row(sheet, &commitment), numbers.join(" "), challenges.join(" "), extractor]
 }
