@@ -2,8 +2,10 @@
 //!
 //! What it says of sheets and rounds it has from the proved library; it reads and writes files, and lays out what it was told.
 
+mod brought;
 mod check;
 mod command;
+mod equation;
 mod extract;
 mod failure;
 mod faults;

@@ -1,7 +1,7 @@
 //! Values and statements in Maurer's notation.
 
 use crate::sheets::{column_count, row_count};
-use dimkhoros::{EXPONENT, Instance, Places};
+use dimkhoros::{EXPONENT, Instance, Places, Round};
 
 /// The first values of places: one alone, several as a tuple.
 pub fn tuple(places: &Places, count: usize) -> String {
@@ -32,14 +32,24 @@ pub fn coordinate(sheet: &Instance, letter: &str, column: usize) -> String {
 
 /// What a row of a sheet's table makes of the coordinates of a letter, such as `2^x1 · 3^x2`. Entries 1 are left out.
 pub fn row_image(sheet: &Instance, row: usize, letter: &str) -> String {
+    row_of(sheet, row, |column| coordinate(sheet, letter, column))
+}
+
+/// What a row of a sheet's table makes of these coordinates, such as `2^6 · 3^2`. Entries 1 are left out.
+pub fn row_image_of(sheet: &Instance, row: usize, coordinates: &Places) -> String {
+    row_of(sheet, row, |column| coordinates[column].to_string())
+}
+
+/// What a row of a sheet's table makes of coordinates that are written so by their column.
+fn row_of(sheet: &Instance, row: usize, written: impl Fn(usize) -> String) -> String {
     let values = sheet.values();
     if values.header.kind != EXPONENT {
-        return format!("{}^{}", coordinate(sheet, letter, row), values.header.order);
+        return format!("{}^{}", written(row), values.header.order);
     }
     let entries = values.entries[row].iter().take(column_count(sheet)).enumerate();
     let factors: Vec<String> = entries
         .filter(|(_, entry)| **entry != 1)
-        .map(|(column, entry)| format!("{entry}^{}", coordinate(sheet, letter, column)))
+        .map(|(column, entry)| format!("{entry}^{}", written(column)))
         .collect();
     match factors.is_empty() {
         true => "1".to_string(),
@@ -73,6 +83,19 @@ pub fn statement(sheet: &Instance) -> Vec<String> {
         )
     };
     (0..row_count(sheet)).map(line).collect()
+}
+
+/// A round as Vic sees it, such as `(9, 3, 4)`.
+pub fn round(sheet: &Instance, round: &Round) -> String {
+    let (commitment, response) =
+        (by_row(sheet, &round.commitment), by_column(sheet, &round.response));
+    format!("({commitment}, {}, {response})", round.challenge)
+}
+
+/// The first values of places as a word takes them, such as `9,6`.
+pub fn word(places: &Places, count: usize) -> String {
+    let values: Vec<String> = places.iter().take(count).map(u32::to_string).collect();
+    values.join(",")
 }
 
 /// One word alone, several as a tuple.

@@ -1,9 +1,10 @@
 //! Sheets as commands take them.
 
+use crate::brought::{self, Brought};
 use crate::failure::{Failure, Outcome};
 use crate::words::Value;
-use crate::{faults, files};
-use dimkhoros::{Instance, PLACES, Places, RoundFile};
+use crate::{faults, files, small};
+use dimkhoros::{Instance, PLACES, Places, Refusal, RoundFile};
 use std::path::Path;
 
 /// The sheet in a file. A bad one fails with what is wrong and where.
@@ -38,6 +39,13 @@ pub fn by_row(sheet: &Instance, value: &Value) -> Outcome<Places> {
 /// A value for each column of a sheet.
 pub fn by_column(sheet: &Instance, value: &Value) -> Outcome<Places> {
     in_places(value, column_count(sheet), "column")
+}
+
+/// The image of coordinates that are called by a letter, or refusal 16.
+pub fn image(sheet: &Instance, letter: &str, coordinates: &Places) -> Outcome<Places> {
+    let brought = || [Brought::coordinates(sheet, letter, coordinates)];
+    let image = small::image(sheet, coordinates);
+    image.ok_or_else(|| brought::refused(Refusal::Coordinate, &brought()))
 }
 
 /// Exactly so many numbers, in places.
