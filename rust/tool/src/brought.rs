@@ -26,6 +26,12 @@ impl<'a> Brought<'a> {
         Brought { refusal, ..Brought::commitment(sheet, letter, values) }
     }
 
+    /// Entries or public values of a sheet with this group.
+    pub fn entries(sheet: &'a Instance, letter: impl Into<String>, values: &[u32]) -> Self {
+        let values = values.to_vec();
+        Brought { sheet, letter: letter.into(), values, refusal: Refusal::Entry }
+    }
+
     /// A challenge.
     pub fn challenge(sheet: &'a Instance, letter: impl Into<String>, challenge: u32) -> Self {
         let values = vec![challenge];

@@ -30,6 +30,10 @@ Example:
     $ printf 'RND\\0\\1\\0\\1\\0\\0\\0\\11\\0\\0\\0\\3\\0\\0\\0\\4' > anna/rounds.bin
     $ printf '\\3' > anna/level.bin
     $ dimkhoros mark anna ben
+    anna  pass     1 round
+    ben   sheet 2  the sheet is shorter than a header or does not begin with HOM
+
+    2 folders: 1 passed, 0 failed, 1 refused
 ";
 
 const GRAMMAR: Grammar =

@@ -110,3 +110,11 @@ fn joined(words: &[String]) -> String {
 pub fn bare(tuple: &str) -> &str {
     tuple.trim_start_matches('(').trim_end_matches(')')
 }
+
+/// So many of a thing, such as `1 row` or `2 rows`.
+pub fn counted(count: usize, thing: &str) -> String {
+    match count {
+        1 => format!("1 {thing}"),
+        _ => format!("{count} {thing}s"),
+    }
+}

@@ -2,6 +2,7 @@
 
 use crate::brought::{self, Brought};
 use crate::failure::{Failure, Outcome};
+use crate::notation::counted;
 use crate::words::Value;
 use crate::{faults, files, small};
 use dimkhoros::{Instance, PLACES, Places, Refusal, RoundFile};
@@ -52,10 +53,9 @@ pub fn image(sheet: &Instance, letter: &str, coordinates: &Places) -> Outcome<Pl
 fn in_places(value: &Value, count: usize, of: &str) -> Outcome<Places> {
     let (letter, numbers) = (value.letter, value.numbers()?);
     if numbers.len() != count {
-        let plural = if count == 1 { "" } else { "s" };
-        let found = numbers.len();
+        let (wanted, found) = (counted(count, of), counted(numbers.len(), "value"));
         return Err(Failure::words(format!(
-            "{letter}= has a value for each {of}: the sheet has {count} {of}{plural}, and {found} stand there"
+            "{letter}= takes a value for each {of}: the sheet has {wanted}, and {letter}= has {found}"
         )));
     }
     let mut places = [0; PLACES];

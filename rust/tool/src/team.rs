@@ -34,7 +34,32 @@ Example:
     $ dimkhoros make schnorr m=23 q=11 h=2 x=7 -o sheet.bin
     sheet.bin has 28 bytes
     $ dimkhoros team sheet.bin z=8 z=6 z=18 t=4 t=16 t=12 c=3 r=0 r=9 r=6
+    player   z   t  r  verdict
+         0   8   4  0  accepted
+         1   6  16  9  accepted
+         2  18  12  6  accepted
+      team  13   9  4  accepted
+
+    z: 8 · 6 · 18 mod 23 = 13, the statement
+    t: 4 · 16 · 12 mod 23 = 9
+    r: (0 + 9 + 6) mod 11 = 4
+
+    The team's round is (9, 3, 4). All players' rounds are accepted, and so is the team's.
     $ dimkhoros team sheet.bin x=3 x=9 x=6 k=2 k=4 k=10 c=3
+    player  x   z   k   t  r  verdict
+         0  3   8   2   4  0  accepted
+         1  9   6   4  16  9  accepted
+         2  6  18  10  12  6  accepted
+      team  7  13   5   9  4  accepted
+
+    x: (3 + 9 + 6) mod 11 = 7
+    z: 8 · 6 · 18 mod 23 = 13, the statement
+    k: (2 + 4 + 10) mod 11 = 5
+    t: 4 · 16 · 12 mod 23 = 9
+    r: (0 + 9 + 6) mod 11 = 4
+
+    The team's round is (9, 3, 4). All players' rounds are accepted, and so is the team's.
+    A single Peggy with the witness 7 and the nonce 5 sends the same round: (9, 3, 4).
 ";
 
 const GRAMMAR: Grammar = Grammar {
@@ -52,23 +77,19 @@ pub fn run(words: Vec<OsString>, out: &mut dyn Write) -> Outcome {
     let sheet = sheets::load(&words.path(0))?;
     let players = Players::read(&sheet, &words)?;
     let columns = join::columns(&sheet, &players)?;
-    let verdicts = players.verdicts(&sheet)?;
+    let mut verdicts = players.verdicts(&sheet)?;
     let round = join::round(&columns, players.challenge);
-    let verdict = round.map(|round| sheet.judge(&round)).transpose()?;
-    let told: Vec<Verdict> = verdicts.iter().copied().chain(verdict).collect();
-    out.write_all(listed(&columns, &told).as_bytes())?;
+    let team = round.map(|round| sheet.judge(&round)).transpose()?;
+    verdicts.extend(team);
+    out.write_all(listed(&columns, &verdicts).as_bytes())?;
     writeln!(out)?;
     for column in &columns {
         let called = if column.letter == "z" { ", the statement" } else { "" };
         writeln!(out, "{}: {}{called}", column.letter, column.sum())?;
     }
-    if let Some(round) = round {
-        writeln!(
-            out,
-            "\nThe team's round is {}. {}",
-            notation::round(&sheet, &round),
-            decided(&verdicts)
-        )?;
+    if let (Some(round), Some((team, players))) = (round, verdicts.split_last()) {
+        let (round_text, decided) = (notation::round(&sheet, &round), decided(players, *team));
+        writeln!(out, "\nThe team's round is {round_text}. {decided}")?;
         out.write_all(alone(&sheet, &columns, &round)?.as_bytes())?;
     }
     Ok(())
@@ -98,12 +119,15 @@ fn listed(columns: &[Column<'_>], verdicts: &[Verdict]) -> String {
 }
 
 /// What the verdicts on the players' rounds decide of the team's.
-fn decided(verdicts: &[Verdict]) -> String {
-    match verdicts.iter().filter(|verdict| !verdict.is_accepted()).count() {
-        0 => "All players' rounds are accepted, and so is the team's.".to_string(),
-        1 => "One player's round is rejected, and so is the team's.".to_string(),
-        count => format!(
-            "{count} players' rounds are rejected, which leaves open whether the team's is."
+fn decided(players: &[Verdict], team: Verdict) -> String {
+    match (players.iter().filter(|verdict| !verdict.is_accepted()).count(), team) {
+        (0, _) => "All players' rounds are accepted, and so is the team's.".to_string(),
+        (1, _) => "One player's round is rejected, and so is the team's.".to_string(),
+        (count, Verdict::Accepted) => format!(
+            "{count} players' rounds are rejected, but their faults cancel out and the team's is accepted."
+        ),
+        (count, _) => format!(
+            "{count} players' rounds are rejected, and so is the team's, since their faults do not cancel out."
         ),
     }
 }

@@ -2,6 +2,7 @@
 
 use super::folder::Folder;
 use crate::files;
+use crate::notation::counted;
 use dimkhoros::Refusal;
 use std::ffi::OsStr;
 use std::fmt;
@@ -138,7 +139,7 @@ impl fmt::Display for Judged {
         }
         if self.accepted == self.rounds() {
             let accepted = match self.accepted {
-                0 => "",
+                0 => ",",
                 1 => ", accepted, but",
                 _ => ", all accepted, but",
             };
@@ -188,13 +189,5 @@ impl fmt::Display for Tally {
             0 => Ok(()),
             _ => write!(f, ", {unread} not read"),
         }
-    }
-}
-
-/// So many of a thing.
-fn counted(count: usize, thing: &str) -> String {
-    match count {
-        1 => format!("1 {thing}"),
-        _ => format!("{count} {thing}s"),
     }
 }

@@ -13,15 +13,13 @@ use std::io::Write;
 pub fn run(words: Vec<OsString>, out: &mut dyn Write) -> Outcome {
     let words = Words::sort(words, &rounds::GRAMMAR)?;
     let groups = words.groups();
+    let [one, other] = &groups[..] else {
+        return Err(Failure::words(how_many(groups.len())));
+    };
     let [first, second] = rounds::load(&words)?;
     let pair = Pair::new(&first, &second)?;
-    let [one, other] = match &groups[..] {
-        [one, other] => {
-            let one = rounds::read(&pair, one, None)?;
-            [one, rounds::read(&pair, other, Some(&one))?]
-        }
-        _ => return Err(Failure::words(how_many(groups.len()))),
-    };
+    let one = rounds::read(&pair, one, None)?;
+    let other = rounds::read(&pair, other, Some(&one))?;
     let extracted = pair.extract(&one, &other);
     if let Err(refusal @ (Refusal::Commitment | Refusal::Challenge | Refusal::Coordinate)) =
         extracted

@@ -3,7 +3,7 @@
 use super::players::Players;
 use crate::brought::{self, Brought};
 use crate::failure::{Failure, Outcome};
-use crate::notation;
+use crate::notation::{self, counted};
 use dimkhoros::{EXPONENT, Instance, PLACES, Places, Refusal, Round, Team};
 
 /// Values of one letter, one for each player, and what they are joined to.
@@ -71,8 +71,7 @@ pub fn columns<'a>(sheet: &'a Instance, players: &Players) -> Outcome<Vec<Column
 /// The team of these images, or why it is none.
 fn team<'a>(sheet: &'a Instance, images: &[Places]) -> Outcome<Team<'a>> {
     Team::new(sheet, images).map_err(|refusal| match refusal {
-        Refusal::Team if images.len() == 1 => Failure::refused(refusal, "1 player"),
-        Refusal::Team => Failure::refused(refusal, format!("{} players", images.len())),
+        Refusal::Team => Failure::refused(refusal, counted(images.len(), "player")),
         Refusal::Images => no_statement(sheet, images),
         _ => brought::refused(refusal, &brought(sheet, "z", images)),
     })
