@@ -12,7 +12,7 @@ use std::path::Path;
 /// The table that is asked for.
 pub enum Asked {
     /// By a pattern of a file, by its number from 1, over these public values.
-    Pattern(Patterns, u32, Vec<u32>),
+    Pattern(Box<Patterns>, u32, Vec<u32>),
     /// Of a root sheet with so many rows.
     Root(usize),
     /// With these entries, in rows of one length.
@@ -50,7 +50,7 @@ impl Asked {
             without(values.is_some(), "h=", "a root sheet")?;
             return Ok(Asked::Root(stated(words)?.numbers()?.len()));
         }
-        Ok(Asked::Pattern(file, number, values.unwrap_or_default().to_vec()))
+        Ok(Asked::Pattern(Box::new(file), number, values.unwrap_or_default().to_vec()))
     }
 
     /// The sheet with this modulus, order and challenge count, with ones for its statement.

@@ -2,4 +2,9 @@
 
 mod desk;
 mod examples;
+mod generator;
+mod lines;
+mod marks;
+mod material;
+mod random;
 mod transcripts;
