@@ -23,16 +23,19 @@ pub struct Material {
 }
 
 impl Material {
-    /// One of a few sheets, with rounds of which most are accepted.
+    /// One of a few sheets or any small one, with rounds of which most are accepted.
     pub fn any(random: &mut Random) -> Material {
-        let sheet = sheet(random.below(SHEETS));
+        let sheet = match random.once_in(2) {
+            true => sheet(random.below(SHEETS)),
+            false => small_sheet(random),
+        };
         let count = random.below(6);
         let rounds: Vec<Round> = (0..count).map(|_| round(&sheet, random)).collect();
         let header = sheet.values().header;
         Material {
             rounds: round_file(&sheet, 1 + random.below(2) as u32, &rounds),
             patterns: Patterns::shipped().bytes().to_vec(),
-            level: vec![1 + random.below(12) as u8],
+            level: vec![1 + random.below(8) as u8],
             rows: header.rows as usize,
             columns: header.columns as usize,
             sheet: sheet.bytes().to_vec(),
@@ -73,12 +76,34 @@ fn by_values(kind: u32, numbers: [u32; 3], rows: u32, entry: u32, statement: u32
     Instance::encode(&Values { header, entries, statement }).unwrap()
 }
 
+/// A sheet of small numbers, with any elements of its group as entries and statement.
+fn small_sheet(random: &mut Random) -> Instance {
+    let kind = *random.pick(&[EXPONENT, EXPONENT, ROOT]);
+    let [modulus, order] = [3 + random.below(60), 2 + random.below(22)].map(|number| number as u32);
+    let unit = by_values(kind, [modulus, order, 2], 1, 1, 1);
+    let is_element = |value: &u32| unit.with_statement(&[*value; PLACES]).is_ok();
+    let elements: Vec<u32> = (1..modulus).filter(is_element).collect();
+    let rows = 1 + random.below(3) as u32;
+    let columns = if kind == ROOT { rows } else { 1 + random.below(3) as u32 };
+    let mut places = || std::array::from_fn(|_| *random.pick(&elements));
+    let (statement, entries) = (places(), std::array::from_fn(|_| places()));
+    let header = Header { kind, modulus, order, challenges: 2, rows, columns };
+    let values = Values { header, entries, statement };
+    let challenges = 2 + random.below(10) as u32;
+    let more = Values { header: Header { challenges, ..header }, ..values };
+    Instance::encode(&more).or(Instance::encode(&values)).unwrap()
+}
+
 /// A round: mostly a simulated one, now and then with a value changed, and of few commitments, so that some are equal.
 fn round(sheet: &Instance, random: &mut Random) -> Round {
-    let challenge = random.below(sheet.values().header.challenges as usize) as u32;
-    let response: Places = [1 + random.below(3) as u32; PLACES];
+    let header = sheet.values().header;
+    let challenge = random.below(header.challenges as usize) as u32;
+    let response: Places = match header.kind {
+        EXPONENT => [random.below(header.order.min(4) as usize) as u32; PLACES],
+        _ => [*random.pick(&[1, header.modulus - 1]); PLACES],
+    };
     let commitment = sheet.simulate(challenge, &response).unwrap();
-    match random.below(8) {
+    match random.below(20) {
         0 => Round { commitment: [random.number(30); PLACES], challenge, response },
         1 => Round { commitment, challenge, response: [random.number(12); PLACES] },
         2 => Round { commitment, challenge: random.below(20) as u32, response },

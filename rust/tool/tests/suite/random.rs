@@ -170,7 +170,6 @@ fn any_bytes_as_files_are_answered() {
         Case::lay_out("random files", LINES[case % LINES.len()], &mut random).try_out()
     };
     let done = (0..cases).filter(try_out).count();
-    eprintln!("{done} of {cases}");
     assert!(done > cases / 8, "only {done} of {cases} commands do what they are asked for");
 }
 
