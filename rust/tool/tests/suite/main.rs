@@ -2,6 +2,7 @@
 
 mod desk;
 mod examples;
+mod files;
 mod generator;
 mod lines;
 mod marks;

@@ -89,7 +89,7 @@ impl Case {
         assert!(matches!(status, Some(0..=2)), "{told}");
         assert!(!text.contains("panicked"), "{told}");
         assert!(text.lines().all(|line| line.starts_with("dimkhoros: ")), "{told}");
-        assert_eq!(status != Some(0), !text.is_empty(), "{told}");
+        assert!(status == Some(0) || !text.is_empty(), "{told}");
         let changed = before.iter().any(|(path, bytes)| after.get(path) != Some(bytes));
         assert!(!changed, "{told}\nchanges a file that it has to leave alone");
         assert_eq!(before.len(), after.len(), "{told}\nwrites another file");
