@@ -12,10 +12,10 @@ use std::path::{Path, PathBuf};
 use std::process::{Command, Output, Stdio};
 
 /// How often each line is tried with other files, and with other words.
-const TIMES: usize = 10;
+const TIMES: usize = 8;
 
-/// How many seconds a command may take.
-const SECONDS: &str = "20";
+/// Runs a command that may take 20 seconds and 400 megabytes.
+const LIMITED: &str = "ulimit -v 400000; exec timeout 20 \"$0\" \"$@\"";
 
 /// A line with its files in a folder.
 struct Case {
@@ -104,8 +104,8 @@ impl Case {
             Some(path) => File::open(path).unwrap().into(),
             None => Stdio::null(),
         };
-        let mut command = Command::new("timeout");
-        command.arg(SECONDS).arg(env!("CARGO_BIN_EXE_dimkhoros")).args(&self.words);
+        let mut command = Command::new("sh");
+        command.args(["-c", LIMITED, env!("CARGO_BIN_EXE_dimkhoros")]).args(&self.words);
         command.current_dir(&self.desk.folder).stdin(input).output().unwrap()
     }
 
@@ -201,15 +201,23 @@ const WORDS: [&str; 24] = [
     "\u{1b}[1m\n",
 ];
 
-/// Leaves a word out, puts one in, doubles one, or changes one for bytes that are no text.
+/// Leaves a word out, puts one in, doubles one, or changes one for bytes that are no text or for many numbers.
 fn disorder(words: &mut Vec<OsString>, random: &mut Random) {
     let place = random.below(words.len() + 1);
-    match random.below(5) {
+    match random.below(7) {
         0 if place < words.len() => drop(words.remove(place)),
         1 if place < words.len() => words.insert(place, words[place].clone()),
         2 if place < words.len() => words[place] = OsString::from_vec(vec![b'x', 0xff, b'=']),
+        3 if place < words.len() => words[place] = many(&words[place]),
         _ => words.insert(place, (*random.pick(&WORDS)).into()),
     }
+}
+
+/// A word with its letter, if it has one, and many numbers.
+fn many(word: &OsString) -> OsString {
+    let word = word.to_string_lossy();
+    let letter = word.split_once('=').map_or("z", |(letter, _)| letter);
+    format!("{letter}={}1", "1,".repeat(40_000)).into()
 }
 
 #[test]
