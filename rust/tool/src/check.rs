@@ -2,8 +2,8 @@
 
 use crate::failure::{Failure, Outcome};
 use crate::words::{Grammar, Words};
-use crate::{notation, sheets, small};
-use dimkhoros::Refusal;
+use crate::{notation, sheets};
+use dimkhoros::{Instance, Places, Refusal};
 use std::ffi::OsString;
 use std::io::Write;
 
@@ -32,23 +32,27 @@ pub fn run(words: Vec<OsString>, out: &mut dyn Write) -> Outcome {
     let x = words.once("x")?.ok_or(Failure::words("x= is missing: the witness to check"))?;
     let sheet = sheets::load(&words.path(0))?;
     let x = sheets::by_column(&sheet, x)?;
-    let Some(image) = small::image(&sheet, &x) else {
-        return Err(Refusal::Coordinate.into());
-    };
-    let (witness, image_text) = (notation::by_column(&sheet, &x), notation::by_row(&sheet, &image));
-    if image == sheet.values().statement {
-        writeln!(
-            out,
-            "[{}] = {image_text} is the statement: {witness} is a witness",
-            notation::bare(&witness)
-        )?;
-        return Ok(());
+    let image = sheets::image(&sheet, "x", &x)?;
+    if image != sheet.values().statement {
+        return Err(no_witness(&sheet, &x, &image));
     }
-    let statement = notation::by_row(&sheet, &sheet.values().statement);
-    let [number, sentence] =
-        [Refusal::Witness.number().to_string(), Refusal::Witness.sentence().to_string()];
-    Err(Failure::failed(format!(
-        "refusal {number}, by [{}] = {image_text} where the statement is {statement}: {sentence}",
-        notation::bare(&witness)
-    )))
+    writeln!(out, "{}", is_witness(&sheet, &x, "the statement"))?;
+    Ok(())
+}
+
+/// Says that these coordinates, whose image is the statement, are a witness. The statement is called so.
+pub fn is_witness(sheet: &Instance, x: &Places, statement: &str) -> String {
+    let witness = notation::by_column(sheet, x);
+    let image = notation::by_row(sheet, &sheet.values().statement);
+    format!("[{}] = {image} is {statement}: {witness} is a witness", notation::bare(&witness))
+}
+
+/// Refuses coordinates with this image as no witness.
+pub fn no_witness(sheet: &Instance, x: &Places, image: &Places) -> Failure {
+    let witness = notation::by_column(sheet, x);
+    let [image, statement] =
+        [image, &sheet.values().statement].map(|values| notation::by_row(sheet, values));
+    let found =
+        format!("[{}] = {image} where the statement is {statement}", notation::bare(&witness));
+    Failure::refused(Refusal::Witness, found)
 }

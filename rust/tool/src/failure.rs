@@ -27,6 +27,11 @@ impl Failure {
         Failure::Failed(why.to_string())
     }
 
+    /// The library refuses something, by what is said here.
+    pub fn refused(refusal: Refusal, by: impl fmt::Display) -> Failure {
+        Failure::failed(format!("refusal {}, by {by}: {}", refusal.number(), refusal.sentence()))
+    }
+
     /// The exit status: 2 for wrong words, else 1.
     pub fn status(&self) -> u8 {
         match self {

@@ -2,11 +2,13 @@
 
 use crate::failure::{Failure, Outcome};
 use crate::words::Words;
+use std::ffi::OsStr;
 use std::fmt::Display;
 use std::fs::{self, File, OpenOptions};
 use std::io::{self, ErrorKind, Read, Write};
 use std::path::{Path, PathBuf};
 use std::process;
+use std::str::Utf8Chunk;
 
 /// The most bytes that are read of a file. No file of ours has as many.
 const MOST: u64 = 1 << 20;
@@ -22,6 +24,18 @@ pub fn read(path: &Path) -> Outcome<Vec<u8>> {
         return Err(Failure::failed(format!("{} has more than {MOST} bytes", name(path))));
     }
     Ok(bytes)
+}
+
+/// The bytes of a file, of one with more than the most only as many as tell that it has more, and none where it is not there.
+pub fn read_if_there(path: &Path) -> Outcome<Vec<u8>> {
+    let read = match fs::metadata(path) {
+        Ok(found) if !found.is_file() => Err(io::Error::other("it is no file")),
+        _ => File::open(path).and_then(read_all),
+    };
+    match read {
+        Err(error) if error.kind() == ErrorKind::NotFound => Ok(Vec::new()),
+        read => read.map_err(|error| failure(path, "read", &error)),
+    }
 }
 
 /// All bytes up to one more than the most.
@@ -122,8 +136,27 @@ fn replace(path: &Path, bytes: &[u8]) -> io::Result<()> {
 pub fn name(path: &Path) -> String {
     match is_standard(path) {
         true => "standard input".to_string(),
-        false => path.display().to_string(),
+        false => one_line(path.as_os_str()),
     }
+}
+
+/// A name in one line: a control character is escaped, and so is a byte that is no UTF-8.
+pub fn one_line(name: &OsStr) -> String {
+    let part = |part: Utf8Chunk<'_>| {
+        let bytes: String = part.invalid().iter().map(|byte| format!("\\x{byte:02x}")).collect();
+        escaped(part.valid()) + &bytes
+    };
+    name.as_encoded_bytes().utf8_chunks().map(part).collect()
+}
+
+/// A text with its control characters and line ends escaped.
+fn escaped(text: &str) -> String {
+    let breaks = |letter: char| letter.is_control() || letter.is_whitespace() && letter != ' ';
+    let written = |letter: char| match breaks(letter) {
+        true => letter.escape_default().to_string(),
+        false => letter.to_string(),
+    };
+    text.chars().map(written).collect()
 }
 
 /// Says which file cannot be read or written, and why.
@@ -138,5 +171,5 @@ fn is_standard(path: &Path) -> bool {
 
 /// A line on standard error. Where that is closed there is nobody to tell.
 pub fn note(line: &dyn Display) {
-    let _ = writeln!(io::stderr(), "dimkhoros: {line}");
+    let _ = writeln!(io::stderr(), "dimkhoros: {}", escaped(&line.to_string()));
 }

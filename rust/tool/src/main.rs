@@ -2,10 +2,12 @@
 //!
 //! What it says of sheets and rounds it has from the proved library; it reads and writes files, and lays out what it was told.
 
+mod brought;
 mod by_hand;
 mod check;
 mod command;
 mod commitments;
+mod equation;
 mod extract;
 mod failure;
 mod faults;

@@ -1,13 +1,16 @@
 //! The command `make`: a sheet of a pattern or a table.
 
+mod asked;
+
+use crate::brought::{self, Brought};
 use crate::failure::{Failure, Outcome};
 use crate::files::Target;
+use crate::sheets;
 use crate::words::{Grammar, Value, Words};
-use crate::{patterns, sheets, small};
-use dimkhoros::{EXPONENT, Header, Instance, PLACES, Patterns, Plan, ROOT, Refusal, Values};
+use asked::Asked;
+use dimkhoros::{Header, Instance, Refusal};
 use std::ffi::OsString;
 use std::io::Write;
-use std::path::Path;
 
 /// The command's help.
 pub const HELP: &str = "\
@@ -48,21 +51,11 @@ const GRAMMAR: Grammar = Grammar {
 /// The largest challenge count of all.
 const MOST_CHALLENGES: u32 = 65_536;
 
-/// The table that is asked for.
-enum Asked {
-    /// By a pattern of a file, by its number from 1, over these public values.
-    Pattern(Patterns, u32, Vec<u32>),
-    /// Of a root sheet with so many rows.
-    Root(usize),
-    /// With these entries.
-    Table(Vec<Vec<u32>>),
-}
-
 /// Runs the command.
 pub fn run(words: Vec<OsString>, out: &mut dyn Write) -> Outcome {
     let words = Words::sort(words, &GRAMMAR)?;
     let target = Target::of(&words)?;
-    let sheet = with_statement(&words, &without_statement(&words, &asked(&words)?)?)?;
+    let sheet = with_statement(&words, &without_statement(&words, &Asked::read(&words)?)?)?;
     target.write(sheet.bytes(), out)
 }
 
@@ -73,31 +66,6 @@ fn stated(words: &Words) -> Outcome<&Value> {
         _ => Err(Failure::words(
             "either z= or x= has to be there: the statement, or a witness of it",
         )),
-    }
-}
-
-/// The table that the words ask for.
-fn asked(words: &Words) -> Outcome<Asked> {
-    let pattern = words.plain().first().map(|word| word.to_string_lossy().into_owned());
-    let (name, table) = match (pattern, words.once("table")?) {
-        (Some(_), Some(_)) => return Err(Failure::words("a pattern and table= are both there")),
-        (None, None) => return Err(Failure::words("PATTERN or table= is missing")),
-        (name, table) => (name.unwrap_or_default(), table),
-    };
-    let values = words.numbers("h")?;
-    if let Some(table) = table {
-        without(values.is_some(), "h=", "a table")?;
-        return Ok(Asked::Table(table.rows.clone()));
-    }
-    let file = words.option("--patterns").map(Path::new);
-    match patterns::number(&name, file.is_none())? {
-        0 => {
-            without(values.is_some(), "h=", "a root sheet")?;
-            Ok(Asked::Root(stated(words)?.numbers()?.len()))
-        }
-        number => {
-            Ok(Asked::Pattern(patterns::load(file)?, number, values.unwrap_or_default().to_vec()))
-        }
     }
 }
 
@@ -119,46 +87,17 @@ fn without_statement(words: &Words, asked: &Asked) -> Outcome<Instance> {
     without(words.once(other)?.is_some(), &format!("{other}="), of)?;
     let order = words.number(letter)?;
     let order = order.ok_or_else(|| Failure::words(format!("{letter}= is missing for {of}")))?;
-    let sheet = |challenges| match asked {
-        Asked::Pattern(file, number, values) => {
-            by_pattern(file, *number, values, [modulus, order, challenges])
-        }
-        Asked::Root(rows) => {
-            by_table(ROOT, &vec![vec![0; *rows]; *rows], [modulus, order, challenges])
-        }
-        Asked::Table(rows) => by_table(EXPONENT, rows, [modulus, order, challenges]),
-    };
+    let sheet = |challenges| asked.sheet([modulus, order, challenges]);
     let challenges = words.number("K")?.unwrap_or_else(|| largest(sheet));
-    Ok(sheet(challenges)?)
-}
-
-/// A pattern's sheet with ones for its statement. The numbers are modulus, order and challenge count.
-fn by_pattern(
-    file: &Patterns,
-    pattern: u32,
-    values: &[u32],
-    numbers: [u32; 3],
-) -> Result<Instance, Refusal> {
-    let [modulus, order, challenges] = numbers;
-    let rows = file.layout(pattern).map_or(0, |layout| layout.rows);
-    let statement = &[1; PLACES][..rows];
-    Instance::from_pattern(file, &Plan { pattern, modulus, order, challenges, values, statement })
-}
-
-/// A table's sheet with ones for its statement. The numbers are modulus, order and challenge count.
-fn by_table(kind: u32, rows: &[Vec<u32>], numbers: [u32; 3]) -> Result<Instance, Refusal> {
-    let [modulus, order, challenges] = numbers;
-    let columns = rows[0].len();
-    if rows.len() > PLACES || rows.iter().any(|row| row.len() != columns || columns > PLACES) {
-        return Err(Refusal::Shape);
-    }
-    let mut entries = [[0; PLACES]; PLACES];
-    for (places, row) in entries.iter_mut().zip(rows) {
-        places[..columns].copy_from_slice(row);
-    }
-    let (rows, columns) = (rows.len() as u32, columns as u32);
-    let header = Header { kind, modulus, order, challenges, rows, columns };
-    Instance::encode(&Values { header, entries, statement: [1; PLACES] })
+    sheet(challenges).map_err(|refusal| match refusal {
+        Refusal::Modulus => Failure::refused(refusal, format!("{modulus} in m=")),
+        Refusal::Order => Failure::refused(refusal, format!("{order} in {letter}=")),
+        Refusal::Challenges if challenges > 2 => {
+            let most = largest(sheet);
+            Failure::refused(refusal, format!("{challenges} in K=, where {most} is the largest"))
+        }
+        _ => asked.refused([modulus, order, challenges], refusal),
+    })
 }
 
 /// The largest challenge count with which a sheet is not refused for it. What is refused for one is refused for all above.
@@ -182,10 +121,10 @@ pub fn largest_of(header: &Header) -> u32 {
 /// The sheet with the statement that the words have, or with that of their witness.
 fn with_statement(words: &Words, sheet: &Instance) -> Outcome<Instance> {
     let stated = stated(words)?;
-    if stated.letter == "z" {
-        return Ok(sheet.with_statement(&sheets::by_row(sheet, stated)?)?);
-    }
-    let witness = sheets::by_column(sheet, stated)?;
-    let image = small::image(sheet, &witness).ok_or(Refusal::Coordinate)?;
-    Ok(sheet.with_statement(&image)?)
+    let statement = match stated.letter {
+        "z" => sheets::by_row(sheet, stated)?,
+        letter => sheets::image(sheet, letter, &sheets::by_column(sheet, stated)?)?,
+    };
+    let brought = [Brought::statement(sheet, "z", &statement)];
+    sheet.with_statement(&statement).map_err(|refusal| brought::refused(refusal, &brought))
 }

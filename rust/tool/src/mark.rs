@@ -1,13 +1,84 @@
-//! The command `mark`.
+//! The command `mark`: folders with a sheet, rounds and a level.
+
+mod folder;
+mod marks;
+mod progress;
 
 use crate::failure::{Failure, Outcome};
+use crate::table::{self, Set};
+use crate::words::{Grammar, Words};
+use marks::{Mark, Tally};
+use progress::Progress;
 use std::ffi::OsString;
 use std::io::Write;
 
 /// The command's help.
-pub const HELP: &str = "usage: dimkhoros mark\n\nExample:\n";
+pub const HELP: &str = "\
+usage: dimkhoros mark [--csv] FOLDER...
+
+Marks the rounds in each folder, as the program marker does in one: sheet.bin has the sheet, rounds.bin the rounds and level.bin
+the level w. A file that is missing counts as one of no bytes. A folder passes where every round is accepted and the product of
+one K for each round is at least 2^w. There is a line for each folder, and a summary below them. The exit status is 0 where all
+folders were marked, whatever the marks are, and 1 where one cannot be read.
+
+    --csv  comma-separated values in the place of the table, with a line of their names, and no summary
+
+Example:
+    $ mkdir anna ben
+    $ dimkhoros make schnorr m=23 q=11 h=2 x=7 -o anna/sheet.bin
+    anna/sheet.bin has 28 bytes
+    $ printf 'RND\\0\\1\\0\\1\\0\\0\\0\\11\\0\\0\\0\\3\\0\\0\\0\\4' > anna/rounds.bin
+    $ printf '\\3' > anna/level.bin
+    $ dimkhoros mark anna ben
+    anna  pass     1 round
+    ben   sheet 2  the sheet is shorter than a header or does not begin with HOM
+
+    2 folders: 1 passed, 0 failed, 1 refused
+";
+
+const GRAMMAR: Grammar =
+    Grammar { plain: &["FOLDER..."], optional: 0, letters: &[], flags: &["--csv"], options: &[] };
 
 /// Runs the command.
-pub fn run(_words: Vec<OsString>, _out: &mut dyn Write) -> Outcome {
-    Err(Failure::failed("not written"))
+pub fn run(words: Vec<OsString>, out: &mut dyn Write) -> Outcome {
+    let words = Words::sort(words, &GRAMMAR)?;
+    let mut progress = Progress::of(words.plain().len());
+    let mut marks = Vec::new();
+    for name in words.plain() {
+        progress.show(marks.len());
+        marks.push(Mark::of(name));
+    }
+    progress.end();
+    let text = if words.flag("--csv") { separated(&marks) } else { listed(&marks) };
+    out.write_all(text.as_bytes())?;
+    match Tally::of(&marks).unread {
+        0 => Ok(()),
+        1 => Err(Failure::failed("a folder cannot be read")),
+        count => Err(Failure::failed(format!("{count} folders cannot be read"))),
+    }
+}
+
+/// The lines of the marks, and the summary.
+fn listed(marks: &[Mark]) -> String {
+    let line = |mark: &Mark| vec![mark.folder.clone(), mark.result(), mark.why()];
+    let lines: Vec<Vec<String>> = marks.iter().map(line).collect();
+    format!("{}\n{}\n", table::lines("", &[Set::Left; 3], &lines), Tally::of(marks))
+}
+
+/// The marks as comma-separated values (RFC 4180, with the line ends of this system).
+fn separated(marks: &[Mark]) -> String {
+    let line = |fields: &[String]| {
+        let fields: Vec<String> = fields.iter().map(|field| quoted(field)).collect();
+        fields.join(",") + "\n"
+    };
+    let lines: String = marks.iter().map(|mark| line(&mark.fields())).collect();
+    line(&marks::FIELDS.map(str::to_string)) + &lines
+}
+
+/// A field, in quotes where it needs them.
+fn quoted(field: &str) -> String {
+    match field.contains([',', '"', '\r', '\n']) {
+        true => format!("\"{}\"", field.replace('"', "\"\"")),
+        false => field.to_string(),
+    }
 }

@@ -1,7 +1,7 @@
 //! Values and statements in Maurer's notation.
 
 use crate::sheets::{column_count, row_count};
-use dimkhoros::{EXPONENT, Instance, Places};
+use dimkhoros::{EXPONENT, Instance, Places, Round};
 
 /// The first values of places: one alone, several as a tuple.
 pub fn tuple(places: &Places, count: usize) -> String {
@@ -125,6 +125,19 @@ pub fn and(numbers: &[usize]) -> String {
         Some((last, rest)) if !rest.is_empty() => format!("{} and {last}", rest.join(", ")),
         _ => numbers.concat(),
     }
+}
+
+/// A round as Vic sees it, such as `(9, 3, 4)`.
+pub fn round(sheet: &Instance, round: &Round) -> String {
+    let (commitment, response) =
+        (by_row(sheet, &round.commitment), by_column(sheet, &round.response));
+    format!("({commitment}, {}, {response})", round.challenge)
+}
+
+/// The first values of places as a word takes them, such as `9,6`.
+pub fn word(places: &Places, count: usize) -> String {
+    let values: Vec<String> = places.iter().take(count).map(u32::to_string).collect();
+    values.join(",")
 }
 
 /// One word alone, several as a tuple.

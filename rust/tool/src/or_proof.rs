@@ -1,13 +1,72 @@
-//! The command `or`.
+//! The command `or`: rounds of the OR proof of a witness of one of two sheets.
+
+mod extract;
+mod judge;
+mod make;
+mod rounds;
 
 use crate::failure::{Failure, Outcome};
 use std::ffi::OsString;
 use std::io::Write;
 
 /// The command's help.
-pub const HELP: &str = "usage: dimkhoros or\n\nExample:\n";
+pub const HELP: &str = "\
+usage: dimkhoros or make SHEET0 SHEET1 x0=VALUE,... k0=VALUE,... c1=CHALLENGE r1=VALUE,... c=CHALLENGE...
+       dimkhoros or make SHEET0 SHEET1 x1=VALUE,... k1=VALUE,... c0=CHALLENGE r0=VALUE,... c=CHALLENGE...
+       dimkhoros or judge SHEET0 SHEET1 t0=VALUE,... t1=VALUE,... c=CHALLENGE c0=CHALLENGE r0=VALUE,... r1=VALUE,...
+       dimkhoros or extract SHEET0 SHEET1 ROUND ROUND
+
+The OR proof shows a witness of one of two sheets with one K, and not of which. `make` makes the round of a Peggy who knows a
+witness of one side and simulates the other. `judge` writes out the equations of both sides and gives the verdict, which may be
+rejected with the exit status 0. `extract` gives the witness of two accepted rounds with the same t0 and t1 and different c.
+
+    x0 k0, or x1 k1  witness and nonce of the side that is known
+    c1 r1, or c0 r0  challenge and response with which the other side is simulated
+    t0 t1            the commitments of both sides
+    c                the challenge; where `make` has it several times, one nonce answers all of them, as no Peggy may
+    c0               the challenge of side 0; that of side 1 is (c - c0) mod K
+    r0 r1            the responses of both sides
+    ROUND            t0= t1= c= c0= r0= r1= as for `judge`; t0= and t1= of the first serve the second where it has none
+
+Example:
+    $ dimkhoros make schnorr m=23 q=11 K=5 h=2 x=7 -o schnorr.bin
+    schnorr.bin has 28 bytes
+    $ dimkhoros make root m=35 e=5 z=32 -o root.bin
+    root.bin has 24 bytes
+    $ dimkhoros or make schnorr.bin root.bin x1=2 k1=3 c0=4 r0=10 c=2
+    side 0 is simulated, with c0 = 4 and r0 = 10: t0 = [r0] · z^(-c0) = 16
+    side 1 is known, with the witness 2: t1 = [k1] = [3] = 33
+
+    c1 = (c - c0) mod K = (2 - 4) mod 5 = 3, so r1 = 24
+    t0=16 t1=33 c=2 c0=4 r0=10 r1=24
+    accepted
+    $ dimkhoros or judge schnorr.bin root.bin t0=16 t1=33 c=2 c0=4 r0=10 r1=24
+    c1 = (c - c0) mod K = (2 - 4) mod 5 = 3
+
+    side  row  [r]                  t · z^c
+       0    0  2^10 mod 23 = 12  =  16 · 13^4 mod 23 = 12
+       1    0  24^5 mod 35 = 19  =  33 · 32^3 mod 35 = 19
+
+    accepted
+    $ dimkhoros or extract schnorr.bin root.bin t0=16 t1=33 c=2 c0=4 r0=10 r1=24 c=0 c0=4 r0=10 r1=6
+    round  t0  t1  c  c0  c1  r0  r1  verdict
+        0  16  33  2   4   3  10  24  accepted
+        1  16  33  0   4   1  10   6  accepted
+
+    c differs and c0 is 4 in both, so the c1 differ, 3 and 1: side 1 gives its witness.
+    The rounds (33, 3, 24) and (33, 1, 6) of side 1 give x = 2.
+    [2] = 32 is the statement of side 1: 2 is a witness
+";
 
 /// Runs the command.
-pub fn run(_words: Vec<OsString>, _out: &mut dyn Write) -> Outcome {
-    Err(Failure::failed("not written"))
+pub fn run(words: Vec<OsString>, out: &mut dyn Write) -> Outcome {
+    let mut words = words.into_iter();
+    let what = words.next().unwrap_or_default();
+    let rest = words.collect();
+    match what.to_str() {
+        Some("make") => make::run(rest, out),
+        Some("judge") => judge::run(rest, out),
+        Some("extract") => extract::run(rest, out),
+        _ => Err(Failure::words("the first word has to be make, judge or extract")),
+    }
 }

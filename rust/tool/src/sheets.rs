@@ -1,8 +1,10 @@
 //! Sheets as commands take them.
 
+use crate::brought::{self, Brought};
 use crate::failure::{Failure, Outcome};
+use crate::notation::counted;
 use crate::words::Value;
-use crate::{faults, files};
+use crate::{faults, files, small};
 use dimkhoros::{Header, Instance, PLACES, Places, ROOT, Refusal, RoundFile, Values};
 use std::path::Path;
 
@@ -57,14 +59,20 @@ pub fn by_column(sheet: &Instance, value: &Value) -> Outcome<Places> {
     in_places(value, column_count(sheet), "column")
 }
 
+/// The image of coordinates that are called by a letter, or refusal 16.
+pub fn image(sheet: &Instance, letter: &str, coordinates: &Places) -> Outcome<Places> {
+    let brought = || [Brought::coordinates(sheet, letter, coordinates)];
+    let image = small::image(sheet, coordinates);
+    image.ok_or_else(|| brought::refused(Refusal::Coordinate, &brought()))
+}
+
 /// Exactly so many numbers, in places.
 fn in_places(value: &Value, count: usize, of: &str) -> Outcome<Places> {
     let (letter, numbers) = (value.letter, value.numbers()?);
     if numbers.len() != count {
-        let plural = if count == 1 { "" } else { "s" };
-        let found = numbers.len();
+        let (wanted, found) = (counted(count, of), counted(numbers.len(), "value"));
         return Err(Failure::words(format!(
-            "{letter}= has a value for each {of}: the sheet has {count} {of}{plural}, and {found} stand there"
+            "{letter}= takes a value for each {of}: the sheet has {wanted}, and {letter}= has {found}"
         )));
     }
     let mut places = [0; PLACES];

@@ -1,5 +1,6 @@
 //! The command `simulate`: accepted rounds without a witness.
 
+use crate::brought::{self, Brought};
 use crate::failure::{Failure, Outcome};
 use crate::table::{self, Set};
 use crate::words::{Grammar, Words};
@@ -54,7 +55,10 @@ pub fn run(words: Vec<OsString>, out: &mut dyn Write) -> Outcome {
 
 /// A simulated round as a row of the table.
 fn simulated(sheet: &Instance, challenge: u32, response: &Places) -> Outcome<Vec<String>> {
-    let commitment = sheet.simulate(challenge, response)?;
+    let brought =
+        [Brought::challenge(sheet, "c", challenge), Brought::coordinates(sheet, "r", response)];
+    let simulated = sheet.simulate(challenge, response);
+    let commitment = simulated.map_err(|refusal| brought::refused(refusal, &brought))?;
     let verdict = sheet.judge(&Round { commitment, challenge, response: *response })?;
     Ok(vec![
         notation::by_row(sheet, &commitment),

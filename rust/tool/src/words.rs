@@ -83,7 +83,7 @@ impl Words {
         Ok(())
     }
 
-    /// There are as many plain words as the grammar says.
+    /// There are as many plain words as the grammar says, and one of them at most is standard input.
     fn check_plain(&self, grammar: &Grammar) -> Outcome {
         let (most, count) = (grammar.plain.len(), self.plain.len());
         let repeats = grammar.plain.last().is_some_and(|last| last.ends_with("..."));
@@ -95,7 +95,7 @@ impl Words {
             return Err(Failure::words(format!("the word {} is missing", grammar.plain[count])));
         }
         if self.plain.iter().filter(|word| *word == "-").count() > 1 {
-            return Err(Failure::words("only one file can be -, standard input"));
+            return Err(Failure::words("- is there twice, and standard input is read once only"));
         }
         Ok(())
     }

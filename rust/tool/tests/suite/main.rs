@@ -2,4 +2,10 @@
 
 mod desk;
 mod examples;
+mod files;
+mod generator;
+mod lines;
+mod marks;
+mod material;
+mod random;
 mod transcripts;

@@ -1,0 +1,114 @@
+//! The witness that two rounds of the OR proof give away.
+
+use super::rounds;
+use crate::failure::{Failure, Outcome};
+use crate::table::{self, Set};
+use crate::words::Words;
+use crate::{brought, check, notation, small};
+use dimkhoros::{Instance, OrRound, OrWitness, Pair, Places, Refusal, Side};
+use std::ffi::OsString;
+use std::io::Write;
+
+/// Prints two rounds, which side's witness they give, and the witness.
+pub fn run(words: Vec<OsString>, out: &mut dyn Write) -> Outcome {
+    let words = Words::sort(words, &rounds::GRAMMAR)?;
+    let groups = words.groups();
+    let [one, other] = &groups[..] else {
+        return Err(Failure::words(how_many(groups.len())));
+    };
+    let [first, second] = rounds::load(&words)?;
+    let pair = Pair::new(&first, &second)?;
+    let one = rounds::read(&pair, one, None)?;
+    let other = rounds::read(&pair, other, Some(&one))?;
+    let extracted = pair.extract(&one, &other);
+    if let Err(refusal @ (Refusal::Commitment | Refusal::Challenge | Refusal::Coordinate)) =
+        extracted
+    {
+        let mut brought = rounds::brought(&pair, &one);
+        brought.extend(rounds::brought(&pair, &other));
+        return Err(brought::refused(refusal, &brought));
+    }
+    out.write_all(listed(&pair, &[one, other])?.as_bytes())?;
+    let witness = extracted.map_err(|refusal| refused(&pair, &one, &other, refusal))?;
+    write!(out, "\n{}", explained(&pair, &one, &other, &witness)?)?;
+    Ok(())
+}
+
+/// Says that another number of rounds is there than two.
+fn how_many(found: usize) -> String {
+    let rounds = if found == 1 { "round is" } else { "rounds are" };
+    format!("two rounds are needed, and {found} {rounds} there")
+}
+
+/// The table of the rounds, with the challenges of side 1 and the verdicts.
+fn listed(pair: &Pair<'_>, all: &[OrRound]) -> Outcome<String> {
+    let head = ["round", "t0", "t1", "c", "c0", "c1", "r0", "r1", "verdict"];
+    let mut lines = vec![head.map(str::to_string).to_vec()];
+    for (number, round) in all.iter().enumerate() {
+        let sides = [Side::First, Side::Second];
+        let [first, second] = sides.map(|side| pair.instance(side));
+        lines.push(vec![
+            number.to_string(),
+            notation::by_row(first, &round.commitment0),
+            notation::by_row(second, &round.commitment1),
+            round.challenge.to_string(),
+            round.challenge0.to_string(),
+            rounds::second_challenge(pair, round).to_string(),
+            notation::by_column(first, &round.response0),
+            notation::by_column(second, &round.response1),
+            pair.judge(round)?.to_string(),
+        ]);
+    }
+    let mut set = [Set::Right; 9];
+    set[8] = Set::Left;
+    Ok(table::lines("", &set, &lines))
+}
+
+/// A refusal of the extractor, with the values that it is by.
+fn refused(pair: &Pair<'_>, one: &OrRound, other: &OrRound, refusal: Refusal) -> Failure {
+    let differ = |letter, sheet: &Instance, one: &Places, other: &Places| {
+        let [one, other] = [one, other].map(|values| notation::by_row(sheet, values));
+        (one != other).then(|| format!("{one} and {other} as {letter}"))
+    };
+    let [first, second] = [Side::First, Side::Second].map(|side| pair.instance(side));
+    let by = match refusal {
+        Refusal::CommitmentsDiffer => {
+            let zero = differ("t0", first, &one.commitment0, &other.commitment0);
+            zero.or_else(|| differ("t1", second, &one.commitment1, &other.commitment1))
+        }
+        Refusal::ChallengesEqual => Some(format!("c = {} in both", one.challenge)),
+        _ => None,
+    };
+    match by {
+        Some(by) => Failure::refused(refusal, by),
+        None => refusal.into(),
+    }
+}
+
+/// Which side gives its witness and why, the witness, and its image.
+fn explained(
+    pair: &Pair<'_>,
+    one: &OrRound,
+    other: &OrRound,
+    witness: &OrWitness,
+) -> Outcome<String> {
+    let (side, sheet) = (witness.side, pair.instance(witness.side));
+    let [first, second] = [one, other].map(|round| rounds::of_side(pair, round, side));
+    let why = match side {
+        Side::First => "The c0 differ".to_string(),
+        Side::Second => format!("c differs and c0 is {} in both, so the c1 differ", one.challenge0),
+    };
+    let (c, d) = (first.challenge, second.challenge);
+    let [first, second] = [first, second].map(|round| notation::round(sheet, &round));
+    let x = notation::by_column(sheet, &witness.values);
+    let checked = match small::image(sheet, &witness.values) {
+        Some(image) if image == sheet.values().statement => {
+            check::is_witness(sheet, &witness.values, &format!("the statement of {side}"))
+        }
+        image => return Err(check::no_witness(sheet, &witness.values, &image.unwrap_or_default())),
+    };
+    Ok(format!(
+        "{why}, {c} and {d}: {side} gives its witness.\n\
+         The rounds {first} and {second} of {side} give x = {x}.\n{checked}\n"
+    ))
+}

@@ -1,0 +1,195 @@
+//! What holds of the files of all commands: standard input, files that are there, and files that cannot be read or written.
+
+use crate::desk::Desk;
+use crate::lines::LINES;
+use std::fs::{self, File};
+use std::net::Shutdown;
+use std::os::fd::OwnedFd;
+use std::os::unix::net::UnixStream;
+use std::process::{Command, Stdio};
+
+/// The files that are read, with the bytes of page A's sheet, of two of its rounds and of a pattern file.
+const FILES: [(&str, &[u8]); 3] = [
+    ("SHEET", b"HOM\0\x01\x01\0\0\0\x17\0\0\0\x0b\0\0\0\x0b\x01\x01\0\0\0\x02\0\0\0\x0d"),
+    ("ROUNDS", b"RND\0\x01\0\x02\0\0\0\x09\0\0\0\x03\0\0\0\x04\0\0\0\x09\0\0\0\x01\0\0\0\x01"),
+    ("PATTERNS", b"PAT\0\x01\x05\x01\x01\x01\x01\x01\x02\x02\x01\x02\x02\x01\x02\x01\x02\x02\x01\x02\x01\x02\x02\x03\x03\x01\x02\0\x03\0\x02"),
+];
+
+/// A folder with the files under their names.
+fn desk(name: &str) -> Desk {
+    let desk = Desk::new(name);
+    for (name, bytes) in FILES {
+        fs::write(desk.folder.join(name), bytes).unwrap();
+    }
+    desk
+}
+
+/// A line with values that fit: those of page A, which is a witness of both sides.
+fn fitted(line: &str) -> String {
+    let values = [
+        ("=X/X", "=2/3"),
+        ("x=X", "x=7"),
+        ("0=X", "0=7"),
+        ("1=X", "1=7"),
+        ("=X", "=4"),
+        ("=T", "=9"),
+        ("=C", "=3"),
+    ];
+    let fitted = values.iter().fold(line.to_string(), |line, (from, to)| line.replace(from, to));
+    format!("dimkhoros {fitted}")
+}
+
+/// The lines in which a word stands, fitted.
+fn lines_with(word: &str) -> Vec<String> {
+    let lines: Vec<String> = LINES
+        .iter()
+        .filter(|line| line.split(' ').any(|other| other == word))
+        .map(|line| fitted(line))
+        .collect();
+    assert!(lines.len() > 2, "{word} stands in few lines");
+    lines
+}
+
+/// The line with its first such word changed for another.
+fn with(line: &str, word: &str, other: &str) -> String {
+    line.replacen(&format!(" {word}"), &format!(" {other}"), 1)
+}
+
+#[test]
+fn every_file_can_be_standard_input() {
+    let desk = desk("standard input");
+    for (name, _) in FILES {
+        for line in lines_with(name) {
+            let line = with(&line, "-o OUT", "-o -");
+            let printed = desk.print(&line);
+            let piped = desk.print(&format!("{} < {name}", with(&line, name, "-")));
+            let named = |text: &str| text.replace("standard input", name);
+            assert_eq!(named(&piped), named(&printed), "{line}");
+        }
+    }
+}
+
+/// The lines that write a file, without those of commands that are not written or refuse what page A has.
+fn writing(desk: &Desk) -> Vec<String> {
+    let writes = |line: &String| {
+        let printed = desk.print(line);
+        let written = fs::remove_file(desk.folder.join("OUT")).is_ok();
+        assert!(written || printed.ends_with("[1]\n"), "{line} prints\n{printed}");
+        written
+    };
+    let lines: Vec<String> = lines_with("OUT").into_iter().filter(writes).collect();
+    assert!(lines.len() > 2, "few lines write a file");
+    lines
+}
+
+#[test]
+fn nothing_is_overwritten_without_force() {
+    let desk = desk("overwritten");
+    let out = desk.folder.join("OUT");
+    for line in writing(&desk) {
+        fs::write(&out, "kept").unwrap();
+        let printed = desk.print(&line);
+        assert_eq!(
+            printed, "dimkhoros: OUT is there already; --force writes over it\n[1]\n",
+            "{line}"
+        );
+        assert_eq!(fs::read(&out).unwrap(), b"kept", "{line}");
+        let printed = desk.print(&format!("{line} --force"));
+        assert!(printed.contains("OUT has "), "{line} prints\n{printed}");
+        assert_ne!(fs::read(&out).unwrap(), b"kept", "{line}");
+        fs::remove_file(&out).unwrap();
+    }
+}
+
+#[test]
+fn a_file_that_cannot_be_written_is_named() {
+    let desk = desk("cannot be written");
+    fs::create_dir(desk.folder.join("folder")).unwrap();
+    for line in writing(&desk) {
+        for (target, why) in [
+            ("nowhere/file", "No such file or directory (os error 2)"),
+            ("SHEET/file", "Not a directory (os error 20)"),
+            ("folder --force", "Is a directory (os error 21)"),
+            ("/dev/full --force", "No space left on device (os error 28)"),
+        ] {
+            let line = with(&line, "-o OUT", &format!("-o {target}"));
+            let name = target.split(' ').next().unwrap();
+            let told = format!("dimkhoros: {name} cannot be written: {why}\n[1]\n");
+            assert_eq!(desk.print(&line), told, "{line}");
+        }
+    }
+}
+
+#[test]
+fn a_file_that_cannot_be_read_is_named() {
+    let desk = desk("cannot be read");
+    fs::create_dir(desk.folder.join("folder")).unwrap();
+    fs::write(desk.folder.join("closed"), b"").unwrap();
+    desk.print("chmod 000 closed");
+    let mut targets = vec![
+        ("nowhere", "No such file or directory (os error 2)"),
+        ("folder", "Is a directory (os error 21)"),
+        ("/proc/self/mem", "Input/output error (os error 5)"),
+    ];
+    // Root may read all files.
+    if File::open(desk.folder.join("closed")).is_err() {
+        targets.push(("closed", "Permission denied (os error 13)"));
+    }
+    for (file, _) in FILES {
+        for line in lines_with(file) {
+            if desk.print(&line).contains("dimkhoros: not written") {
+                continue;
+            }
+            let _ = fs::remove_file(desk.folder.join("OUT"));
+            for (target, why) in &targets {
+                let line = with(&line, file, target);
+                let told = format!("dimkhoros: {target} cannot be read: {why}\n[1]\n");
+                assert_eq!(desk.print(&line), told, "{line}");
+            }
+        }
+    }
+}
+
+#[test]
+fn a_text_that_cannot_be_written_ends_in_one() {
+    let desk = desk("full output");
+    for line in LINES.map(fitted) {
+        let whole = desk.print(&line);
+        let _ = fs::remove_file(desk.folder.join("OUT"));
+        if whole.ends_with("[1]\n") {
+            continue;
+        }
+        let printed = desk.print(&format!("{line} > /dev/full"));
+        let _ = fs::remove_file(desk.folder.join("OUT"));
+        let why = "the text cannot be written: No space left on device (os error 28)";
+        assert_eq!(printed, format!("dimkhoros: {why}\n[1]\n"), "{line}");
+    }
+}
+
+/// An output that nobody reads.
+fn closed_output() -> Stdio {
+    let (output, reader) = UnixStream::pair().unwrap();
+    reader.shutdown(Shutdown::Both).unwrap();
+    OwnedFd::from(output).into()
+}
+
+#[test]
+fn a_closed_output_ends_in_one() {
+    let desk = desk("closed output");
+    for words in ["--help", "help make", "check SHEET x=7", "simulate SHEET c=3", "mark ."] {
+        let ended = Command::new(env!("CARGO_BIN_EXE_dimkhoros"))
+            .args(words.split(' '))
+            .current_dir(&desk.folder)
+            .stdout(closed_output())
+            .output()
+            .unwrap();
+        let told = String::from_utf8(ended.stderr).unwrap();
+        assert_eq!(
+            told, "dimkhoros: the text cannot be written: Broken pipe (os error 32)\n",
+            "{words}"
+        );
+        assert_eq!(ended.status.code(), Some(1), "{words}");
+    }
+    let ended = desk.print("dimkhoros check SHEET x=7 2>&- >&-");
+    assert!(["", "[1]\n"].contains(&ended.as_str()), "{ended}");
+}
