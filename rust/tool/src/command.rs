@@ -66,7 +66,7 @@ pub const COMMANDS: [Command; 13] = [
     },
     Command {
         name: "or",
-        summary: "rounds of the OR proof, judged, and the witness that two of them give away",
+        summary: "rounds of the OR proof, made and judged, and the witness that two give away",
         help: or_proof::HELP,
         run: or_proof::run,
     },

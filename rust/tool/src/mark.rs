@@ -18,10 +18,11 @@ usage: dimkhoros mark [--csv] FOLDER...
 
 Marks the rounds in each folder, as the program marker does in one: sheet.bin has the sheet, rounds.bin the rounds and level.bin
 the level w. A file that is missing counts as one of no bytes. A folder passes where every round is accepted and the product of
-one K for each round is at least 2^w. There is a line for each folder, and a summary below them. The exit status is 0 where all
-folders were marked, whatever the marks are, and 1 where one cannot be read.
+one K for each round is at least 2^w. There is a line for each folder, with pass, fail, the file that is refused and the number
+of the refusal, or unread, and a summary below them. The exit status is 0 where all folders were marked, whatever the marks are, and 1
+where one cannot be read.
 
-    --csv  comma-separated values in the place of the table, with a line of their names, and no summary
+    --csv  comma-separated values in the place of the table, below a line of their names, and no summary
 
 Example:
     $ mkdir anna ben

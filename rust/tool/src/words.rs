@@ -95,7 +95,7 @@ impl Words {
             return Err(Failure::words(format!("the word {} is missing", grammar.plain[count])));
         }
         if self.plain.iter().filter(|word| *word == "-").count() > 1 {
-            return Err(Failure::words("- is there twice, and standard input is read once only"));
+            return Err(Failure::words("only one file can be -, standard input"));
         }
         Ok(())
     }

@@ -47,7 +47,7 @@ pub fn run(words: Vec<OsString>, out: &mut dyn Write) -> Outcome {
     Ok(())
 }
 
-/// The side that is known by the letters that are there, of which the words have all those and none of the other side's.
+/// The side whose witness the words have. None of the letters may be there that go with the other side's.
 fn known(words: &Words) -> Outcome<Side> {
     let known = match (words.all("x0").is_empty(), words.all("x1").is_empty()) {
         (false, true) => Side::First,

@@ -55,17 +55,21 @@ fn with(line: &str, word: &str, other: &str) -> String {
     line.replacen(&format!(" {word}"), &format!(" {other}"), 1)
 }
 
+/// The lines that read files, each with the name of every file that it reads.
+fn reading() -> Vec<(&'static str, String)> {
+    let lines = |name| lines_with(name).into_iter().map(move |line| (name, line));
+    FILES.iter().flat_map(|(name, _)| lines(*name)).collect()
+}
+
 #[test]
 fn every_file_can_be_standard_input() {
     let desk = desk("standard input");
-    for (name, _) in FILES {
-        for line in lines_with(name) {
-            let line = with(&line, "-o OUT", "-o -");
-            let printed = desk.print(&line);
-            let piped = desk.print(&format!("{} < {name}", with(&line, name, "-")));
-            let named = |text: &str| text.replace("standard input", name);
-            assert_eq!(named(&piped), named(&printed), "{line}");
-        }
+    for (name, line) in reading() {
+        let line = with(&line, "-o OUT", "-o -");
+        let printed = desk.print(&line);
+        let piped = desk.print(&format!("{} < {name}", with(&line, name, "-")));
+        let named = |text: &str| text.replace("standard input", name);
+        assert_eq!(named(&piped), named(&printed), "{line}");
     }
 }
 
@@ -101,22 +105,28 @@ fn nothing_is_overwritten_without_force() {
     }
 }
 
+/// The line has to fail with each of these words in the place of its own, and to name the file and say why.
+fn fails_with(desk: &Desk, line: &str, own: &str, what: &str, others: &[(&str, &str)]) {
+    for (other, why) in others {
+        let line = with(line, own, other);
+        let name = other.trim_start_matches("-o ").trim_end_matches(" --force");
+        let told = format!("dimkhoros: {name} cannot be {what}: {why}\n[1]\n");
+        assert_eq!(desk.print(&line), told, "{line}");
+    }
+}
+
 #[test]
 fn a_file_that_cannot_be_written_is_named() {
     let desk = desk("cannot be written");
     fs::create_dir(desk.folder.join("folder")).unwrap();
+    let targets = [
+        ("-o nowhere/file", "No such file or directory (os error 2)"),
+        ("-o SHEET/file", "Not a directory (os error 20)"),
+        ("-o folder --force", "Is a directory (os error 21)"),
+        ("-o /dev/full --force", "No space left on device (os error 28)"),
+    ];
     for line in writing(&desk) {
-        for (target, why) in [
-            ("nowhere/file", "No such file or directory (os error 2)"),
-            ("SHEET/file", "Not a directory (os error 20)"),
-            ("folder --force", "Is a directory (os error 21)"),
-            ("/dev/full --force", "No space left on device (os error 28)"),
-        ] {
-            let line = with(&line, "-o OUT", &format!("-o {target}"));
-            let name = target.split(' ').next().unwrap();
-            let told = format!("dimkhoros: {name} cannot be written: {why}\n[1]\n");
-            assert_eq!(desk.print(&line), told, "{line}");
-        }
+        fails_with(&desk, &line, "-o OUT", "written", &targets);
     }
 }
 
@@ -124,28 +134,20 @@ fn a_file_that_cannot_be_written_is_named() {
 fn a_file_that_cannot_be_read_is_named() {
     let desk = desk("cannot be read");
     fs::create_dir(desk.folder.join("folder")).unwrap();
-    fs::write(desk.folder.join("closed"), b"").unwrap();
-    desk.print("chmod 000 closed");
-    let mut targets = vec![
+    desk.print("touch closed; chmod 000 closed");
+    let mut files = vec![
         ("nowhere", "No such file or directory (os error 2)"),
         ("folder", "Is a directory (os error 21)"),
         ("/proc/self/mem", "Input/output error (os error 5)"),
     ];
     // Root may read all files.
     if File::open(desk.folder.join("closed")).is_err() {
-        targets.push(("closed", "Permission denied (os error 13)"));
+        files.push(("closed", "Permission denied (os error 13)"));
     }
-    for (file, _) in FILES {
-        for line in lines_with(file) {
-            if desk.print(&line).contains("dimkhoros: not written") {
-                continue;
-            }
+    for (name, line) in reading() {
+        if !desk.print(&line).contains("dimkhoros: not written") {
             let _ = fs::remove_file(desk.folder.join("OUT"));
-            for (target, why) in &targets {
-                let line = with(&line, file, target);
-                let told = format!("dimkhoros: {target} cannot be read: {why}\n[1]\n");
-                assert_eq!(desk.print(&line), told, "{line}");
-            }
+            fails_with(&desk, &line, name, "read", &files);
         }
     }
 }
