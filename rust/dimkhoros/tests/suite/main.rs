@@ -1,4 +1,4 @@
-//! The tests of this crate's public face, of the header's words, of the examples and of the script that marks folders.
+//! The tests of this crate's public face, of the header's words, of the examples and of the scripts that mark folders and install.
 
 mod archive;
 mod boxes;
@@ -6,6 +6,9 @@ mod boxes;
 mod cc;
 mod converting;
 mod examples;
+mod home;
+mod install;
+mod installed;
 mod levels;
 mod marks;
 mod or_rounds;
@@ -24,4 +27,5 @@ mod sheets;
 mod stored;
 mod storing;
 mod teams;
+mod tree;
 mod words;
