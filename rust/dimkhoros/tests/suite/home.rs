@@ -63,9 +63,10 @@ impl Home {
         command
     }
 
-    /// Makes a command run in this folder, with the tools alone on PATH.
+    /// Makes a command run in this folder, with the tools alone on PATH and without the variable that `./install` reads.
     pub fn prepared<'a>(&self, command: &'a mut Command) -> &'a mut Command {
-        command.current_dir(&self.0).env("PATH", self.0.join("tools")).stdin(Stdio::null())
+        command.env("PATH", self.0.join("tools")).env_remove("DESTDIR");
+        command.current_dir(&self.0).stdin(Stdio::null())
     }
 
     /// Runs the script with these words.

@@ -257,6 +257,7 @@ fn a_prefix_that_cannot_be_written_is_named() {
     write(&home, "part/lib");
     let line = format!("the folder {} cannot be made: File exists", path(&home, "part/lib"));
     assert_eq!(home.run(&["part"]), failed(1, &line));
+    assert_eq!(tree(&home.0.join("part")).len(), 1);
     fs::create_dir_all(home.0.join("whole/bin/marker")).unwrap();
     let line = format!("{} cannot be written: it is a folder", path(&home, "whole/bin/marker"));
     assert_eq!(home.run(&["whole"]), failed(1, &line));

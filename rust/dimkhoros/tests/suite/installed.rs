@@ -22,7 +22,7 @@ fn installed() -> &'static (PathBuf, String) {
         let tools = home.0.join("tools");
         let path = env::var_os("PATH").unwrap();
         let path = env::join_paths([tools].into_iter().chain(env::split_paths(&path))).unwrap();
-        let run = ended(home.command(&["pre fix"]).env("PATH", path).env_remove("DESTDIR"));
+        let run = ended(home.command(&["pre fix"]).env("PATH", path));
         assert_eq!(run.status, Some(0), "{}", run.stderr);
         (home.0.join("pre fix"), run.stdout.lines().last().unwrap().to_string())
     })
