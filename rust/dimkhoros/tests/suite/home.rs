@@ -33,13 +33,17 @@ impl Home {
         }
         fs::write(home.join("crates.txt"), crates).unwrap();
         let home = Home(home, script);
-        for file in [script, "scripts/build.sh"] {
-            home.put(file);
-        }
-        for tool in tools {
-            symlink(on_path(tool).unwrap(), home.0.join("tools").join(tool)).unwrap();
-        }
+        home.put(script);
+        home.put("scripts/build.sh");
+        home.link_tools(tools);
         home
+    }
+
+    /// Puts links to these tools in the folder that is on PATH.
+    fn link_tools(&self, tools: &[&str]) {
+        for tool in tools {
+            symlink(on_path(tool).unwrap(), self.0.join("tools").join(tool)).unwrap();
+        }
     }
 
     /// Puts the programs `marker` and `reason` here, which are then newer than all that stands here.

@@ -55,6 +55,10 @@ const TREE: [&str; 21] = [
     "share/dimkhoros/python/dimkhoros/verbs.py 644",
 ];
 
+/// What is said where the tool is old or missing, and cargo is not there.
+const NO_CARGO: &str =
+    "install: bin/dimkhoros is not installed: the command cargo, which builds it, is not on PATH\n";
+
 /// The folder of a test, in which all is built and up to date.
 fn laid_out(test: &str) -> Home {
     let home = Home::new("install", test, &TOOLS, CRATES);
@@ -208,7 +212,7 @@ fn destdir_stands_before_the_prefix() {
 }
 
 #[test]
-fn wrong_words_install_nothing() {
+fn unknown_options_install_nothing() {
     let home = laid_out("words");
     let before = tree(&home.0);
     for option in ["-", "-h", "--mark", "--help=yes", "--prefix=a"] {
@@ -216,6 +220,13 @@ fn wrong_words_install_nothing() {
         assert_eq!(home.run(&[option]), failed(2, &line));
         assert_eq!(home.run(&["a", option]), failed(2, &line));
     }
+    assert_eq!(tree(&home.0), before);
+}
+
+#[test]
+fn one_folder_is_named() {
+    let home = laid_out("count");
+    let before = tree(&home.0);
     for (words, count) in
         [(&[][..], 0), (&["--remove"], 0), (&["a", "b"], 2), (&["--", "a", "--remove", ""], 3)]
     {
@@ -373,25 +384,25 @@ fn without_cargo_the_tool_is_left_out() {
     let home = laid_out("cargo");
     install(&home, "prefix");
     fs::remove_file(home.0.join("rust/target/release/dimkhoros")).unwrap();
-    let line = "bin/dimkhoros is not installed: the command cargo, which builds it, is not on PATH";
     for prefix in ["prefix", "fresh"] {
         let run = home.run(&[prefix]);
-        assert_eq!((run.status, run.stderr), (Some(1), format!("install: {line}\n")));
+        assert_eq!((run.status, run.stderr.as_str()), (Some(1), NO_CARGO));
         assert!(!run.stdout.contains("bin/dimkhoros"));
         assert_eq!(tree(&home.0.join(prefix)), without(&["bin/dimkhoros"]));
     }
-    write(&home, "rust/target/release/dimkhoros");
+}
+
+/// By time, as the programs are.
+#[test]
+fn without_cargo_an_old_tool_is_left_out() {
+    let home = laid_out("old");
     for changed in
         ["rust/dimkhoros/Cargo.toml", "rust/dimkhoros", "target/staticlib/libdimkhoros.a"]
     {
         install(&home, "prefix");
         home.date(changed, true);
         home.date("target/staticlib/libdimkhoros.so", true);
-        assert_eq!(
-            home.run(&["prefix"]).stderr,
-            format!("install: {line}\n"),
-            "{changed} has changed"
-        );
+        assert_eq!(home.run(&["prefix"]).stderr, NO_CARGO, "{changed} has changed");
         home.date(changed, false);
     }
 }
