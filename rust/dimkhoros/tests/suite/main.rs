@@ -1,5 +1,5 @@
-//! The tests of this crate's public face, of the header's words, of the examples, of the script that marks folders and of the
-//! Python module.
+//! The tests of this crate's public face, of the header's words, of the examples, of the scripts that mark folders and install, and
+//! of the Python module.
 
 mod archive;
 mod boxes;
@@ -7,6 +7,9 @@ mod boxes;
 mod cc;
 mod converting;
 mod examples;
+mod home;
+mod install;
+mod installed;
 mod levels;
 mod marks;
 mod or_rounds;
@@ -26,4 +29,5 @@ mod sheets;
 mod stored;
 mod storing;
 mod teams;
+mod tree;
 mod words;

@@ -1,18 +1,13 @@
-//! The script `./run`, which marks folders or says the reason on them. It runs in a folder of its own that is laid out as the
-//! repository is, with the programs that are built there and with nothing on PATH but the tools that the script needs, so that
-//! no test starts the prover.
+//! The script `./run`, which marks folders or says the reason on them.
 
 use crate::cc;
+use crate::home::{Ended, Home, built, copy, ended};
 
-use std::env;
-use std::fs::{self, File, OpenOptions, Permissions};
-use std::os::unix::fs::{PermissionsExt, symlink};
-use std::path::{Path, PathBuf};
+use std::fs::{self, OpenOptions};
 use std::process::{Command, Stdio};
-use std::time::{Duration, SystemTime};
 
 /// The marker's text on 01's example.
-const EXAMPLE: &str = "rounds 4\n0 accepted\n1 accepted\n2 rejected 0\n3 refused 14\nfail\n";
+pub const EXAMPLE: &str = "rounds 4\n0 accepted\n1 accepted\n2 rejected 0\n3 refused 14\nfail\n";
 
 /// What the script needs beside the shell.
 const TOOLS: [&str; 7] = ["awk", "cat", "dirname", "find", "mkdir", "tail", "touch"];
@@ -26,99 +21,15 @@ fn unwritten(program: &str) -> String {
     format!("{program}: the text cannot be written whole")
 }
 
-/// A program as `rt check` builds it.
-fn built(name: &str) -> PathBuf {
-    let program = cc::root().join("target/bin").join(name);
-    assert!(
-        program.exists(),
-        "there is no {program:?}; `rt check {name}` at the root of the repository builds it"
-    );
-    program
-}
-
-/// A folder laid out as the repository is, with the programs `marker` and `reason` in it, which are up to date.
-struct Home(PathBuf);
-
-/// How a command ended, and what it wrote.
-#[derive(Debug, PartialEq)]
-struct Ended {
-    status: Option<i32>,
-    stdout: String,
-    stderr: String,
-}
-
-impl Home {
-    /// Makes the folder anew. The name is that of the test.
-    fn new(name: &str) -> Home {
-        let home = Path::new(env!("CARGO_TARGET_TMPDIR")).join("run").join(name);
-        if home.exists() {
-            fs::remove_dir_all(&home).unwrap();
-        }
-        for folder in ["crates/marker/data", "target/bin", "tools", "no files"] {
-            fs::create_dir_all(home.join(folder)).unwrap();
-        }
-        copy(&cc::root().join("run"), &home.join("run"));
-        for file in ["sheet.bin", "rounds.bin", "level.bin"] {
-            let file = Path::new("crates/marker/data").join(file);
-            copy(&cc::root().join(&file), &home.join(&file));
-        }
-        fs::write(home.join("crates.txt"), CRATES).unwrap();
-        for tool in TOOLS {
-            let path = env::var_os("PATH").unwrap();
-            let found =
-                env::split_paths(&path).map(|folder| folder.join(tool)).find(|tool| tool.exists());
-            symlink(found.unwrap(), home.join("tools").join(tool)).unwrap();
-        }
-        for program in ["marker", "reason"] {
-            copy(&built(program), &home.join("target/bin").join(program));
-        }
-        Home(home)
+/// The folder of a test, with 01's example, a folder without files and both programs, which are up to date.
+fn laid_out(test: &str) -> Home {
+    let home = Home::new("run", test, &TOOLS, CRATES);
+    for file in ["sheet.bin", "rounds.bin", "level.bin"] {
+        home.put(&format!("crates/marker/data/{file}"));
     }
-
-    /// The script with these words.
-    fn command(&self, words: &[&str]) -> Command {
-        let mut command = Command::new(self.0.join("run"));
-        self.prepared(command.args(words));
-        command
-    }
-
-    /// Makes a command run in this folder, with the tools alone on PATH.
-    fn prepared<'a>(&self, command: &'a mut Command) -> &'a mut Command {
-        command.current_dir(&self.0).env("PATH", self.0.join("tools")).stdin(Stdio::null())
-    }
-
-    /// Runs the script with these words.
-    fn run(&self, words: &[&str]) -> Ended {
-        ended(&mut self.command(words))
-    }
-
-    /// Puts a command `rt` on PATH that does this.
-    fn put_rt(&self, does: &str) {
-        let (text, rt) = (self.0.join("rt.txt"), self.0.join("tools/rt"));
-        fs::write(&text, format!("#!/bin/sh\n{does}\n")).unwrap();
-        copy(&text, &rt);
-        fs::set_permissions(&rt, Permissions::from_mode(0o755)).unwrap();
-    }
-
-    /// Gives a file or folder a time that lies an hour ahead, or an hour back.
-    fn date(&self, path: &str, ahead: bool) {
-        let (now, hour) = (SystemTime::now(), Duration::from_secs(3600));
-        let file = File::open(self.0.join(path)).unwrap();
-        file.set_modified(if ahead { now + hour } else { now - hour }).unwrap();
-    }
-}
-
-/// Copies a file by a program of its own: a file that this one has open to write cannot be run, and each program that another
-/// test starts has it open for a moment too.
-fn copy(from: &Path, to: &Path) {
-    cc::succeed(Command::new("cp").arg(from).arg(to));
-}
-
-/// Runs a command and answers how it ended. What it writes to another place than a pipe is not in it.
-fn ended(command: &mut Command) -> Ended {
-    let output = command.output().unwrap();
-    let text = |bytes| String::from_utf8(bytes).unwrap();
-    Ended { status: output.status.code(), stdout: text(output.stdout), stderr: text(output.stderr) }
+    fs::create_dir(home.0.join("no files")).unwrap();
+    home.put_programs();
+    home
 }
 
 /// What a run comes to that prints this text and says nothing else.
@@ -133,14 +44,14 @@ fn failed(status: i32, line: &str) -> Ended {
 
 #[test]
 fn without_a_folder_the_example_is_marked() {
-    let home = Home::new("example");
+    let home = laid_out("example");
     assert_eq!(home.run(&[]), marked(EXAMPLE));
     assert_eq!(home.run(&["--"]), marked(EXAMPLE));
 }
 
 #[test]
 fn one_folder_gives_the_markers_text_alone() {
-    let home = Home::new("one");
+    let home = laid_out("one");
     assert_eq!(home.run(&["crates/marker/data"]), marked(EXAMPLE));
     assert_eq!(home.run(&["no files"]), marked("sheet 2\n"));
     let whole = home.0.join("crates/marker/data");
@@ -149,14 +60,14 @@ fn one_folder_gives_the_markers_text_alone() {
 
 #[test]
 fn several_folders_are_marked_under_their_names() {
-    let home = Home::new("several");
+    let home = laid_out("several");
     let expected = format!("crates/marker/data:\n{EXAMPLE}no files:\nsheet 2\n");
     assert_eq!(home.run(&["crates/marker/data", "no files"]), marked(&expected));
 }
 
 #[test]
 fn a_missing_folder_is_named_and_the_others_are_marked() {
-    let home = Home::new("missing");
+    let home = laid_out("missing");
     let alone = failed(1, "there is no folder nobody that can be entered");
     assert_eq!(home.run(&["nobody"]), alone);
     let stdout = format!("crates/marker/data:\n{EXAMPLE}no files:\nsheet 2\n");
@@ -166,7 +77,7 @@ fn a_missing_folder_is_named_and_the_others_are_marked() {
 
 #[test]
 fn wrong_words_mark_nothing() {
-    let home = Home::new("words");
+    let home = laid_out("words");
     let empty = failed(2, "a folder's name is empty");
     assert_eq!(home.run(&[""]), empty);
     assert_eq!(home.run(&["--", ""]), empty);
@@ -180,7 +91,7 @@ fn wrong_words_mark_nothing() {
 
 #[test]
 fn help_is_printed_and_marks_nothing() {
-    let help = Home::new("help").run(&["--help"]);
+    let help = laid_out("help").run(&["--help"]);
     assert_eq!((help.status, help.stderr.as_str()), (Some(0), ""));
     let usage = "usage: ./run [--] [FOLDER...]\n       ./run reason [--] [FOLDER...]\n";
     assert!(help.stdout.starts_with(usage));
@@ -189,7 +100,7 @@ fn help_is_printed_and_marks_nothing() {
 
 #[test]
 fn behind_the_word_reason_each_folder_gets_its_line() {
-    let home = Home::new("reason");
+    let home = laid_out("reason");
     assert_eq!(home.run(&["reason"]), marked("accepted\n"));
     assert_eq!(home.run(&["reason", "--", "crates/marker/data"]), marked("accepted\n"));
     assert_eq!(home.run(&["reason", "no files"]), marked("refused 2 length 0\n"));
@@ -204,7 +115,7 @@ fn behind_the_word_reason_each_folder_gets_its_line() {
 /// The word is one only where it stands first.
 #[test]
 fn a_folder_called_reason_is_marked() {
-    let home = Home::new("called");
+    let home = laid_out("called");
     fs::create_dir(home.0.join("reason")).unwrap();
     let sheet = fs::read(home.0.join("crates/marker/data/sheet.bin")).unwrap();
     fs::write(home.0.join("reason/sheet.bin"), &sheet[..27]).unwrap();
@@ -219,7 +130,7 @@ fn a_folder_called_reason_is_marked() {
 /// The level stands beside the other two files, and the program `reason` does not read it.
 #[test]
 fn a_folder_without_a_level_is_not_marked_by_rounds() {
-    let home = Home::new("level");
+    let home = laid_out("level");
     fs::remove_file(home.0.join("crates/marker/data/level.bin")).unwrap();
     home.date("crates/marker/data", false);
     assert_eq!(home.run(&[]), marked("level 25\n"));
@@ -229,7 +140,7 @@ fn a_folder_without_a_level_is_not_marked_by_rounds() {
 /// The README's script is told a pass by the last line. With K = 11 one round passes at the level 3.
 #[test]
 fn a_script_tells_a_pass() {
-    let home = Home::new("script");
+    let home = laid_out("script");
     let passing = home.0.join("passing");
     fs::create_dir(&passing).unwrap();
     copy(&cc::root().join("crates/marker/data/sheet.bin"), &passing.join("sheet.bin"));
@@ -247,7 +158,7 @@ fn a_script_tells_a_pass() {
 
 #[test]
 fn a_copy_of_the_marker_is_used_alone() {
-    let home = Home::new("alone");
+    let home = laid_out("alone");
     let copied = home.0.join("crates/marker/data/copy");
     copy(&built("marker"), &copied);
     let mut alone = Command::new(&copied);
@@ -256,7 +167,7 @@ fn a_copy_of_the_marker_is_used_alone() {
 
 #[test]
 fn two_hyphens_end_the_options() {
-    let home = Home::new("hyphens");
+    let home = laid_out("hyphens");
     for name in ["-", "--help"] {
         fs::create_dir(home.0.join(name)).unwrap();
     }
@@ -265,7 +176,7 @@ fn two_hyphens_end_the_options() {
 
 #[test]
 fn a_text_that_cannot_be_written_is_told_of() {
-    let home = Home::new("full");
+    let home = laid_out("full");
     let full = || OpenOptions::new().write(true).open("/dev/full").unwrap();
     for (program, words) in [("marker", &["no files"][..]), ("reason", &["reason", "no files"])] {
         let line = unwritten(program);
@@ -281,7 +192,7 @@ fn a_text_that_cannot_be_written_is_told_of() {
 /// The reader has ended before the script begins.
 #[test]
 fn a_reader_that_has_gone_away_is_told_of() {
-    let home = Home::new("pipe");
+    let home = laid_out("pipe");
     let mut reader = Command::new("true").stdin(Stdio::piped()).spawn().unwrap();
     let pipe = reader.stdin.take().unwrap();
     assert!(reader.wait().unwrap().success());
@@ -291,7 +202,7 @@ fn a_reader_that_has_gone_away_is_told_of() {
 
 #[test]
 fn an_old_marker_is_not_run_without_rt() {
-    let home = Home::new("old");
+    let home = laid_out("old");
     let marker = home.0.join("target/bin/marker");
     let line = format!(
         "{} is missing or older than its sources, and the command rt, which builds it, is not on PATH",
@@ -309,9 +220,9 @@ fn an_old_marker_is_not_run_without_rt() {
 
 #[test]
 fn an_old_marker_is_built_once() {
-    let home = Home::new("build");
+    let home = laid_out("build");
     home.date("target/bin/marker", false);
-    home.put_rt("echo \"$@\" >>asked\necho 'rt: ok'");
+    home.put_tool("rt", "echo \"$@\" >>asked\necho 'rt: ok'");
     let built = home.run(&[]);
     assert_eq!((built.status, built.stdout.as_str()), (Some(0), EXAMPLE));
     assert!(
@@ -321,16 +232,16 @@ fn an_old_marker_is_built_once() {
     );
     assert_eq!(built.stderr.lines().count(), 1);
     assert_eq!(home.run(&[]), marked(EXAMPLE));
-    assert_eq!(fs::read_to_string(home.0.join("asked")).unwrap(), "check marker\n");
-    assert_eq!(fs::read_to_string(home.0.join("target/run.log")).unwrap(), "rt: ok\n");
+    assert_eq!(home.text("asked"), "check marker\n");
+    assert_eq!(home.text("target/run.log"), "rt: ok\n");
 }
 
 /// Each program is built where it is asked for and old, whatever the other one is.
 #[test]
 fn an_old_program_reason_is_built_for_itself() {
-    let home = Home::new("reason-build");
+    let home = laid_out("reason-build");
     home.date("target/bin/reason", false);
-    home.put_rt("echo \"$@\" >>asked\necho 'rt: ok'");
+    home.put_tool("rt", "echo \"$@\" >>asked\necho 'rt: ok'");
     assert_eq!(home.run(&[]), marked(EXAMPLE));
     let built = home.run(&["reason"]);
     assert_eq!((built.status, built.stdout.as_str()), (Some(0), "accepted\n"));
@@ -340,24 +251,27 @@ fn an_old_program_reason_is_built_for_itself() {
         built.stderr
     );
     assert_eq!(home.run(&["reason"]), marked("accepted\n"));
-    assert_eq!(fs::read_to_string(home.0.join("asked")).unwrap(), "check reason\n");
+    assert_eq!(home.text("asked"), "check reason\n");
 }
 
 #[test]
 fn what_changes_during_a_build_is_built_again() {
-    let home = Home::new("during");
+    let home = laid_out("during");
     home.date("target/bin/marker", false);
-    home.put_rt("echo \"$@\" >>asked\nPATH=/usr/bin:/bin\nsleep 0.1; touch crates.txt; sleep 0.1");
+    home.put_tool(
+        "rt",
+        "echo \"$@\" >>asked\nPATH=/usr/bin:/bin\nsleep 0.1; touch crates.txt; sleep 0.1",
+    );
     assert_eq!(home.run(&[]).stdout, EXAMPLE);
     assert_eq!(home.run(&[]).stdout, EXAMPLE);
-    assert_eq!(fs::read_to_string(home.0.join("asked")).unwrap(), "check marker\n".repeat(2));
+    assert_eq!(home.text("asked"), "check marker\n".repeat(2));
 }
 
 #[test]
 fn a_failed_build_names_its_log() {
-    let home = Home::new("failed");
+    let home = laid_out("failed");
     home.date("target/bin/marker", false);
-    home.put_rt("for line in 1 2 3 4 5 6; do echo \"error $line\" >&2; done\nexit 1");
+    home.put_tool("rt", "for line in 1 2 3 4 5 6; do echo \"error $line\" >&2; done\nexit 1");
     let run = home.run(&[]);
     assert_eq!((run.status, run.stdout.as_str()), (Some(1), ""));
     let lines: Vec<&str> = run.stderr.lines().collect();
