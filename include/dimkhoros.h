@@ -7,7 +7,11 @@
  *
  *     cc -std=c99 -I include program.c target/staticlib/libdimkhoros.a
  *
- * and elsewhere with the whole paths of the two. The archive stands behind the sources that call it.
+ * and elsewhere with the whole paths of the two. The archive stands behind the sources that call it. Where `./install PREFIX` has
+ * put the library under a folder, pkg-config knows both, as in
+ *
+ *     cc -std=c99 program.c $(pkg-config --cflags --libs dimkhoros)
+ *
  *
  * The archive needs memcpy and memset and nothing else. It allocates nothing and keeps nothing between calls, so calls may
  * run in several threads at once.
