@@ -12,7 +12,6 @@
  *
  *     cc -std=c99 program.c $(pkg-config --cflags --libs dimkhoros)
  *
- *
  * The archive needs memcpy and memset and nothing else. It allocates nothing and keeps nothing between calls, so calls may
  * run in several threads at once.
  *
