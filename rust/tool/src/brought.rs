@@ -3,7 +3,7 @@
 use crate::failure::Failure;
 use crate::sheets::{column_count, row_count};
 use crate::small;
-use dimkhoros::{Instance, PLACES, Places, Refusal};
+use dimkhoros::{Instance, PLACES, Places, Refusal, Round};
 
 /// Values under a letter, and the refusal that they may be refused with.
 pub struct Brought<'a> {
@@ -44,6 +44,15 @@ impl<'a> Brought<'a> {
         Brought { sheet, letter: letter.into(), values, refusal: Refusal::Coordinate }
     }
 
+    /// The values of a round.
+    pub fn round(sheet: &'a Instance, round: &Round) -> [Self; 3] {
+        [
+            Brought::commitment(sheet, "t", &round.commitment),
+            Brought::challenge(sheet, "c", round.challenge),
+            Brought::coordinates(sheet, "r", &round.response),
+        ]
+    }
+
     /// The first of the values that is refused, where one is. The library is asked of each.
     fn outside(&self) -> Option<u32> {
         let refused = |value: &u32| match self.refusal {
@@ -65,5 +74,24 @@ pub fn refused(refusal: Refusal, brought: &[Brought<'_>]) -> Failure {
     match found {
         Some((value, letter)) => Failure::refused(refusal, format!("{value} in {letter}=")),
         None => refusal.into(),
+    }
+}
+
+/// Whether a refusal is by a value of a round alone.
+pub fn is_by_value(refusal: Refusal) -> bool {
+    matches!(refusal, Refusal::Commitment | Refusal::Challenge | Refusal::Coordinate)
+}
+
+/// A refusal of two rounds that have these commitments, each with its letter, where the first one has this challenge.
+pub fn of_two(refusal: Refusal, commitments: &[(&str, [String; 2])], challenge: u32) -> Failure {
+    let differ = commitments.iter().find(|(_, [one, other])| one != other);
+    match (refusal, differ) {
+        (Refusal::CommitmentsDiffer, Some((letter, [one, other]))) => {
+            Failure::refused(refusal, format!("{one} and {other} in {letter}="))
+        }
+        (Refusal::ChallengesEqual, _) => {
+            Failure::refused(refusal, format!("{challenge} in both c="))
+        }
+        _ => refusal.into(),
     }
 }

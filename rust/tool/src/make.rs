@@ -54,8 +54,8 @@ const MOST_CHALLENGES: u32 = 65_536;
 /// Runs the command.
 pub fn run(words: Vec<OsString>, out: &mut dyn Write) -> Outcome {
     let words = Words::sort(words, &GRAMMAR)?;
-    let target = Target::of(&words)?;
-    let sheet = with_statement(&words, &without_statement(&words, &Asked::read(&words)?)?)?;
+    let (asked, target) = (Asked::read(&words)?, Target::of(&words)?);
+    let sheet = with_statement(&words, &without_statement(&words, &asked)?)?;
     target.write(sheet.bytes(), out)
 }
 
@@ -69,32 +69,23 @@ fn stated(words: &Words) -> Outcome<&Value> {
     }
 }
 
-/// Fails where a word is there that has no meaning.
-fn without(there: bool, word: &str, of: &str) -> Outcome {
-    match there {
-        true => Err(Failure::words(format!("{word} has no meaning for {of}"))),
-        false => Ok(()),
-    }
-}
-
 /// The sheet that is asked for, with ones in the place of the statement.
 fn without_statement(words: &Words, asked: &Asked) -> Outcome<Instance> {
-    let modulus = words.number("m")?.ok_or(Failure::words("m= is missing: the modulus"))?;
-    let (letter, other, of) = match asked {
-        Asked::Root(_) => ("e", "q", "a root sheet"),
-        _ => ("q", "e", "an exponent sheet"),
+    let modulus = words.needed("m", "the modulus")?.number()?;
+    let (letter, what, other, when) = match asked {
+        Asked::Root(_) => ("e", "the exponent", "q", "for a root sheet"),
+        _ => ("q", "the order", "e", "for an exponent sheet"),
     };
-    without(words.once(other)?.is_some(), &format!("{other}="), of)?;
-    let order = words.number(letter)?;
-    let order = order.ok_or_else(|| Failure::words(format!("{letter}= is missing for {of}")))?;
+    words.without(&[other], when)?;
+    let order = words.needed(letter, what)?.number()?;
     let sheet = |challenges| asked.sheet([modulus, order, challenges]);
     let challenges = words.number("K")?.unwrap_or_else(|| largest(sheet));
     sheet(challenges).map_err(|refusal| match refusal {
         Refusal::Modulus => Failure::refused(refusal, format!("{modulus} in m=")),
         Refusal::Order => Failure::refused(refusal, format!("{order} in {letter}=")),
-        Refusal::Challenges if challenges > 2 => {
+        Refusal::Challenges => {
             let most = largest(sheet);
-            Failure::refused(refusal, format!("{challenges} in K=, where {most} is the largest"))
+            Failure::refused(refusal, format!("{challenges} in K=, where 2 to {most} are allowed"))
         }
         _ => asked.refused([modulus, order, challenges], refusal),
     })

@@ -27,7 +27,8 @@ Example:
     $ mkdir anna ben
     $ dimkhoros make schnorr m=23 q=11 h=2 x=7 -o anna/sheet.bin
     anna/sheet.bin has 28 bytes
-    $ printf 'RND\\0\\1\\0\\1\\0\\0\\0\\11\\0\\0\\0\\3\\0\\0\\0\\4' > anna/rounds.bin
+    $ dimkhoros rounds make anna/sheet.bin x=7 k=5 c=3 -o anna/rounds.bin
+    anna/rounds.bin has 19 bytes
     $ printf '\\3' > anna/level.bin
     $ dimkhoros mark anna ben
     anna  pass     1 round

@@ -5,7 +5,8 @@ mod judge;
 mod make;
 mod rounds;
 
-use crate::failure::{Failure, Outcome};
+use crate::failure::Outcome;
+use crate::words;
 use std::ffi::OsString;
 use std::io::Write;
 
@@ -60,13 +61,10 @@ Example:
 
 /// Runs the command.
 pub fn run(words: Vec<OsString>, out: &mut dyn Write) -> Outcome {
-    let mut words = words.into_iter();
-    let what = words.next().unwrap_or_default();
-    let rest = words.collect();
-    match what.to_str() {
-        Some("make") => make::run(rest, out),
-        Some("judge") => judge::run(rest, out),
-        Some("extract") => extract::run(rest, out),
-        _ => Err(Failure::words("the first word has to be make, judge or extract")),
+    let (deed, words) = words::deed("or", &["make", "judge", "extract"], words)?;
+    match deed {
+        "make" => make::run(words, out),
+        "judge" => judge::run(words, out),
+        _ => extract::run(words, out),
     }
 }

@@ -3,7 +3,7 @@
 use crate::failure::{Failure, Outcome};
 use crate::files::Target;
 use crate::words::{Grammar, Words};
-use crate::{faults, files, show};
+use crate::{faults, files, notation, show};
 use dimkhoros::{Layout, Pattern, Patterns, Refusal};
 use std::ffi::{OsStr, OsString};
 use std::io::Write;
@@ -153,7 +153,16 @@ pub fn number(word: &str, shipped: bool) -> Outcome<u32> {
         .iter()
         .find(|(name, pattern)| *name == word && (shipped || *pattern == Pattern::Root));
     let named = named.map(|(_, pattern)| pattern.number());
-    named.ok_or_else(|| Failure::words(format!("there is no pattern called {word}")))
+    named.ok_or_else(|| no_pattern(word, shipped))
+}
+
+/// Says that a pattern's name is none. The patterns of a file of one's own have numbers alone.
+fn no_pattern(word: &str, shipped: bool) -> Failure {
+    let names = NAMES.map(|(name, _)| name);
+    Failure::words(match shipped {
+        true => format!("there is no pattern {word}, but {}", notation::enumerated(&names, "and")),
+        false => format!("there is no pattern {word}: those of a file are named by their numbers"),
+    })
 }
 
 /// The patterns in a file, or the shipped ones.

@@ -7,7 +7,7 @@ use crate::failure::Outcome;
 use crate::table::{self, Set};
 use crate::words::{Grammar, Words};
 use crate::{notation, sheets};
-use dimkhoros::{Instance, Prover, Refusal, Round, Verdict};
+use dimkhoros::{Instance, Round, Verdict};
 use join::Column;
 use players::Players;
 use std::ffi::OsString;
@@ -138,9 +138,7 @@ fn alone(sheet: &Instance, columns: &[Column<'_>], round: &Round) -> Outcome<Str
     else {
         return Ok(String::new());
     };
-    let (peggy, commitment) = Prover::new().commit(sheet, &nonce).map_err(Refusal::from)?;
-    let answered = peggy.respond(sheet, round.challenge, &witness).map_err(Refusal::from)?;
-    let hers = Round { commitment, challenge: round.challenge, response: answered.1 };
+    let hers = sheets::honest(sheet, &witness, &nonce, round.challenge)?;
     let same = if hers == *round { "the same round" } else { "another round" };
     Ok(format!(
         "A single Peggy with the witness {} and the nonce {} sends {same}: {}.\n",

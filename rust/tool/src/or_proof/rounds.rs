@@ -101,13 +101,14 @@ pub fn of_side(pair: &Pair<'_>, round: &OrRound, side: Side) -> Round {
 /// A round as the words in which it is taken.
 pub fn as_words(pair: &Pair<'_>, round: &OrRound) -> String {
     let [first, second] = [Side::First, Side::Second].map(|side| pair.instance(side));
+    let word = |values: &Places, count: usize| notation::list(&values[..count], ",");
     format!(
         "t0={} t1={} c={} c0={} r0={} r1={}",
-        notation::word(&round.commitment0, row_count(first)),
-        notation::word(&round.commitment1, row_count(second)),
+        word(&round.commitment0, row_count(first)),
+        word(&round.commitment1, row_count(second)),
         round.challenge,
         round.challenge0,
-        notation::word(&round.response0, column_count(first)),
-        notation::word(&round.response1, column_count(second)),
+        word(&round.response0, column_count(first)),
+        word(&round.response1, column_count(second)),
     )
 }

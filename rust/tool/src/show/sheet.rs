@@ -84,7 +84,7 @@ fn domain(sheet: &Instance) -> String {
 fn group(sheet: &Instance) -> String {
     let elements = small::elements(sheet);
     let listed = elements.as_ref().filter(|elements| elements.len() <= LISTED);
-    let listed = listed.map_or(String::new(), |elements| forms::list(elements, ", "));
+    let listed = listed.map_or(String::new(), |elements| notation::list(elements, ", "));
     size(elements.map(|elements| elements.len()), "element", row_count(sheet), "row", &listed)
 }
 
