@@ -15,14 +15,15 @@ pub const HELP: &str = "\
 usage: dimkhoros extract SHEET ROUNDS
        dimkhoros extract SHEET t=VALUE,... c=CHALLENGE r=VALUE,... [t=VALUE,...] c=CHALLENGE r=VALUE,...
 
-Takes the pairs of rounds that have one commitment, are accepted and have different challenges, and computes the witness from
-them: of a round file, or of two rounds in words. The first pair of each commitment is worked out line by line, with a and b
-such that ℓ·a + (c - c')·b = 1; the further ones are counted. Where no pair gives a witness, the exit status is 1.
+Takes the pairs of accepted rounds with the same commitment and different challenges, of a round file or of two rounds in words,
+and computes the witness that they give away. The first pair of each commitment is worked out line by line, with a and b such
+that ℓ·a + (c - c')·b = 1, where ℓ is q or e; the further ones are counted. Where no pair gives a witness, the exit status is 1.
 
-    ROUNDS       a round file
-    t=VALUE,...  the commitment, a value for each row; the second round has the first one's where it is left out
-    c=CHALLENGE  the challenge
-    r=VALUE,...  the response, a value for each column
+    SHEET        a sheet
+    ROUNDS       a round file of the sheet
+    t=VALUE,...  a commitment, a value for each row; the second round has the first one's where it is left out
+    c=CHALLENGE  a challenge, from 0 to K - 1
+    r=VALUE,...  a response, a value for each column
 
 Example:
     $ dimkhoros make schnorr m=23 q=11 h=2 x=7 -o sheet.bin

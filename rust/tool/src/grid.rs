@@ -14,12 +14,13 @@ use std::io::Write;
 pub const HELP: &str = "\
 usage: dimkhoros grid SHEET [t=VALUE,...]
 
-Prints a table with a column for each challenge c and a row for each response r, and in it the one commitment with which Vic
-accepts them, t = [r] · z^(-c). These are all accepted rounds of SHEET. Below it stands how many challenges each commitment can
-answer: all of them where the statement has a witness, one at most where it has none. Of a sheet with more than 64 challenges or
-512 responses no table is printed.
+Prints all accepted rounds of a small sheet: a table with a column for each challenge c and a row for each response r, and in it
+the one commitment with which Vic accepts them, t = [r] · z^(-c). Below it stands how many challenges each commitment can
+answer: all of them where the statement has a witness, one at most where it has none. A grid has 64 challenges and 512 responses
+at most.
 
-    t=VALUE,...  a commitment, a value for each row: its cells stand in brackets and are listed
+    SHEET        a sheet
+    t=VALUE,...  a commitment, a value for each row, whose cells stand in brackets and are listed
 
 Example:
     $ dimkhoros make schnorr m=11 q=5 h=4 x=3 -o sheet.bin

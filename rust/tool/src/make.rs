@@ -16,20 +16,23 @@ use std::io::Write;
 pub const HELP: &str = "\
 usage: dimkhoros make PATTERN m=MODULUS q=ORDER [K=COUNT] h=VALUE,... (z=VALUE,... | x=VALUE,...) -o SHEET
        dimkhoros make root m=MODULUS e=EXPONENT [K=COUNT] (z=VALUE,... | x=VALUE,...) -o SHEET
-       dimkhoros make table=ENTRY,.../ENTRY,.../... m=MODULUS q=ORDER [K=COUNT] (z=VALUE,... | x=VALUE,...) -o SHEET
+       dimkhoros make table=ENTRY,.../... m=MODULUS q=ORDER [K=COUNT] (z=VALUE,... | x=VALUE,...) -o SHEET
 
-Makes a sheet of a pattern, of a root or of any table.
+Makes a sheet of a pattern, of a root or of any table. With z the statement is as it stands, and nobody says whether it has a
+witness; with x the statement is computed of this witness, which the sheet itself does not hold.
 
-    PATTERN      schnorr, okamoto, equality, diffie-hellman, product or root, or a pattern's number in its file
-    m=MODULUS    the modulus
-    q=ORDER      the order of an exponent sheet; e=EXPONENT of a root sheet
-    K=COUNT      the challenge count; the largest that the order or exponent allows where it is left out
-    h=VALUE,...  the public values of the pattern
-    table=...    the entries, with commas within a row and / between rows
-    z=VALUE,...  the statement, a value for each row
-    x=VALUE,...  a witness in its place, of which the statement is computed
-    --patterns FILE  the pattern file; the shipped one where it is left out
-    -o SHEET     where the sheet is written; --force writes over a file that is there
+    PATTERN          schnorr, okamoto, equality, diffie-hellman or product, or a pattern's number in its file. `dimkhoros
+                     patterns` shows them, and how many public values each takes
+    m=MODULUS        the modulus, 3 or more
+    q=ORDER          the order, of an exponent sheet: an element v of the group has v^q mod m = 1
+    e=EXPONENT       the exponent, of a root sheet
+    K=COUNT          the challenge count; the largest that q or e allows where it is left out
+    h=VALUE,...      the public values of the pattern, in its order
+    table=ENTRY,...  the entries, with commas within a row and / between rows
+    z=VALUE,...      the statement, a value for each row
+    x=VALUE,...      a witness, a value for each column, of which the statement is computed
+    --patterns FILE  a pattern file; the shipped one where it is left out
+    -o SHEET         where the sheet is written; --force writes over a file that is there
 
 Example:
     $ dimkhoros make schnorr m=23 q=11 h=2 x=7 -o sheet.bin

@@ -14,11 +14,12 @@ pub const HELP: &str = "\
 usage: dimkhoros patterns [FILE]
        dimkhoros patterns make PATTERN... -o FILE
 
-Shows the patterns of FILE, or the shipped ones where no file is named. With the word make it makes a pattern file, of 1 to 32
-patterns, which `dimkhoros make --patterns FILE` takes. A file that is itself called make is named as ./make.
+Shows the patterns of a pattern file, or the shipped ones where no file is named. With the word make it makes a pattern file of
+1 to 32 patterns, which `dimkhoros make --patterns FILE` takes.
 
-    PATTERN  rows of digits with / between them: digit 1 stands for the first public value, 2 for the second and so on, and 0
-             for the entry 1; or the name of a shipped pattern
+    FILE     a pattern file; one that is itself called make is named as ./make
+    PATTERN  the name of a shipped pattern, or rows of digits with / between them: digit 1 stands for the first public value, 2
+             for the second and so on, and 0 for the entry 1
     -o FILE  where the file is written; --force writes over a file that is there
 
 Example:

@@ -14,9 +14,12 @@ pub const HELP: &str = "\
 usage: dimkhoros reason SHEET ROUNDS
 
 Prints the line that the program `reason` prints on a sheet, a round file of it and the file's round 0, and below it the same in
-words: what is refused and which value at which byte breaks the rule, or both sides of each row of round 0. `dimkhoros show SHEET
-ROUNDS` has the verdicts on all rounds. The line is what is asked for, so that the exit status is 0 whatever it says; it is 1
-where a file cannot be read.
+words: what is refused and which value at which byte breaks the rule, or both sides of each row of round 0.
+`dimkhoros show SHEET ROUNDS` has the verdicts on all rounds. The exit status is 0 whatever the line says, and 1 where a file
+cannot be read.
+
+    SHEET   a sheet
+    ROUNDS  a round file of the sheet
 
 Example:
     $ dimkhoros make schnorr m=23 q=11 h=2 x=7 -o sheet.bin

@@ -14,20 +14,22 @@ use std::path::Path;
 
 /// The command's help.
 pub const HELP: &str = "\
-usage: dimkhoros rounds make SHEET [ROUND...] [--version 2] -o FILE
-       dimkhoros rounds append SHEET FILE ROUND... [-o OUT]
-       dimkhoros rounds list SHEET FILE
-       dimkhoros rounds convert SHEET FILE -o OUT
-       dimkhoros rounds equal SHEET FILE
+usage: dimkhoros rounds make SHEET [ROUND...] [--version 2] -o ROUNDS
+       dimkhoros rounds append SHEET ROUNDS ROUND... [-o FILE]
+       dimkhoros rounds list SHEET ROUNDS
+       dimkhoros rounds convert SHEET ROUNDS -o FILE
+       dimkhoros rounds equal SHEET ROUNDS
 
-Makes a round file of 0 to 512 rounds, adds rounds to one, lists one with Vic's verdicts, turns version 1 into 2 or 2 into 1, and
-finds rounds with equal commitments, from which `dimkhoros extract` reads the witness. A round's values are written as they
-stand, without being tested: `list` shows what Vic says of them.
+Makes a round file of 0 to 512 rounds, adds rounds to one, lists one with Vic's verdicts, turns version 1 into 2 or 2 into 1,
+and finds rounds with the same commitment, of which `dimkhoros extract` makes the witness. t, c and r are written as they stand,
+without being tested: `list` shows what Vic says of them.
 
-    ROUND        t=.. c=.. r=.. as it stands; or c=.. r=.. simulated, with the commitment that fits them; or x=.. k=.. c=.. as a
-                 Peggy with this witness and nonce makes it. A round is whole before the next one begins
-    --version 2  writes a challenge in 16 bits; version 1, in 32, where it is left out
-    -o FILE      where the file is written; --force writes over a file that is there. `append` without -o adds to FILE itself
+    SHEET        a sheet
+    ROUNDS       a round file of the sheet
+    ROUND        t= c= r= as it stands; or c= r= simulated, with the commitment that fits them; or x= k= c= as a Peggy with this
+                 witness and nonce makes it. A round is whole before the next one begins
+    --version 2  writes a challenge in 16 bits; version 1, in 32 bits, where it is left out
+    -o FILE      where the file is written; --force writes over a file that is there. `append` without -o adds to ROUNDS itself
 
 Example:
     $ dimkhoros make schnorr m=23 q=11 h=2 x=7 -o sheet.bin

@@ -22,9 +22,9 @@ Shows a sheet, a round file of a sheet, or a pattern file: its fields, its table
 told on standard error, with the number of the refusal, the byte and the value that is wrong, and the exit status is 1. Rounds
 that are rejected or refused are shown with the others.
 
-    SHEET     a sheet: it begins with HOM
-    ROUNDS    a round file of that sheet: it begins with RND
-    PATTERNS  a pattern file: it begins with PAT
+    SHEET     a sheet, which begins with HOM
+    ROUNDS    a round file of the sheet, which begins with RND
+    PATTERNS  a pattern file, which begins with PAT
 
 Example:
     $ dimkhoros make schnorr m=23 q=11 h=2 x=7 -o sheet.bin

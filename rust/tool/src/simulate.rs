@@ -12,10 +12,11 @@ use std::io::Write;
 pub const HELP: &str = "\
 usage: dimkhoros simulate SHEET c=CHALLENGE [r=VALUE,...]
 
-Makes the one commitment with which Vic accepts the challenge and the response: t = [r] · z^(-c). No witness is needed. Without
-r all responses are taken in turn, where there are few.
+Makes the one commitment with which Vic accepts a challenge and a response: t = [r] · z^(-c). No witness is needed. Without r
+all responses are taken in turn, where there are 512 at most.
 
-    c=CHALLENGE  a challenge, below the sheet's K
+    SHEET        a sheet
+    c=CHALLENGE  a challenge, from 0 to K - 1
     r=VALUE,...  a response, a value for each column
 
 Example:

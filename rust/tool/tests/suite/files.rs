@@ -107,9 +107,9 @@ fn a_file_that_cannot_be_written_is_named() {
     fs::create_dir(desk.folder.join("folder")).unwrap();
     for line in writing(&desk) {
         for (target, why) in [
-            ("nowhere/file", "No such file or directory (os error 2)"),
-            ("SHEET/file", "Not a directory (os error 20)"),
-            ("folder --force", "Is a directory (os error 21)"),
+            ("nowhere/file", "there is no such folder"),
+            ("SHEET/file", "there is no such folder"),
+            ("folder --force", "it is a folder"),
             ("/dev/full --force", "No space left on device (os error 28)"),
         ] {
             let line = with(&line, "-o OUT", &format!("-o {target}"));
@@ -127,13 +127,13 @@ fn a_file_that_cannot_be_read_is_named() {
     fs::write(desk.folder.join("closed"), b"").unwrap();
     desk.print("chmod 000 closed");
     let mut targets = vec![
-        ("nowhere", "No such file or directory (os error 2)"),
-        ("folder", "Is a directory (os error 21)"),
+        ("nowhere", "there is no such file"),
+        ("folder", "it is a folder"),
         ("/proc/self/mem", "Input/output error (os error 5)"),
     ];
     // Root may read all files.
     if File::open(desk.folder.join("closed")).is_err() {
-        targets.push(("closed", "Permission denied (os error 13)"));
+        targets.push(("closed", "that is not permitted"));
     }
     for (file, _) in FILES {
         for line in lines_with(file) {
