@@ -1,5 +1,6 @@
 //! The values that a command hands to the library, and by which of them a call is refused.
 
+use crate::allowed;
 use crate::failure::Failure;
 use crate::sheets::{column_count, row_count};
 use crate::small;
@@ -70,9 +71,12 @@ impl<'a> Brought<'a> {
 /// A refusal of a call that was brought these values, with the first value that it is by.
 pub fn refused(refusal: Refusal, brought: &[Brought<'_>]) -> Failure {
     let same = brought.iter().filter(|brought| brought.refusal == refusal);
-    let found = same.filter_map(|brought| Some((brought.outside()?, &brought.letter))).next();
+    let found = same.filter_map(|brought| Some((brought.outside()?, brought))).next();
     match found {
-        Some((value, letter)) => Failure::refused(refusal, format!("{value} in {letter}=")),
+        Some((value, Brought { letter, sheet, .. })) => {
+            let why = Failure::refused(refusal, format!("{value} in {letter}="));
+            Failure::failed(format!("{why}{}", allowed::by(refusal, &sheet.values().header)))
+        }
         None => refusal.into(),
     }
 }

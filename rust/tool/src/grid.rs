@@ -108,12 +108,12 @@ impl Grid {
         let challenges = sheet.values().header.challenges;
         if challenges > MOST_CHALLENGES {
             return Err(Failure::failed(format!(
-                "the sheet has {challenges} challenges, and more than {MOST_CHALLENGES} are too many for a grid"
+                "the sheet has {challenges} challenges, and more than {MOST_CHALLENGES} are too many for a grid: make it with a smaller K"
             )));
         }
         let responses = small::domain(sheet, small::LISTED).ok_or_else(|| {
             Failure::failed(format!(
-                "the sheet has more than {} responses, which are too many for a grid",
+                "the sheet has more than {} responses, which are too many for a grid: `dimkhoros simulate` makes single rounds",
                 small::LISTED
             ))
         })?;

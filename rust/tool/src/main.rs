@@ -2,6 +2,7 @@
 //!
 //! What it says of sheets and rounds it has from the proved library; it reads and writes files, and lays out what it was told.
 
+mod allowed;
 mod brought;
 mod by_hand;
 mod check;

@@ -5,10 +5,10 @@ mod asked;
 use crate::brought::{self, Brought};
 use crate::failure::{Failure, Outcome};
 use crate::files::Target;
-use crate::sheets;
 use crate::words::{Grammar, Value, Words};
+use crate::{allowed, sheets};
 use asked::Asked;
-use dimkhoros::{Header, Instance, Refusal};
+use dimkhoros::{EXPONENT, Header, Instance, ROOT, Refusal};
 use std::ffi::OsString;
 use std::io::Write;
 
@@ -75,9 +75,9 @@ fn stated(words: &Words) -> Outcome<&Value> {
 /// The sheet that is asked for, with ones in the place of the statement.
 fn without_statement(words: &Words, asked: &Asked) -> Outcome<Instance> {
     let modulus = words.needed("m", "the modulus")?.number()?;
-    let (letter, what, other, when) = match asked {
-        Asked::Root(_) => ("e", "the exponent", "q", "for a root sheet"),
-        _ => ("q", "the order", "e", "for an exponent sheet"),
+    let (kind, letter, what, other, when) = match asked {
+        Asked::Root(_) => (ROOT, "e", "the exponent", "q", "for a root sheet"),
+        _ => (EXPONENT, "q", "the order", "e", "for an exponent sheet"),
     };
     words.without(&[other], when)?;
     let order = words.needed(letter, what)?.number()?;
@@ -87,8 +87,9 @@ fn without_statement(words: &Words, asked: &Asked) -> Outcome<Instance> {
         Refusal::Modulus => Failure::refused(refusal, format!("{modulus} in m=")),
         Refusal::Order => Failure::refused(refusal, format!("{order} in {letter}=")),
         Refusal::Challenges => {
-            let most = largest(sheet);
-            Failure::refused(refusal, format!("{challenges} in K=, where 2 to {most} are allowed"))
+            let why = Failure::refused(refusal, format!("{challenges} in K="));
+            let header = Header { kind, modulus, order, challenges, rows: 1, columns: 1 };
+            Failure::failed(format!("{why}{}", allowed::by(refusal, &header)))
         }
         _ => asked.refused([modulus, order, challenges], refusal),
     })

@@ -4,7 +4,7 @@ use crate::sheets::{column_count, order_letter, row_count};
 use dimkhoros::{EXPONENT, Instance, Places, Round};
 
 /// The first values of places: one alone, several as a tuple.
-pub fn tuple(places: &Places, count: usize) -> String {
+fn tuple(places: &Places, count: usize) -> String {
     let values: Vec<String> = places.iter().take(count).map(u32::to_string).collect();
     joined(&values)
 }
@@ -43,7 +43,7 @@ pub fn numbered(letter: &str, count: usize, place: usize) -> String {
 }
 
 /// What a row of a sheet's table makes of the coordinates of a letter, such as `2^x1 · 3^x2`. Entries 1 are left out.
-pub fn row_image(sheet: &Instance, row: usize, letter: &str) -> String {
+fn row_image(sheet: &Instance, row: usize, letter: &str) -> String {
     row_powers(sheet, row, &coordinates(sheet, letter))
 }
 

@@ -2,10 +2,9 @@
 
 use crate::failure::Outcome;
 use crate::faults::{self, Fault};
-use crate::sheets::order_letter;
 use crate::words::{Grammar, Words};
-use crate::{equation, files, make, notation};
-use dimkhoros::{EXPONENT, Header, Instance, LONGEST_REASON, Refusal, RoundFile, reason};
+use crate::{allowed, equation, files, notation};
+use dimkhoros::{Header, Instance, LONGEST_REASON, Refusal, RoundFile, reason};
 use std::ffi::OsString;
 use std::io::Write;
 
@@ -64,37 +63,8 @@ fn refused(fault: &Fault, name: &str, header: &Header) -> String {
     let Fault { refusal, found } = fault;
     let (number, sentence) = (refusal.number(), refusal.sentence());
     let of = if number > Refusal::RoundNumber.number() { "Round 0 of " } else { "" };
-    format!("Refusal {number}: {sentence}.\n{of}{name} has {found}.{}\n", allowed(*refusal, header))
-}
-
-/// What a rule on values allows on a sheet with this header.
-fn allowed(refusal: Refusal, header: &Header) -> String {
-    let Header { modulus, order, challenges, .. } = header;
-    // The numbers of a header are tested before the values that these refusals are about, so that none is 0.
-    let group = || match header.kind {
-        EXPONENT => {
-            format!("the numbers v from 1 to {} with v^{order} mod {modulus} = 1", modulus - 1)
-        }
-        _ => format!(
-            "the numbers from 1 to {} without a factor in common with {modulus}",
-            modulus - 1
-        ),
-    };
-    match refusal {
-        Refusal::Challenges => {
-            let (letter, largest) = (order_letter(header), make::largest_of(header));
-            format!(" The largest K that {letter} = {order} allows is {largest}.")
-        }
-        Refusal::Entry | Refusal::Statement | Refusal::Commitment => {
-            format!(" The group has {}.", group())
-        }
-        Refusal::Challenge => format!(" Challenges are the numbers from 0 to {}.", challenges - 1),
-        Refusal::Coordinate if header.kind == EXPONENT => {
-            format!(" The domain has the numbers from 0 to {}.", order - 1)
-        }
-        Refusal::Coordinate => format!(" The domain has {}.", group()),
-        _ => String::new(),
-    }
+    let allowed = allowed::by(*refusal, header);
+    format!("Refusal {number}: {sentence}.\n{of}{name} has {found}{allowed}.\n")
 }
 
 /// The verdict on round 0, with both sides of each row.

@@ -4,7 +4,7 @@ use crate::brought::{self, Brought};
 use crate::failure::{Failure, Outcome};
 use crate::notation::counted;
 use crate::words::{Value, Words};
-use crate::{faults, files, small};
+use crate::{allowed, faults, files, small};
 use dimkhoros::{
     Header, Instance, PLACES, Places, Prover, ROOT, Refusal, Round, RoundFile, Values,
 };
@@ -17,7 +17,11 @@ pub fn load(path: &Path) -> Outcome<Instance> {
 
 /// The sheet in these bytes, which were read from a path. A bad one fails with what is wrong and where.
 pub fn of_bytes(path: &Path, bytes: &[u8]) -> Outcome<Instance> {
-    let fault = |_| Failure::failed(format!("{}: {}", files::name(path), faults::of_sheet(bytes)));
+    let fault = |refusal| {
+        let (name, fault) = (files::name(path), faults::of_sheet(bytes));
+        let allowed = allowed::by(refusal, &faults::sheet_header(bytes));
+        Failure::failed(format!("{name}: {fault}{allowed}"))
+    };
     Instance::load(bytes).map_err(fault)
 }
 

@@ -16,8 +16,8 @@ pub fn run(words: Vec<OsString>, out: &mut dyn Write) -> Outcome {
     let [one, other] = &groups[..] else {
         return Err(Failure::words(how_many(groups.len())));
     };
-    let [first, second] = rounds::load(&words)?;
-    let pair = Pair::new(&first, &second)?;
+    let sheets = rounds::load(&words)?;
+    let pair = rounds::pair(&words, &sheets)?;
     let one = rounds::read(&pair, one, None)?;
     let other = rounds::read(&pair, other, Some(&one))?;
     let extracted = pair.extract(&one, &other);

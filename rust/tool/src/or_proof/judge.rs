@@ -4,7 +4,7 @@ use super::rounds;
 use crate::failure::Outcome;
 use crate::words::{self, Words};
 use crate::{brought, equation};
-use dimkhoros::{Pair, Side};
+use dimkhoros::Side;
 use std::ffi::OsString;
 use std::io::Write;
 
@@ -15,8 +15,8 @@ pub fn run(words: Vec<OsString>, out: &mut dyn Write) -> Outcome {
     if let [_, second, ..] = &groups[..] {
         return Err(words::twice(&format!("{}=", second[0].letter)));
     }
-    let [first, second] = rounds::load(&words)?;
-    let pair = Pair::new(&first, &second)?;
+    let sheets = rounds::load(&words)?;
+    let pair = rounds::pair(&words, &sheets)?;
     let round = rounds::read(&pair, words.values(), None)?;
     let judged = pair.judge(&round);
     let verdict =

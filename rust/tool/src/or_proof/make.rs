@@ -35,8 +35,8 @@ pub fn run(words: Vec<OsString>, out: &mut dyn Write) -> Outcome {
     if challenges.is_empty() {
         return Err(Failure::words("c= is missing: the challenge"));
     }
-    let [first, second] = rounds::load(&words)?;
-    let pair = Pair::new(&first, &second)?;
+    let sheets = rounds::load(&words)?;
+    let pair = rounds::pair(&words, &sheets)?;
     let peggy = Peggy::read(&pair, known, &words)?;
     let answered = challenges.iter().map(|challenge| peggy.round(&pair, *challenge));
     let answered = answered.collect::<Outcome<Vec<OrRound>>>()?;

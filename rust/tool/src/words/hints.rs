@@ -50,9 +50,13 @@ pub fn no_option(option: &str, grammar: &Grammar) -> Failure {
 /// Says that a plain word is one too many.
 pub fn one_too_many(word: &OsString, grammar: &Grammar) -> Failure {
     let word = word.to_string_lossy();
-    let behind = match grammar.options.contains(&"-o") {
-        true => "; a file to write stands behind -o",
-        false => "",
+    let is_value = word.bytes().all(|byte| byte.is_ascii_digit() || b",/".contains(&byte));
+    let behind = match grammar.letters.first() {
+        Some(letter) if is_value => {
+            format!("; a value stands behind its letter, as in {letter}={word}")
+        }
+        _ if grammar.options.contains(&"-o") => "; a file to write stands behind -o".to_string(),
+        _ => String::new(),
     };
     Failure::words(format!("the word {word} is one too many{behind}"))
 }

@@ -55,17 +55,20 @@ fn with(line: &str, word: &str, other: &str) -> String {
     line.replacen(&format!(" {word}"), &format!(" {other}"), 1)
 }
 
+/// The files that are read, each with the lines in which it stands.
+fn reading() -> impl Iterator<Item = (&'static str, String)> {
+    FILES.iter().flat_map(|(file, _)| lines_with(file).into_iter().map(|line| (*file, line)))
+}
+
 #[test]
 fn every_file_can_be_standard_input() {
     let desk = desk("standard input");
-    for (name, _) in FILES {
-        for line in lines_with(name) {
-            let line = with(&line, "-o OUT", "-o -");
-            let printed = desk.print(&line);
-            let piped = desk.print(&format!("{} < {name}", with(&line, name, "-")));
-            let named = |text: &str| text.replace("standard input", name);
-            assert_eq!(named(&piped), named(&printed), "{line}");
-        }
+    for (name, line) in reading() {
+        let line = with(&line, "-o OUT", "-o -");
+        let printed = desk.print(&line);
+        let piped = desk.print(&format!("{} < {name}", with(&line, name, "-")));
+        let named = |text: &str| text.replace("standard input", name);
+        assert_eq!(named(&piped), named(&printed), "{line}");
     }
 }
 
@@ -105,48 +108,51 @@ fn nothing_is_overwritten_without_force() {
 fn a_file_that_cannot_be_written_is_named() {
     let desk = desk("cannot be written");
     fs::create_dir(desk.folder.join("folder")).unwrap();
-    for line in writing(&desk) {
-        for (target, why) in [
-            ("nowhere/file", "there is no such folder"),
-            ("SHEET/file", "there is no such folder"),
-            ("folder --force", "it is a folder"),
-            ("/dev/full --force", "No space left on device (os error 28)"),
-        ] {
-            let line = with(&line, "-o OUT", &format!("-o {target}"));
-            let name = target.split(' ').next().unwrap();
-            let told = format!("dimkhoros: {name} cannot be written: {why}\n[1]\n");
-            assert_eq!(desk.print(&line), told, "{line}");
-        }
+    let targets = [
+        ("nowhere/file", "there is no such folder"),
+        ("SHEET/file", "there is no such folder"),
+        ("folder --force", "it is a folder"),
+        ("/dev/full --force", "No space left on device (os error 28)"),
+    ];
+    let lines = writing(&desk);
+    for (line, (target, why)) in lines.iter().flat_map(|line| targets.map(|told| (line, told))) {
+        let line = with(line, "-o OUT", &format!("-o {target}"));
+        let name = target.split(' ').next().unwrap();
+        let told = format!("dimkhoros: {name} cannot be written: {why}\n[1]\n");
+        assert_eq!(desk.print(&line), told, "{line}");
     }
 }
 
-#[test]
-fn a_file_that_cannot_be_read_is_named() {
-    let desk = desk("cannot be read");
+/// Files that cannot be read, each with why. Root may read the one that is closed.
+fn unreadable(desk: &Desk) -> Vec<(&'static str, &'static str)> {
     fs::create_dir(desk.folder.join("folder")).unwrap();
     fs::write(desk.folder.join("closed"), b"").unwrap();
     desk.print("chmod 000 closed");
+    let closed = File::open(desk.folder.join("closed")).is_err();
     let mut targets = vec![
         ("nowhere", "there is no such file"),
         ("folder", "it is a folder"),
         ("/proc/self/mem", "Input/output error (os error 5)"),
     ];
-    // Root may read all files.
-    if File::open(desk.folder.join("closed")).is_err() {
-        targets.push(("closed", "that is not permitted"));
-    }
-    for (file, _) in FILES {
-        for line in lines_with(file) {
-            if desk.print(&line).contains("dimkhoros: not written") {
-                continue;
-            }
-            let _ = fs::remove_file(desk.folder.join("OUT"));
-            for (target, why) in &targets {
-                let line = with(&line, file, target);
-                let told = format!("dimkhoros: {target} cannot be read: {why}\n[1]\n");
-                assert_eq!(desk.print(&line), told, "{line}");
-            }
-        }
+    targets.extend(closed.then_some(("closed", "that is not permitted")));
+    targets
+}
+
+#[test]
+fn a_file_that_cannot_be_read_is_named() {
+    let desk = desk("cannot be read");
+    let targets = unreadable(&desk);
+    let is_written = |line: &str| {
+        let printed = desk.print(line);
+        let _ = fs::remove_file(desk.folder.join("OUT"));
+        !printed.contains("dimkhoros: not written")
+    };
+    let lines: Vec<_> = reading().filter(|(_, line)| is_written(line)).collect();
+    let cases = lines.iter().flat_map(|line| targets.iter().map(move |target| (line, target)));
+    for ((file, line), (target, why)) in cases {
+        let line = with(line, file, target);
+        let told = format!("dimkhoros: {target} cannot be read: {why}\n[1]\n");
+        assert_eq!(desk.print(&line), told, "{line}");
     }
 }
 

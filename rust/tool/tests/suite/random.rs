@@ -226,9 +226,8 @@ fn any_words_are_answered() {
         let mut random = Random::of_case(2, case);
         let line = LINES[case % LINES.len()];
         let mut case = Case::lay_out("random words", line, &mut random);
-        for _ in 0..1 + random.below(3) {
-            disorder(&mut case.words, &mut random);
-        }
+        let times = 1 + random.below(3);
+        (0..times).for_each(|_| disorder(&mut case.words, &mut random));
         let behind =
             case.words.windows(2).filter(|pair| pair[0] == "-o").map(|pair| pair[1].clone());
         let behind: Vec<PathBuf> = behind.map(|name| case.desk.folder.join(name)).collect();
