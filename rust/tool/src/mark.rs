@@ -18,10 +18,12 @@ usage: dimkhoros mark [--csv] FOLDER...
 
 Marks the rounds in each folder, as the program `marker` does in one. A folder passes where every round is accepted and the
 product of one K for each round is at least 2^w, where w is the level. There is a line for each folder: pass, fail, or which
-file is refused, the sheet, the round file or the level, with the number of the refusal; then what is wrong. Below them stands a
-summary. The exit status is 0 where all folders were marked, whatever the marks are, and 1 where one cannot be read.
+file is refused, sheet, file (the round file) or level, with the number of the refusal; then what is wrong.
+`dimkhoros show SHEET ROUNDS` has the verdict on each round. Below the lines stands a summary. The exit status is 0 where all
+folders were marked, whatever the marks are, and 1 where one cannot be read.
 
-    FOLDER  a folder with the sheet in sheet.bin, the round file in rounds.bin and the level in level.bin, which is one byte
+    FOLDER  a folder with the sheet in sheet.bin, the round file in rounds.bin and the level in level.bin, which is one byte, as
+            printf '\\7' writes it
     --csv   comma-separated values in the place of the table, with a line of their names, and no summary
 
 Example:
