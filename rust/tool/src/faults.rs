@@ -5,7 +5,7 @@ mod patterns;
 #[cfg(test)]
 mod tests;
 
-pub use fields::{round_header, sheet_header};
+pub use fields::{instead, round_header, sheet_header};
 
 use crate::failure::refused;
 use crate::notation::counted;

@@ -227,7 +227,7 @@ fn witnesses(sheet: &Instance) -> String {
     let witnesses = small::witnesses(sheet, small::LISTED).unwrap_or_default();
     let all = sheet.values().header.challenges;
     if witnesses.is_empty() {
-        return "There is no witness. A commitment answers one challenge at most.".to_string();
+        return format!("There is no witness. {}", small::UNANSWERED);
     }
     let subject = if witnesses.len() == 1 { "The witness is" } else { "The witnesses are" };
     let named = named(sheet, &witnesses.iter().collect::<Vec<&Places>>()).join(", ");

@@ -179,7 +179,8 @@ pub fn of_bytes(path: &Path, bytes: &[u8]) -> Outcome<Patterns> {
     let fault = |refusal: Refusal| {
         let fault = faults::in_patterns(bytes).map(|fault| fault.to_string());
         let fault = fault.unwrap_or_else(|| refusal.to_string());
-        Failure::failed(format!("{}: {fault}", files::name(path)))
+        let (name, instead) = (files::name(path), faults::instead(bytes, b"PAT"));
+        Failure::failed(format!("{name}: {fault}{instead}"))
     };
     Patterns::load(bytes).map_err(fault)
 }

@@ -20,15 +20,18 @@ pub fn of_bytes(path: &Path, bytes: &[u8]) -> Outcome<Instance> {
     let fault = |refusal| {
         let (name, fault) = (files::name(path), faults::of_sheet(bytes));
         let allowed = allowed::by(refusal, &faults::sheet_header(bytes));
-        Failure::failed(format!("{name}: {fault}{allowed}"))
+        let instead = faults::instead(bytes, b"HOM");
+        Failure::failed(format!("{name}: {fault}{allowed}{instead}"))
     };
     Instance::load(bytes).map_err(fault)
 }
 
 /// The round file of a sheet in these bytes, which were read from a path.
 pub fn rounds<'a>(sheet: &'a Instance, path: &Path, bytes: &'a [u8]) -> Outcome<RoundFile<'a>> {
-    let fault =
-        |_| Failure::failed(format!("{}: {}", files::name(path), faults::of_rounds(sheet, bytes)));
+    let fault = |_| {
+        let (name, fault) = (files::name(path), faults::of_rounds(sheet, bytes));
+        Failure::failed(format!("{name}: {fault}{}", faults::instead(bytes, b"RND")))
+    };
     RoundFile::open(sheet, bytes).map_err(fault)
 }
 

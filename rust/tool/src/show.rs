@@ -76,7 +76,6 @@ pub fn run(words: Vec<OsString>, out: &mut dyn Write) -> Outcome {
     let bytes = files::read(&path)?;
     let text = match words.plain().get(1).map(Path::new) {
         None => of_file(&path, &bytes)?,
-        Some(_) if bytes.starts_with(b"RND") => return Err(sheet_first(&path)),
         Some(rounds) => of_rounds(&path, &bytes, rounds)?,
     };
     Ok(out.write_all(text.as_bytes())?)
@@ -96,12 +95,6 @@ fn of_file(path: &Path, bytes: &[u8]) -> Outcome<String> {
 /// Says with which marks the other files begin.
 fn other_marks(failure: Failure) -> Failure {
     Failure::failed(format!("{failure}; a pattern file begins with PAT, and a round file with RND"))
-}
-
-/// Says that a round file stands where the sheet belongs.
-fn sheet_first(path: &Path) -> Failure {
-    let name = files::name(path);
-    Failure::failed(format!("{name} is a round file, and the sheet comes first: show SHEET ROUNDS"))
 }
 
 /// The text on a round file of a sheet.

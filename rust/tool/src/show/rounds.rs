@@ -55,7 +55,7 @@ pub fn header(path: &Path, bytes: &[u8]) -> Outcome<String> {
     let [version, count] = faults::round_header(bytes).unwrap_or_default();
     Ok(format!(
         "{name} is a round file of {} bytes with {}, in version {version}.\n\
-         Its sheet is needed to read it: dimkhoros show SHEET {name}\n",
+         Its sheet is needed to read it: `dimkhoros show SHEET {name}`\n",
         bytes.len(),
         counted(count, "round")
     ))
