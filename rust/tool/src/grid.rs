@@ -14,10 +14,9 @@ use std::io::Write;
 pub const HELP: &str = "\
 usage: dimkhoros grid SHEET [t=VALUE,...]
 
-Prints all accepted rounds of a small sheet: a table with a column for each challenge c and a row for each response r, and in it
-the one commitment with which Vic accepts them, t = [r] · z^(-c). Below it stands how many challenges each commitment can
-answer: all of them where the statement has a witness, one at most where it has none. A grid has 64 challenges and 512 responses
-at most.
+Prints all accepted rounds of a sheet with 64 challenges and 512 responses at most: a table with a column for each challenge c
+and a row for each response r, and in it the one commitment with which Vic accepts them, t = [r] · z^(-c). Below it stands how
+many challenges each commitment can answer: all of them where the statement has a witness, one at most where it has none.
 
     SHEET        a sheet
     t=VALUE,...  a commitment, a value for each row, whose cells stand in brackets and are listed

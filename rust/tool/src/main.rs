@@ -40,6 +40,7 @@ use std::ffi::OsString;
 use std::io::{self, BufWriter, Write};
 use std::process::ExitCode;
 
+/// Runs the command that the words name, and answers its exit status.
 fn main() -> ExitCode {
     let mut words = env::args_os().skip(1);
     let name = words.next().unwrap_or_default();

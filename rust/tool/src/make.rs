@@ -18,8 +18,8 @@ usage: dimkhoros make PATTERN m=MODULUS q=ORDER [K=COUNT] h=VALUE,... (z=VALUE,.
        dimkhoros make root m=MODULUS e=EXPONENT [K=COUNT] (z=VALUE,... | x=VALUE,...) -o SHEET
        dimkhoros make table=ENTRY,.../... m=MODULUS q=ORDER [K=COUNT] (z=VALUE,... | x=VALUE,...) -o SHEET
 
-Makes a sheet of a pattern, of a root or of any table. With z the statement is as it stands, and nobody says whether it has a
-witness; with x the statement is computed of this witness, which the sheet itself does not hold.
+Makes a sheet of a pattern, of a root or of any table. With z the statement is as it stands, and whether it has a witness is not
+tested; with x the statement is computed of this witness, which the sheet itself does not hold.
 
     PATTERN          schnorr, okamoto, equality, diffie-hellman or product, or a pattern's number in its file. `dimkhoros
                      patterns` shows them, and how many public values each takes

@@ -18,9 +18,8 @@ usage: dimkhoros or make SHEET0 SHEET1 x0=VALUE,... k0=VALUE,... c1=CHALLENGE r1
        dimkhoros or extract SHEET0 SHEET1 ROUND ROUND
 
 The OR proof shows a witness of one of two sheets, its sides, and not of which. `make` makes the round of a Peggy who knows a
-witness of one side and simulates the other. `judge` writes out the equations of both sides and gives the verdict; the exit
-status is 0 where it is rejected too. `extract` gives the witness of two accepted rounds with the same t0 and t1 and different
-c.
+witness of one side and simulates the other. `judge` writes out the equations of both sides and gives the verdict; a rejected
+round has the exit status 0 too. `extract` gives the witness of two accepted rounds with the same t0 and t1 and another c.
 
     SHEET0           the sheet of side 0
     SHEET1           the sheet of side 1, with the same K

@@ -98,7 +98,7 @@ fn written(word: &OsStr) -> Outcome<Vec<u8>> {
     let rows: Option<Vec<Vec<u8>>> = word.split('/').map(row).collect();
     let rows = rows.ok_or_else(|| {
         Failure::words(format!(
-            "{word} is neither rows of digits, such as 01/12, nor a pattern's name"
+            "{word} is neither rows of digits, such as 01/12, nor the name of a shipped pattern, such as schnorr"
         ))
     })?;
     let columns = rows[0].len();

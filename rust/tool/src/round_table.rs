@@ -3,7 +3,7 @@
 use crate::brought::{self, Brought};
 use crate::table::{self, Set};
 use crate::{faults, notation};
-use dimkhoros::{Instance, Round, RoundFile};
+use dimkhoros::{Instance, Refusal, Round, RoundFile};
 
 /// The table of rounds of a file, by their numbers. A refused one is told with its byte.
 pub fn of_file(
@@ -13,33 +13,30 @@ pub fn of_file(
 ) -> String {
     let row = |number: usize| {
         let round = file.read(number).ok()?;
-        let fault = || faults::in_round(sheet, file, number).map(|fault| fault.to_string());
-        let said = fault().unwrap_or_else(|| said(sheet, &round));
-        Some([vec![number.to_string()], cells(sheet, &round, said)].concat())
+        let refused = |refusal: Refusal| {
+            let fault = faults::in_round(sheet, file, number).map(|fault| fault.to_string());
+            fault.unwrap_or_else(|| refusal.to_string())
+        };
+        Some([vec![number.to_string()], cells(sheet, &round, refused)].concat())
     };
-    numbered(numbers.into_iter().filter_map(row))
+    lines(&HEADING, numbers.into_iter().filter_map(row))
 }
 
 /// The table of rounds in words, numbered from 0. A refused one is told with the letter of its value.
 pub fn of_words(sheet: &Instance, rounds: &[Round]) -> String {
     let row = |(number, round): (usize, &Round)| {
-        [vec![number.to_string()], cells(sheet, round, said(sheet, round))].concat()
+        [vec![number.to_string()], cells_of_words(sheet, round)].concat()
     };
-    numbered(rounds.iter().enumerate().map(row))
+    lines(&HEADING, rounds.iter().enumerate().map(row))
 }
 
-/// The table of rounds without numbers.
+/// The table of rounds in words without numbers.
 pub fn plain(sheet: &Instance, rounds: &[Round]) -> String {
-    lines(&HEADING[1..], rounds.iter().map(|round| cells(sheet, round, said(sheet, round))))
+    lines(&HEADING[1..], rounds.iter().map(|round| cells_of_words(sheet, round)))
 }
 
 /// The heading of the table.
 const HEADING: [&str; 5] = ["round", "t", "c", "r", "verdict"];
-
-/// The table of rows that begin with the numbers of rounds.
-fn numbered(rows: impl Iterator<Item = Vec<String>>) -> String {
-    lines(&HEADING, rows)
-}
 
 /// The table of a heading and rows, of which the last column has words.
 fn lines(heading: &[&str], rows: impl Iterator<Item = Vec<String>>) -> String {
@@ -50,17 +47,16 @@ fn lines(heading: &[&str], rows: impl Iterator<Item = Vec<String>>) -> String {
     table::lines("", &set, &all)
 }
 
-/// A round as a row of the table, with what is said of it.
-fn cells(sheet: &Instance, round: &Round, said: String) -> Vec<String> {
+/// A round as a row of the table, with its verdict, or with what is said of its refusal.
+fn cells(sheet: &Instance, round: &Round, refused: impl Fn(Refusal) -> String) -> Vec<String> {
     let t = notation::by_row(sheet, &round.commitment);
     let r = notation::by_column(sheet, &round.response);
+    let said = sheet.judge(round).map_or_else(refused, |verdict| verdict.to_string());
     vec![t, round.challenge.to_string(), r, said]
 }
 
-/// The verdict on a round, or why it is refused.
-fn said(sheet: &Instance, round: &Round) -> String {
-    match sheet.judge(round) {
-        Ok(verdict) => verdict.to_string(),
-        Err(refusal) => brought::refused(refusal, &Brought::round(sheet, round)).to_string(),
-    }
+/// A round in words as a row of the table.
+fn cells_of_words(sheet: &Instance, round: &Round) -> Vec<String> {
+    let refused = |refusal| brought::refused(refusal, &Brought::round(sheet, round)).to_string();
+    cells(sheet, round, refused)
 }
