@@ -20,10 +20,10 @@ pub fn read(path: &Path) -> Outcome<Vec<u8>> {
         false => File::open(path).and_then(read_all),
     };
     let bytes = read.map_err(|error| failure(path, "read", &error))?;
-    if bytes.len() as u64 > MOST {
-        return Err(Failure::failed(format!("{} has more than {MOST} bytes", name(path))));
+    match too_long(&bytes) {
+        Some(why) => Err(Failure::failed(format!("{} {why}", name(path)))),
+        None => Ok(bytes),
     }
-    Ok(bytes)
 }
 
 /// The bytes of a file, of one with more than the most only as many as tell that it has more, if the file is there.
@@ -36,6 +36,11 @@ pub fn read_if_there(path: &Path) -> Outcome<Option<Vec<u8>>> {
         Err(error) if error.kind() == ErrorKind::NotFound => Ok(None),
         read => read.map(Some).map_err(|error| failure(path, "read", &error)),
     }
+}
+
+/// What is said of a file that was not read to its end.
+pub fn too_long(bytes: &[u8]) -> Option<String> {
+    (bytes.len() as u64 > MOST).then(|| format!("has more than {MOST} bytes"))
 }
 
 /// All bytes up to one more than the most.

@@ -69,8 +69,11 @@ impl Folder {
             Refusal::File => ("rounds.bin", &self.rounds),
             _ => ("sheet.bin", &self.sheet),
         };
-        match (file, self.found(refusal)) {
-            (None, _) => format!("there is no {name}"),
+        let Some(bytes) = file else {
+            return format!("there is no {name}");
+        };
+        match (files::too_long(bytes), self.found(refusal)) {
+            (Some(why), _) => format!("{name} {why}"),
             (_, Some(fault)) => format!("{name}: {fault}"),
             _ => format!("{name}: {refusal}"),
         }
