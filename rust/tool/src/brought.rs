@@ -1,9 +1,10 @@
 //! The values that a command hands to the library, and by which of them a call is refused.
 
+use crate::allowed;
 use crate::failure::Failure;
 use crate::sheets::{column_count, row_count};
 use crate::small;
-use dimkhoros::{Instance, PLACES, Places, Refusal};
+use dimkhoros::{Instance, PLACES, Places, Refusal, Round};
 
 /// Values under a letter, and the refusal that they may be refused with.
 pub struct Brought<'a> {
@@ -44,6 +45,15 @@ impl<'a> Brought<'a> {
         Brought { sheet, letter: letter.into(), values, refusal: Refusal::Coordinate }
     }
 
+    /// The values of a round.
+    pub fn round(sheet: &'a Instance, round: &Round) -> [Self; 3] {
+        [
+            Brought::commitment(sheet, "t", &round.commitment),
+            Brought::challenge(sheet, "c", round.challenge),
+            Brought::coordinates(sheet, "r", &round.response),
+        ]
+    }
+
     /// The first of the values that is refused, where one is. The library is asked of each.
     fn outside(&self) -> Option<u32> {
         let refused = |value: &u32| match self.refusal {
@@ -61,9 +71,31 @@ impl<'a> Brought<'a> {
 /// A refusal of a call that was brought these values, with the first value that it is by.
 pub fn refused(refusal: Refusal, brought: &[Brought<'_>]) -> Failure {
     let same = brought.iter().filter(|brought| brought.refusal == refusal);
-    let found = same.filter_map(|brought| Some((brought.outside()?, &brought.letter))).next();
+    let found = same.filter_map(|brought| Some((brought.outside()?, brought))).next();
     match found {
-        Some((value, letter)) => Failure::refused(refusal, format!("{value} in {letter}=")),
+        Some((value, Brought { letter, sheet, .. })) => {
+            let why = Failure::refused(refusal, format!("{value} in {letter}="));
+            Failure::failed(format!("{why}{}", allowed::by(refusal, &sheet.values().header)))
+        }
         None => refusal.into(),
+    }
+}
+
+/// Whether a refusal is by a value of a round alone.
+pub fn is_by_value(refusal: Refusal) -> bool {
+    matches!(refusal, Refusal::Commitment | Refusal::Challenge | Refusal::Coordinate)
+}
+
+/// A refusal of two rounds that have these commitments, each with its letter, where the first one has this challenge.
+pub fn of_two(refusal: Refusal, commitments: &[(&str, [String; 2])], challenge: u32) -> Failure {
+    let differ = commitments.iter().find(|(_, [one, other])| one != other);
+    match (refusal, differ) {
+        (Refusal::CommitmentsDiffer, Some((letter, [one, other]))) => {
+            Failure::refused(refusal, format!("{one} and {other} in {letter}="))
+        }
+        (Refusal::ChallengesEqual, _) => {
+            Failure::refused(refusal, format!("{challenge} in both c="))
+        }
+        _ => refusal.into(),
     }
 }

@@ -2,7 +2,7 @@
 
 use crate::failure::{Failure, Outcome};
 use crate::words::{Grammar, Words};
-use crate::{notation, sheets};
+use crate::{notation, sheets, small};
 use dimkhoros::{Instance, Places, Refusal};
 use std::ffi::OsString;
 use std::io::Write;
@@ -11,10 +11,11 @@ use std::io::Write;
 pub const HELP: &str = "\
 usage: dimkhoros check SHEET x=VALUE,...
 
-Says whether the table of SHEET carries x to the statement, that is, whether x is a witness: [x] = z. Where it is none, the
-line on standard error has refusal 17, and the exit status is 1.
+Says whether the sheet's table carries x to the statement, that is, whether x is a witness: [x] = z. Where it is none, the line
+on standard error has refusal 17, and the exit status is 1.
 
-    x=VALUE,...  a value for each column
+    SHEET        a sheet
+    x=VALUE,...  a witness, a value for each column
 
 Example:
     $ dimkhoros make schnorr m=23 q=11 h=2 x=7 -o sheet.bin
@@ -29,12 +30,12 @@ const GRAMMAR: Grammar =
 /// Runs the command.
 pub fn run(words: Vec<OsString>, out: &mut dyn Write) -> Outcome {
     let words = Words::sort(words, &GRAMMAR)?;
-    let x = words.once("x")?.ok_or(Failure::words("x= is missing: the witness to check"))?;
+    let x = words.needed("x", "the witness to check")?;
     let sheet = sheets::load(&words.path(0))?;
     let x = sheets::by_column(&sheet, x)?;
     let image = sheets::image(&sheet, "x", &x)?;
     if image != sheet.values().statement {
-        return Err(no_witness(&sheet, &x, &image));
+        return Err(no_witness(&sheet, &x));
     }
     writeln!(out, "{}", is_witness(&sheet, &x, "the statement"))?;
     Ok(())
@@ -47,11 +48,12 @@ pub fn is_witness(sheet: &Instance, x: &Places, statement: &str) -> String {
     format!("[{}] = {image} is {statement}: {witness} is a witness", notation::bare(&witness))
 }
 
-/// Refuses coordinates with this image as no witness.
-pub fn no_witness(sheet: &Instance, x: &Places, image: &Places) -> Failure {
+/// Refuses coordinates of the domain as no witness.
+pub fn no_witness(sheet: &Instance, x: &Places) -> Failure {
     let witness = notation::by_column(sheet, x);
+    let image = small::image(sheet, x).unwrap_or_default();
     let [image, statement] =
-        [image, &sheet.values().statement].map(|values| notation::by_row(sheet, values));
+        [&image, &sheet.values().statement].map(|values| notation::by_row(sheet, values));
     let found =
         format!("[{}] = {image} where the statement is {statement}", notation::bare(&witness));
     Failure::refused(Refusal::Witness, found)

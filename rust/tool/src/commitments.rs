@@ -1,11 +1,13 @@
-//! The rounds of a file with equal commitments, and what the extractor makes of them.
+//! The rounds of a file with the same commitment, and what the extractor makes of them.
 
+use crate::files;
 use dimkhoros::{Instance, Places, Refusal, Round, RoundFile};
+use std::path::Path;
 
 /// The most pairs of rounds that are tried all.
 pub const MOST: usize = 8192;
 
-/// The numbers of rounds with one commitment, rising, at least two in a group. The library says that they are equal.
+/// The numbers of rounds with the same commitment, rising, at least two in a group. The library says that they are equal.
 pub fn groups(file: &RoundFile<'_>) -> Vec<Vec<usize>> {
     let rounds: Vec<Round> = file.rounds().collect();
     let mut groups: Vec<Vec<usize>> = Vec::new();
@@ -22,6 +24,11 @@ pub fn groups(file: &RoundFile<'_>) -> Vec<Vec<usize>> {
     }
     groups.retain(|group| group.len() > 1);
     groups
+}
+
+/// Says that a file has no such rounds.
+pub fn none(path: &Path) -> String {
+    format!("no two rounds of {} have the same commitment", files::name(path))
 }
 
 /// How many pairs a group has.

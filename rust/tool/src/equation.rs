@@ -3,50 +3,46 @@
 use crate::notation;
 use crate::sheets::row_count;
 use crate::small;
+use crate::table::{self, Set};
 use dimkhoros::{
     Instance, LONGEST_FILE, LONGEST_REASON, Places, Refusal, Round, RoundWriter, reason,
 };
 
-/// The two sides of a round's equation in a row.
-pub struct Row {
-    /// The row.
-    pub number: usize,
-    /// The left side, such as `2^4 mod 23`.
-    pub left: String,
-    /// The value of the left side.
-    pub left_value: u32,
-    /// The right side, such as `9 · 13^3 mod 23`.
-    pub right: String,
-    /// The value of the right side.
-    pub right_value: u32,
-}
-
-impl Row {
-    /// The sign between the two sides.
-    pub fn sign(&self) -> &'static str {
-        if self.left_value == self.right_value { "=" } else { "≠" }
+/// The table of the equations of rounds, each with its sheet, a line for each row. Where there are several rounds, their sides
+/// are numbered from 0. A round may be refused with 14 to 16.
+pub fn lines(sides: &[(&Instance, Round)]) -> Result<String, Refusal> {
+    let mut lines = vec![["side", "row", "[r]", "", "t · z^c"].map(str::to_string).to_vec()];
+    for (side, (sheet, round)) in sides.iter().enumerate() {
+        lines.extend(rows(sheet, round, side)?);
     }
+    let mut set = vec![Set::Right, Set::Right, Set::Left, Set::Left, Set::Left];
+    if sides.len() == 1 {
+        set.remove(0);
+        lines.iter_mut().for_each(|line| drop(line.remove(0)));
+    }
+    Ok(table::lines("", &set, &lines))
 }
 
-/// The rows of a round's equation, or a refusal 14 to 16.
-pub fn rows(sheet: &Instance, round: &Round) -> Result<Vec<Row>, Refusal> {
-    let (left, right) = sides(sheet, round)?;
+/// The rows of a round's equation, such as `2^4 mod 23 = 16  =  9 · 13^3 mod 23 = 16`, for a side.
+fn rows(sheet: &Instance, round: &Round, side: usize) -> Result<Vec<Vec<String>>, Refusal> {
+    let (left, right) = values(sheet, round)?;
     let (modulus, statement) = (sheet.values().header.modulus, sheet.values().statement);
-    let row = |row: usize| Row {
-        number: row,
-        left: format!("{} mod {modulus}", notation::row_image_of(sheet, row, &round.response)),
-        left_value: left[row],
-        right: format!(
-            "{} · {}^{} mod {modulus}",
-            round.commitment[row], statement[row], round.challenge
-        ),
-        right_value: right[row],
+    let row = |row: usize| {
+        let image = notation::row_image_of(sheet, row, &round.response);
+        let (t, z, c) = (round.commitment[row], statement[row], round.challenge);
+        vec![
+            side.to_string(),
+            row.to_string(),
+            format!("{image} mod {modulus} = {}", left[row]),
+            if left[row] == right[row] { "=" } else { "≠" }.to_string(),
+            format!("{t} · {z}^{c} mod {modulus} = {}", right[row]),
+        ]
     };
     Ok((0..row_count(sheet)).map(row).collect())
 }
 
 /// The values of both sides of a round, by row. The right ones that differ are those of the library's line on the round.
-fn sides(sheet: &Instance, round: &Round) -> Result<(Places, Places), Refusal> {
+fn values(sheet: &Instance, round: &Round) -> Result<(Places, Places), Refusal> {
     let verdict = sheet.judge(round)?;
     let left = small::image(sheet, &round.response).ok_or(Refusal::Coordinate)?;
     let mut right = left;

@@ -1,11 +1,12 @@
 //! The command `extract`: the witness that rounds with one commitment give away, by hand.
 
+use crate::brought::{self, Brought};
 use crate::commitments::{self, Tried};
 use crate::failure::{Failure, Outcome};
 use crate::round_words::{self, Asked};
 use crate::words::{Grammar, Words};
 use crate::{by_hand, files, notation, round_table, sheets, steps};
-use dimkhoros::{Instance, Places, Round};
+use dimkhoros::{Instance, Places, Refusal, Round, RoundFile};
 use std::ffi::OsString;
 use std::io::Write;
 
@@ -14,14 +15,15 @@ pub const HELP: &str = "\
 usage: dimkhoros extract SHEET ROUNDS
        dimkhoros extract SHEET t=VALUE,... c=CHALLENGE r=VALUE,... [t=VALUE,...] c=CHALLENGE r=VALUE,...
 
-Takes the pairs of rounds that have one commitment, are accepted and have different challenges, and computes the witness from
-them: of a round file, or of two rounds in words. The first pair of each commitment is worked out line by line, with a and b
-such that ℓ·a + (c - c')·b = 1; the further ones are counted. Where no pair gives a witness, the exit status is 1.
+Takes the pairs of accepted rounds with the same commitment and different challenges, of a round file or of two rounds in words,
+and computes the witness that they give away. The first pair of each commitment is worked out line by line, with a and b such
+that ℓ·a + (c - c')·b = 1, where ℓ is q or e; the further ones are counted. Where no pair gives a witness, the exit status is 1.
 
-    ROUNDS       a round file
-    t=VALUE,...  the commitment, a value for each row; the second round has the first one's where it is left out
-    c=CHALLENGE  the challenge
-    r=VALUE,...  the response, a value for each column
+    SHEET        a sheet
+    ROUNDS       a round file of the sheet
+    t=VALUE,...  a commitment, a value for each row; the second round has the first one's where it is left out
+    c=CHALLENGE  a challenge, from 0 to K - 1
+    r=VALUE,...  a response, a value for each column
 
 Example:
     $ dimkhoros make schnorr m=23 q=11 h=2 x=7 -o sheet.bin
@@ -99,11 +101,27 @@ fn of_words(words: &Words, out: &mut dyn Write) -> Outcome {
         _ => return Err(not_two()),
     };
     if let Err(refusal) = sheet.extract(&rounds[0], &rounds[1]) {
-        out.write_all(round_table::lines("", &sheet, (0..).zip(rounds)).as_bytes())?;
-        return Err(refusal.into());
+        return refused(&sheet, &rounds, refusal, out);
     }
     writeln!(out, "{}\n", notation::headline(&sheet))?;
     by_hand(&sheet, &rounds, [0, 1], out)
+}
+
+/// Says why two rounds in words give no witness, below their verdicts where they have some.
+fn refused(
+    sheet: &Instance,
+    rounds: &[Round; 2],
+    refusal: Refusal,
+    out: &mut dyn Write,
+) -> Outcome {
+    if brought::is_by_value(refusal) {
+        let [first, second] = rounds.map(|round| Brought::round(sheet, &round));
+        let both: Vec<Brought<'_>> = first.into_iter().chain(second).collect();
+        return Err(brought::refused(refusal, &both));
+    }
+    out.write_all(round_table::of_words(sheet, rounds).as_bytes())?;
+    let t = rounds.map(|round| notation::by_row(sheet, &round.commitment));
+    Err(brought::of_two(refusal, &[("t", t)], rounds[0].challenge))
 }
 
 /// Prints the steps of a pair, which end in the library's witness.
@@ -122,52 +140,45 @@ fn by_hand(sheet: &Instance, rounds: &[Round], pair: [usize; 2], out: &mut dyn W
 
 /// Extracts from a round file.
 fn of_file(words: &Words, out: &mut dyn Write) -> Outcome {
-    let (sheet, path) = (sheets::load(&words.path(0))?, words.path(1));
-    let bytes = files::read(&path)?;
-    let file = sheets::rounds(&sheet, &path, &bytes)?;
-    let groups = commitments::groups(&file);
-    if groups.is_empty() {
-        let name = files::name(&path);
-        return Err(Failure::failed(format!("no two rounds of {name} have one commitment")));
-    }
-    let rounds: Vec<Round> = file.rounds().collect();
-    let all = groups.iter().map(|group| commitments::pair_count(group)).sum::<usize>();
-    writeln!(out, "{}", notation::headline(&sheet))?;
-    let mut found = false;
-    for group in &groups {
-        found |= of_group(&sheet, &rounds, group, all <= commitments::MOST, out)?;
-    }
-    match found {
-        true => Ok(()),
-        false => {
-            Err(Failure::failed(format!("no two rounds of {} give a witness", files::name(&path))))
+    sheets::with_rounds(words, |sheet, path, file| {
+        let groups = commitments::groups(file);
+        if groups.is_empty() {
+            return Err(Failure::failed(commitments::none(path)));
         }
-    }
+        let pairs = groups.iter().map(|group| commitments::pair_count(group)).sum::<usize>();
+        writeln!(out, "{}", notation::headline(sheet))?;
+        let mut found = false;
+        for group in &groups {
+            found |= of_group(sheet, file, group, pairs <= commitments::MOST, out)?;
+        }
+        let none = format!("no two rounds of {} give a witness", files::name(path));
+        if found { Ok(()) } else { Err(Failure::failed(none)) }
+    })
 }
 
-/// Extracts from a group of rounds with one commitment, trying all pairs or those with one round alone. Answers whether a pair
-/// gives a witness.
+/// Extracts from a group of rounds with the same commitment, trying all pairs or those with one round alone. Answers whether a
+/// pair gives a witness.
 fn of_group(
     sheet: &Instance,
-    rounds: &[Round],
+    file: &RoundFile<'_>,
     group: &[usize],
     all: bool,
     out: &mut dyn Write,
 ) -> Outcome<bool> {
+    let rounds: Vec<Round> = file.rounds().collect();
     let first = group.first().copied().unwrap_or_default();
     let commitment = notation::by_row(sheet, &rounds[first].commitment);
-    let count = group.len();
-    writeln!(out, "\nCommitment {commitment}, in {count} rounds\n")?;
-    let pair = commitments::first_pair(sheet, rounds, group).ok();
+    writeln!(out, "\nCommitment {commitment}, in {} rounds\n", group.len())?;
+    let pair = commitments::first_pair(sheet, &rounds, group).ok();
     match pair {
-        Some(pair) => by_hand(sheet, rounds, pair, out)?,
+        Some(pair) => by_hand(sheet, &rounds, pair, out)?,
         None => {
-            let numbered = group.iter().map(|number| (*number, rounds[*number]));
-            out.write_all(round_table::lines("", sheet, numbered).as_bytes())?;
+            let table = round_table::of_file(sheet, file, group.iter().copied());
+            out.write_all(table.as_bytes())?;
         }
     }
     let with = pair.map_or(first, |pair| pair[0]);
-    let tried = commitments::tried(sheet, rounds, group, (!all).then_some(with));
+    let tried = commitments::tried(sheet, &rounds, group, (!all).then_some(with));
     out.write_all(further(sheet, tried, pair).as_bytes())?;
     if !all {
         let pairs = commitments::pair_count(group);

@@ -29,7 +29,7 @@ impl Failure {
 
     /// The library refuses something, by what is said here.
     pub fn refused(refusal: Refusal, by: impl fmt::Display) -> Failure {
-        Failure::failed(format!("refusal {}, by {by}: {}", refusal.number(), refusal.sentence()))
+        Failure::failed(refused(refusal, by))
     }
 
     /// The exit status: 2 for wrong words, else 1.
@@ -39,6 +39,11 @@ impl Failure {
             Failure::Failed(_) => 1,
         }
     }
+}
+
+/// A refusal in a line, with what it is by.
+pub fn refused(refusal: Refusal, by: impl fmt::Display) -> String {
+    format!("refusal {}, by {by}: {}", refusal.number(), refusal.sentence())
 }
 
 impl fmt::Display for Failure {

@@ -5,8 +5,9 @@ mod patterns;
 #[cfg(test)]
 mod tests;
 
-pub use fields::{round_header, sheet_header};
+pub use fields::{instead, round_header, sheet_header};
 
+use crate::failure::refused;
 use crate::notation::counted;
 use dimkhoros::{
     EMPTY_FILE, Instance, LONGEST_REASON, PLACES, Pattern, Patterns, Plan, Refusal, Round,
@@ -45,11 +46,10 @@ pub enum Found {
 impl fmt::Display for Fault {
     fn fmt(&self, f: &mut fmt::Formatter<'_>) -> fmt::Result {
         let Fault { refusal, found } = self;
-        let by = match found {
-            Found::Length { .. } => "by the length of",
-            Found::Value { .. } => "by",
-        };
-        write!(f, "refusal {}, {by} {found}: {}", refusal.number(), refusal.sentence())
+        f.write_str(&match found {
+            Found::Length { .. } => refused(*refusal, format!("the length of {found}")),
+            Found::Value { .. } => refused(*refusal, found),
+        })
     }
 }
 

@@ -20,22 +20,27 @@ pub fn read(path: &Path) -> Outcome<Vec<u8>> {
         false => File::open(path).and_then(read_all),
     };
     let bytes = read.map_err(|error| failure(path, "read", &error))?;
-    if bytes.len() as u64 > MOST {
-        return Err(Failure::failed(format!("{} has more than {MOST} bytes", name(path))));
+    match too_long(&bytes) {
+        Some(why) => Err(Failure::failed(format!("{} {why}", name(path)))),
+        None => Ok(bytes),
     }
-    Ok(bytes)
 }
 
-/// The bytes of a file, of one with more than the most only as many as tell that it has more, and none where it is not there.
-pub fn read_if_there(path: &Path) -> Outcome<Vec<u8>> {
+/// The bytes of a file, of one with more than the most only as many as tell that it has more, if the file is there.
+pub fn read_if_there(path: &Path) -> Outcome<Option<Vec<u8>>> {
     let read = match fs::metadata(path) {
         Ok(found) if !found.is_file() => Err(io::Error::other("it is no file")),
         _ => File::open(path).and_then(read_all),
     };
     match read {
-        Err(error) if error.kind() == ErrorKind::NotFound => Ok(Vec::new()),
-        read => read.map_err(|error| failure(path, "read", &error)),
+        Err(error) if error.kind() == ErrorKind::NotFound => Ok(None),
+        read => read.map(Some).map_err(|error| failure(path, "read", &error)),
     }
+}
+
+/// What is said of a file that was not read to its end.
+pub fn too_long(bytes: &[u8]) -> Option<String> {
+    (bytes.len() as u64 > MOST).then(|| format!("has more than {MOST} bytes"))
 }
 
 /// All bytes up to one more than the most.
@@ -66,7 +71,7 @@ impl Target {
     /// What the words say.
     pub fn of(words: &Words) -> Outcome<Target> {
         let path =
-            words.option("-o").ok_or(Failure::words("-o FILE is missing: where to write"))?;
+            words.option("-o").ok_or(Failure::words("-o FILE is missing: the file to write"))?;
         let how = if words.flag("--force") { How::Over } else { How::New };
         Ok(Target { path: PathBuf::from(path), how })
     }
@@ -74,7 +79,7 @@ impl Target {
     /// The file that is read, of which nothing gets lost.
     pub fn in_place(path: &Path) -> Outcome<Target> {
         if is_standard(path) {
-            return Err(Failure::words("-o FILE is missing: where to write what is read from -"));
+            return Err(Failure::words("-o FILE is missing: the file to write, where ROUNDS is -"));
         }
         Ok(Target { path: path.to_path_buf(), how: How::InPlace })
     }
@@ -160,8 +165,15 @@ fn escaped(text: &str) -> String {
 }
 
 /// Says which file cannot be read or written, and why.
-pub fn failure(path: &Path, what: &str, error: &io::Error) -> Failure {
-    Failure::failed(format!("{} cannot be {what}: {error}", name(path)))
+fn failure(path: &Path, what: &str, error: &io::Error) -> Failure {
+    let why = match error.kind() {
+        ErrorKind::NotFound if what == "read" => "there is no such file".to_string(),
+        ErrorKind::NotFound | ErrorKind::NotADirectory => "there is no such folder".to_string(),
+        ErrorKind::IsADirectory => "it is a folder".to_string(),
+        ErrorKind::PermissionDenied => "that is not permitted".to_string(),
+        _ => error.to_string(),
+    };
+    Failure::failed(format!("{} cannot be {what}: {why}", name(path)))
 }
 
 /// Whether a file's name means standard input or output.

@@ -1,5 +1,6 @@
 //! The command `grid`: all accepted rounds of a small sheet.
 
+use crate::brought::{self, Brought};
 use crate::failure::{Failure, Outcome};
 use crate::table::{self, Set};
 use crate::words::{Grammar, Words};
@@ -13,12 +14,12 @@ use std::io::Write;
 pub const HELP: &str = "\
 usage: dimkhoros grid SHEET [t=VALUE,...]
 
-Prints a table with a column for each challenge c and a row for each response r, and in it the one commitment with which Vic
-accepts them, t = [r] · z^(-c). These are all accepted rounds of SHEET. Below it stands how many challenges each commitment can
-answer: all of them where the statement has a witness, one at most where it has none. Of a sheet with more than 64 challenges or
-512 responses no table is printed.
+Prints all accepted rounds of a sheet with 64 challenges and 512 responses at most: a table with a column for each challenge c
+and a row for each response r, and in it the one commitment with which Vic accepts them, t = [r] · z^(-c). Below it stands how
+many challenges each commitment can answer: all of them where the statement has a witness, one at most where it has none.
 
-    t=VALUE,...  a commitment, a value for each row: its cells stand in brackets and are listed
+    SHEET        a sheet
+    t=VALUE,...  a commitment, a value for each row, whose cells stand in brackets and are listed
 
 Example:
     $ dimkhoros make schnorr m=11 q=5 h=4 x=3 -o sheet.bin
@@ -69,9 +70,6 @@ const GRAMMAR: Grammar =
 /// The most challenges of a grid.
 const MOST_CHALLENGES: u32 = 64;
 
-/// The most responses of a grid.
-const MOST_RESPONSES: usize = 512;
-
 /// The most responses to one challenge that a line names.
 const MOST_NAMED: usize = 11;
 
@@ -109,12 +107,13 @@ impl Grid {
         let challenges = sheet.values().header.challenges;
         if challenges > MOST_CHALLENGES {
             return Err(Failure::failed(format!(
-                "the sheet has {challenges} challenges, and a grid has {MOST_CHALLENGES} at most"
+                "the sheet has {challenges} challenges, and more than {MOST_CHALLENGES} are too many for a grid: make it with a smaller K"
             )));
         }
-        let responses = small::domain(sheet, MOST_RESPONSES).ok_or_else(|| {
+        let responses = small::domain(sheet, small::LISTED).ok_or_else(|| {
             Failure::failed(format!(
-                "the sheet has more than {MOST_RESPONSES} responses, and a grid has {MOST_RESPONSES} at most"
+                "the sheet has more than {} responses, which are too many for a grid: `dimkhoros simulate` makes single rounds",
+                small::LISTED
             ))
         })?;
         let row = |response: &Places| -> Result<Vec<Places>, Refusal> {
@@ -127,9 +126,10 @@ impl Grid {
     /// Fails where a commitment is none of the group, as Vic does.
     fn check(&self, sheet: &Instance, commitment: Places) -> Outcome {
         let response = self.responses.first().copied().unwrap_or_default();
+        let brought = [Brought::commitment(sheet, "t", &commitment)];
         match sheet.judge(&Round { commitment, challenge: 0, response }) {
             Ok(_) => Ok(()),
-            Err(refusal) => Err(refusal.into()),
+            Err(refusal) => Err(brought::refused(refusal, &brought)),
         }
     }
 
@@ -192,7 +192,7 @@ impl Grid {
     fn commitments(&self, sheet: &Instance) -> String {
         let all = sheet.values().header.challenges as usize;
         let answered = self.answered();
-        if answered.len() > MOST_RESPONSES {
+        if answered.len() > small::LISTED {
             let most = answered.values().map(BTreeSet::len).max().unwrap_or(0);
             let count = answered.len();
             return format!(
@@ -211,26 +211,24 @@ impl Grid {
 
 /// A challenge and the responses to it as a row of a table.
 fn answer(sheet: &Instance, challenge: u32, responses: &[&Places]) -> Vec<String> {
-    let mut row = vec![challenge.to_string()];
-    let named = responses.iter().take(MOST_NAMED);
-    row.extend(named.map(|response| notation::by_column(sheet, response)));
-    let more = responses.len().saturating_sub(MOST_NAMED);
-    row.extend((more > 0).then(|| format!("and {more} more")));
-    row
+    std::iter::once(challenge.to_string()).chain(named(sheet, responses)).collect()
+}
+
+/// The first of some coordinates, and how many more there are.
+fn named(sheet: &Instance, all: &[&Places]) -> Vec<String> {
+    let first = all.iter().take(MOST_NAMED).map(|values| notation::by_column(sheet, values));
+    let more = all.len().saturating_sub(MOST_NAMED);
+    first.chain((more > 0).then(|| format!("and {more} more"))).collect()
 }
 
 /// Says which witnesses a sheet has, and what follows.
 fn witnesses(sheet: &Instance) -> String {
-    let witnesses = small::witnesses(sheet, MOST_RESPONSES).unwrap_or_default();
+    let witnesses = small::witnesses(sheet, small::LISTED).unwrap_or_default();
     let all = sheet.values().header.challenges;
     if witnesses.is_empty() {
-        return "There is no witness. A commitment answers one challenge at most.".to_string();
+        return format!("There is no witness. {}", small::UNANSWERED);
     }
-    let named = witnesses.iter().take(MOST_NAMED).map(|x| notation::by_column(sheet, x));
-    let more = witnesses.len().saturating_sub(MOST_NAMED);
-    let more = (more > 0).then(|| format!("and {more} more"));
-    let named: Vec<String> = named.chain(more).collect();
     let subject = if witnesses.len() == 1 { "The witness is" } else { "The witnesses are" };
-    let named = named.join(", ");
+    let named = named(sheet, &witnesses.iter().collect::<Vec<&Places>>()).join(", ");
     format!("{subject} {named}. A commitment answers all {all} challenges or none.")
 }

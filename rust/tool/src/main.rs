@@ -2,6 +2,7 @@
 //!
 //! What it says of sheets and rounds it has from the proved library; it reads and writes files, and lays out what it was told.
 
+mod allowed;
 mod brought;
 mod by_hand;
 mod check;
@@ -32,13 +33,14 @@ mod table;
 mod team;
 mod words;
 
-use command::{COMMANDS, Command};
+use command::Command;
 use failure::{Failure, Outcome};
 use std::env;
 use std::ffi::OsString;
 use std::io::{self, BufWriter, Write};
 use std::process::ExitCode;
 
+/// Runs the command that the words name, and answers its exit status.
 fn main() -> ExitCode {
     let mut words = env::args_os().skip(1);
     let name = words.next().unwrap_or_default();
@@ -64,7 +66,7 @@ fn run(name: &OsString, words: Vec<OsString>, out: &mut dyn Write) -> Outcome {
     if name.is_empty() {
         return Err(Failure::words("no command is named"));
     }
-    if name == "--help" || name == "help" && words.is_empty() {
+    if is_help(name) || name == "help" && words.is_empty() {
         out.write_all(command::overview().as_bytes())?;
         return Ok(());
     }
@@ -77,17 +79,22 @@ fn run(name: &OsString, words: Vec<OsString>, out: &mut dyn Write) -> Outcome {
         return Ok(());
     }
     let command = found(name)?;
-    if words.iter().take_while(|word| *word != "--").any(|word| word == "--help") {
+    if words.iter().take_while(|word| *word != "--").any(is_help) {
         out.write_all(command.help.as_bytes())?;
         return Ok(());
     }
     (command.run)(words, out)
 }
 
+/// Whether a word asks for a help.
+fn is_help(word: &OsString) -> bool {
+    word == "--help" || word == "-h"
+}
+
 /// The command of a name.
 fn found(name: &OsString) -> Outcome<&'static Command> {
-    let named = COMMANDS.iter().find(|command| name == command.name);
-    named.ok_or_else(|| Failure::words(format!("there is no command {}", name.to_string_lossy())))
+    command::find(name)
+        .ok_or_else(|| Failure::words(format!("there is no command {}", name.to_string_lossy())))
 }
 
 /// Which help has the words that are right.

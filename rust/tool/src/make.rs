@@ -5,10 +5,10 @@ mod asked;
 use crate::brought::{self, Brought};
 use crate::failure::{Failure, Outcome};
 use crate::files::Target;
-use crate::sheets;
 use crate::words::{Grammar, Value, Words};
+use crate::{allowed, sheets};
 use asked::Asked;
-use dimkhoros::{Header, Instance, Refusal};
+use dimkhoros::{EXPONENT, Header, Instance, ROOT, Refusal};
 use std::ffi::OsString;
 use std::io::Write;
 
@@ -16,20 +16,23 @@ use std::io::Write;
 pub const HELP: &str = "\
 usage: dimkhoros make PATTERN m=MODULUS q=ORDER [K=COUNT] h=VALUE,... (z=VALUE,... | x=VALUE,...) -o SHEET
        dimkhoros make root m=MODULUS e=EXPONENT [K=COUNT] (z=VALUE,... | x=VALUE,...) -o SHEET
-       dimkhoros make table=ENTRY,.../ENTRY,.../... m=MODULUS q=ORDER [K=COUNT] (z=VALUE,... | x=VALUE,...) -o SHEET
+       dimkhoros make table=ENTRY,.../... m=MODULUS q=ORDER [K=COUNT] (z=VALUE,... | x=VALUE,...) -o SHEET
 
-Makes a sheet of a pattern, of a root or of any table.
+Makes a sheet of a pattern, of a root or of any table. With z the statement is as it stands, and whether it has a witness is not
+tested; with x the statement is computed of this witness, which the sheet itself does not hold.
 
-    PATTERN      schnorr, okamoto, equality, diffie-hellman, product or root, or a pattern's number in its file
-    m=MODULUS    the modulus
-    q=ORDER      the order of an exponent sheet; e=EXPONENT of a root sheet
-    K=COUNT      the challenge count; the largest that the order or exponent allows where it is left out
-    h=VALUE,...  the public values of the pattern
-    table=...    the entries, with commas within a row and / between rows
-    z=VALUE,...  the statement, a value for each row
-    x=VALUE,...  a witness in its place, of which the statement is computed
-    --patterns FILE  the pattern file; the shipped one where it is left out
-    -o SHEET     where the sheet is written; --force writes over a file that is there
+    PATTERN          schnorr, okamoto, equality, diffie-hellman or product, or a pattern's number in its file. `dimkhoros
+                     patterns` shows them, and how many public values each takes
+    m=MODULUS        the modulus, 3 or more
+    q=ORDER          the order, of an exponent sheet: an element v of the group has v^q mod m = 1
+    e=EXPONENT       the exponent, of a root sheet
+    K=COUNT          the challenge count; the largest that q or e allows where it is left out
+    h=VALUE,...      the public values of the pattern, in its order
+    table=ENTRY,...  the entries, with commas within a row and / between rows
+    z=VALUE,...      the statement, a value for each row
+    x=VALUE,...      a witness, a value for each column, of which the statement is computed
+    --patterns FILE  a pattern file; the shipped one where it is left out
+    -o SHEET         where the sheet is written; --force writes over a file that is there
 
 Example:
     $ dimkhoros make schnorr m=23 q=11 h=2 x=7 -o sheet.bin
@@ -54,8 +57,8 @@ const MOST_CHALLENGES: u32 = 65_536;
 /// Runs the command.
 pub fn run(words: Vec<OsString>, out: &mut dyn Write) -> Outcome {
     let words = Words::sort(words, &GRAMMAR)?;
-    let target = Target::of(&words)?;
-    let sheet = with_statement(&words, &without_statement(&words, &Asked::read(&words)?)?)?;
+    let (asked, target) = (Asked::read(&words)?, Target::of(&words)?);
+    let sheet = with_statement(&words, &without_statement(&words, &asked)?)?;
     target.write(sheet.bytes(), out)
 }
 
@@ -69,32 +72,24 @@ fn stated(words: &Words) -> Outcome<&Value> {
     }
 }
 
-/// Fails where a word is there that has no meaning.
-fn without(there: bool, word: &str, of: &str) -> Outcome {
-    match there {
-        true => Err(Failure::words(format!("{word} has no meaning for {of}"))),
-        false => Ok(()),
-    }
-}
-
 /// The sheet that is asked for, with ones in the place of the statement.
 fn without_statement(words: &Words, asked: &Asked) -> Outcome<Instance> {
-    let modulus = words.number("m")?.ok_or(Failure::words("m= is missing: the modulus"))?;
-    let (letter, other, of) = match asked {
-        Asked::Root(_) => ("e", "q", "a root sheet"),
-        _ => ("q", "e", "an exponent sheet"),
+    let modulus = words.needed("m", "the modulus")?.number()?;
+    let (kind, letter, what, other, when) = match asked {
+        Asked::Root(_) => (ROOT, "e", "the exponent", "q", "for a root sheet"),
+        _ => (EXPONENT, "q", "the order", "e", "for an exponent sheet"),
     };
-    without(words.once(other)?.is_some(), &format!("{other}="), of)?;
-    let order = words.number(letter)?;
-    let order = order.ok_or_else(|| Failure::words(format!("{letter}= is missing for {of}")))?;
+    words.without(&[other], when)?;
+    let order = words.needed(letter, what)?.number()?;
     let sheet = |challenges| asked.sheet([modulus, order, challenges]);
     let challenges = words.number("K")?.unwrap_or_else(|| largest(sheet));
     sheet(challenges).map_err(|refusal| match refusal {
         Refusal::Modulus => Failure::refused(refusal, format!("{modulus} in m=")),
         Refusal::Order => Failure::refused(refusal, format!("{order} in {letter}=")),
-        Refusal::Challenges if challenges > 2 => {
-            let most = largest(sheet);
-            Failure::refused(refusal, format!("{challenges} in K=, where {most} is the largest"))
+        Refusal::Challenges => {
+            let why = Failure::refused(refusal, format!("{challenges} in K="));
+            let header = Header { kind, modulus, order, challenges, rows: 1, columns: 1 };
+            Failure::failed(format!("{why}{}", allowed::by(refusal, &header)))
         }
         _ => asked.refused([modulus, order, challenges], refusal),
     })

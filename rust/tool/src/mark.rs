@@ -16,23 +16,26 @@ use std::io::Write;
 pub const HELP: &str = "\
 usage: dimkhoros mark [--csv] FOLDER...
 
-Marks the rounds in each folder, as the program marker does in one: sheet.bin has the sheet, rounds.bin the rounds and level.bin
-the level w. A file that is missing counts as one of no bytes. A folder passes where every round is accepted and the product of
-one K for each round is at least 2^w. There is a line for each folder, with pass, fail, the file that is refused and the number
-of the refusal, or unread, and a summary below them. The exit status is 0 where all folders were marked, whatever the marks are, and 1
-where one cannot be read.
+Marks the rounds in each folder, as the program `marker` does in one. A folder passes where every round is accepted and the
+product of one K for each round is at least 2^w, where w is the level. There is a line for each folder: pass, fail, or which
+file is refused, sheet, file (the round file) or level, with the number of the refusal; then what is wrong.
+`dimkhoros show SHEET ROUNDS` has the verdict on each round. Below the lines stands a summary. The exit status is 0 where all
+folders were marked, whatever the marks are, and 1 where one cannot be read.
 
-    --csv  comma-separated values in the place of the table, below a line of their names, and no summary
+    FOLDER  a folder with the sheet in sheet.bin, the round file in rounds.bin and the level in level.bin, which is one byte, as
+            printf '\\7' writes it
+    --csv   comma-separated values in the place of the table, with a line of their names, and no summary
 
 Example:
     $ mkdir anna ben
     $ dimkhoros make schnorr m=23 q=11 h=2 x=7 -o anna/sheet.bin
     anna/sheet.bin has 28 bytes
-    $ printf 'RND\\0\\1\\0\\1\\0\\0\\0\\11\\0\\0\\0\\3\\0\\0\\0\\4' > anna/rounds.bin
+    $ dimkhoros rounds make anna/sheet.bin x=7 k=5 c=3 -o anna/rounds.bin
+    anna/rounds.bin has 19 bytes
     $ printf '\\3' > anna/level.bin
     $ dimkhoros mark anna ben
     anna  pass     1 round
-    ben   sheet 2  the sheet is shorter than a header or does not begin with HOM
+    ben   sheet 2  there is no sheet.bin
 
     2 folders: 1 passed, 0 failed, 1 refused
 ";

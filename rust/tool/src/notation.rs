@@ -1,15 +1,12 @@
 //! Values and statements in Maurer's notation.
 
-use crate::sheets::{column_count, row_count};
+use crate::sheets::{column_count, order_letter, row_count};
 use dimkhoros::{EXPONENT, Instance, Places, Round};
 
 /// The first values of places: one alone, several as a tuple.
-pub fn tuple(places: &Places, count: usize) -> String {
+fn tuple(places: &Places, count: usize) -> String {
     let values: Vec<String> = places.iter().take(count).map(u32::to_string).collect();
-    match values.len() {
-        1 => values[0].clone(),
-        _ => format!("({})", values.join(", ")),
-    }
+    joined(&values)
 }
 
 /// A value for each row of a sheet.
@@ -46,7 +43,7 @@ pub fn numbered(letter: &str, count: usize, place: usize) -> String {
 }
 
 /// What a row of a sheet's table makes of the coordinates of a letter, such as `2^x1 · 3^x2`. Entries 1 are left out.
-pub fn row_image(sheet: &Instance, row: usize, letter: &str) -> String {
+fn row_image(sheet: &Instance, row: usize, letter: &str) -> String {
     row_powers(sheet, row, &coordinates(sheet, letter))
 }
 
@@ -99,7 +96,7 @@ pub fn counted(count: usize, thing: &str) -> String {
 /// The homomorphism and the sheet's other numbers, such as `x ↦ [x] = 2^x mod 23, z = 13, q = 11, K = 11`.
 pub fn headline(sheet: &Instance) -> String {
     let (header, z) = (sheet.values().header, by_row(sheet, &sheet.values().statement));
-    let letter = if header.kind == EXPONENT { "q" } else { "e" };
+    let letter = order_letter(&header);
     let (map, order, challenges) = (homomorphism(sheet), header.order, header.challenges);
     format!("{map}, z = {z}, {letter} = {order}, K = {challenges}")
 }
@@ -121,9 +118,15 @@ pub fn statement(sheet: &Instance) -> Vec<String> {
 /// Numbers in a sentence, such as `0, 1 and 2`.
 pub fn and(numbers: &[usize]) -> String {
     let numbers: Vec<String> = numbers.iter().map(usize::to_string).collect();
-    match numbers.split_last() {
-        Some((last, rest)) if !rest.is_empty() => format!("{} and {last}", rest.join(", ")),
-        _ => numbers.concat(),
+    enumerated(&numbers, "and")
+}
+
+/// Things in a sentence, such as `make, judge or extract`, with a word before the last.
+pub fn enumerated(things: &[impl AsRef<str>], word: &str) -> String {
+    let things: Vec<&str> = things.iter().map(AsRef::as_ref).collect();
+    match things.split_last() {
+        Some((last, rest)) if !rest.is_empty() => format!("{} {word} {last}", rest.join(", ")),
+        _ => things.concat(),
     }
 }
 
@@ -134,10 +137,9 @@ pub fn round(sheet: &Instance, round: &Round) -> String {
     format!("({commitment}, {}, {response})", round.challenge)
 }
 
-/// The first values of places as a word takes them, such as `9,6`.
-pub fn word(places: &Places, count: usize) -> String {
-    let values: Vec<String> = places.iter().take(count).map(u32::to_string).collect();
-    values.join(",")
+/// Numbers with something between them.
+pub fn list(numbers: &[u32], between: &str) -> String {
+    numbers.iter().map(u32::to_string).collect::<Vec<String>>().join(between)
 }
 
 /// One word alone, several as a tuple.

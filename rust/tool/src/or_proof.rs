@@ -5,7 +5,8 @@ mod judge;
 mod make;
 mod rounds;
 
-use crate::failure::{Failure, Outcome};
+use crate::failure::Outcome;
+use crate::words;
 use std::ffi::OsString;
 use std::io::Write;
 
@@ -13,20 +14,20 @@ use std::io::Write;
 pub const HELP: &str = "\
 usage: dimkhoros or make SHEET0 SHEET1 x0=VALUE,... k0=VALUE,... c1=CHALLENGE r1=VALUE,... c=CHALLENGE...
        dimkhoros or make SHEET0 SHEET1 x1=VALUE,... k1=VALUE,... c0=CHALLENGE r0=VALUE,... c=CHALLENGE...
-       dimkhoros or judge SHEET0 SHEET1 t0=VALUE,... t1=VALUE,... c=CHALLENGE c0=CHALLENGE r0=VALUE,... r1=VALUE,...
+       dimkhoros or judge SHEET0 SHEET1 ROUND
        dimkhoros or extract SHEET0 SHEET1 ROUND ROUND
 
-The OR proof shows a witness of one of two sheets with one K, and not of which. `make` makes the round of a Peggy who knows a
-witness of one side and simulates the other. `judge` writes out the equations of both sides and gives the verdict, which may be
-rejected with the exit status 0. `extract` gives the witness of two accepted rounds with the same t0 and t1 and different c.
+The OR proof shows a witness of one of two sheets, its sides, and not of which. `make` makes the round of a Peggy who knows a
+witness of one side and simulates the other. `judge` writes out the equations of both sides and gives the verdict; a rejected
+round has the exit status 0 too. `extract` gives the witness of two accepted rounds with the same t0 and t1 and another c.
 
-    x0 k0, or x1 k1  witness and nonce of the side that is known
-    c1 r1, or c0 r0  challenge and response with which the other side is simulated
-    t0 t1            the commitments of both sides
-    c                the challenge; where `make` has it several times, one nonce answers all of them, as no Peggy may
-    c0               the challenge of side 0; that of side 1 is (c - c0) mod K
-    r0 r1            the responses of both sides
-    ROUND            t0= t1= c= c0= r0= r1= as for `judge`; t0= and t1= of the first serve the second where it has none
+    SHEET0           the sheet of side 0
+    SHEET1           the sheet of side 1, with the same K
+    x0= k0= x1= k1=  witness and nonce of the side that is known, a value for each column
+    c0= r0= c1= r1=  challenge and response of the other side, which is simulated
+    c=CHALLENGE      a challenge, from 0 to K - 1. Where `make` has several, one nonce answers all of them, as no Peggy may
+    ROUND            t0= t1= c= c0= r0= r1=, where side 1 has the challenge (c - c0) mod K. The second round of `extract`
+                     has the first one's t0 and t1 where they are left out
 
 Example:
     $ dimkhoros make schnorr m=23 q=11 K=5 h=2 x=7 -o schnorr.bin
@@ -60,13 +61,10 @@ Example:
 
 /// Runs the command.
 pub fn run(words: Vec<OsString>, out: &mut dyn Write) -> Outcome {
-    let mut words = words.into_iter();
-    let what = words.next().unwrap_or_default();
-    let rest = words.collect();
-    match what.to_str() {
-        Some("make") => make::run(rest, out),
-        Some("judge") => judge::run(rest, out),
-        Some("extract") => extract::run(rest, out),
-        _ => Err(Failure::words("the first word has to be make, judge or extract")),
+    let (deed, words) = words::deed("or", &["make", "judge", "extract"], words)?;
+    match deed {
+        "make" => make::run(words, out),
+        "judge" => judge::run(words, out),
+        _ => extract::run(words, out),
     }
 }

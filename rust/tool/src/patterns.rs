@@ -3,7 +3,7 @@
 use crate::failure::{Failure, Outcome};
 use crate::files::Target;
 use crate::words::{Grammar, Words};
-use crate::{faults, files, show};
+use crate::{faults, files, notation, show};
 use dimkhoros::{Layout, Pattern, Patterns, Refusal};
 use std::ffi::{OsStr, OsString};
 use std::io::Write;
@@ -14,11 +14,12 @@ pub const HELP: &str = "\
 usage: dimkhoros patterns [FILE]
        dimkhoros patterns make PATTERN... -o FILE
 
-Shows the patterns of FILE, or the shipped ones where no file is named. With the word make it makes a pattern file, of 1 to 32
-patterns, which `dimkhoros make --patterns FILE` takes. A file that is itself called make is named as ./make.
+Shows the patterns of a pattern file, or the shipped ones where no file is named. With the word make it makes a pattern file of
+1 to 32 patterns, which `dimkhoros make --patterns FILE` takes.
 
-    PATTERN  rows of digits with / between them: digit 1 stands for the first public value, 2 for the second and so on, and 0
-             for the entry 1; or the name of a shipped pattern
+    FILE     a pattern file; one that is itself called make is named as ./make
+    PATTERN  the name of a shipped pattern, or rows of digits with / between them: digit 1 stands for the first public value, 2
+             for the second and so on, and 0 for the entry 1
     -o FILE  where the file is written; --force writes over a file that is there
 
 Example:
@@ -97,7 +98,7 @@ fn written(word: &OsStr) -> Outcome<Vec<u8>> {
     let rows: Option<Vec<Vec<u8>>> = word.split('/').map(row).collect();
     let rows = rows.ok_or_else(|| {
         Failure::words(format!(
-            "{word} is neither rows of digits, such as 01/12, nor a pattern's name"
+            "{word} is neither rows of digits, such as 01/12, nor the name of a shipped pattern, such as schnorr"
         ))
     })?;
     let columns = rows[0].len();
@@ -153,7 +154,16 @@ pub fn number(word: &str, shipped: bool) -> Outcome<u32> {
         .iter()
         .find(|(name, pattern)| *name == word && (shipped || *pattern == Pattern::Root));
     let named = named.map(|(_, pattern)| pattern.number());
-    named.ok_or_else(|| Failure::words(format!("there is no pattern called {word}")))
+    named.ok_or_else(|| no_pattern(word, shipped))
+}
+
+/// Says that a pattern's name is none. The patterns of a file of one's own have numbers alone.
+fn no_pattern(word: &str, shipped: bool) -> Failure {
+    let names = NAMES.map(|(name, _)| name);
+    Failure::words(match shipped {
+        true => format!("there is no pattern {word}, but {}", notation::enumerated(&names, "and")),
+        false => format!("there is no pattern {word}: those of a file are named by their numbers"),
+    })
 }
 
 /// The patterns in a file, or the shipped ones.
@@ -169,7 +179,8 @@ pub fn of_bytes(path: &Path, bytes: &[u8]) -> Outcome<Patterns> {
     let fault = |refusal: Refusal| {
         let fault = faults::in_patterns(bytes).map(|fault| fault.to_string());
         let fault = fault.unwrap_or_else(|| refusal.to_string());
-        Failure::failed(format!("{}: {fault}", files::name(path)))
+        let (name, instead) = (files::name(path), faults::instead(bytes, b"PAT"));
+        Failure::failed(format!("{name}: {fault}{instead}"))
     };
     Patterns::load(bytes).map_err(fault)
 }

@@ -1,9 +1,10 @@
 //! Rounds as words: `t= c= r=` as they stand, `c= r=` simulated, `x= k= c=` by a Peggy with a witness and a nonce.
 
+use crate::brought::{self, Brought};
 use crate::failure::{Failure, Outcome};
-use crate::sheets;
 use crate::words::{Value, Words};
-use dimkhoros::{Instance, Places, Prover, Refusal, Round};
+use crate::{check, sheets};
+use dimkhoros::{Instance, Places, Refusal, Round};
 
 /// The letters of the values of rounds.
 pub const LETTERS: &[&str] = &["t", "c", "r", "x", "k"];
@@ -82,9 +83,26 @@ impl Asked {
                 Ok(Round { commitment, challenge: *challenge, response: *response })
             }
             Asked::Honest { witness, nonce, challenge } => {
-                let (peggy, commitment) = Prover::new().commit(sheet, nonce)?;
-                let (_, response) = peggy.respond(sheet, *challenge, witness)?;
-                Ok(Round { commitment, challenge: *challenge, response })
+                sheets::honest(sheet, witness, nonce, *challenge)
+            }
+        }
+    }
+
+    /// A refusal of the round, with the value that it is by.
+    pub fn refused(&self, sheet: &Instance, refusal: Refusal) -> Failure {
+        match self {
+            Asked::Stands(round) => brought::refused(refusal, &Brought::round(sheet, round)),
+            Asked::Simulated { challenge, response } => {
+                let c = Brought::challenge(sheet, "c", *challenge);
+                brought::refused(refusal, &[c, Brought::coordinates(sheet, "r", response)])
+            }
+            Asked::Honest { witness, .. } if refusal == Refusal::Witness => {
+                check::no_witness(sheet, witness)
+            }
+            Asked::Honest { witness, nonce, challenge } => {
+                let c = Brought::challenge(sheet, "c", *challenge);
+                let x = Brought::coordinates(sheet, "x", witness);
+                brought::refused(refusal, &[c, x, Brought::coordinates(sheet, "k", nonce)])
             }
         }
     }

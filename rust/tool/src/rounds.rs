@@ -5,7 +5,7 @@ use crate::faults::{Fault, Found};
 use crate::files::{self, Target};
 use crate::round_words::{self, Asked};
 use crate::table::{self, Set};
-use crate::words::{Grammar, Words};
+use crate::words::{self, Grammar, Words};
 use crate::{commitments, notation, round_table, sheets};
 use dimkhoros::{Instance, LONGEST_FILE, Refusal, Round, RoundFile, RoundWriter};
 use std::ffi::{OsStr, OsString};
@@ -14,20 +14,22 @@ use std::path::Path;
 
 /// The command's help.
 pub const HELP: &str = "\
-usage: dimkhoros rounds make SHEET [ROUND...] [--version 2] -o FILE
-       dimkhoros rounds append SHEET FILE ROUND... [-o OUT]
-       dimkhoros rounds list SHEET FILE
-       dimkhoros rounds convert SHEET FILE -o OUT
-       dimkhoros rounds equal SHEET FILE
+usage: dimkhoros rounds make SHEET [ROUND...] [--version 2] -o ROUNDS
+       dimkhoros rounds append SHEET ROUNDS ROUND... [-o FILE]
+       dimkhoros rounds list SHEET ROUNDS
+       dimkhoros rounds convert SHEET ROUNDS -o FILE
+       dimkhoros rounds equal SHEET ROUNDS
 
-Makes a round file of 0 to 512 rounds, adds rounds to one, lists one with Vic's verdicts, turns version 1 into 2 or 2 into 1, and
-finds rounds with equal commitments, from which `dimkhoros extract` reads the witness. A round's values are written as they
-stand, without being tested: `list` shows what Vic says of them.
+Makes a round file of 0 to 512 rounds, adds rounds to one, lists one with Vic's verdicts, turns version 1 into 2 or 2 into 1,
+and finds rounds with the same commitment, of which `dimkhoros extract` makes the witness. t, c and r are written as they stand,
+without being tested: `list` shows what Vic says of them.
 
-    ROUND        t=.. c=.. r=.. as it stands; or c=.. r=.. simulated, with the commitment that fits them; or x=.. k=.. c=.. as a
-                 Peggy with this witness and nonce makes it. A round is whole before the next one begins
-    --version 2  writes a challenge in 16 bits; version 1, in 32, where it is left out
-    -o FILE      where the file is written; --force writes over a file that is there. `append` without -o adds to FILE itself
+    SHEET        a sheet
+    ROUNDS       a round file of the sheet
+    ROUND        t= c= r= as it stands; or c= r= simulated, with the commitment that fits them; or x= k= c= as a Peggy with this
+                 witness and nonce makes it. A round is whole before the next one begins
+    --version 2  writes a challenge in 16 bits; version 1, in 32 bits, where it is left out
+    -o FILE      where the file is written; --force writes over a file that is there. `append` without -o adds to ROUNDS itself
 
 Example:
     $ dimkhoros make schnorr m=23 q=11 h=2 x=7 -o sheet.bin
@@ -49,21 +51,16 @@ Example:
     narrow.bin has 47 bytes in version 2; rounds.bin has 55 in version 1
 ";
 
-/// What the command's first word can be.
-const DEEDS: &str = "make, append, list, convert or equal";
-
 /// Runs the command.
 pub fn run(words: Vec<OsString>, out: &mut dyn Write) -> Outcome {
-    let mut words = words.into_iter();
-    let first = words.next().ok_or_else(|| Failure::words(format!("{DEEDS} is missing")))?;
-    let words = words.collect();
-    match first.to_string_lossy().as_ref() {
+    let (deed, words) =
+        words::deed("rounds", &["make", "append", "list", "convert", "equal"], words)?;
+    match deed {
         "make" => make(words, out),
         "append" => append(words, out),
         "list" => list(words, out),
         "convert" => convert(words, out),
-        "equal" => equal(words, out),
-        other => Err(Failure::words(format!("the first word is {other}, and has to be {DEEDS}"))),
+        _ => equal(words, out),
     }
 }
 
@@ -84,7 +81,9 @@ fn make(words: Vec<OsString>, out: &mut dyn Write) -> Outcome {
     let sheet = sheets::load(&words.path(0))?;
     let rounds = round_words::asked(&sheet, &words)?;
     let mut buffer = vec![0; LONGEST_FILE];
-    let mut writer = RoundWriter::start(&sheet, version, &mut buffer)?;
+    let started = RoundWriter::start(&sheet, version, &mut buffer);
+    let mut writer =
+        started.map_err(|refusal| Failure::refused(refusal, format!("version {version}")))?;
     add(&sheet, &mut writer, &rounds)?;
     target.write(writer.file().bytes(), out)
 }
@@ -95,12 +94,21 @@ fn version(word: &OsStr) -> Outcome<u32> {
     word.parse().map_err(|_| Failure::words(format!("--version {word}: a version is 1 or 2")))
 }
 
-/// Adds rounds. A refusal says for which of them it is.
+/// Adds rounds. A refusal says for which of them it is, and by which value.
 fn add(sheet: &Instance, writer: &mut RoundWriter<'_>, rounds: &[Asked]) -> Outcome {
-    for (number, asked) in (1..).zip(rounds) {
+    for (number, asked) in rounds.iter().enumerate() {
         let added = asked.round(sheet).and_then(|round| writer.append(&round));
+        let count = writer.file().count();
         added.map_err(|refusal| {
-            Failure::failed(format!("round {number} of the words cannot be added: {refusal}"))
+            let why = match refusal {
+                Refusal::File => Failure::refused(
+                    refusal,
+                    format!("the most rounds, {count}, that a file can have"),
+                ),
+                // What the library refuses to make is told by its value, and so is what version 2 cannot hold.
+                _ => asked.refused(sheet, refusal),
+            };
+            Failure::failed(format!("round {number} of the words: {why}"))
         })?;
     }
     Ok(())
@@ -121,37 +129,31 @@ fn append(words: Vec<OsString>, out: &mut dyn Write) -> Outcome {
         Some(_) => Target::of(&words)?,
         None => Target::in_place(&words.path(1))?,
     };
-    let (sheet, path) = (sheets::load(&words.path(0))?, words.path(1));
-    let rounds = round_words::asked(&sheet, &words)?;
-    if rounds.is_empty() {
-        return Err(Failure::words("no round is there to be added"));
-    }
-    let bytes = files::read(&path)?;
-    let used = sheets::rounds(&sheet, &path, &bytes)?.bytes().len();
-    let mut buffer = bytes.clone();
-    buffer.resize(LONGEST_FILE.max(used), 0);
-    let mut writer = RoundWriter::resume(&sheet, &mut buffer, used)?;
-    add(&sheet, &mut writer, &rounds)?;
-    target.write(writer.file().bytes(), out)
+    sheets::with_rounds(&words, |sheet, _, file| {
+        let rounds = round_words::asked(sheet, &words)?;
+        if rounds.is_empty() {
+            return Err(Failure::words("no round is there to be added, such as c=3 r=4"));
+        }
+        let used = file.bytes().len();
+        let mut buffer = file.bytes().to_vec();
+        buffer.resize(LONGEST_FILE.max(used), 0);
+        let mut writer = RoundWriter::resume(sheet, &mut buffer, used)?;
+        add(sheet, &mut writer, &rounds)?;
+        target.write(writer.file().bytes(), out)
+    })
 }
 
 /// The words of what reads a sheet and a round file and takes no more.
 const TWO_FILES: Grammar =
-    Grammar { plain: &["SHEET", "FILE"], optional: 0, letters: &[], flags: &[], options: &[] };
+    Grammar { plain: &["SHEET", "ROUNDS"], optional: 0, letters: &[], flags: &[], options: &[] };
 
 /// Lists a file.
 fn list(words: Vec<OsString>, out: &mut dyn Write) -> Outcome {
     let words = Words::sort(words, &TWO_FILES)?;
-    let (sheet, path) = (sheets::load(&words.path(0))?, words.path(1));
-    let bytes = files::read(&path)?;
-    let file = sheets::rounds(&sheet, &path, &bytes)?;
-    if file.count() == 0 {
-        writeln!(out, "{} has no rounds", files::name(&path))?;
-        return Ok(());
-    }
-    let rounds = file.rounds().enumerate();
-    out.write_all(round_table::lines("", &sheet, rounds).as_bytes())?;
-    Ok(())
+    sheets::with_rounds(&words, |sheet, path, file| match file.count() {
+        0 => Ok(writeln!(out, "{} has no rounds", files::name(path))?),
+        count => Ok(out.write_all(round_table::of_file(sheet, file, 0..count).as_bytes())?),
+    })
 }
 
 /// Converts a file.
@@ -159,21 +161,20 @@ fn convert(words: Vec<OsString>, out: &mut dyn Write) -> Outcome {
     let words =
         Words::sort(words, &Grammar { flags: &["--force"], options: &["-o"], ..TWO_FILES })?;
     let target = Target::of(&words)?;
-    let (sheet, path) = (sheets::load(&words.path(0))?, words.path(1));
-    let bytes = files::read(&path)?;
-    let file = sheets::rounds(&sheet, &path, &bytes)?;
-    let mut buffer = vec![0; LONGEST_FILE];
-    let converted = file
-        .convert_into(&mut buffer)
-        .map_err(|refusal| not_converted(&sheet, &path, &file, refusal))?;
-    let versions = format!(
-        " in version {}; {} has {} in version {}",
-        converted.version(),
-        files::name(&path),
-        bytes.len(),
-        file.version()
-    );
-    target.write_saying(converted.bytes(), &versions, out)
+    sheets::with_rounds(&words, |sheet, path, file| {
+        let mut buffer = vec![0; LONGEST_FILE];
+        let converted = file
+            .convert_into(&mut buffer)
+            .map_err(|refusal| not_converted(sheet, path, file, refusal))?;
+        let versions = format!(
+            " in version {}; {} has {} in version {}",
+            converted.version(),
+            files::name(path),
+            file.bytes().len(),
+            file.version()
+        );
+        target.write_saying(converted.bytes(), &versions, out)
+    })
 }
 
 /// Why a file is not converted: the first challenge that 16 bits do not hold, where that is why.
@@ -185,31 +186,28 @@ fn not_converted(sheet: &Instance, path: &Path, file: &RoundFile<'_>, refusal: R
     };
     let (rows, columns) = (sheets::row_count(sheet), sheets::column_count(sheet));
     let offset = dimkhoros::EMPTY_FILE + number * 4 * (rows + 1 + columns) + 4 * rows;
-    let found = Found::Value { offset, value: round.challenge.to_string() };
+    let found = Found::Value { offset, value: format!("c = {}", round.challenge) };
     Failure::failed(format!("{}: {}", files::name(path), Fault { refusal, found }))
 }
 
-/// Lists the rounds with equal commitments.
+/// Lists the rounds with the same commitment.
 fn equal(words: Vec<OsString>, out: &mut dyn Write) -> Outcome {
     let words = Words::sort(words, &TWO_FILES)?;
-    let (sheet, path) = (sheets::load(&words.path(0))?, words.path(1));
-    let bytes = files::read(&path)?;
-    let file = sheets::rounds(&sheet, &path, &bytes)?;
-    let groups = commitments::groups(&file);
-    if groups.is_empty() {
-        writeln!(out, "no two rounds of {} have one commitment", files::name(&path))?;
-        return Ok(());
-    }
-    let rounds: Vec<Round> = file.rounds().collect();
-    let heading = ["t", "rounds", "challenges", "extractor"].map(str::to_string).to_vec();
-    let lines = groups.iter().map(|group| alike(&sheet, &rounds, group));
-    let rows: Vec<Vec<String>> = std::iter::once(heading).chain(lines).collect();
-    let set = [Set::Right, Set::Left, Set::Left, Set::Left];
-    out.write_all(table::lines("", &set, &rows).as_bytes())?;
-    Ok(())
+    sheets::with_rounds(&words, |sheet, path, file| {
+        let groups = commitments::groups(file);
+        if groups.is_empty() {
+            return Ok(writeln!(out, "{}", commitments::none(path))?);
+        }
+        let rounds: Vec<Round> = file.rounds().collect();
+        let heading = ["t", "rounds", "challenges", "extractor"].map(str::to_string).to_vec();
+        let lines = groups.iter().map(|group| alike(sheet, &rounds, group));
+        let rows: Vec<Vec<String>> = std::iter::once(heading).chain(lines).collect();
+        let set = [Set::Right, Set::Left, Set::Left, Set::Left];
+        Ok(out.write_all(table::lines("", &set, &rows).as_bytes())?)
+    })
 }
 
-/// A group of rounds with one commitment as a row of the table.
+/// A group of rounds with the same commitment as a row of the table.
 fn alike(sheet: &Instance, rounds: &[Round], group: &[usize]) -> Vec<String> {
     let numbers: Vec<String> = group.iter().map(usize::to_string).collect();
     let challenges: Vec<String> =

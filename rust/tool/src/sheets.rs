@@ -3,9 +3,11 @@
 use crate::brought::{self, Brought};
 use crate::failure::{Failure, Outcome};
 use crate::notation::counted;
-use crate::words::Value;
-use crate::{faults, files, small};
-use dimkhoros::{Header, Instance, PLACES, Places, ROOT, Refusal, RoundFile, Values};
+use crate::words::{Value, Words};
+use crate::{allowed, faults, files, small};
+use dimkhoros::{
+    Header, Instance, PLACES, Places, Prover, ROOT, Refusal, Round, RoundFile, Values,
+};
 use std::path::Path;
 
 /// The sheet in a file. A bad one fails with what is wrong and where.
@@ -15,15 +17,44 @@ pub fn load(path: &Path) -> Outcome<Instance> {
 
 /// The sheet in these bytes, which were read from a path. A bad one fails with what is wrong and where.
 pub fn of_bytes(path: &Path, bytes: &[u8]) -> Outcome<Instance> {
-    let fault = |_| Failure::failed(format!("{}: {}", files::name(path), faults::of_sheet(bytes)));
+    let fault = |refusal| {
+        let (name, fault) = (files::name(path), faults::of_sheet(bytes));
+        let allowed = allowed::by(refusal, &faults::sheet_header(bytes));
+        let instead = faults::instead(bytes, b"HOM");
+        Failure::failed(format!("{name}: {fault}{allowed}{instead}"))
+    };
     Instance::load(bytes).map_err(fault)
 }
 
 /// The round file of a sheet in these bytes, which were read from a path.
 pub fn rounds<'a>(sheet: &'a Instance, path: &Path, bytes: &'a [u8]) -> Outcome<RoundFile<'a>> {
-    let fault =
-        |_| Failure::failed(format!("{}: {}", files::name(path), faults::of_rounds(sheet, bytes)));
+    let fault = |_| {
+        let (name, fault) = (files::name(path), faults::of_rounds(sheet, bytes));
+        Failure::failed(format!("{name}: {fault}{}", faults::instead(bytes, b"RND")))
+    };
     RoundFile::open(sheet, bytes).map_err(fault)
+}
+
+/// Reads the sheet and the round file that are the first two plain words, and goes on with them and the file's path.
+pub fn with_rounds<T>(
+    words: &Words,
+    then: impl FnOnce(&Instance, &Path, &RoundFile<'_>) -> Outcome<T>,
+) -> Outcome<T> {
+    let (sheet, path) = (load(&words.path(0))?, words.path(1));
+    let bytes = files::read(&path)?;
+    then(&sheet, &path, &rounds(&sheet, &path, &bytes)?)
+}
+
+/// The round of a Peggy with this witness and nonce.
+pub fn honest(
+    sheet: &Instance,
+    witness: &Places,
+    nonce: &Places,
+    challenge: u32,
+) -> Result<Round, Refusal> {
+    let (peggy, commitment) = Prover::new().commit(sheet, nonce)?;
+    let (_, response) = peggy.respond(sheet, challenge, witness)?;
+    Ok(Round { commitment, challenge, response })
 }
 
 /// How many rows a sheet has.

@@ -22,9 +22,9 @@ Shows a sheet, a round file of a sheet, or a pattern file: its fields, its table
 told on standard error, with the number of the refusal, the byte and the value that is wrong, and the exit status is 1. Rounds
 that are rejected or refused are shown with the others.
 
-    SHEET     a sheet: it begins with HOM
-    ROUNDS    a round file of that sheet: it begins with RND
-    PATTERNS  a pattern file: it begins with PAT
+    SHEET     a sheet, which begins with HOM
+    ROUNDS    a round file of the sheet, which begins with RND
+    PATTERNS  a pattern file, which begins with PAT
 
 Example:
     $ dimkhoros make schnorr m=23 q=11 h=2 x=7 -o sheet.bin
@@ -54,7 +54,8 @@ Example:
 
     The same sheet is made by
         dimkhoros make schnorr m=23 q=11 K=11 h=2 z=13 -o SHEET
-    $ printf 'RND\\0\\1\\0\\1\\0\\0\\0\\11\\0\\0\\0\\1\\0\\0\\0\\2' > rounds.bin
+    $ dimkhoros rounds make sheet.bin t=9 c=1 r=2 -o rounds.bin
+    rounds.bin has 19 bytes
     $ dimkhoros show sheet.bin rounds.bin
     rounds.bin is a round file of 19 bytes with 1 round, in version 1.
     Vic accepts where [r] = t · z^c, with x ↦ [x] = 2^x mod 23 and z = 13.
@@ -75,7 +76,6 @@ pub fn run(words: Vec<OsString>, out: &mut dyn Write) -> Outcome {
     let bytes = files::read(&path)?;
     let text = match words.plain().get(1).map(Path::new) {
         None => of_file(&path, &bytes)?,
-        Some(_) if bytes.starts_with(b"RND") => return Err(sheet_first(&path)),
         Some(rounds) => of_rounds(&path, &bytes, rounds)?,
     };
     Ok(out.write_all(text.as_bytes())?)
@@ -95,12 +95,6 @@ fn of_file(path: &Path, bytes: &[u8]) -> Outcome<String> {
 /// Says with which marks the other files begin.
 fn other_marks(failure: Failure) -> Failure {
     Failure::failed(format!("{failure}; a pattern file begins with PAT, and a round file with RND"))
-}
-
-/// Says that a round file stands where the sheet belongs.
-fn sheet_first(path: &Path) -> Failure {
-    let name = files::name(path);
-    Failure::failed(format!("{name} is a round file, and the sheet comes first: show SHEET ROUNDS"))
 }
 
 /// The text on a round file of a sheet.

@@ -1,10 +1,9 @@
 //! The command `simulate`: accepted rounds without a witness.
 
-use crate::brought::{self, Brought};
 use crate::failure::{Failure, Outcome};
-use crate::table::{self, Set};
+use crate::round_words::Asked;
 use crate::words::{Grammar, Words};
-use crate::{notation, sheets, small};
+use crate::{round_table, sheets, small};
 use dimkhoros::{Instance, Places, Round};
 use std::ffi::OsString;
 use std::io::Write;
@@ -13,10 +12,11 @@ use std::io::Write;
 pub const HELP: &str = "\
 usage: dimkhoros simulate SHEET c=CHALLENGE [r=VALUE,...]
 
-Makes the one commitment with which Vic accepts the challenge and the response: t = [r] · z^(-c). No witness is needed. Without
-r all responses are taken in turn, where there are few.
+Makes the one commitment with which Vic accepts a challenge and a response: t = [r] · z^(-c). No witness is needed. Without r
+all responses are taken in turn, where there are 512 at most.
 
-    c=CHALLENGE  a challenge, below the sheet's K
+    SHEET        a sheet
+    c=CHALLENGE  a challenge, from 0 to K - 1
     r=VALUE,...  a response, a value for each column
 
 Example:
@@ -30,40 +30,26 @@ Example:
 const GRAMMAR: Grammar =
     Grammar { plain: &["SHEET"], optional: 0, letters: &["c", "r"], flags: &[], options: &[] };
 
-/// The most responses that are taken in turn.
-const MOST: usize = 512;
-
 /// Runs the command.
 pub fn run(words: Vec<OsString>, out: &mut dyn Write) -> Outcome {
     let words = Words::sort(words, &GRAMMAR)?;
-    let challenge = words.number("c")?.ok_or(Failure::words("c= is missing: the challenge"))?;
+    let challenge = words.needed("c", "the challenge")?.number()?;
     let sheet = sheets::load(&words.path(0))?;
     let responses = match words.once("r")? {
         Some(value) => vec![sheets::by_column(&sheet, value)?],
-        None => small::domain(&sheet, MOST).ok_or(Failure::words(format!(
-            "r= is missing, and there are more than {MOST} responses"
+        None => small::domain(&sheet, small::LISTED).ok_or(Failure::words(format!(
+            "r= is missing: the response, of which the sheet has more than {}",
+            small::LISTED
         )))?,
     };
-    let mut rows = vec![["t", "c", "r", "verdict"].map(str::to_string).to_vec()];
-    for response in &responses {
-        rows.push(simulated(&sheet, challenge, response)?);
-    }
-    let set = [Set::Right, Set::Right, Set::Right, Set::Left];
-    out.write_all(table::lines("", &set, &rows).as_bytes())?;
+    let rounds = responses.iter().map(|response| simulated(&sheet, challenge, response));
+    let rounds = rounds.collect::<Outcome<Vec<Round>>>()?;
+    out.write_all(round_table::plain(&sheet, &rounds).as_bytes())?;
     Ok(())
 }
 
-/// A simulated round as a row of the table.
-fn simulated(sheet: &Instance, challenge: u32, response: &Places) -> Outcome<Vec<String>> {
-    let brought =
-        [Brought::challenge(sheet, "c", challenge), Brought::coordinates(sheet, "r", response)];
-    let simulated = sheet.simulate(challenge, response);
-    let commitment = simulated.map_err(|refusal| brought::refused(refusal, &brought))?;
-    let verdict = sheet.judge(&Round { commitment, challenge, response: *response })?;
-    Ok(vec![
-        notation::by_row(sheet, &commitment),
-        challenge.to_string(),
-        notation::by_column(sheet, response),
-        verdict.to_string(),
-    ])
+/// A simulated round.
+fn simulated(sheet: &Instance, challenge: u32, response: &Places) -> Outcome<Round> {
+    let asked = Asked::Simulated { challenge, response: *response };
+    asked.round(sheet).map_err(|refusal| asked.refused(sheet, refusal))
 }

@@ -6,6 +6,12 @@ use dimkhoros::{EXPONENT, Header, Instance, PLACES, Places, Prover, Values};
 /// The most values that are tried one by one.
 pub const MOST: u32 = 4096;
 
+/// The most responses that are listed.
+pub const LISTED: usize = 512;
+
+/// What follows where a statement has no witness.
+pub const UNANSWERED: &str = "A commitment answers one challenge at most.";
+
 /// The values of a coordinate, rising: none where there are too many to try.
 pub fn coordinates(sheet: &Instance) -> Option<Vec<u32>> {
     let header = sheet.values().header;

@@ -7,7 +7,7 @@ use crate::failure::Outcome;
 use crate::table::{self, Set};
 use crate::words::{Grammar, Words};
 use crate::{notation, sheets};
-use dimkhoros::{Instance, Prover, Refusal, Round, Verdict};
+use dimkhoros::{Instance, Round, Verdict};
 use join::Column;
 use players::Players;
 use std::ffi::OsString;
@@ -20,15 +20,16 @@ usage: dimkhoros team SHEET z=VALUE,... z=VALUE,... [t=VALUE,... t=VALUE,... [c=
 
 Joins the rounds of two to eight players, each of whom holds a part of the witness, to one round of the sheet: commitments are
 multiplied, and responses are joined like witnesses. Each player's round is judged under the player's own image, and the joined
-one under the statement. With the parts in the place of the images the players' rounds are made, and beside them that of a
-single Peggy with the joined witness and the joined nonce.
+one under the statement. With x and k the players' rounds are made, and beside them that of a single Peggy with the joined
+witness and the joined nonce.
 
-    z=VALUE,...  a player's image; the first is player 0's. All of them multiply to the statement
-    t=VALUE,...  a player's commitment, in the order of the images
-    c=CHALLENGE  the challenge, which is the same for all
-    r=VALUE,...  a player's response
-    x=VALUE,...  a player's part of the witness, in the place of the image
-    k=VALUE,...  a player's nonce, in the place of the commitment
+    SHEET        a sheet
+    z=VALUE,...  a player's image, a value for each row. The first is player 0's, and all of them multiply to the statement
+    t=VALUE,...  a player's commitment, a value for each row, in the order of the images
+    c=CHALLENGE  a challenge, from 0 to K - 1, which is the same for all
+    r=VALUE,...  a player's response, a value for each column
+    x=VALUE,...  a player's part of the witness, a value for each column, in the place of the image
+    k=VALUE,...  a player's nonce, a value for each column, in the place of the commitment
 
 Example:
     $ dimkhoros make schnorr m=23 q=11 h=2 x=7 -o sheet.bin
@@ -138,9 +139,7 @@ fn alone(sheet: &Instance, columns: &[Column<'_>], round: &Round) -> Outcome<Str
     else {
         return Ok(String::new());
     };
-    let (peggy, commitment) = Prover::new().commit(sheet, &nonce).map_err(Refusal::from)?;
-    let answered = peggy.respond(sheet, round.challenge, &witness).map_err(Refusal::from)?;
-    let hers = Round { commitment, challenge: round.challenge, response: answered.1 };
+    let hers = sheets::honest(sheet, &witness, &nonce, round.challenge)?;
     let same = if hers == *round { "the same round" } else { "another round" };
     Ok(format!(
         "A single Peggy with the witness {} and the nonce {} sends {same}: {}.\n",

@@ -1,5 +1,9 @@
 //! The words of a command: names of files, values by their letters such as `c=3` or `x=1,2`, and options.
 
+mod hints;
+
+pub use hints::{deed, twice};
+
 use crate::failure::{Failure, Outcome};
 use std::ffi::{OsStr, OsString};
 use std::path::PathBuf;
@@ -64,20 +68,21 @@ impl Words {
             let value = rest.next().filter(|value| !value.is_empty());
             let value = value.ok_or(Failure::words(format!("nothing stands behind {option}")))?;
             if self.option(option).is_some() {
-                return Err(Failure::words(format!("{option} is there twice")));
+                return Err(twice(option));
             }
             self.options.push((option, value));
         } else if let Some(flag) = find(grammar.flags, &text) {
             self.flags.push(flag);
         } else if text.starts_with('-') && text != "-" {
-            return Err(Failure::words(format!("there is no option {text}")));
+            return Err(hints::no_option(&text, grammar));
         } else if let Some((letter, numbers)) = letter_of(&text) {
-            let letter = find(grammar.letters, letter)
-                .ok_or_else(|| Failure::words(no_letter(letter, grammar)))?;
+            let letter =
+                find(grammar.letters, letter).ok_or_else(|| hints::no_letter(letter, grammar))?;
             self.values.push(Value::read(letter, numbers)?);
         } else if word.is_empty() {
             return Err(Failure::words("a word is empty"));
         } else {
+            hints::check_typed(&text)?;
             self.plain.push(word);
         }
         Ok(())
@@ -88,11 +93,11 @@ impl Words {
         let (most, count) = (grammar.plain.len(), self.plain.len());
         let repeats = grammar.plain.last().is_some_and(|last| last.ends_with("..."));
         if count > most && !repeats {
-            let word = self.plain[most].to_string_lossy();
-            return Err(Failure::words(format!("the word {word} is one too many")));
+            return Err(hints::one_too_many(&self.plain[most], grammar));
         }
         if count + grammar.optional < most {
-            return Err(Failure::words(format!("the word {} is missing", grammar.plain[count])));
+            let name = grammar.plain[count].trim_end_matches("...");
+            return Err(Failure::words(format!("the word {name} is missing")));
         }
         if self.plain.iter().filter(|word| *word == "-").count() > 1 {
             return Err(Failure::words("only one file can be -, standard input"));
@@ -136,7 +141,21 @@ impl Words {
         match self.all(letter)[..] {
             [] => Ok(None),
             [value] => Ok(Some(value)),
-            _ => Err(Failure::words(format!("{letter}= is there twice"))),
+            _ => Err(twice(&format!("{letter}="))),
+        }
+    }
+
+    /// The value of a letter that has to come once, and what it is called.
+    pub fn needed(&self, letter: &str, what: &str) -> Outcome<&Value> {
+        let missing = || Failure::words(format!("{letter}= is missing: {what}"));
+        self.once(letter)?.ok_or_else(missing)
+    }
+
+    /// Fails where one of these letters is there, which have no meaning then.
+    pub fn without(&self, letters: &[&str], when: &str) -> Outcome {
+        match letters.iter().find(|letter| !self.all(letter).is_empty()) {
+            Some(letter) => Err(Failure::words(format!("{letter}= has no meaning {when}"))),
+            None => Ok(()),
         }
     }
 
@@ -168,7 +187,8 @@ impl Words {
 impl Value {
     /// What a word of this letter says.
     fn read(letter: &'static str, text: &str) -> Outcome<Value> {
-        let row = |text: &str| text.split(',').map(number).collect::<Result<Vec<u32>, String>>();
+        let row =
+            |text: &str| text.split(',').map(hints::number).collect::<Result<Vec<u32>, String>>();
         let rows = text.split('/').map(row).collect::<Result<_, _>>();
         let rows = rows.map_err(|why| Failure::words(format!("{letter}={text}: {why}")))?;
         Ok(Value { letter, rows })
@@ -191,14 +211,6 @@ impl Value {
     }
 }
 
-/// The number of a decimal text.
-fn number(text: &str) -> Result<u32, String> {
-    if text.is_empty() || !text.bytes().all(|byte| byte.is_ascii_digit()) {
-        return Err(format!("`{text}` is no number"));
-    }
-    text.parse().map_err(|_| format!("{text} has more than 32 bits"))
-}
-
 /// The letter and the rest of a word such as `c0=3`. A path with such a start is written `./c0=3`.
 fn letter_of(word: &str) -> Option<(&str, &str)> {
     let (letter, rest) = word.split_once('=')?;
@@ -210,13 +222,4 @@ fn letter_of(word: &str) -> Option<(&str, &str)> {
 /// The name in a list that a word is.
 fn find(names: &'static [&'static str], word: &str) -> Option<&'static str> {
     names.iter().copied().find(|name| *name == word)
-}
-
-/// Says that a letter is none of the grammar's.
-fn no_letter(letter: &str, grammar: &Grammar) -> String {
-    let letters: Vec<String> = grammar.letters.iter().map(|letter| format!("{letter}=")).collect();
-    match letters.is_empty() {
-        true => format!("there is no value {letter}= here"),
-        false => format!("there is no value {letter}= here, but {}", letters.join(", ")),
-    }
 }

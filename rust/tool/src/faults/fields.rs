@@ -18,6 +18,17 @@ pub fn mark(bytes: &[u8]) -> String {
     format!("the mark \"{}\"", bytes[..bytes.len().min(3)].escape_ascii())
 }
 
+/// What a file is by its mark where it has another one than this, as it stands behind a line that says that it is refused.
+pub fn instead(bytes: &[u8], mark: &[u8; 3]) -> &'static str {
+    match bytes.get(..3) {
+        found if found == Some(mark) => "",
+        Some(b"HOM") => "; it is a sheet",
+        Some(b"RND") => "; it is a round file",
+        Some(b"PAT") => "; it is a pattern file",
+        _ => "",
+    }
+}
+
 /// What stands at an offset of a sheet, such as `K = 12`.
 pub fn in_sheet(sheet: &[u8], offset: usize) -> String {
     let at = |width| number(sheet, offset, width);

@@ -1,6 +1,6 @@
 //! The table of a sheet that is to be made.
 
-use super::{stated, without};
+use super::stated;
 use crate::brought::{self, Brought};
 use crate::failure::{Failure, Outcome};
 use crate::notation::counted;
@@ -33,8 +33,10 @@ impl Asked {
 
     /// The table of these entries.
     fn by_table(words: &Words, rows: &[Vec<u32>]) -> Outcome<Asked> {
-        without(words.once("h")?.is_some(), "h=", "a table")?;
-        without(words.option("--patterns").is_some(), "--patterns", "a table")?;
+        words.without(&["h"], "for a table")?;
+        if words.option("--patterns").is_some() {
+            return Err(Failure::words("--patterns has no meaning for a table"));
+        }
         match rows.iter().any(|row| row.len() != rows[0].len()) {
             true => Err(Failure::words("table= has rows of different lengths")),
             false => Ok(Asked::Table(rows.to_vec())),
@@ -44,13 +46,14 @@ impl Asked {
     /// The table of a pattern, or of a root sheet.
     fn by_pattern(words: &Words, name: &str) -> Outcome<Asked> {
         let path = words.option("--patterns").map(Path::new);
-        let (number, values) = (patterns::number(name, path.is_none())?, words.numbers("h")?);
+        let number = patterns::number(name, path.is_none())?;
         let file = patterns::load(path)?;
         if number == 0 {
-            without(values.is_some(), "h=", "a root sheet")?;
+            words.without(&["h"], "for a root sheet")?;
             return Ok(Asked::Root(stated(words)?.numbers()?.len()));
         }
-        Ok(Asked::Pattern(Box::new(file), number, values.unwrap_or_default().to_vec()))
+        let values = words.numbers("h")?.unwrap_or_default().to_vec();
+        Ok(Asked::Pattern(Box::new(file), number, values))
     }
 
     /// The sheet with this modulus, order and challenge count, with ones for its statement.

@@ -18,8 +18,8 @@ pub struct Mark {
 enum Said {
     /// Its rounds are judged.
     Judged(Judged),
-    /// A file is refused: which one it is as the marker calls it, and the refusal's number.
-    Refused(String, u32),
+    /// A file is refused: which one it is as the marker calls it, the refusal's number, and what is wrong.
+    Refused(String, u32, String),
     /// It cannot be read, and why.
     Unread(String),
 }
@@ -53,7 +53,7 @@ impl Mark {
         match &self.said {
             Said::Judged(judged) if judged.passed => "pass",
             Said::Judged(_) => "fail",
-            Said::Refused(file, _) => file,
+            Said::Refused(file, ..) => file,
             Said::Unread(_) => "unread",
         }
     }
@@ -61,7 +61,7 @@ impl Mark {
     /// The result, with the number of a refusal as the marker has it.
     pub fn result(&self) -> String {
         match &self.said {
-            Said::Refused(file, number) => format!("{file} {number}"),
+            Said::Refused(file, number, _) => format!("{file} {number}"),
             _ => self.word().to_string(),
         }
     }
@@ -70,17 +70,14 @@ impl Mark {
     pub fn why(&self) -> String {
         match &self.said {
             Said::Judged(judged) => judged.to_string(),
-            Said::Refused(_, number) => {
-                Refusal::from_number(*number).map_or("", Refusal::sentence).to_string()
-            }
-            Said::Unread(why) => why.clone(),
+            Said::Refused(.., why) | Said::Unread(why) => why.clone(),
         }
     }
 
     /// The fields, in the order of their names. Those of rounds are empty where no rounds are judged.
     pub fn fields(&self) -> [String; 9] {
         let number = match self.said {
-            Said::Refused(_, number) => number.to_string(),
+            Said::Refused(_, number, _) => number.to_string(),
             _ => String::new(),
         };
         let [rounds, accepted, rejected, refused, level] = match &self.said {
@@ -100,7 +97,9 @@ impl Said {
         let first = lines.next().unwrap_or_default();
         let (word, number) = first.split_once(' ').unwrap_or((first, ""));
         if word != "rounds" {
-            return Said::Refused(word.to_string(), number.parse().unwrap_or(0));
+            let number = number.parse().unwrap_or(0);
+            let why = Refusal::from_number(number).map(|refusal| folder.fault(refusal));
+            return Said::Refused(word.to_string(), number, why.unwrap_or_default());
         }
         let count = |what: &str| {
             let said = lines.clone().filter_map(|line| line.split(' ').nth(1));

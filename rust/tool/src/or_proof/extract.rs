@@ -5,7 +5,7 @@ use crate::failure::{Failure, Outcome};
 use crate::table::{self, Set};
 use crate::words::Words;
 use crate::{brought, check, notation, small};
-use dimkhoros::{Instance, OrRound, OrWitness, Pair, Places, Refusal, Side};
+use dimkhoros::{OrRound, OrWitness, Pair, Refusal, Side};
 use std::ffi::OsString;
 use std::io::Write;
 
@@ -16,17 +16,16 @@ pub fn run(words: Vec<OsString>, out: &mut dyn Write) -> Outcome {
     let [one, other] = &groups[..] else {
         return Err(Failure::words(how_many(groups.len())));
     };
-    let [first, second] = rounds::load(&words)?;
-    let pair = Pair::new(&first, &second)?;
+    let sheets = rounds::load(&words)?;
+    let pair = rounds::pair(&words, &sheets)?;
     let one = rounds::read(&pair, one, None)?;
     let other = rounds::read(&pair, other, Some(&one))?;
     let extracted = pair.extract(&one, &other);
-    if let Err(refusal @ (Refusal::Commitment | Refusal::Challenge | Refusal::Coordinate)) =
-        extracted
+    if let Err(refusal) = extracted
+        && brought::is_by_value(refusal)
     {
-        let mut brought = rounds::brought(&pair, &one);
-        brought.extend(rounds::brought(&pair, &other));
-        return Err(brought::refused(refusal, &brought));
+        let brought = [one, other].map(|round| rounds::brought(&pair, &round));
+        return Err(brought::refused(refusal, &brought.into_iter().flatten().collect::<Vec<_>>()));
     }
     out.write_all(listed(&pair, &[one, other])?.as_bytes())?;
     let witness = extracted.map_err(|refusal| refused(&pair, &one, &other, refusal))?;
@@ -66,23 +65,10 @@ fn listed(pair: &Pair<'_>, all: &[OrRound]) -> Outcome<String> {
 
 /// A refusal of the extractor, with the values that it is by.
 fn refused(pair: &Pair<'_>, one: &OrRound, other: &OrRound, refusal: Refusal) -> Failure {
-    let differ = |letter, sheet: &Instance, one: &Places, other: &Places| {
-        let [one, other] = [one, other].map(|values| notation::by_row(sheet, values));
-        (one != other).then(|| format!("{one} and {other} as {letter}"))
-    };
     let [first, second] = [Side::First, Side::Second].map(|side| pair.instance(side));
-    let by = match refusal {
-        Refusal::CommitmentsDiffer => {
-            let zero = differ("t0", first, &one.commitment0, &other.commitment0);
-            zero.or_else(|| differ("t1", second, &one.commitment1, &other.commitment1))
-        }
-        Refusal::ChallengesEqual => Some(format!("c = {} in both", one.challenge)),
-        _ => None,
-    };
-    match by {
-        Some(by) => Failure::refused(refusal, by),
-        None => refusal.into(),
-    }
+    let t0 = [one, other].map(|round| notation::by_row(first, &round.commitment0));
+    let t1 = [one, other].map(|round| notation::by_row(second, &round.commitment1));
+    brought::of_two(refusal, &[("t0", t0), ("t1", t1)], one.challenge)
 }
 
 /// Which side gives its witness and why, the witness, and its image.
@@ -101,12 +87,10 @@ fn explained(
     let (c, d) = (first.challenge, second.challenge);
     let [first, second] = [first, second].map(|round| notation::round(sheet, &round));
     let x = notation::by_column(sheet, &witness.values);
-    let checked = match small::image(sheet, &witness.values) {
-        Some(image) if image == sheet.values().statement => {
-            check::is_witness(sheet, &witness.values, &format!("the statement of {side}"))
-        }
-        image => return Err(check::no_witness(sheet, &witness.values, &image.unwrap_or_default())),
-    };
+    if small::image(sheet, &witness.values) != Some(sheet.values().statement) {
+        return Err(check::no_witness(sheet, &witness.values));
+    }
+    let checked = check::is_witness(sheet, &witness.values, &format!("the statement of {side}"));
     Ok(format!(
         "{why}, {c} and {d}: {side} gives its witness.\n\
          The rounds {first} and {second} of {side} give x = {x}.\n{checked}\n"

@@ -35,8 +35,8 @@ pub fn run(words: Vec<OsString>, out: &mut dyn Write) -> Outcome {
     if challenges.is_empty() {
         return Err(Failure::words("c= is missing: the challenge"));
     }
-    let [first, second] = rounds::load(&words)?;
-    let pair = Pair::new(&first, &second)?;
+    let sheets = rounds::load(&words)?;
+    let pair = rounds::pair(&words, &sheets)?;
     let peggy = Peggy::read(&pair, known, &words)?;
     let answered = challenges.iter().map(|challenge| peggy.round(&pair, *challenge));
     let answered = answered.collect::<Outcome<Vec<OrRound>>>()?;
@@ -58,24 +58,20 @@ fn known(words: &Words) -> Outcome<Side> {
     };
     let (own, other) = (known.number(), known.other().number());
     let wrong = [format!("k{other}"), format!("c{own}"), format!("r{own}")];
-    match wrong.iter().find(|letter| !words.all(letter).is_empty()) {
-        Some(letter) => Err(Failure::words(format!(
-            "{letter}= does not go with x{own}=, but k{own}=, c{other}= and r{other}= do: {} is simulated",
-            known.other()
-        ))),
-        None => Ok(known),
-    }
+    let when = format!(
+        "beside x{own}=, but k{own}=, c{other}= and r{other}= have: {} is simulated",
+        known.other()
+    );
+    words.without(&wrong.each_ref().map(String::as_str), &when)?;
+    Ok(known)
 }
 
 impl Peggy {
     /// What the words say.
     fn read(pair: &Pair<'_>, known: Side, words: &Words) -> Outcome<Peggy> {
         let (own, other) = (known.number(), known.other().number());
-        let value = |letter: &str, side: u32, what: &str| {
-            let letter = format!("{letter}{side}");
-            let missing = || Failure::words(format!("{letter}= is missing: {what}"));
-            words.once(&letter)?.ok_or_else(missing)
-        };
+        let value =
+            |letter: &str, side: u32, what: &str| words.needed(&format!("{letter}{side}"), what);
         let (sheet, simulated) = (pair.instance(known), pair.instance(known.other()));
         Ok(Peggy {
             known,
@@ -95,10 +91,7 @@ impl Peggy {
             committed.map_err(|refused| self.refused(pair, challenge, refused.refusal))?;
         let answered = session.respond(pair, challenge, &self.witness);
         let (_, round) = answered.map_err(|refused| match refused.refusal {
-            Refusal::Witness => match sheets::image(sheet, "x", &self.witness) {
-                Ok(image) => check::no_witness(sheet, &self.witness, &image),
-                Err(failure) => failure,
-            },
+            Refusal::Witness => check::no_witness(sheet, &self.witness),
             refusal => self.refused(pair, challenge, refusal),
         })?;
         Ok(round)

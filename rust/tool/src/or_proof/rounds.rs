@@ -2,9 +2,9 @@
 
 use crate::brought::Brought;
 use crate::failure::{Failure, Outcome};
-use crate::notation;
 use crate::sheets::{self, column_count, row_count};
 use crate::words::{Grammar, Value, Words};
+use crate::{files, notation};
 use dimkhoros::{Instance, OrRound, Pair, Places, Round, Side};
 
 /// The words of rounds of two sheets.
@@ -19,6 +19,17 @@ pub const GRAMMAR: Grammar = Grammar {
 /// The two sheets that the words name.
 pub fn load(words: &Words) -> Outcome<[Instance; 2]> {
     Ok([sheets::load(&words.path(0))?, sheets::load(&words.path(1))?])
+}
+
+/// The pair of two sheets, which the words name.
+pub fn pair<'a>(words: &Words, [first, second]: &'a [Instance; 2]) -> Outcome<Pair<'a>> {
+    Pair::new(first, second).map_err(|refusal| {
+        let of = |place: usize, sheet: &Instance| {
+            let challenges = sheet.values().header.challenges;
+            format!("K = {challenges} of {}", files::name(&words.path(place)))
+        };
+        Failure::refused(refusal, format!("{} and {}", of(0, first), of(1, second)))
+    })
 }
 
 /// The round in a group of values. Commitments that it does not have are those of another round, if there is one.
@@ -101,13 +112,14 @@ pub fn of_side(pair: &Pair<'_>, round: &OrRound, side: Side) -> Round {
 /// A round as the words in which it is taken.
 pub fn as_words(pair: &Pair<'_>, round: &OrRound) -> String {
     let [first, second] = [Side::First, Side::Second].map(|side| pair.instance(side));
+    let word = |values: &Places, count: usize| notation::list(&values[..count], ",");
     format!(
         "t0={} t1={} c={} c0={} r0={} r1={}",
-        notation::word(&round.commitment0, row_count(first)),
-        notation::word(&round.commitment1, row_count(second)),
+        word(&round.commitment0, row_count(first)),
+        word(&round.commitment1, row_count(second)),
         round.challenge,
         round.challenge0,
-        notation::word(&round.response0, column_count(first)),
-        notation::word(&round.response1, column_count(second)),
+        word(&round.response0, column_count(first)),
+        word(&round.response1, column_count(second)),
     )
 }

@@ -1,5 +1,6 @@
 //! The shipped patterns that a sheet's table has the form of, and the words that make the sheet.
 
+use crate::notation::list;
 use crate::patterns::{NAMES, value_names};
 use crate::sheets::{column_count, order_letter, row_count};
 use dimkhoros::{Instance, Layout, Pattern, Patterns, Plan, ROOT};
@@ -82,9 +83,4 @@ pub fn made_by(sheet: &Instance, form: Option<&Form>) -> String {
         header.challenges,
         list(&values.statement[..row_count(sheet)], ",")
     )
-}
-
-/// Numbers with something between them.
-pub fn list(numbers: &[u32], between: &str) -> String {
-    numbers.iter().map(u32::to_string).collect::<Vec<String>>().join(between)
 }

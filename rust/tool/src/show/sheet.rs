@@ -84,7 +84,7 @@ fn domain(sheet: &Instance) -> String {
 fn group(sheet: &Instance) -> String {
     let elements = small::elements(sheet);
     let listed = elements.as_ref().filter(|elements| elements.len() <= LISTED);
-    let listed = listed.map_or(String::new(), |elements| forms::list(elements, ", "));
+    let listed = listed.map_or(String::new(), |elements| notation::list(elements, ", "));
     size(elements.map(|elements| elements.len()), "element", row_count(sheet), "row", &listed)
 }
 
@@ -135,16 +135,14 @@ fn statement(sheet: &Instance) -> String {
 
 /// How many witnesses there are, where all coordinates can be tried.
 fn witnesses(sheet: &Instance) -> String {
-    let header = sheet.values().header;
     let Some(witnesses) = small::witnesses(sheet, MOST) else {
         return "Whether there is a witness was not tried, since the domain has too many values.\n"
             .to_string();
     };
     match witnesses.len() {
         0 => format!(
-            "Warning: all values of the domain were tried, and there is no witness. So nobody can know one, and on each commitment\n\
-             at most one of the {} challenges can be answered.\n",
-            header.challenges
+            "Warning: all values of the domain were tried, and there is no witness. {}\n",
+            small::UNANSWERED
         ),
         1 => "All values of the domain were tried: there is 1 witness.\n".to_string(),
         count => format!("All values of the domain were tried: there are {count} witnesses.\n"),

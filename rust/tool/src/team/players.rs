@@ -4,7 +4,7 @@ use crate::brought::{self, Brought};
 use crate::failure::{Failure, Outcome};
 use crate::sheets;
 use crate::words::{Value, Words};
-use dimkhoros::{Instance, Places, Prover, Refusal, Round, Verdict};
+use dimkhoros::{Instance, Places, Refusal, Round, Verdict};
 
 /// What the players of a team bring or make, each of it in their order.
 pub struct Players {
@@ -34,9 +34,7 @@ pub fn check(words: &Words) -> Outcome {
             ));
         }
     };
-    if let Some(letter) = strangers.iter().find(|letter| there(letter)) {
-        return Err(Failure::words(format!("{letter}= does not go with {own}=")));
-    }
+    words.without(strangers, &format!("beside {own}="))?;
     if let Some([letter, needed]) =
         needs.iter().find(|[letter, needed]| there(letter) && !there(needed))
     {
@@ -129,15 +127,13 @@ fn images(sheet: &Instance, letter: &str, all: &[Places]) -> Outcome<Vec<Places>
 }
 
 /// The response of a Peggy who holds a witness of an image and draws a nonce.
-pub fn respond(
+fn respond(
     sheet: &Instance,
     image: &Places,
     witness: &Places,
     nonce: &Places,
     challenge: u32,
 ) -> Result<Places, Refusal> {
-    let own = sheet.with_statement(image)?;
-    let (peggy, _) = Prover::new().commit(&own, nonce)?;
-    let (_, response) = peggy.respond(&own, challenge, witness)?;
-    Ok(response)
+    let round = sheets::honest(&sheet.with_statement(image)?, witness, nonce, challenge)?;
+    Ok(round.response)
 }

@@ -41,3 +41,29 @@ fn the_example_of_the_whole_tool_prints_what_its_help_says() {
     let example = example(&desk.print("dimkhoros --help"));
     assert_eq!(desk.replay(&example), example);
 }
+
+/// The texts behind the words in a help's table, each with the column in which it begins.
+fn columns(help: &str) -> Vec<usize> {
+    let head = help.split("\nExample:").next().unwrap();
+    let lines = head.lines().filter(|line| line.starts_with("    ") && !line.starts_with("     "));
+    let column = |line: &str| {
+        let (word, text) = line.trim_start().split_once("  ").expect("a word without a text");
+        4 + word.len() + 2 + (text.len() - text.trim_start().len())
+    };
+    lines.map(column).collect()
+}
+
+#[test]
+fn every_help_has_one_form() {
+    let desk = Desk::new("form of helps");
+    let overview = desk.print("dimkhoros --help");
+    let helps =
+        names(&overview).into_iter().map(|name| desk.print(&format!("dimkhoros {name} -h")));
+    for help in helps.chain([overview.clone()]) {
+        let widest = help.lines().max_by_key(|line| line.chars().count()).unwrap();
+        assert!(widest.chars().count() <= 128, "this line is too wide:\n{widest}");
+        let columns = columns(&help);
+        assert!(columns.windows(2).all(|pair| pair[0] == pair[1]), "{columns:?} in\n{help}");
+        assert!(help.starts_with("usage: dimkhoros ") && help.contains("\n\nExample:\n"), "{help}");
+    }
+}

@@ -55,10 +55,9 @@ fn with(line: &str, word: &str, other: &str) -> String {
     line.replacen(&format!(" {word}"), &format!(" {other}"), 1)
 }
 
-/// The lines that read files, each with the name of every file that it reads.
-fn reading() -> Vec<(&'static str, String)> {
-    let lines = |name| lines_with(name).into_iter().map(move |line| (name, line));
-    FILES.iter().flat_map(|(name, _)| lines(*name)).collect()
+/// The files that are read, each with the lines in which it stands.
+fn reading() -> impl Iterator<Item = (&'static str, String)> {
+    FILES.iter().flat_map(|(file, _)| lines_with(file).into_iter().map(|line| (*file, line)))
 }
 
 #[test]
@@ -105,50 +104,55 @@ fn nothing_is_overwritten_without_force() {
     }
 }
 
-/// The line has to fail with each of these words in the place of its own, and to name the file and say why.
-fn fails_with(desk: &Desk, line: &str, own: &str, what: &str, others: &[(&str, &str)]) {
-    for (other, why) in others {
-        let line = with(line, own, other);
-        let name = other.trim_start_matches("-o ").trim_end_matches(" --force");
-        let told = format!("dimkhoros: {name} cannot be {what}: {why}\n[1]\n");
-        assert_eq!(desk.print(&line), told, "{line}");
-    }
-}
-
 #[test]
 fn a_file_that_cannot_be_written_is_named() {
     let desk = desk("cannot be written");
     fs::create_dir(desk.folder.join("folder")).unwrap();
     let targets = [
-        ("-o nowhere/file", "No such file or directory (os error 2)"),
-        ("-o SHEET/file", "Not a directory (os error 20)"),
-        ("-o folder --force", "Is a directory (os error 21)"),
-        ("-o /dev/full --force", "No space left on device (os error 28)"),
+        ("nowhere/file", "there is no such folder"),
+        ("SHEET/file", "there is no such folder"),
+        ("folder --force", "it is a folder"),
+        ("/dev/full --force", "No space left on device (os error 28)"),
     ];
-    for line in writing(&desk) {
-        fails_with(&desk, &line, "-o OUT", "written", &targets);
+    let lines = writing(&desk);
+    for (line, (target, why)) in lines.iter().flat_map(|line| targets.map(|told| (line, told))) {
+        let line = with(line, "-o OUT", &format!("-o {target}"));
+        let name = target.split(' ').next().unwrap();
+        let told = format!("dimkhoros: {name} cannot be written: {why}\n[1]\n");
+        assert_eq!(desk.print(&line), told, "{line}");
     }
+}
+
+/// Files that cannot be read, each with why. Root may read the one that is closed.
+fn unreadable(desk: &Desk) -> Vec<(&'static str, &'static str)> {
+    fs::create_dir(desk.folder.join("folder")).unwrap();
+    fs::write(desk.folder.join("closed"), b"").unwrap();
+    desk.print("chmod 000 closed");
+    let closed = File::open(desk.folder.join("closed")).is_err();
+    let mut targets = vec![
+        ("nowhere", "there is no such file"),
+        ("folder", "it is a folder"),
+        ("/proc/self/mem", "Input/output error (os error 5)"),
+    ];
+    targets.extend(closed.then_some(("closed", "that is not permitted")));
+    targets
 }
 
 #[test]
 fn a_file_that_cannot_be_read_is_named() {
     let desk = desk("cannot be read");
-    fs::create_dir(desk.folder.join("folder")).unwrap();
-    desk.print("touch closed; chmod 000 closed");
-    let mut files = vec![
-        ("nowhere", "No such file or directory (os error 2)"),
-        ("folder", "Is a directory (os error 21)"),
-        ("/proc/self/mem", "Input/output error (os error 5)"),
-    ];
-    // Root may read all files.
-    if File::open(desk.folder.join("closed")).is_err() {
-        files.push(("closed", "Permission denied (os error 13)"));
-    }
-    for (name, line) in reading() {
-        if !desk.print(&line).contains("dimkhoros: not written") {
-            let _ = fs::remove_file(desk.folder.join("OUT"));
-            fails_with(&desk, &line, name, "read", &files);
-        }
+    let targets = unreadable(&desk);
+    let is_written = |line: &str| {
+        let printed = desk.print(line);
+        let _ = fs::remove_file(desk.folder.join("OUT"));
+        !printed.contains("dimkhoros: not written")
+    };
+    let lines: Vec<_> = reading().filter(|(_, line)| is_written(line)).collect();
+    let cases = lines.iter().flat_map(|line| targets.iter().map(move |target| (line, target)));
+    for ((file, line), (target, why)) in cases {
+        let line = with(line, file, target);
+        let told = format!("dimkhoros: {target} cannot be read: {why}\n[1]\n");
+        assert_eq!(desk.print(&line), told, "{line}");
     }
 }
 

@@ -8,4 +8,5 @@ mod lines;
 mod marks;
 mod material;
 mod random;
+mod readme;
 mod transcripts;
