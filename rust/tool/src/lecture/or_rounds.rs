@@ -1,0 +1,60 @@
+//! The rounds of the OR proof that a page shows. The library makes and judges each of them.
+
+use super::rounds;
+use dimkhoros::{OrProver, OrRound, Pair, Places, Refusal, Round, Side};
+
+/// What a holder of one witness chooses.
+#[derive(Clone, Copy, Debug, PartialEq)]
+pub struct Choice {
+    /// The side whose witness is known.
+    pub side: Side,
+    /// The nonce on that side.
+    pub nonce: Places,
+    /// The challenge with which the other side is simulated.
+    pub challenge: u32,
+    /// The response with which it is simulated.
+    pub response: Places,
+}
+
+/// The round that a choice, a challenge and a witness lead to.
+pub fn made(
+    pair: &Pair<'_>,
+    choice: &Choice,
+    challenge: u32,
+    witness: &Places,
+) -> Result<OrRound, Refusal> {
+    let Choice { side, nonce, challenge: simulated, response } = choice;
+    let (peggy, _) = OrProver::new().commit(pair, *side, nonce, *simulated, response)?;
+    let (_, round) = peggy.respond(pair, challenge, witness)?;
+    Ok(round)
+}
+
+/// The choice with which the holder of a side's witness makes a round.
+pub fn choice(
+    pair: &Pair<'_>,
+    side: Side,
+    round: &OrRound,
+    witness: &Places,
+) -> Result<Choice, Refusal> {
+    let (own, other) = (part(pair, round, side), part(pair, round, side.other()));
+    let nonce = rounds::nonce(pair.instance(side), own.challenge, &own.response, witness)?;
+    Ok(Choice { side, nonce, challenge: other.challenge, response: other.response })
+}
+
+/// A side's own round within a round of the pair. Side 1's challenge is c - c0 modulo K.
+pub fn part(pair: &Pair<'_>, round: &OrRound, side: Side) -> Round {
+    let count = u64::from(pair.instance(side).values().header.challenges);
+    let second = (u64::from(round.challenge) + count - u64::from(round.challenge0)) % count;
+    match side {
+        Side::First => Round {
+            commitment: round.commitment0,
+            challenge: round.challenge0,
+            response: round.response0,
+        },
+        Side::Second => Round {
+            commitment: round.commitment1,
+            challenge: second as u32,
+            response: round.response1,
+        },
+    }
+}

@@ -1,0 +1,184 @@
+//! A run of the protocol as a message diagram, and a simulated round in its place.
+
+use super::diagram::{Diagram, Message, Row};
+use super::page::Section;
+use crate::by_hand::{self, Power, Sides};
+use crate::notation;
+use crate::sheets::{column_count, row_count};
+use dimkhoros::{EXPONENT, Instance, Places, Round, Verdict};
+
+/// The most rows and columns whose computation is written out.
+const WRITTEN: usize = 2;
+
+/// The section on an honest run.
+pub fn section(
+    sheet: &Instance,
+    nonce: &Places,
+    witness: &Places,
+    round: &Round,
+    verdict: Verdict,
+) -> Section {
+    let [t, r] = [notation::by_row(sheet, &round.commitment), notation::by_column(sheet, &round.response)];
+    let (c, k) = (round.challenge, notation::by_column(sheet, nonce));
+    let mut commits = vec![format!("chooses the nonce $k = {k}$")];
+    commits.extend(image(sheet, "t", "k", nonce, &round.commitment));
+    let rows = vec![
+        Row { left: commits, message: message(true, format!("$t = {t}$")), right: vec![] },
+        Row {
+            left: vec![],
+            message: message(false, format!("$c = {c}$")),
+            right: vec![format!("chooses the challenge $c = {c}$")],
+        },
+        Row {
+            left: response(sheet, ["r", "k", "c", "x"], nonce, witness, round),
+            message: message(true, format!("$r = {r}$")),
+            right: vec![],
+        },
+        Row { right: check(sheet, round, ["r", "t", "z", "c"]), ..Row::default() },
+    ];
+    let diagram = Diagram {
+        id: "run-picture".to_string(),
+        title: "A run of the protocol".to_string(),
+        parties: [
+            ("Peggy".to_string(), format!("knows $x = {}$", notation::by_column(sheet, witness))),
+            ("Vic".to_string(), format!("knows $z = {}$", notation::by_row(sheet, &sheet.values().statement))),
+        ],
+        rows,
+        verdict: format!("{}: {}", equal(verdict), verdict),
+    };
+    Section { id: "run".to_string(), heading: "A run of the protocol".to_string(), body: diagram.svg() }
+}
+
+/// The section on a simulated round, which stands in the place of a run where there is no witness.
+pub fn simulated(sheet: &Instance, round: &Round, verdict: Verdict) -> Section {
+    let [t, r] = [notation::by_row(sheet, &round.commitment), notation::by_column(sheet, &round.response)];
+    let c = round.challenge;
+    let choices = vec![
+        format!("chooses $c = {c}$ and $r = {r}$ first,"),
+        format!("then $t = [r] · z^{{-c}} = {t}$"),
+    ];
+    let rows = vec![
+        Row { left: choices, message: message(true, format!("$(t, c, r) = ({t}, {c}, {r})$")), right: vec![] },
+        Row { right: check(sheet, round, ["r", "t", "z", "c"]), ..Row::default() },
+    ];
+    let diagram = Diagram {
+        id: "run-picture".to_string(),
+        title: "A simulated round".to_string(),
+        parties: [
+            ("Simulator".to_string(), "knows no $x$: there is none".to_string()),
+            ("Anybody".to_string(), format!("knows $z = {}$", notation::by_row(sheet, &sheet.values().statement))),
+        ],
+        rows,
+        verdict: format!("{}: {}", equal(verdict), verdict),
+    };
+    let heading = "No run: nobody knows an $x$, but rounds can be simulated".to_string();
+    Section { id: "run".to_string(), heading, body: diagram.svg() }
+}
+
+/// A message.
+pub fn message(rightwards: bool, label: String) -> Option<Message> {
+    Some(Message { rightwards, label })
+}
+
+/// What Vic sees when he has his verdict.
+pub fn equal(verdict: Verdict) -> &'static str {
+    if verdict.is_accepted() { "both sides are equal" } else { "the sides differ" }
+}
+
+/// The computation of an image that is called t, of coordinates that are called k.
+pub fn image(sheet: &Instance, t: &str, k: &str, coordinates: &Places, image: &Places) -> Vec<String> {
+    let modulus = sheet.values().header.modulus;
+    let rows = row_count(sheet);
+    if rows > WRITTEN || column_count(sheet) > WRITTEN {
+        return vec![format!("${t} = [{k}] = {}$", notation::by_row(sheet, image))];
+    }
+    let row = |row: usize| {
+        let product = product(&by_hand::row_powers(sheet, row, coordinates));
+        match rows {
+            1 => format!("${t} = [{k}] = {product} mod {modulus} = {}$", image[row]),
+            _ => format!("${} = {product} mod {modulus} = {}$", indexed(t, row), image[row]),
+        }
+    };
+    (0..rows).map(row).collect()
+}
+
+/// A letter with the index of a row or column, behind that of its side where it has one.
+fn indexed(letter: &str, place: usize) -> String {
+    let (letter, side) = letter.split_at(letter.len().min(1));
+    match side {
+        "" => format!("{letter}{}", place + 1),
+        _ => format!("{letter}_{{{side},{}}}", place + 1),
+    }
+}
+
+/// A product of powers. Powers of 1 are left out.
+pub fn product(powers: &[Power]) -> String {
+    let shown = powers.iter().filter(|power| power.base != 1);
+    let factors: Vec<String> =
+        shown.map(|power| format!("{}^{}", power.base, power.exponent)).collect();
+    if factors.is_empty() { "1".to_string() } else { factors.join(" · ") }
+}
+
+/// The computation of a response. The letters are those of response, nonce, challenge and witness.
+pub fn response(
+    sheet: &Instance,
+    letters: [&str; 4],
+    nonce: &Places,
+    witness: &Places,
+    round: &Round,
+) -> Vec<String> {
+    let [r, k, c, x] = letters;
+    let (header, columns) = (sheet.values().header, column_count(sheet));
+    let exponent = header.kind == EXPONENT;
+    let formula = if exponent { format!("{r} = {k} + {c} · {x}") } else { format!("{r} = {k} · {x}^{c}") };
+    if columns > WRITTEN {
+        return vec![format!("${formula} = {}$", notation::by_column(sheet, &round.response))];
+    }
+    let computed = |column: usize| {
+        let (k, x, value) = (nonce[column], witness[column], round.response[column]);
+        let c = round.challenge;
+        match exponent {
+            true => format!("{k} + {c} · {x} mod {} = {value}", header.order),
+            false => format!("{k} · {x}^{c} mod {} = {value}", header.modulus),
+        }
+    };
+    if columns == 1 {
+        return vec![format!("${formula}$"), format!("$= {}$", computed(0))];
+    }
+    let column = |column: usize| format!("${} = {}$", indexed(r, column), computed(column));
+    [format!("${formula}$:")].into_iter().chain((0..columns).map(column)).collect()
+}
+
+/// The check of a round, both sides. The letters are those of response, commitment, statement and challenge.
+pub fn check(sheet: &Instance, round: &Round, letters: [&str; 4]) -> Vec<String> {
+    let Some(sides) = by_hand::sides(sheet, round) else {
+        return Vec::new();
+    };
+    let [r, t, z, c] = letters;
+    let modulus = sheet.values().header.modulus;
+    if sides.len() > WRITTEN || column_count(sheet) > WRITTEN {
+        let side = |value: fn(&Sides) -> u32| {
+            let values: Vec<String> = sides.iter().map(|side| value(side).to_string()).collect();
+            if values.len() == 1 { values[0].clone() } else { format!("({})", values.join(", ")) }
+        };
+        return vec![
+            format!("$[{r}] = {}$", side(|side| side.image)),
+            format!("${t} · {z}^{c} = {}$", side(|side| side.right)),
+        ];
+    }
+    let row = |(row, side): (usize, &Sides)| {
+        let (left, right) = match sides.len() {
+            1 => (format!("[{r}]"), format!("{t} · {z}^{c}")),
+            _ => {
+                let place = row + 1;
+                (format!("[{r}]_{place}"), format!("{} · {}^{c}", indexed(t, row), indexed(z, row)))
+            }
+        };
+        let Power { base, exponent, .. } = side.statement;
+        [
+            format!("${left} = {} mod {modulus} = {}$", product(&side.powers), side.image),
+            format!("${right} = {} · {base}^{exponent} mod {modulus} = {}$", side.commitment, side.right),
+        ]
+    };
+    sides.iter().enumerate().flat_map(row).collect()
+}
