@@ -2,6 +2,7 @@
 
 mod diagram;
 mod extractor;
+mod listing;
 mod or_pair;
 mod or_rounds;
 mod page;
@@ -95,7 +96,9 @@ fn challenges(words: &Words, sheet: &Instance) -> Outcome<[u32; 2]> {
         [] => Ok([first, second]),
         [given] => Ok([given, if given == second { first } else { second }]),
         [first, second] => Ok([first, second]),
-        _ => Err(Failure::words("c= is there three times: a run has one challenge, and the extractor a second one")),
+        _ => Err(Failure::words(
+            "c= is there three times: a run has one challenge, and the extractor a second one",
+        )),
     }
 }
 
@@ -111,9 +114,13 @@ fn witness(words: &Words, letter: &str, path: &Path, sheet: &Instance) -> Outcom
     }
     let all = small::witnesses(sheet, small::MOST as usize).ok_or_else(|| {
         let name = files::name(path);
-        Failure::failed(format!("{name} is too large to find a witness by trying all: {letter}= has to say one"))
+        Failure::failed(format!(
+            "{name} is too large to find a witness by trying all: {letter}= has to say one"
+        ))
     })?;
-    let telling = all.iter().find(|witness| witness[..sheets::column_count(sheet)].iter().all(|value| *value > 1));
+    let telling = all
+        .iter()
+        .find(|witness| witness[..sheets::column_count(sheet)].iter().all(|value| *value > 1));
     Ok(telling.or(all.first()).copied())
 }
 
@@ -140,12 +147,16 @@ fn known(words: &Words, sheet: &Instance, witness: &Places) -> Outcome<Vec<Secti
     let second = rounds::honest(sheet, &nonce, challenges[1], witness)?;
     let verdict = rounds::judged(sheet, &first)?;
     let all = small::witnesses(sheet, small::MOST as usize).unwrap_or_default();
-    let mut sections = vec![statement::section(sheet, &told(sheet, witness, all.len()))];
+    let mut sections = statement::sections(
+        sheet,
+        "Peggy knows $x$ with $[x] = z$",
+        &told(sheet, witness, all.len()),
+    );
     sections.push(run::section(sheet, &nonce, witness, &first, verdict));
     let heading = "One commitment, two answers: the extractor";
-    sections.extend(extractor::sections("extractor", heading, sheet, &[first, second])?);
+    sections.extend(extractor::sections(heading, "", sheet, &[first, second])?);
     sections.extend(same_rounds::sections(sheet, witness, &first)?);
-    sections.extend(witnesses::several(sheet, &all, &first)?);
+    sections.extend(witnesses::several(sheet, &all, witness, &first)?);
     sections.extend(squares::grid(sheet, &first.commitment, true));
     Ok(sections)
 }
@@ -172,11 +183,9 @@ fn unknown(words: &Words, sheet: &Instance) -> Outcome<Vec<Section>> {
     let verdict = rounds::judged(sheet, &round)?;
     let domain = small::domain(sheet, small::MOST as usize).unwrap_or_default();
     let tried = format!("there is none: all {} choices were tried", domain.len());
-    let mut sections = vec![
-        statement::section(sheet, &tried),
-        run::simulated(sheet, &round, verdict),
-        witnesses::none(sheet, &domain, &round)?,
-    ];
+    let mut sections = statement::sections(sheet, "Nobody knows an $x$ with $[x] = z$", &tried);
+    sections.push(run::simulated(sheet, &round, verdict));
+    sections.push(witnesses::none(sheet, &domain, &round)?);
     sections.extend(squares::grid(sheet, &round.commitment, false));
     Ok(sections)
 }
@@ -185,14 +194,18 @@ fn unknown(words: &Words, sheet: &Instance) -> Outcome<Vec<Section>> {
 fn double(words: &Words, first: &Instance, second: &Instance) -> Outcome<String> {
     without(words, &["r"], "with SHEET1")?;
     let pair = Pair::new(first, second)?;
-    let witnesses =
-        [witness(words, "x", &words.path(0), first)?, witness(words, "x1", &words.path(1), second)?];
+    let witnesses = [
+        witness(words, "x", &words.path(0), first)?,
+        witness(words, "x1", &words.path(1), second)?,
+    ];
     let challenges = challenges(words, first)?;
     let choice = match witnesses {
         [Some(witness), _] => choice(words, &pair, Side::First, challenges[0], &witness)?,
         [None, Some(witness)] => choice(words, &pair, Side::Second, challenges[0], &witness)?,
         [None, None] => {
-            return Err(Failure::failed("neither sheet has a witness, so that nobody makes rounds of the two"));
+            return Err(Failure::failed(
+                "neither sheet has a witness, so that nobody makes rounds of the two",
+            ));
         }
     };
     let sections = Shown { pair, witnesses, choice, challenges }.sections()?;

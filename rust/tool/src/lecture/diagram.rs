@@ -7,8 +7,8 @@ use super::text::{self, Run};
 pub struct Message {
     /// Whether it goes from the left to the right.
     pub rightwards: bool,
-    /// What it says, in prose.
-    pub label: String,
+    /// Its values, in prose. They stand on one line where they have room there.
+    pub label: Vec<String>,
 }
 
 /// A row of a diagram: what the left party does, a message, and what the right party does, in prose.
@@ -36,41 +36,89 @@ pub struct Diagram {
     pub verdict: String,
 }
 
-/// The size of the text.
-const SIZE: f64 = 22.0;
-/// The height of a line of text.
-const LINE: f64 = 31.0;
-/// The space between rows.
-const SPACE: f64 = 24.0;
+/// How large a diagram is set.
+struct Measure {
+    /// The size of the text.
+    size: f64,
+    /// The height of a line of text.
+    line: f64,
+    /// The space between rows.
+    space: f64,
+}
+
+/// The measures to try in turn, until a diagram fits on a slide.
+const MEASURES: [Measure; 4] = [
+    Measure { size: 25.0, line: 35.0, space: 40.0 },
+    Measure { size: 24.0, line: 33.0, space: 28.0 },
+    Measure { size: 22.0, line: 30.0, space: 22.0 },
+    Measure { size: 20.0, line: 27.0, space: 18.0 },
+];
+/// The height of a diagram that fits on a slide.
+const FITTING: f64 = 580.0;
 /// The width of a diagram.
 const WIDTH: f64 = 1180.0;
 /// The parties' lines.
 const LIVES: [f64; 2] = [425.0, 755.0];
 /// The space between a party's line and its text.
 const ASIDE: f64 = 20.0;
+/// The width of a box with a party's name.
+const NAME: f64 = 156.0;
 /// The height of the parties' names.
-const NAMES: f64 = 62.0;
+const NAMES: f64 = 52.0;
 
 impl Diagram {
     /// The diagram as a picture.
     pub fn svg(&self) -> String {
+        let [first, second, third, last] = MEASURES;
+        let fits = |measure: &Measure| self.height(measure) <= FITTING;
+        let measure = [first, second, third].into_iter().find(fits).unwrap_or(last);
         let mut svg = Svg::new(WIDTH);
-        let rows: Vec<Set> = self.rows.iter().map(Set::new).collect();
-        let tall: f64 = rows.iter().map(|row| row.height() + SPACE).sum();
-        let end = NAMES + tall + LINE + SPACE;
+        let height = self.height(&measure);
         for life in LIVES {
-            svg.line((life, NAMES), (life, end), "life");
+            svg.line((life, NAMES), (life, height - 4.0), "life");
         }
-        for (party, place) in self.parties.iter().zip([0, 1]) {
-            name(&mut svg, party, place);
-        }
+        self.names(&mut svg, &measure);
         let mut above = NAMES;
-        for row in &rows {
-            above += row.height() + SPACE;
-            row.draw(&mut svg, above);
+        for row in self.sets(&measure) {
+            above += row.height(&measure) + measure.space;
+            row.draw(&mut svg, &measure, above);
         }
-        verdict(&mut svg, above + 12.0, &self.verdict);
-        svg.finish(end + 4.0, &self.id, &self.title, &self.description())
+        verdict(&mut svg, &measure, above + 10.0, &self.verdict);
+        svg.finish(height, &self.id, &self.title, &self.description())
+    }
+
+    /// How tall the diagram is in a measure.
+    fn height(&self, measure: &Measure) -> f64 {
+        let rows = self.sets(measure);
+        let tall = rows.iter().map(|row| row.height(measure) + measure.space);
+        NAMES + tall.sum::<f64>() + measure.line + 34.0
+    }
+
+    /// The rows in lines. What a party knows is a row of its own where it has no room beside its name.
+    fn sets(&self, measure: &Measure) -> Vec<Set> {
+        let [left, right] = [0, 1].map(|place| {
+            let knows = &self.parties[place].1;
+            if beside_name(knows, measure) { vec![] } else { vec![knows.clone()] }
+        });
+        let known = Row { left, message: None, right };
+        let first = (known.left.len() + known.right.len() > 0).then(|| Set::new(&known, measure));
+        first.into_iter().chain(self.rows.iter().map(|row| Set::new(row, measure))).collect()
+    }
+
+    /// Draws the parties' names over their lines, and what they know beside them where it has room.
+    fn names(&self, svg: &mut Svg, measure: &Measure) {
+        for ((name, knows), place) in self.parties.iter().zip([0, 1]) {
+            let (life, half) = (LIVES[place], NAME / 2.0);
+            svg.rectangle((life - half, 2.0), (NAME, NAMES - 2.0), "box");
+            svg.prose((life, 36.0), 25.0, Anchor::Middle, "strong", name);
+            let (x, anchor) = match place {
+                0 => (life - half - 14.0, Anchor::End),
+                _ => (life + half + 14.0, Anchor::Start),
+            };
+            if beside_name(knows, measure) {
+                svg.prose((x, 36.0), measure.size, anchor, "", knows);
+            }
+        }
     }
 
     /// What the diagram shows, in words.
@@ -94,10 +142,10 @@ impl Row {
         let [left_does, right_does] = [by(left, &self.left), by(right, &self.right)];
         match &self.message {
             Some(Message { rightwards: true, label }) => {
-                format!("{left_does}{left} sends {right}: {label}. {right_does}")
+                format!("{left_does}{left} sends {right}: {}. {right_does}", label.join(", "))
             }
             Some(Message { label, .. }) => {
-                format!("{right_does}{right} sends {left}: {label}. {left_does}")
+                format!("{right_does}{right} sends {left}: {}. {left_does}", label.join(", "))
             }
             None => left_does + &right_does,
         }
@@ -114,31 +162,37 @@ struct Set {
 
 impl Set {
     /// A row in lines.
-    fn new(row: &Row) -> Set {
-        let beside = (LIVES[0] - ASIDE) / SIZE;
-        let between = (LIVES[1] - LIVES[0] - 30.0) / SIZE;
+    fn new(row: &Row, measure: &Measure) -> Set {
+        let beside = (LIVES[0] - ASIDE) / measure.size;
+        let between = (LIVES[1] - LIVES[0] - 30.0) / measure.size;
         let set = |words: &[String], most: f64| -> Vec<Vec<Run>> {
             words.iter().flat_map(|words| text::wrap(words, most)).collect()
         };
-        let label = row.message.iter().map(|message| message.label.clone()).collect::<Vec<_>>();
+        let parts = row.message.as_ref().map_or(&[][..], |message| &message.label[..]);
+        let joined = set(&[parts.join(", ")], between);
+        let label = match joined.len() {
+            1 => joined,
+            _ => set(parts, between),
+        };
         Set {
             left: set(&row.left, beside),
-            label: set(&label, between),
+            label: if parts.is_empty() { vec![] } else { label },
             rightwards: row.message.as_ref().map(|message| message.rightwards),
             right: set(&row.right, beside),
         }
     }
 
     /// How tall the row is.
-    fn height(&self) -> f64 {
-        LINE * self.left.len().max(self.right.len()).max(self.label.len()) as f64
+    fn height(&self, measure: &Measure) -> f64 {
+        measure.line * self.left.len().max(self.right.len()).max(self.label.len()) as f64
     }
 
     /// Draws the row, which ends at this height.
-    fn draw(&self, svg: &mut Svg, end: f64) {
-        column(svg, LIVES[0] - ASIDE, Anchor::End, &self.left, end);
-        column(svg, LIVES[1] + ASIDE, Anchor::Start, &self.right, end);
-        column(svg, (LIVES[0] + LIVES[1]) / 2.0, Anchor::Middle, &self.label, end - 5.0);
+    fn draw(&self, svg: &mut Svg, measure: &Measure, end: f64) {
+        let middle = (LIVES[0] + LIVES[1]) / 2.0;
+        column(svg, measure, (LIVES[0] - ASIDE, end), Anchor::End, &self.left);
+        column(svg, measure, (LIVES[1] + ASIDE, end), Anchor::Start, &self.right);
+        column(svg, measure, (middle, end - 5.0), Anchor::Middle, &self.label);
         let [left, right] = [(LIVES[0] + 3.0, end), (LIVES[1] - 3.0, end)];
         match self.rightwards {
             Some(true) => svg.arrow(left, right, "message"),
@@ -148,30 +202,25 @@ impl Set {
     }
 }
 
-/// Draws lines of text, of which the last stands at this height.
-fn column(svg: &mut Svg, x: f64, anchor: Anchor, lines: &[Vec<Run>], end: f64) {
+/// Draws lines of text, of which the last stands at this point.
+fn column(svg: &mut Svg, measure: &Measure, at: (f64, f64), anchor: Anchor, lines: &[Vec<Run>]) {
     for (place, line) in lines.iter().rev().enumerate() {
-        svg.text((x, end - 6.0 - LINE * place as f64), SIZE, anchor, "", line);
+        let y = at.1 - 6.0 - measure.line * place as f64;
+        svg.text((at.0, y), measure.size, anchor, "", line);
     }
 }
 
-/// Draws a party's name over its line, and what it knows beside it.
-fn name(svg: &mut Svg, party: &(String, String), place: usize) {
-    let (life, width) = (LIVES[place], 130.0);
-    svg.rectangle((life - width / 2.0, 6.0), (width, NAMES - 16.0), "box");
-    svg.prose((life, 37.0), 25.0, Anchor::Middle, "strong", &party.0);
-    let (x, anchor) = match place {
-        0 => (life - width / 2.0 - 14.0, Anchor::End),
-        _ => (life + width / 2.0 + 14.0, Anchor::Start),
-    };
-    svg.prose((x, 37.0), SIZE, anchor, "", &party.1);
+/// Whether words have room beside a party's name.
+fn beside_name(words: &str, measure: &Measure) -> bool {
+    text::wrap(words, (LIVES[0] - NAME / 2.0 - 14.0) / measure.size).len() == 1
 }
 
 /// Draws the verdict in a box on the right.
-fn verdict(svg: &mut Svg, above: f64, words: &str) {
+fn verdict(svg: &mut Svg, measure: &Measure, above: f64, words: &str) {
     let line = text::wrap(words, f64::INFINITY).concat();
-    let width = text::width(&line) * SIZE * 1.08 + 34.0;
-    svg.rectangle((LIVES[1] + ASIDE, above), (width, LINE + 8.0), "marked");
-    let at = (LIVES[1] + ASIDE + width / 2.0, above + 27.0);
-    svg.text(at, SIZE, Anchor::Middle, "strong", &line);
+    let width = text::width(&line) * measure.size * 0.92 + 44.0;
+    svg.rectangle((LIVES[1] + ASIDE, above), (width, measure.line + 10.0), "marked");
+    let at =
+        (LIVES[1] + ASIDE + width / 2.0, above + measure.line * 0.5 + measure.size * 0.36 + 5.0);
+    svg.text(at, measure.size, Anchor::Middle, "strong", &line);
 }

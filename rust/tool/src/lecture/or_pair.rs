@@ -1,10 +1,10 @@
 //! The OR proof on two sheets: both holders' rounds.
 
 use super::diagram::{Diagram, Row};
+use super::listing::{Cells, Listing};
 use super::or_rounds::{self, Choice};
-use super::page::{self, Section};
+use super::page::{self, Section, Table};
 use super::run::{self, message};
-use super::same_rounds::{Cells, Listing};
 use super::statement::{self, note};
 use super::{extractor, rounds};
 use crate::failure::{Failure, Outcome};
@@ -72,14 +72,31 @@ impl Shown<'_> {
     /// The section on the statement.
     fn statement(&self) -> Section {
         let half = |side: Side| {
-            format!("<div>\n{}{}</div>\n", page::paragraph(&format!("Side {}", side.number())), statement::formulas(self.pair.instance(side)))
+            format!(
+                "<div>\n{}{}</div>\n",
+                page::paragraph("side", &format!("Side {}", side.number())),
+                statement::formulas(self.pair.instance(side))
+            )
         };
         let mut rows = vec![vec![String::new(), "side 0".to_string(), "side 1".to_string()]];
-        let facts = SIDES.map(|side| statement::fact_list(self.pair.instance(side), &self.known(side)));
+        let facts =
+            SIDES.map(|side| statement::fact_list(self.pair.instance(side), &self.known(side)));
         let [first, second] = facts;
-        rows.extend(first.into_iter().zip(second).map(|((name, one), (_, other))| vec![name.to_string(), one, other]));
-        let body = format!("<div class=\"halves\">\n{}{}</div>\n", half(Side::First), half(Side::Second))
-            + &page::table("facts wide", "The two sheets", &rows);
+        rows.extend(
+            first
+                .into_iter()
+                .zip(second)
+                .map(|((name, one), (_, other))| vec![name.to_string(), one, other]),
+        );
+        let body =
+            format!("<div class=\"halves\">\n{}{}</div>\n", half(Side::First), half(Side::Second))
+                + &Table {
+                    class: "facts pair wide",
+                    caption: "The two sheets".to_string(),
+                    rows,
+                    strong: vec![],
+                }
+                .html();
         let heading = "Peggy knows a witness of one of two statements".to_string();
         Section { id: "statement".to_string(), heading, body }
     }
@@ -87,7 +104,11 @@ impl Shown<'_> {
     /// What is known of a side's witness.
     fn known(&self, side: Side) -> String {
         match self.witness(side) {
-            Some(witness) => format!("$x{} = {}$", side.number(), notation::by_column(self.pair.instance(side), witness)),
+            Some(witness) => format!(
+                "$x{} = {}$",
+                side.number(),
+                notation::by_column(self.pair.instance(side), witness)
+            ),
             None => "there is none".to_string(),
         }
     }
@@ -107,7 +128,14 @@ impl Letters {
     /// Those of a side.
     fn of(side: Side) -> Letters {
         let letter = |letter: char| format!("{letter}{}", side.number());
-        Letters { t: letter('t'), c: letter('c'), r: letter('r'), k: letter('k'), x: letter('x'), z: letter('z') }
+        Letters {
+            t: letter('t'),
+            c: letter('c'),
+            r: letter('r'),
+            k: letter('k'),
+            x: letter('x'),
+            z: letter('z'),
+        }
     }
 }
 
@@ -141,19 +169,30 @@ impl Shown<'_> {
     fn rows(&self, choice: &Choice, round: &OrRound) -> Vec<Row> {
         let [first, second] = SIDES.map(|side| self.values(side, round));
         let c = round.challenge;
-        let answer = format!("$c0 = {}$, $r0 = {}$, $r1 = {}$", round.challenge0, first[1], second[1]);
+        let answer = vec![
+            format!("$c0 = {}$", round.challenge0),
+            format!("$r0 = {}$", first[1]),
+            format!("$r1 = {}$", second[1]),
+        ];
         vec![
             Row {
                 left: self.commits(choice, round),
-                message: message(true, format!("$t0 = {}$, $t1 = {}$", first[0], second[0])),
+                message: message(
+                    true,
+                    vec![format!("$t0 = {}$", first[0]), format!("$t1 = {}$", second[0])],
+                ),
                 right: vec![],
             },
             Row {
                 left: vec![],
-                message: message(false, format!("$c = {c}$")),
+                message: message(false, vec![format!("$c = {c}$")]),
                 right: vec![format!("chooses the challenge $c = {c}$")],
             },
-            Row { left: self.responds(choice, round), message: message(true, answer), right: vec![] },
+            Row {
+                left: self.responds(choice, round),
+                message: message(true, answer),
+                right: vec![],
+            },
             Row { right: self.checks(round), ..Row::default() },
         ]
     }
@@ -167,7 +206,8 @@ impl Shown<'_> {
     /// What Peggy does before she commits.
     fn commits(&self, choice: &Choice, round: &OrRound) -> Vec<String> {
         let (own, other) = (Letters::of(choice.side), Letters::of(choice.side.other()));
-        let (sheet, far) = (self.pair.instance(choice.side), self.pair.instance(choice.side.other()));
+        let (sheet, far) =
+            (self.pair.instance(choice.side), self.pair.instance(choice.side.other()));
         let part = or_rounds::part(&self.pair, round, choice.side);
         let mut lines = vec![format!(
             "chooses ${} = {}$, ${} = {}$, ${} = {}$",
@@ -180,7 +220,10 @@ impl Shown<'_> {
         )];
         lines.extend(run::image(sheet, &own.t, &own.k, &choice.nonce, &part.commitment));
         let [t, _] = self.values(choice.side.other(), round);
-        lines.push(format!("${0} = [{1}] · {2}^{{-{3}}} = {t}$", other.t, other.r, other.z, other.c));
+        lines.push(format!(
+            "${0} = [{1}] · {2}^{{-{3}}} = {t}$",
+            other.t, other.r, other.z, other.c
+        ));
         lines
     }
 
@@ -225,6 +268,9 @@ const LISTED: usize = 24;
 /// How many are listed where there are more.
 const SAMPLE: usize = 10;
 
+/// How many are listed where they have no room on one line each.
+const SHORT: usize = 5;
+
 /// The two holders' lists.
 impl Shown<'_> {
     /// The sections on the rounds that both holders make.
@@ -236,12 +282,13 @@ impl Shown<'_> {
         };
         let (rounds, words) = match compared {
             Some((first, second)) => self.compared(first, &second, run)?,
-            None => (self.sample(run)?, format!("Some rounds with $c = {}$. {HIDES}", run.challenge)),
+            None => {
+                (self.sample(run)?, format!("Some rounds with $c = {}$. {HIDES}", run.challenge))
+            }
         };
-        let row = |round: &OrRound| -> Outcome<(Cells, bool)> {
-            Ok((self.cells(round)?, round == run))
-        };
-        let listing = Listing {
+        let row =
+            |round: &OrRound| -> Outcome<(Cells, bool)> { Ok((self.cells(round)?, round == run)) };
+        let mut listing = Listing {
             id: "rounds",
             heading: format!("Both holders make the same rounds with $c = {}$", run.challenge),
             heads: [
@@ -253,6 +300,9 @@ impl Shown<'_> {
             rows: rounds.iter().map(row).collect::<Outcome<Vec<_>>>()?,
             words,
         };
+        if !listing.fits() {
+            listing.shorten(SHORT);
+        }
         Ok(listing.sections())
     }
 
@@ -271,19 +321,26 @@ impl Shown<'_> {
         first.sort_by_key(|round| (round.challenge0, round.response0, round.response1));
         let step = if count <= LISTED { 1 } else { count.div_ceil(SAMPLE - 1) };
         let kept = |(place, round): &(usize, &OrRound)| place % step == 0 || *round == run;
-        let listed: Vec<OrRound> = first.iter().enumerate().filter(kept).map(|(_, round)| *round).collect();
+        let listed: Vec<OrRound> =
+            first.iter().enumerate().filter(kept).map(|(_, round)| *round).collect();
         let some = match listed.len() == count {
             true => String::new(),
             false => format!(" {} of them are listed.", listed.len()),
         };
         let c = run.challenge;
-        Ok((listed, format!("Each holder makes {count} rounds with $c = {c}$, and they are the same.{some} {HIDES}")))
+        Ok((
+            listed,
+            format!(
+                "Each holder makes {count} rounds with $c = {c}$, and they are the same.{some} {HIDES}"
+            ),
+        ))
     }
 
     /// All rounds that a holder makes with a challenge: none where they are too many.
     fn all(&self, side: Side, challenge: u32) -> Outcome<Option<Vec<OrRound>>> {
         let count = self.pair.instance(side).values().header.challenges;
-        let domains = [side, side.other()].map(|side| small::domain(self.pair.instance(side), COMPARED));
+        let domains =
+            [side, side.other()].map(|side| small::domain(self.pair.instance(side), COMPARED));
         let [Some(nonces), Some(responses)] = domains else {
             return Ok(None);
         };
@@ -294,7 +351,12 @@ impl Shown<'_> {
         let choices = nonces.iter().flat_map(|nonce| {
             let responses = &responses;
             (0..count).flat_map(move |simulated| {
-                responses.iter().map(move |response| Choice { side, nonce: *nonce, challenge: simulated, response: *response })
+                responses.iter().map(move |response| Choice {
+                    side,
+                    nonce: *nonce,
+                    challenge: simulated,
+                    response: *response,
+                })
             })
         });
         choices.map(|choice| self.made(&choice, challenge)).collect::<Outcome<Vec<_>>>().map(Some)
@@ -331,8 +393,10 @@ impl Shown<'_> {
 
     /// A choice as a tuple.
     fn choice_words(&self, choice: &Choice) -> String {
-        let (own, other) = (self.pair.instance(choice.side), self.pair.instance(choice.side.other()));
-        let [k, r] = [notation::by_column(own, &choice.nonce), notation::by_column(other, &choice.response)];
+        let (own, other) =
+            (self.pair.instance(choice.side), self.pair.instance(choice.side.other()));
+        let [k, r] =
+            [notation::by_column(own, &choice.nonce), notation::by_column(other, &choice.response)];
         format!("({k}, {}, {r})", choice.challenge)
     }
 
@@ -366,8 +430,8 @@ impl Shown<'_> {
         for holder in self.holders() {
             halves += &self.twice(holder, &self.answered_twice(holder, round)?)?;
         }
-        let words = "With other commitments the rounds say nothing. With the same ones, the side whose own challenge differs gives \
-                     its witness away, and so which witness Peggy knows.";
+        let words = "One round does not tell which witness Peggy knows. Two on the same commitments give it away, on the side whose \
+                     own challenge differs.";
         let body = format!("<div class=\"halves\">\n{halves}</div>\n") + &note(words);
         let heading = "Two rounds on the same commitments".to_string();
         Ok(Section { id: "two-rounds".to_string(), heading, body })
@@ -384,12 +448,16 @@ impl Shown<'_> {
             let told = if one == other { "same" } else { "differs" };
             vec![format!("${name}$"), one.clone(), other.clone(), told.to_string()]
         }));
+        let differs = |(one, other): (&(_, String), &(_, String))| one.1 != other.1;
+        let strong = values[0].iter().zip(&values[1]).map(differs);
+        let strong = strong.enumerate().filter(|(_, differs)| *differs).map(|(place, _)| place + 1);
         let caption = format!("The holder of $x{}$ answers twice", holder.number());
+        let table = Table { class: "figures", caption, rows, strong: strong.collect() };
         let words = format!(
             "$c{number}$ differs: side {number} gives $x{number} = {}$.",
             notation::by_column(sheet, &found.values)
         );
-        Ok(format!("<div>\n{}{}</div>\n", page::table("figures", &caption, &rows), page::paragraph(&words)))
+        Ok(format!("<div>\n{}{}</div>\n", table.html(), page::paragraph("result", &words)))
     }
 
     /// The values of a round by their names.
@@ -412,8 +480,8 @@ impl Shown<'_> {
         let rounds = self.answered_twice(holder, round)?;
         let number = holder.number();
         let parts = rounds.map(|round| or_rounds::part(&self.pair, &round, holder));
-        let heading = format!("The extractor on side {number}, with $c{number}$ and $r{number}$");
-        extractor::sections(&format!("extractor-{number}"), &heading, self.pair.instance(holder), &parts)
+        let heading = format!("The extractor on side {number}");
+        extractor::sections(&heading, &number.to_string(), self.pair.instance(holder), &parts)
     }
 }
 
@@ -433,7 +501,7 @@ pub fn default_challenge(
             own > 1 && own != *simulated
         })
     };
-    let values = [5, 2, 4, 6, 8, 3, 1, 0];
+    let values = [4, 6, 8, 5, 2, 3, 1, 0];
     let mut known = values.into_iter().filter(|value| *value < count);
     let first = known.clone().find(good);
     first.or_else(|| known.next()).unwrap_or(0)

@@ -45,14 +45,41 @@ impl Section {
     }
 }
 
-/// A paragraph of prose.
-pub fn paragraph(words: &str) -> String {
-    format!("<p>{}</p>\n", text::html(words))
+/// A paragraph of prose of a class in the style sheet.
+pub fn paragraph(class: &str, words: &str) -> String {
+    format!("<p class=\"{class}\">{}</p>\n", text::html(words))
 }
 
-/// A table with a caption, in prose, whose first row and first column are headers.
-pub fn table(class: &str, caption: &str, rows: &[Vec<String>]) -> String {
-    let row = |(place, cells): (usize, &Vec<String>)| {
+/// A table, in prose, whose first row and first column are heads.
+#[derive(Default)]
+pub struct Table<'a> {
+    /// Its class in the style sheet.
+    pub class: &'a str,
+    /// What stands over it.
+    pub caption: String,
+    /// The rows.
+    pub rows: Vec<Vec<String>>,
+    /// The rows that are set in bold, by their places.
+    pub strong: Vec<usize>,
+}
+
+impl Table<'_> {
+    /// The table as HTML.
+    pub fn html(&self) -> String {
+        let lines: Vec<String> = (0..self.rows.len()).map(|place| self.row(place)).collect();
+        let (head, body) = lines.split_at(lines.len().min(1));
+        format!(
+            "<table class=\"{}\">\n<caption>{}</caption>\n<thead>\n{}</thead>\n<tbody>\n{}</tbody>\n</table>\n",
+            self.class,
+            text::html(&self.caption),
+            head.concat(),
+            body.concat()
+        )
+    }
+
+    /// A row as HTML.
+    fn row(&self, place: usize) -> String {
+        let strong = if self.strong.contains(&place) { " class=\"strong\"" } else { "" };
         let cell = |(column, words): (usize, &String)| {
             let words = text::html(words);
             match (place, column) {
@@ -61,16 +88,9 @@ pub fn table(class: &str, caption: &str, rows: &[Vec<String>]) -> String {
                 _ => format!("<td>{words}</td>"),
             }
         };
-        format!("<tr>{}</tr>\n", cells.iter().enumerate().map(cell).collect::<String>())
-    };
-    let lines: Vec<String> = rows.iter().enumerate().map(row).collect();
-    let (head, body) = lines.split_at(lines.len().min(1));
-    format!(
-        "<table class=\"{class}\">\n<caption>{}</caption>\n<thead>\n{}</thead>\n<tbody>\n{}</tbody>\n</table>\n",
-        text::html(caption),
-        head.concat(),
-        body.concat()
-    )
+        let cells: String = self.rows[place].iter().enumerate().map(cell).collect();
+        format!("<tr{strong}>{cells}</tr>\n")
+    }
 }
 
 /// The style sheet. A slide is 64 rem wide and 36 rem high, and a rem has 20 pixels at 1280 by 720.
@@ -82,7 +102,7 @@ const STYLE: &str = "\
 }
 * { box-sizing: border-box; }
 html { font-size: clamp(15px, min(1.5625vw, 2.7778vh), 60px); scroll-snap-type: y proximity; background: var(--paper); }
-body { margin: 0; color: var(--ink); background: var(--paper); line-height: 1.45;
+body { margin: 0; color: var(--ink); background: var(--paper); font-size: 1.1rem; line-height: 1.42;
   font-family: \"STIX Two Text\", \"Libertinus Serif\", Charter, Cambria, \"Times New Roman\", \"DejaVu Serif Condensed\", serif;
   font-variant-numeric: lining-nums; font-stretch: semi-condensed; -webkit-text-size-adjust: 100%; }
 section { width: 100%; max-width: 64rem; min-height: 100vh; margin: 0 auto; padding: 1.7rem 2.5rem 1.4rem; display: flex;
@@ -97,8 +117,9 @@ p { margin: 0 0 0.7rem; max-width: 58rem; }
 sup, sub { font-size: 0.76em; line-height: 0; }
 sup { vertical-align: 0.48em; }
 sub { vertical-align: -0.22em; }
-.formula { margin: 0.4rem 0 1.2rem; font-size: 1.75rem; line-height: 1.5; }
-.formula.long { font-size: 1.05rem; line-height: 1.45; }
+.formula { margin: 0.9rem 0 1.6rem; font-size: 2.1rem; line-height: 1.5; }
+.halves .formula { font-size: 1.75rem; margin: 0 0 0.8rem; }
+.formula.long { margin: 0.2rem 0 1rem; font-size: 1.1rem; line-height: 1.4; }
 .formula p { margin: 0; max-width: none; padding-left: 2em; text-indent: -2em; }
 svg { display: block; width: 100%; height: auto; margin: auto 0; overflow: visible; }
 svg text { fill: var(--ink); white-space: pre; }
@@ -115,21 +136,33 @@ svg .head { fill: var(--ink); }
 svg .box { fill: var(--paper); stroke: var(--ink); stroke-width: 2; }
 svg .marked { fill: var(--tint); stroke: var(--accent); stroke-width: 3; }
 svg .cell { fill: none; stroke: var(--rule); stroke-width: 1; }
-.two { display: grid; grid-template-columns: 23rem 1fr; gap: 2.2rem; align-items: start; }
-.halves { display: grid; grid-template-columns: 1fr 1fr; gap: 2.2rem; align-items: start; }
+.two { display: grid; grid-template-columns: 23rem minmax(0, 1fr); gap: 2.2rem; align-items: start; }
+.halves { display: grid; grid-template-columns: repeat(2, minmax(0, 1fr)); gap: 2.2rem; align-items: start; }
 ol { margin: 0; padding-left: 1.6rem; }
-li { margin-bottom: 0.75rem; }
+li { margin-bottom: 1.1rem; }
 li::marker { font-weight: 700; color: var(--accent); }
-.step { display: block; padding-left: 1rem; margin-top: 0.15rem; font-size: 1.15rem; }
-.result { font-weight: 700; }
+.step { display: block; padding-left: 1.2rem; margin-top: 0.25rem; font-size: 1.3rem; }
 table { border-collapse: collapse; margin: 0 0 0.8rem; }
+section > table { align-self: flex-start; }
+section > svg { flex: none; }
 caption { text-align: left; padding-bottom: 0.35rem; color: var(--soft); }
 th, td { padding: 0.22rem 0.9rem 0.22rem 0; text-align: left; vertical-align: baseline; border-bottom: 1px solid var(--rule); }
 thead th { border-bottom: 0.1rem solid var(--ink); font-weight: 600; }
-tbody th { font-weight: 600; }
+tbody th { font-weight: 400; }
+.facts tbody th { font-weight: 600; }
 .figures th, .figures td { text-align: right; padding: 0.2rem 0 0.2rem 1.3rem; }
 .figures th:first-child, .figures td:first-child { padding-left: 0; }
 .facts th { white-space: nowrap; padding-right: 2rem; }
+.facts tbody th { width: 1%; }
+section > .facts { font-size: 1.2rem; }
+.two svg { margin: 0 0 1.4rem; }
+.two .figures, .halves .figures { width: 100%; }
+.dense { font-size: 1rem; }
+.dense th, .dense td { padding-top: 0.05rem; padding-bottom: 0.05rem; }
+.strong td, .strong th { font-weight: 700; }
+.result { font-weight: 700; }
+section > .pair { font-size: 1.05rem; }
+.side { margin: 0; color: var(--soft); }
 .wide { width: 100%; }
 .note { margin-top: auto; padding-top: 0.8rem; margin-bottom: 0; }
 @media (max-width: 48rem) { .two, .halves { grid-template-columns: 1fr; } header { display: block; } .reminder { white-space: normal; } }

@@ -56,7 +56,8 @@ fn inverse(sheet: &Instance, coordinates: &Places) -> Result<Places, Refusal> {
     let header = sheet.values().header;
     match header.kind == EXPONENT {
         true => {
-            let negative = |column: usize| (header.order - coordinates[column] % header.order) % header.order;
+            let negative =
+                |column: usize| (header.order - coordinates[column] % header.order) % header.order;
             Ok(in_columns(sheet, negative))
         }
         false => sheet.with_statement(coordinates)?.simulate(1, &neutral(sheet)),
@@ -128,7 +129,8 @@ impl Lists {
         responses: &[Places],
     ) -> Outcome<Lists> {
         let of_response = |response| simulated(sheet, challenge, response);
-        let simulated = responses.iter().map(of_response).collect::<Result<Vec<Round>, Refusal>>()?;
+        let simulated =
+            responses.iter().map(of_response).collect::<Result<Vec<Round>, Refusal>>()?;
         match honest.iter().map(|honest| honest.round).eq(simulated.iter().copied()) {
             true => Ok(Lists { honest, simulated }),
             false => Err(Failure::failed("the honest and the simulated rounds differ")),
@@ -150,7 +152,7 @@ pub fn default_nonce(sheet: &Instance) -> Places {
 
 /// The response to simulate where none is given.
 pub fn default_response(sheet: &Instance) -> Places {
-    pleasing(sheet, &[4, 6, 8, 3, 9, 5, 7, 2, 11, 13, 17, 19, 23, 29, 31, 37, 1, 0])
+    pleasing(sheet, &[8, 6, 4, 3, 9, 5, 7, 2, 11, 13, 17, 19, 23, 29, 31, 37, 1, 0])
 }
 
 /// The two challenges where none is given.
@@ -170,6 +172,10 @@ pub fn spread(sheet: &Instance, count: u32) -> Vec<Places> {
     };
     let step = (all / (count + 1)).max(1);
     (0..count)
-        .map(|place| in_columns(sheet, |column| near((place * step + 2 + column as u32 * (step / 8 + 1)) % all)))
+        .map(|place| {
+            in_columns(sheet, |column| {
+                near((place * step + 2 + column as u32 * (step / 8 + 1)) % all)
+            })
+        })
         .collect()
 }

@@ -10,6 +10,15 @@ use dimkhoros::{EXPONENT, Instance, Places, Round, Verdict};
 /// The most rows and columns whose computation is written out.
 const WRITTEN: usize = 2;
 
+/// The largest modulus with which the computations of two sides are written out.
+const SHORT: u32 = 999_999;
+
+/// Whether a computation over rows or columns is written out. The letter has an index where there are two sides.
+fn is_written(sheet: &Instance, letter: &str) -> bool {
+    let narrow = row_count(sheet).max(column_count(sheet)) <= WRITTEN;
+    narrow && (letter.len() == 1 || sheet.values().header.modulus <= SHORT)
+}
+
 /// The section on an honest run.
 pub fn section(
     sheet: &Instance,
@@ -18,20 +27,21 @@ pub fn section(
     round: &Round,
     verdict: Verdict,
 ) -> Section {
-    let [t, r] = [notation::by_row(sheet, &round.commitment), notation::by_column(sheet, &round.response)];
+    let [t, r] =
+        [notation::by_row(sheet, &round.commitment), notation::by_column(sheet, &round.response)];
     let (c, k) = (round.challenge, notation::by_column(sheet, nonce));
     let mut commits = vec![format!("chooses the nonce $k = {k}$")];
     commits.extend(image(sheet, "t", "k", nonce, &round.commitment));
     let rows = vec![
-        Row { left: commits, message: message(true, format!("$t = {t}$")), right: vec![] },
+        Row { left: commits, message: message(true, vec![format!("$t = {t}$")]), right: vec![] },
         Row {
             left: vec![],
-            message: message(false, format!("$c = {c}$")),
+            message: message(false, vec![format!("$c = {c}$")]),
             right: vec![format!("chooses the challenge $c = {c}$")],
         },
         Row {
             left: response(sheet, ["r", "k", "c", "x"], nonce, witness, round),
-            message: message(true, format!("$r = {r}$")),
+            message: message(true, vec![format!("$r = {r}$")]),
             right: vec![],
         },
         Row { right: check(sheet, round, ["r", "t", "z", "c"]), ..Row::default() },
@@ -41,24 +51,39 @@ pub fn section(
         title: "A run of the protocol".to_string(),
         parties: [
             ("Peggy".to_string(), format!("knows $x = {}$", notation::by_column(sheet, witness))),
-            ("Vic".to_string(), format!("knows $z = {}$", notation::by_row(sheet, &sheet.values().statement))),
+            (
+                "Vic".to_string(),
+                format!("knows $z = {}$", notation::by_row(sheet, &sheet.values().statement)),
+            ),
         ],
         rows,
         verdict: format!("{}: {}", equal(verdict), verdict),
     };
-    Section { id: "run".to_string(), heading: "A run of the protocol".to_string(), body: diagram.svg() }
+    Section {
+        id: "run".to_string(),
+        heading: "A run of the protocol".to_string(),
+        body: diagram.svg(),
+    }
 }
 
 /// The section on a simulated round, which stands in the place of a run where there is no witness.
 pub fn simulated(sheet: &Instance, round: &Round, verdict: Verdict) -> Section {
-    let [t, r] = [notation::by_row(sheet, &round.commitment), notation::by_column(sheet, &round.response)];
+    let [t, r] =
+        [notation::by_row(sheet, &round.commitment), notation::by_column(sheet, &round.response)];
     let c = round.challenge;
     let choices = vec![
         format!("chooses $c = {c}$ and $r = {r}$ first,"),
         format!("then $t = [r] · z^{{-c}} = {t}$"),
     ];
     let rows = vec![
-        Row { left: choices, message: message(true, format!("$(t, c, r) = ({t}, {c}, {r})$")), right: vec![] },
+        Row {
+            left: choices,
+            message: message(
+                true,
+                vec![format!("$t = {t}$"), format!("$c = {c}$"), format!("$r = {r}$")],
+            ),
+            right: vec![],
+        },
         Row { right: check(sheet, round, ["r", "t", "z", "c"]), ..Row::default() },
     ];
     let diagram = Diagram {
@@ -66,30 +91,39 @@ pub fn simulated(sheet: &Instance, round: &Round, verdict: Verdict) -> Section {
         title: "A simulated round".to_string(),
         parties: [
             ("Simulator".to_string(), "knows no $x$: there is none".to_string()),
-            ("Anybody".to_string(), format!("knows $z = {}$", notation::by_row(sheet, &sheet.values().statement))),
+            (
+                "Anybody".to_string(),
+                format!("knows $z = {}$", notation::by_row(sheet, &sheet.values().statement)),
+            ),
         ],
         rows,
         verdict: format!("{}: {}", equal(verdict), verdict),
     };
-    let heading = "No run: nobody knows an $x$, but rounds can be simulated".to_string();
+    let heading = "No run, but a simulated round".to_string();
     Section { id: "run".to_string(), heading, body: diagram.svg() }
 }
 
-/// A message.
-pub fn message(rightwards: bool, label: String) -> Option<Message> {
+/// A message of several values.
+pub fn message(rightwards: bool, label: Vec<String>) -> Option<Message> {
     Some(Message { rightwards, label })
 }
 
 /// What Vic sees when he has his verdict.
 pub fn equal(verdict: Verdict) -> &'static str {
-    if verdict.is_accepted() { "both sides are equal" } else { "the sides differ" }
+    if verdict.is_accepted() { "equal sides" } else { "the sides differ" }
 }
 
 /// The computation of an image that is called t, of coordinates that are called k.
-pub fn image(sheet: &Instance, t: &str, k: &str, coordinates: &Places, image: &Places) -> Vec<String> {
+pub fn image(
+    sheet: &Instance,
+    t: &str,
+    k: &str,
+    coordinates: &Places,
+    image: &Places,
+) -> Vec<String> {
     let modulus = sheet.values().header.modulus;
     let rows = row_count(sheet);
-    if rows > WRITTEN || column_count(sheet) > WRITTEN {
+    if !is_written(sheet, t) {
         return vec![format!("${t} = [{k}] = {}$", notation::by_row(sheet, image))];
     }
     let row = |row: usize| {
@@ -130,8 +164,9 @@ pub fn response(
     let [r, k, c, x] = letters;
     let (header, columns) = (sheet.values().header, column_count(sheet));
     let exponent = header.kind == EXPONENT;
-    let formula = if exponent { format!("{r} = {k} + {c} · {x}") } else { format!("{r} = {k} · {x}^{c}") };
-    if columns > WRITTEN {
+    let formula =
+        if exponent { format!("{r} = {k} + {c} · {x}") } else { format!("{r} = {k} · {x}^{c}") };
+    if !is_written(sheet, r) {
         return vec![format!("${formula} = {}$", notation::by_column(sheet, &round.response))];
     }
     let computed = |column: usize| {
@@ -156,7 +191,7 @@ pub fn check(sheet: &Instance, round: &Round, letters: [&str; 4]) -> Vec<String>
     };
     let [r, t, z, c] = letters;
     let modulus = sheet.values().header.modulus;
-    if sides.len() > WRITTEN || column_count(sheet) > WRITTEN {
+    if !is_written(sheet, t) {
         let side = |value: fn(&Sides) -> u32| {
             let values: Vec<String> = sides.iter().map(|side| value(side).to_string()).collect();
             if values.len() == 1 { values[0].clone() } else { format!("({})", values.join(", ")) }
@@ -177,7 +212,10 @@ pub fn check(sheet: &Instance, round: &Round, letters: [&str; 4]) -> Vec<String>
         let Power { base, exponent, .. } = side.statement;
         [
             format!("${left} = {} mod {modulus} = {}$", product(&side.powers), side.image),
-            format!("${right} = {} · {base}^{exponent} mod {modulus} = {}$", side.commitment, side.right),
+            format!(
+                "${right} = {} · {base}^{exponent} mod {modulus} = {}$",
+                side.commitment, side.right
+            ),
         ]
     };
     sides.iter().enumerate().flat_map(row).collect()

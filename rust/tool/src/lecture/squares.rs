@@ -68,7 +68,9 @@ impl Square {
     fn draw(&self, svg: &mut Svg, left: f64, cell: f64) {
         let inner = left + self.side();
         let middle = inner + cell * self.columns.len() as f64 / 2.0;
-        svg.prose((middle, 22.0), SIZE + 1.0, Anchor::Middle, "strong", &self.title);
+        if !self.title.is_empty() {
+            svg.prose((middle, 20.0), SIZE + 1.0, Anchor::Middle, "strong", &self.title);
+        }
         svg.prose((middle, 52.0), SIZE, Anchor::Middle, "soft", &self.axes[1]);
         svg.prose((inner - 12.0, HEAD - 12.0), SIZE, Anchor::End, "soft", &self.axes[0]);
         for (column, head) in self.columns.iter().enumerate() {
@@ -126,7 +128,10 @@ pub fn picture(sheet: &Instance, run: &Round, lists: &Lists) -> Option<String> {
             .map(|round| (notation::by_row(sheet, &round.commitment), round == run))
             .collect(),
     };
-    let honest = square("$t$ of the honest rounds", lists.honest.iter().map(|honest| honest.round).collect());
+    let honest = square(
+        "$t$ of the honest rounds",
+        lists.honest.iter().map(|honest| honest.round).collect(),
+    );
     let simulated = square("$t$ of the simulated rounds", lists.simulated.clone());
     let room = (WIDTH - 60.0) / 2.0;
     if honest.width(honest.cell()) > room {
@@ -138,7 +143,11 @@ pub fn picture(sheet: &Instance, run: &Round, lists: &Lists) -> Option<String> {
     simulated.draw(&mut svg, WIDTH - simulated.width(cell), cell);
     let middle = HEAD + TALL * heads.len() as f64 / 2.0;
     for beside in [-5.0, 5.0] {
-        svg.line((WIDTH / 2.0 - 20.0 + 18.0, middle + beside), (WIDTH / 2.0 + 20.0 + 18.0, middle + beside), "message");
+        svg.line(
+            (WIDTH / 2.0 - 20.0 + 18.0, middle + beside),
+            (WIDTH / 2.0 + 20.0 + 18.0, middle + beside),
+            "message",
+        );
     }
     let title = format!("Honest and simulated rounds with the challenge {}", run.challenge);
     let told = honest.told() + " " + &simulated.told();
@@ -158,13 +167,15 @@ pub fn grid(sheet: &Instance, commitment: &Places, known: bool) -> Option<Sectio
         cells.extend(row.collect::<Result<Vec<Round>, _>>().ok()?);
     }
     let square = Square {
-        title: "the commitment $t$ that goes with each challenge and response".to_string(),
+        title: String::new(),
         axes: ["$c$".to_string(), "response $r$".to_string()],
         rows: (0..challenges).map(|challenge| challenge.to_string()).collect(),
         columns: responses.iter().map(|response| notation::by_column(sheet, response)).collect(),
         cells: cells
             .iter()
-            .map(|round| (notation::by_row(sheet, &round.commitment), round.commitment == *commitment))
+            .map(|round| {
+                (notation::by_row(sheet, &round.commitment), round.commitment == *commitment)
+            })
             .collect(),
     };
     let narrow = square.cell();
@@ -174,10 +185,15 @@ pub fn grid(sheet: &Instance, commitment: &Places, known: bool) -> Option<Sectio
     let cell = f64::min(72.0, (WIDTH - square.side()) / responses.len() as f64).max(narrow);
     let mut svg = Svg::new(WIDTH);
     square.draw(&mut svg, (WIDTH - square.width(cell)) / 2.0, cell);
-    let picture = svg.finish(square.height(), "grid-picture", "All accepted rounds", &square.told());
+    let picture =
+        svg.finish(square.height(), "grid-picture", "All accepted rounds", &square.told());
     let t = notation::by_row(sheet, commitment);
     let body = picture + &note(&grid_words(&t, known));
-    Some(Section { id: "grid".to_string(), heading: "All accepted rounds".to_string(), body })
+    Some(Section {
+        id: "grid".to_string(),
+        heading: "All accepted rounds: the $t$ of each $c$ and $r$".to_string(),
+        body,
+    })
 }
 
 /// What is said below the grid.

@@ -9,10 +9,24 @@ use dimkhoros::{EXPONENT, Instance};
 /// The longest formula, in characters, that is set large, or beside a heading.
 const LONG: usize = 52;
 
-/// The section on a sheet. The last fact says what is known of witnesses.
-pub fn section(sheet: &Instance, witnesses: &str) -> Section {
-    let body = formulas(sheet) + &facts(sheet, "The sheet", witnesses);
-    Section { id: "statement".to_string(), heading: "Peggy knows $x$ with $[x] = z$".to_string(), body }
+/// The most rows whose formulas stand over the facts.
+const TALL: usize = 4;
+
+/// The sections on a sheet, with a heading, in prose. The last fact says what is known of witnesses. A long statement stands alone.
+pub fn sections(sheet: &Instance, heading: &str, witnesses: &str) -> Vec<Section> {
+    let facts = facts(sheet, "The sheet", witnesses);
+    let section = |id: &str, heading: &str, body: String| Section {
+        id: id.to_string(),
+        heading: heading.to_string(),
+        body,
+    };
+    match row_count(sheet) > TALL {
+        false => vec![section("statement", heading, formulas(sheet) + &facts)],
+        true => vec![
+            section("statement", heading, formulas(sheet)),
+            section("sheet", "The sheet's domain, group and challenges", facts),
+        ],
+    }
 }
 
 /// The statement row by row, and the homomorphism where that says more.
@@ -50,13 +64,14 @@ pub fn reminder(sheet: &Instance) -> String {
 }
 
 /// The sheet's sets and numbers, each with its name. The last says what is known of witnesses.
-pub fn fact_list(sheet: &Instance, witnesses: &str) -> [(&'static str, String); 5] {
+pub fn fact_list(sheet: &Instance, witnesses: &str) -> [(&'static str, String); 6] {
     let header = sheet.values().header;
     let last = header.challenges - 1;
     [
         ("domain", domain(sheet)),
         ("group", group(sheet)),
-        ("challenges", format!("$c$ from 0 to {last}; there are $K = {}$", header.challenges)),
+        ("homomorphism", law(sheet)),
+        ("challenges", format!("$c$ from 0 to {last}, so $K = {}$", header.challenges)),
         ("extractor", extractor(sheet)),
         ("witness", witnesses.to_string()),
     ]
@@ -96,7 +111,10 @@ fn domain(sheet: &Instance) -> String {
 fn group(sheet: &Instance) -> String {
     let (header, rows) = (sheet.values().header, row_count(sheet));
     let each = match header.kind == EXPONENT {
-        true => format!("the $v$ with $v^{} = 1$ modulo {1}, multiplied modulo {1}", header.order, header.modulus),
+        true => format!(
+            "the $v$ with $v^{} = 1$ modulo {1}, multiplied modulo {1}",
+            header.order, header.modulus
+        ),
         false => format!("the numbers prime to {0}, multiplied modulo {0}", header.modulus),
     };
     let many = match rows {
@@ -110,9 +128,15 @@ fn group(sheet: &Instance) -> String {
 fn size(each: Option<u64>, count: usize) -> String {
     let all = each.and_then(|each| each.checked_pow(count as u32));
     match all.filter(|all| *all <= u64::from(u32::MAX)) {
-        Some(all) => format!("; there are {all}"),
+        Some(all) => format!(" ({all} elements)"),
         None => String::new(),
     }
+}
+
+/// The law of the homomorphism.
+fn law(sheet: &Instance) -> String {
+    let sign = if sheet.values().header.kind == EXPONENT { "+" } else { "·" };
+    format!("$[x {sign} y] = [x] · [y]$")
 }
 
 /// The numbers that the extractor has besides rounds.
@@ -126,5 +150,5 @@ fn extractor(sheet: &Instance) -> String {
 
 /// A paragraph below the facts.
 pub fn note(words: &str) -> String {
-    page::paragraph(words).replacen("<p>", "<p class=\"note\">", 1)
+    page::paragraph("note", words)
 }

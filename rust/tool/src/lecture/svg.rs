@@ -75,7 +75,7 @@ impl Svg {
     /// A rectangle with its upper left corner, width and height.
     pub fn rectangle(&mut self, at: (f64, f64), size: (f64, f64), class: &str) {
         self.body += &format!(
-            "<rect x=\"{}\" y=\"{}\" width=\"{}\" height=\"{}\" rx=\"3\" class=\"{class}\"/>\n",
+            "<rect x=\"{}\" y=\"{}\" width=\"{}\" height=\"{}\" class=\"{class}\"/>\n",
             number(at.0),
             number(at.1),
             number(size.0),

@@ -78,6 +78,31 @@ fn others<'a>(text: &'a str, pieces: &mut Vec<Piece>) -> &'a str {
     &text[end..]
 }
 
+/// Prose in whose formulas the letters of a side of two have its index. An empty index changes nothing.
+pub fn with_index(text: &str, index: &str) -> String {
+    let mut parts: Vec<String> = text.split('$').map(str::to_string).collect();
+    for formula in parts.iter_mut().skip(1).step_by(2) {
+        *formula = formula_with_index(formula, index);
+    }
+    parts.join("$")
+}
+
+/// A formula whose letters of a side have its index, those that stand alone.
+pub fn formula_with_index(formula: &str, index: &str) -> String {
+    let characters: Vec<char> = formula.chars().collect();
+    let alone = |place: usize| {
+        let near = [place.checked_sub(1), place.checked_add(1)];
+        let near = near.iter().flatten().filter_map(|place| characters.get(*place));
+        near.into_iter().all(|near| !near.is_ascii_alphanumeric())
+    };
+    let indexed = |(place, letter): (usize, &char)| match "tcrxzu".contains(*letter) && alone(place)
+    {
+        true => format!("{letter}{index}"),
+        false => letter.to_string(),
+    };
+    characters.iter().enumerate().map(indexed).collect()
+}
+
 /// The text with the characters of the markup replaced.
 pub fn escape(text: &str) -> String {
     let escaped = text.replace('&', "&amp;").replace('<', "&lt;").replace('>', "&gt;");
@@ -134,7 +159,21 @@ fn runs(pieces: &[Piece], scale: f64, rise: f64) -> Vec<Run> {
         Piece::Raised(inner) => runs(inner, scale * SMALLER, rise + 0.36 * scale),
         Piece::Lowered(inner) => runs(inner, scale * SMALLER, rise - 0.2 * scale),
     };
-    pieces.iter().flat_map(piece).collect()
+    let mut joined: Vec<Run> = Vec::new();
+    for run in pieces.iter().flat_map(piece) {
+        match joined.last_mut() {
+            Some(last) if last.is_like(&run) => last.text += &run.text,
+            _ => joined.push(run),
+        }
+    }
+    joined
+}
+
+impl Run {
+    /// Whether two runs have the same style.
+    fn is_like(&self, other: &Run) -> bool {
+        (self.italic, self.scale, self.rise) == (other.italic, other.scale, other.rise)
+    }
 }
 
 /// How wide runs are at the most, as a part of the line's size. Widths are those of a wide font.
@@ -152,27 +191,34 @@ fn character_width(character: char) -> f64 {
     }
 }
 
-/// Prose in lines of at most this width, as a part of their size. It is broken at spaces.
+/// Prose in lines of at most this width, as a part of their size. It is broken at spaces, before a sign rather than behind it.
 pub fn wrap(text: &str, most: f64) -> Vec<Vec<Run>> {
     let mut lines: Vec<Vec<Run>> = vec![Vec::new()];
     for atom in atoms(runs(&prose(text), 1.0, 0.0)) {
         let line = lines.last_mut().expect("there is a line");
-        let filled = line.is_empty() || width(line) + width(&atom) <= most;
-        match filled {
+        match line.is_empty() || width(line) + width(&atom) <= most + 0.33 {
             true => line.extend(atom),
             false => lines.push(atom),
         }
     }
+    for run in lines.iter_mut().filter_map(|line| line.last_mut()) {
+        run.text.truncate(run.text.trim_end().len());
+    }
     lines
 }
 
-/// The runs in parts, each of which ends in a space but for the last.
+/// The signs and words that begin a line rather than end it.
+const SIGNS: [&str; 6] = ["=", "·", "+", "−", "/", "mod"];
+
+/// The runs in parts between which lines are broken. Each but the last ends in a space.
 fn atoms(runs: Vec<Run>) -> Vec<Vec<Run>> {
     let mut atoms: Vec<Vec<Run>> = vec![Vec::new()];
-    for (run, text) in runs.iter().flat_map(|run| run.text.split_inclusive(' ').map(move |text| (run, text))) {
+    let parts =
+        runs.iter().flat_map(|run| run.text.split_inclusive(' ').map(move |text| (run, text)));
+    for (run, text) in parts {
         let atom = atoms.last_mut().expect("there is a part");
         atom.push(Run { text: text.to_string(), ..run.clone() });
-        if text.ends_with(' ') {
+        if text.ends_with(' ') && !SIGNS.contains(&text.trim()) {
             atoms.push(Vec::new());
         }
     }

@@ -1,6 +1,6 @@
 //! What is known of witnesses: several make the same rounds, and where there is none no commitment answers two challenges.
 
-use super::page::{self, Section};
+use super::page::{self, Section, Table};
 use super::rounds;
 use super::statement::note;
 use crate::failure::{Failure, Outcome};
@@ -12,18 +12,27 @@ use std::collections::{BTreeMap, BTreeSet};
 const LISTED: usize = 12;
 
 /// The section on the nonces with which each of several witnesses makes the run's round.
-pub fn several(sheet: &Instance, witnesses: &[Places], run: &Round) -> Outcome<Option<Section>> {
+pub fn several(
+    sheet: &Instance,
+    witnesses: &[Places],
+    known: &Places,
+    run: &Round,
+) -> Outcome<Option<Section>> {
     if witnesses.len() < 2 {
         return Ok(None);
     }
     let row = |witness: &Places| -> Result<Vec<String>, Refusal> {
         let nonce = rounds::nonce(sheet, run.challenge, &run.response, witness)?;
         let round = rounds::honest(sheet, &nonce, run.challenge, witness)?;
-        let [t, r] = [notation::by_row(sheet, &round.commitment), notation::by_column(sheet, &round.response)];
+        let [t, r] = [
+            notation::by_row(sheet, &round.commitment),
+            notation::by_column(sheet, &round.response),
+        ];
         let [x, k] = [witness, &nonce].map(|values| notation::by_column(sheet, values));
         Ok(vec![format!("${x}$"), format!("${k}$"), format!("$({t}, {}, {r})$", round.challenge)])
     };
-    let mut rows = vec![["witness $x$", "nonce $k$", "round $(t, c, r)$"].map(str::to_string).to_vec()];
+    let mut rows =
+        vec![["witness $x$", "nonce $k$", "round $(t, c, r)$"].map(str::to_string).to_vec()];
     let listed = witnesses.iter().take(LISTED).map(row).collect::<Result<Vec<_>, Refusal>>()?;
     rows.extend(listed);
     let count = witnesses.len();
@@ -31,9 +40,10 @@ pub fn several(sheet: &Instance, witnesses: &[Places], run: &Round) -> Outcome<O
         true => format!("The first {LISTED} of {count} witnesses"),
         false => format!("All {count} witnesses"),
     };
-    let words = "Each witness has one nonce with which Peggy sends this very round. So the round does not tell which witness \
-                 she knows.";
-    let body = page::table("figures", &caption, &rows) + &note(words);
+    let words = "Each witness has a nonce that makes this round, so the round does not tell which one Peggy knows.";
+    let own = witnesses.iter().take(LISTED).position(|witness| witness == known);
+    let strong = own.map(|place| place + 1).into_iter().collect();
+    let body = Table { class: "figures", caption, rows, strong }.html() + &note(words);
     let heading = "Every witness makes the same round".to_string();
     Ok(Some(Section { id: "witnesses".to_string(), heading, body }))
 }
@@ -47,8 +57,11 @@ const COMMITMENTS: usize = 8;
 pub fn none(sheet: &Instance, domain: &[Places], own: &Round) -> Outcome<Section> {
     let challenges = sheet.values().header.challenges;
     let mut body = page::paragraph(
-        "Two accepted rounds with one commitment and two challenges would give a witness, by the extractor, and there is none. \
-         So who has sent $t$ can answer one challenge at the most, and Vic's is another with probability $1 - 1/K$ at least.",
+        "lead",
+        &format!(
+            "Two rounds with one commitment and two challenges would give a witness, by the extractor, and there is none. So who has \
+         sent $t$ can answer at most one of the $K = {challenges}$ challenges."
+        ),
     );
     if domain.len().saturating_mul(challenges as usize) <= SIMULATED {
         let answers = answers(sheet, domain, challenges)?;
@@ -88,9 +101,12 @@ fn table(sheet: &Instance, answers: &BTreeMap<Places, BTreeSet<u32>>, own: &Roun
         let challenges: Vec<String> = challenges.iter().map(u32::to_string).collect();
         vec![format!("${}$", notation::by_row(sheet, commitment)), challenges.join(", ")]
     };
-    let mut rows = vec![vec!["commitment $t$".to_string(), "challenges that it answers".to_string()]];
+    let mut rows =
+        vec![vec!["commitment $t$".to_string(), "challenges that it answers".to_string()]];
     let own = answers.get_key_value(&own.commitment);
-    let others = answers.iter().filter(|(commitment, _)| own.is_none_or(|(own, _)| own != *commitment));
+    let others =
+        answers.iter().filter(|(commitment, _)| own.is_none_or(|(own, _)| own != *commitment));
     rows.extend(own.into_iter().chain(others.take(COMMITMENTS - 1)).map(row));
-    page::table("figures", "The commitment of the simulated round, and some others", &rows)
+    let caption = "Some commitments, that of the simulated round first".to_string();
+    Table { class: "figures", caption, rows, strong: vec![1] }.html()
 }
