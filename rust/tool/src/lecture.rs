@@ -3,8 +3,11 @@
 mod diagram;
 mod extractor;
 mod listing;
+mod or_lists;
 mod or_pair;
 mod or_rounds;
+mod or_run;
+mod or_twice;
 mod page;
 mod rounds;
 mod run;
@@ -174,7 +177,8 @@ fn told(sheet: &Instance, witness: &Places, count: usize) -> String {
 /// The sections on a sheet without a witness.
 fn unknown(words: &Words, sheet: &Instance) -> Outcome<Vec<Section>> {
     without(words, &["k"], "where there is no witness: nobody can answer with it")?;
-    let [challenge, _] = challenges(words, sheet)?;
+    let [default, _] = rounds::default_challenges(sheet);
+    let challenge = words.number("c")?.unwrap_or(default);
     let response = match words.once("r")? {
         Some(value) => sheets::by_column(sheet, value)?,
         None => rounds::default_response(sheet),
@@ -236,6 +240,6 @@ fn choice(
         None => rounds::default_response(other),
     };
     let choice = Choice { side, nonce, challenge: 0, response };
-    let default = or_pair::default_challenge(pair, &choice, challenge, witness);
+    let default = or_rounds::default_challenge(pair, &choice, challenge, witness);
     Ok(Choice { challenge: words.number(letters[0])?.unwrap_or(default), ..choice })
 }

@@ -16,8 +16,8 @@ const BESIDE: usize = 4;
 /// The most columns whose witness stands among the steps.
 const FEW: usize = 2;
 
-/// The sections on the extractor: the steps, and Euclid's algorithm and the columns where they are many. The index is that of the letters of
-/// a side of two, else empty.
+/// The sections on the extractor: the steps, and Euclid's algorithm and the columns where they are many. The index is that of
+/// the letters of a side of two, else empty.
 pub fn sections(
     heading: &str,
     index: &str,

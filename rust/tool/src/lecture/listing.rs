@@ -47,8 +47,11 @@ impl Listing<'_> {
         Block::natural(self).width() <= WIDTH - 2.0 * FRAME
     }
 
-    /// Leaves out rows that are not the run's, until there are so many.
-    pub fn shorten(&mut self, most: usize) {
+    /// Leaves out rows that are not the run's, where they have several lines, until the others have room on a slide. Two stay.
+    pub fn shorten(&mut self) {
+        let block = Block::of(self);
+        let tall = self.rows.iter().map(|row| Set::new(&block, row).height()).fold(1.0, f64::max);
+        let most = if self.fits() { self.rows.len() } else { ((FULL / tall) as usize).max(2) };
         let mut over = self.rows.len().saturating_sub(most);
         self.rows.retain(|(_, own)| {
             let kept = *own || over == 0;

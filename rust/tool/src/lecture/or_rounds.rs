@@ -58,3 +58,26 @@ pub fn part(pair: &Pair<'_>, round: &OrRound, side: Side) -> Round {
         },
     }
 }
+
+/// The challenge to simulate where none is given: one with which the holder's own is another, and neither 0 nor 1, if there is
+/// one.
+pub fn default_challenge(
+    pair: &Pair<'_>,
+    choice: &Choice,
+    challenge: u32,
+    witness: &Places,
+) -> u32 {
+    let count = pair.instance(choice.side).values().header.challenges;
+    let good = |simulated: &u32| {
+        let choice = Choice { challenge: *simulated, ..*choice };
+        let made = made(pair, &choice, challenge, witness);
+        made.is_ok_and(|round| {
+            let own = part(pair, &round, choice.side).challenge;
+            own > 1 && own != *simulated
+        })
+    };
+    let values = [4, 6, 8, 5, 2, 3, 1, 0];
+    let mut known = values.into_iter().filter(|value| *value < count);
+    let first = known.clone().find(good);
+    first.or_else(|| known.next()).unwrap_or(0)
+}

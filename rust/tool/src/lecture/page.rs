@@ -143,8 +143,8 @@ li { margin-bottom: 1.1rem; }
 li::marker { font-weight: 700; color: var(--accent); }
 .step { display: block; padding-left: 1.2rem; margin-top: 0.25rem; font-size: 1.3rem; }
 table { border-collapse: collapse; margin: 0 0 0.8rem; }
-section > table { align-self: flex-start; }
-section > svg { flex: none; }
+section table { align-self: flex-start; }
+section svg { flex: none; }
 caption { text-align: left; padding-bottom: 0.35rem; color: var(--soft); }
 th, td { padding: 0.22rem 0.9rem 0.22rem 0; text-align: left; vertical-align: baseline; border-bottom: 1px solid var(--rule); }
 thead th { border-bottom: 0.1rem solid var(--ink); font-weight: 600; }
@@ -154,28 +154,32 @@ tbody th { font-weight: 400; }
 .figures th:first-child, .figures td:first-child { padding-left: 0; }
 .facts th { white-space: nowrap; padding-right: 2rem; }
 .facts tbody th { width: 1%; }
-section > .facts { font-size: 1.2rem; }
+.facts { font-size: 1.2rem; }
 .two svg { margin: 0 0 1.4rem; }
 .two .figures, .halves .figures { width: 100%; }
 .dense { font-size: 1rem; }
 .dense th, .dense td { padding-top: 0.05rem; padding-bottom: 0.05rem; }
 .strong td, .strong th { font-weight: 700; }
 .result { font-weight: 700; }
-section > .pair { font-size: 1.05rem; }
+.facts.pair { font-size: 1.05rem; }
 .side { margin: 0; color: var(--soft); }
 .wide { width: 100%; }
 .note { margin-top: auto; padding-top: 0.8rem; margin-bottom: 0; }
-@media (max-width: 48rem) { .two, .halves { grid-template-columns: 1fr; } header { display: block; } .reminder { white-space: normal; } }
+@media screen and (max-width: 48rem) {
+  .two, .halves { grid-template-columns: 1fr; }
+  header { display: block; }
+  .reminder { white-space: normal; }
+}
 @page { size: A4 landscape; margin: 12mm; }
 @media print {
   :root { color-scheme: light; --paper: #ffffff; --ink: #000000; --soft: #333333; --rule: #777777; --accent: #000000;
     --tint: #eeeeee; }
   html { font-size: 4.15mm; scroll-snap-type: none; }
-  section { min-height: 0; max-width: none; padding: 0; overflow: visible; break-inside: avoid; break-after: page; }
+  section { display: block; min-height: 0; max-width: none; padding: 0; overflow: visible; break-inside: avoid;
+    break-after: page; }
   section:last-child { break-after: auto; }
   svg { margin: 0; break-inside: avoid; }
   tr, li { break-inside: avoid; }
   .note { margin-top: 0; }
-  .two { grid-template-columns: 23rem 1fr; }
 }
 ";

@@ -27,80 +27,74 @@ pub fn section(
     round: &Round,
     verdict: Verdict,
 ) -> Section {
-    let [t, r] =
-        [notation::by_row(sheet, &round.commitment), notation::by_column(sheet, &round.response)];
-    let (c, k) = (round.challenge, notation::by_column(sheet, nonce));
-    let mut commits = vec![format!("chooses the nonce $k = {k}$")];
+    let [t, c, r] = values(sheet, round);
+    let mut commits =
+        vec![format!("chooses the nonce $k = {}$", notation::by_column(sheet, nonce))];
     commits.extend(image(sheet, "t", "k", nonce, &round.commitment));
     let rows = vec![
-        Row { left: commits, message: message(true, vec![format!("$t = {t}$")]), right: vec![] },
+        Row { left: commits, message: message(true, vec![t]), right: vec![] },
         Row {
             left: vec![],
-            message: message(false, vec![format!("$c = {c}$")]),
-            right: vec![format!("chooses the challenge $c = {c}$")],
+            message: message(false, vec![c.clone()]),
+            right: vec![format!("chooses the challenge {c}")],
         },
         Row {
             left: response(sheet, ["r", "k", "c", "x"], nonce, witness, round),
-            message: message(true, vec![format!("$r = {r}$")]),
+            message: message(true, vec![r]),
             right: vec![],
         },
         Row { right: check(sheet, round, ["r", "t", "z", "c"]), ..Row::default() },
     ];
-    let diagram = Diagram {
-        id: "run-picture".to_string(),
-        title: "A run of the protocol".to_string(),
-        parties: [
-            ("Peggy".to_string(), format!("knows $x = {}$", notation::by_column(sheet, witness))),
-            (
-                "Vic".to_string(),
-                format!("knows $z = {}$", notation::by_row(sheet, &sheet.values().statement)),
-            ),
-        ],
-        rows,
-        verdict: format!("{}: {}", equal(verdict), verdict),
-    };
-    Section {
-        id: "run".to_string(),
-        heading: "A run of the protocol".to_string(),
-        body: diagram.svg(),
-    }
+    let knows = format!("knows $x = {}$", notation::by_column(sheet, witness));
+    drawn(sheet, "A run of the protocol", ["Peggy", "Vic"], &knows, rows, verdict)
 }
 
 /// The section on a simulated round, which stands in the place of a run where there is no witness.
 pub fn simulated(sheet: &Instance, round: &Round, verdict: Verdict) -> Section {
-    let [t, r] =
-        [notation::by_row(sheet, &round.commitment), notation::by_column(sheet, &round.response)];
-    let c = round.challenge;
+    let [t, c, r] = values(sheet, round);
     let choices = vec![
-        format!("chooses $c = {c}$ and $r = {r}$ first,"),
-        format!("then $t = [r] · z^{{-c}} = {t}$"),
+        format!("chooses {c} and {r} first,"),
+        format!("then $t = [r] · z^{{-c}} = {}$", notation::by_row(sheet, &round.commitment)),
     ];
     let rows = vec![
-        Row {
-            left: choices,
-            message: message(
-                true,
-                vec![format!("$t = {t}$"), format!("$c = {c}$"), format!("$r = {r}$")],
-            ),
-            right: vec![],
-        },
+        Row { left: choices, message: message(true, vec![t, c, r]), right: vec![] },
         Row { right: check(sheet, round, ["r", "t", "z", "c"]), ..Row::default() },
     ];
+    let knows = "knows no $x$: there is none";
+    let heading = "No run, but a simulated round";
+    drawn(sheet, heading, ["Simulator", "Anybody"], knows, rows, verdict)
+}
+
+/// The values of a round, each with its letter.
+fn values(sheet: &Instance, round: &Round) -> [String; 3] {
+    [
+        format!("$t = {}$", notation::by_row(sheet, &round.commitment)),
+        format!("$c = {}$", round.challenge),
+        format!("$r = {}$", notation::by_column(sheet, &round.response)),
+    ]
+}
+
+/// The section with the diagram of two parties. The second one knows the statement.
+fn drawn(
+    sheet: &Instance,
+    heading: &str,
+    [first, second]: [&str; 2],
+    knows: &str,
+    rows: Vec<Row>,
+    verdict: Verdict,
+) -> Section {
+    let statement = notation::by_row(sheet, &sheet.values().statement);
     let diagram = Diagram {
         id: "run-picture".to_string(),
-        title: "A simulated round".to_string(),
+        title: heading.to_string(),
         parties: [
-            ("Simulator".to_string(), "knows no $x$: there is none".to_string()),
-            (
-                "Anybody".to_string(),
-                format!("knows $z = {}$", notation::by_row(sheet, &sheet.values().statement)),
-            ),
+            (first.to_string(), knows.to_string()),
+            (second.to_string(), format!("knows $z = {statement}$")),
         ],
         rows,
-        verdict: format!("{}: {}", equal(verdict), verdict),
+        verdict: format!("{}: {verdict}", equal(verdict)),
     };
-    let heading = "No run, but a simulated round".to_string();
-    Section { id: "run".to_string(), heading, body: diagram.svg() }
+    Section { id: "run".to_string(), heading: heading.to_string(), body: diagram.svg() }
 }
 
 /// A message of several values.
@@ -109,7 +103,7 @@ pub fn message(rightwards: bool, label: Vec<String>) -> Option<Message> {
 }
 
 /// What Vic sees when he has his verdict.
-pub fn equal(verdict: Verdict) -> &'static str {
+fn equal(verdict: Verdict) -> &'static str {
     if verdict.is_accepted() { "equal sides" } else { "the sides differ" }
 }
 

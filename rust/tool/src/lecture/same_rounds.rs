@@ -15,8 +15,6 @@ const COMPARED: usize = small::MOST as usize;
 const LISTED: usize = 72;
 /// How many are listed where there are more.
 const SAMPLE: usize = 12;
-/// How many are listed where they have no room on one line each.
-const SHORT: usize = 3;
 
 /// The sections on the rounds of the run's challenge.
 pub fn sections(sheet: &Instance, witness: &Places, run: &Round) -> Outcome<Vec<Section>> {
@@ -24,9 +22,7 @@ pub fn sections(sheet: &Instance, witness: &Places, run: &Round) -> Outcome<Vec<
     let Some(domain) = small::domain(sheet, COMPARED) else {
         let lists = Lists::some(sheet, challenge, witness, &sample(sheet, &run.response))?;
         let mut listing = listing(sheet, run, &lists, &some(challenge));
-        if !listing.fits() {
-            listing.shorten(SHORT);
-        }
+        listing.shorten();
         return Ok(listing.sections());
     };
     let lists = Lists::whole(sheet, challenge, witness, &domain)?;

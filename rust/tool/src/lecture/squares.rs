@@ -118,7 +118,7 @@ pub fn picture(sheet: &Instance, run: &Round, lists: &Lists) -> Option<String> {
         return None;
     }
     let heads: Vec<String> = values.iter().map(u32::to_string).collect();
-    let square = |title: &str, rounds: Vec<Round>| Square {
+    let square = |title: &str, rounds: &[Round]| Square {
         title: title.to_string(),
         axes: ["$r1$".to_string(), "$r2$".to_string()],
         rows: heads.clone(),
@@ -128,30 +128,31 @@ pub fn picture(sheet: &Instance, run: &Round, lists: &Lists) -> Option<String> {
             .map(|round| (notation::by_row(sheet, &round.commitment), round == run))
             .collect(),
     };
-    let honest = square(
-        "$t$ of the honest rounds",
-        lists.honest.iter().map(|honest| honest.round).collect(),
-    );
-    let simulated = square("$t$ of the simulated rounds", lists.simulated.clone());
+    let honest: Vec<Round> = lists.honest.iter().map(|honest| honest.round).collect();
+    let honest = square("$t$ of the honest rounds", &honest);
+    let simulated = square("$t$ of the simulated rounds", &lists.simulated);
     let room = (WIDTH - 60.0) / 2.0;
     if honest.width(honest.cell()) > room {
         return None;
     }
     let cell = (room - honest.side()) / heads.len() as f64;
-    let mut svg = Svg::new(WIDTH);
-    honest.draw(&mut svg, 0.0, cell);
-    simulated.draw(&mut svg, WIDTH - simulated.width(cell), cell);
-    let middle = HEAD + TALL * heads.len() as f64 / 2.0;
-    for beside in [-5.0, 5.0] {
-        svg.line(
-            (WIDTH / 2.0 - 20.0 + 18.0, middle + beside),
-            (WIDTH / 2.0 + 20.0 + 18.0, middle + beside),
-            "message",
-        );
-    }
     let title = format!("Honest and simulated rounds with the challenge {}", run.challenge);
-    let told = honest.told() + " " + &simulated.told();
-    Some(svg.finish(honest.height(), "rounds-picture-1", &title, &told))
+    Some(equal_squares(&honest, &simulated, cell, &title))
+}
+
+/// Two squares with a sign of equality between them.
+fn equal_squares(left: &Square, right: &Square, cell: f64, title: &str) -> String {
+    let mut svg = Svg::new(WIDTH);
+    left.draw(&mut svg, 0.0, cell);
+    right.draw(&mut svg, WIDTH - right.width(cell), cell);
+    let height = HEAD + TALL * left.rows.len() as f64 / 2.0;
+    // The heads of the right square's rows stand between the two.
+    let middle = WIDTH / 2.0 + 18.0;
+    for beside in [-5.0, 5.0] {
+        svg.line((middle - 20.0, height + beside), (middle + 20.0, height + beside), "message");
+    }
+    let told = left.told() + " " + &right.told();
+    svg.finish(left.height(), "rounds-picture-1", title, &told)
 }
 
 /// The section on challenges by responses, where the sheet is very small. The commitment of the run is marked.

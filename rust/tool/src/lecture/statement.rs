@@ -12,7 +12,8 @@ const LONG: usize = 52;
 /// The most rows whose formulas stand over the facts.
 const TALL: usize = 4;
 
-/// The sections on a sheet, with a heading, in prose. The last fact says what is known of witnesses. A long statement stands alone.
+/// The sections on a sheet, with a heading, in prose. The last fact says what is known of witnesses. A long statement stands
+/// alone.
 pub fn sections(sheet: &Instance, heading: &str, witnesses: &str) -> Vec<Section> {
     let facts = facts(sheet, "The sheet", witnesses);
     let section = |id: &str, heading: &str, body: String| Section {

@@ -181,10 +181,14 @@ pub fn width(runs: &[Run]) -> f64 {
     runs.iter().map(|run| run.scale * run.text.chars().map(character_width).sum::<f64>()).sum()
 }
 
+/// How wide a space is at the most.
+const SPACE: f64 = 0.33;
+
 /// How wide a character is at the most.
 fn character_width(character: char) -> f64 {
     match character {
-        ' ' | '·' | '.' | ',' | ';' | ':' | 'i' | 'j' | 'l' | '′' => 0.33,
+        ' ' => SPACE,
+        '·' | '.' | ',' | ';' | ':' | 'i' | 'j' | 'l' | '′' => 0.33,
         '(' | ')' | '[' | ']' | 'f' | 'r' | 't' | 's' => 0.47,
         '=' | '−' | '+' | '≠' | '→' | '←' | 'm' | 'w' | 'M' => 0.86,
         _ => 0.64,
@@ -193,35 +197,40 @@ fn character_width(character: char) -> f64 {
 
 /// Prose in lines of at most this width, as a part of their size. It is broken at spaces, before a sign rather than behind it.
 pub fn wrap(text: &str, most: f64) -> Vec<Vec<Run>> {
-    let mut lines: Vec<Vec<Run>> = vec![Vec::new()];
-    for atom in atoms(runs(&prose(text), 1.0, 0.0)) {
-        let line = lines.last_mut().expect("there is a line");
-        match line.is_empty() || width(line) + width(&atom) <= most + 0.33 {
-            true => line.extend(atom),
-            false => lines.push(atom),
+    let mut lines: Vec<Vec<Run>> = Vec::new();
+    for atom in atoms(&runs(&prose(text), 1.0, 0.0)) {
+        match lines.last_mut() {
+            Some(line) if width(line) + width(&atom) <= most + SPACE => line.extend(atom),
+            _ => lines.push(atom),
         }
     }
-    for run in lines.iter_mut().filter_map(|line| line.last_mut()) {
-        run.text.truncate(run.text.trim_end().len());
+    lines.into_iter().map(trimmed).collect()
+}
+
+/// A line without the space at its end.
+fn trimmed(mut line: Vec<Run>) -> Vec<Run> {
+    if let Some(last) = line.last_mut() {
+        last.text.truncate(last.text.trim_end().len());
     }
-    lines
+    line
 }
 
 /// The signs and words that begin a line rather than end it.
 const SIGNS: [&str; 6] = ["=", "·", "+", "−", "/", "mod"];
 
 /// The runs in parts between which lines are broken. Each but the last ends in a space.
-fn atoms(runs: Vec<Run>) -> Vec<Vec<Run>> {
-    let mut atoms: Vec<Vec<Run>> = vec![Vec::new()];
+fn atoms(runs: &[Run]) -> Vec<Vec<Run>> {
+    let mut atoms: Vec<Vec<Run>> = Vec::new();
+    let mut ended = true;
     let parts =
         runs.iter().flat_map(|run| run.text.split_inclusive(' ').map(move |text| (run, text)));
     for (run, text) in parts {
-        let atom = atoms.last_mut().expect("there is a part");
-        atom.push(Run { text: text.to_string(), ..run.clone() });
-        if text.ends_with(' ') && !SIGNS.contains(&text.trim()) {
-            atoms.push(Vec::new());
+        let part = Run { text: text.to_string(), ..run.clone() };
+        match atoms.last_mut() {
+            Some(atom) if !ended => atom.push(part),
+            _ => atoms.push(vec![part]),
         }
+        ended = text.ends_with(' ') && !SIGNS.contains(&text.trim());
     }
-    atoms.retain(|atom| !atom.is_empty());
     atoms
 }

@@ -59,8 +59,8 @@ pub fn none(sheet: &Instance, domain: &[Places], own: &Round) -> Outcome<Section
     let mut body = page::paragraph(
         "lead",
         &format!(
-            "Two rounds with one commitment and two challenges would give a witness, by the extractor, and there is none. So who has \
-         sent $t$ can answer at most one of the $K = {challenges}$ challenges."
+            "Two rounds with one commitment and two challenges would give a witness, by the extractor, and there is none. \
+         So who has sent $t$ can answer at most one of the $K = {challenges}$ challenges."
         ),
     );
     if domain.len().saturating_mul(challenges as usize) <= SIMULATED {
