@@ -53,7 +53,7 @@ Example:
     $ dimkhoros make schnorr m=23 q=11 h=2 x=7 -o sheet.bin
     sheet.bin has 28 bytes
     $ dimkhoros lecture sheet.bin k=5 c=3 c=1 -o page.html
-    page.html has 0 bytes
+    page.html has 43138 bytes
 ";
 
 const GRAMMAR: Grammar = Grammar {
@@ -170,7 +170,7 @@ fn told(sheet: &Instance, witness: &Places, count: usize) -> String {
     match count {
         0 => format!("Peggy knows $x = {x}$"),
         1 => format!("Peggy knows $x = {x}$; there is no other"),
-        _ => format!("Peggy knows $x = {x}$; there are {count}"),
+        _ => format!("Peggy knows $x = {x}$, one of {count} witnesses"),
     }
 }
 

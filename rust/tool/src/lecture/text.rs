@@ -16,11 +16,11 @@ pub enum Piece {
     Lowered(Vec<Piece>),
 }
 
-/// The pieces of prose, in which formulas stand between `$` signs.
+/// The pieces of prose, in which formulas stand between `$` signs. Its apostrophes are curly.
 pub fn prose(text: &str) -> Vec<Piece> {
     let parts = text.split('$').enumerate().filter(|(_, part)| !part.is_empty());
     let pieces = parts.map(|(place, part)| match place % 2 {
-        0 => vec![Piece::Plain(part.to_string())],
+        0 => vec![Piece::Plain(part.replace('\'', "’"))],
         _ => formula(part),
     });
     pieces.flatten().collect()
