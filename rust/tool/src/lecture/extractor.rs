@@ -13,6 +13,9 @@ use dimkhoros::{EXPONENT, Instance, Places, Round};
 /// The most lines of Euclid's algorithm that stand beside the steps.
 const BESIDE: usize = 4;
 
+/// The longest line of a step, in characters, that is set large.
+const LONG: usize = 56;
+
 /// The most columns whose witness stands among the steps.
 const FEW: usize = 2;
 
@@ -138,8 +141,9 @@ fn list(index: &str, sheet: &Instance, steps: &Steps, witness: &Places) -> Strin
 /// Lines of a step.
 fn step_lines(index: &str, lines: &[String]) -> String {
     let line = |line: &String| {
+        let class = if line.chars().count() > LONG { "step long" } else { "step" };
         let line = text::html(&text::with_index(line, index));
-        format!("<span class=\"step\">{line}</span>\n")
+        format!("<span class=\"{class}\">{line}</span>\n")
     };
     lines.iter().map(line).collect()
 }

@@ -26,10 +26,16 @@ pub fn prose(text: &str) -> Vec<Piece> {
     pieces.flatten().collect()
 }
 
+/// The signs and words that a line may be broken before, and not behind.
+const SIGNS: [&str; 6] = ["=", "·", "+", "-", "/", "mod"];
+
 /// The pieces of a formula.
 pub fn formula(text: &str) -> Vec<Piece> {
+    let bound =
+        |text: String, sign: &&str| text.replace(&format!("{sign} "), &format!("{sign}{UNBROKEN}"));
+    let text = SIGNS.iter().fold(text.to_string(), bound);
     let mut pieces = Vec::new();
-    let mut rest = text;
+    let mut rest = text.as_str();
     while let Some(first) = rest.chars().next() {
         rest = match first {
             '^' | '_' => moved(rest, &mut pieces),
@@ -181,13 +187,16 @@ pub fn width(runs: &[Run]) -> f64 {
     runs.iter().map(|run| run.scale * run.text.chars().map(character_width).sum::<f64>()).sum()
 }
 
+/// A space at which no line is broken.
+const UNBROKEN: char = '\u{a0}';
+
 /// How wide a space is at the most.
 const SPACE: f64 = 0.33;
 
 /// How wide a character is at the most.
 fn character_width(character: char) -> f64 {
     match character {
-        ' ' => SPACE,
+        ' ' | UNBROKEN => SPACE,
         '·' | '.' | ',' | ';' | ':' | 'i' | 'j' | 'l' | '′' => 0.33,
         '(' | ')' | '[' | ']' | 'f' | 'r' | 't' | 's' => 0.47,
         '=' | '−' | '+' | '≠' | '→' | '←' | 'm' | 'w' | 'M' => 0.86,
@@ -195,7 +204,7 @@ fn character_width(character: char) -> f64 {
     }
 }
 
-/// Prose in lines of at most this width, as a part of their size. It is broken at spaces, before a sign rather than behind it.
+/// Prose in lines of at most this width, as a part of their size. It is broken at spaces.
 pub fn wrap(text: &str, most: f64) -> Vec<Vec<Run>> {
     let mut lines: Vec<Vec<Run>> = Vec::new();
     for atom in atoms(&runs(&prose(text), 1.0, 0.0)) {
@@ -215,9 +224,6 @@ fn trimmed(mut line: Vec<Run>) -> Vec<Run> {
     line
 }
 
-/// The signs and words that begin a line rather than end it.
-const SIGNS: [&str; 6] = ["=", "·", "+", "−", "/", "mod"];
-
 /// The runs in parts between which lines are broken. Each but the last ends in a space.
 fn atoms(runs: &[Run]) -> Vec<Vec<Run>> {
     let mut atoms: Vec<Vec<Run>> = Vec::new();
@@ -230,7 +236,7 @@ fn atoms(runs: &[Run]) -> Vec<Vec<Run>> {
             Some(atom) if !ended => atom.push(part),
             _ => atoms.push(vec![part]),
         }
-        ended = text.ends_with(' ') && !SIGNS.contains(&text.trim());
+        ended = text.ends_with(' ');
     }
     atoms
 }

@@ -3,40 +3,57 @@
 
 use crate::desk::Desk;
 use std::env;
-use std::fs;
-use std::process::{Command, Output};
+use std::fs::{self, File};
+use std::io::{self, Write};
+use std::process::Command;
+use std::thread;
+use std::time::{Duration, Instant};
 
 /// The programs that are looked for.
 const BROWSERS: [&str; 3] = ["chromium", "chromium-browser", "google-chrome"];
 
+/// The longest time that a browser may take for a page.
+const LONGEST: Duration = Duration::from_secs(120);
+
 /// The browser that is on PATH. Where there is none a line on standard error names what is not tried.
 fn browser(what: &str) -> Option<&'static str> {
     let folders: Vec<_> = env::split_paths(&env::var_os("PATH")?).collect();
-    let found =
-        BROWSERS.into_iter().find(|name| folders.iter().any(|folder| folder.join(name).is_file()));
+    let is_there = |name: &&str| folders.iter().any(|folder| folder.join(name).is_file());
+    let found = BROWSERS.into_iter().find(is_there);
     if found.is_none() {
-        eprintln!("no browser is installed ({}): {what} is not tried", BROWSERS.join(", "));
+        // The harness keeps back what a macro prints.
+        let names = BROWSERS.join(", ");
+        let line = format!("no browser is installed ({names}): {what} is not tried\n");
+        io::stderr().write_all(line.as_bytes()).unwrap();
     }
     found
 }
 
-/// What the browser does with a page of the desk.
-fn open(browser: &str, desk: &Desk, page: &str, words: &[&str]) -> Output {
-    let folder = desk.folder.display();
-    Command::new(browser)
-        .args([
-            "--headless",
-            "--no-sandbox",
-            "--disable-gpu",
-            "--hide-scrollbars",
-            "--enable-logging=stderr",
-        ])
-        .args(["--window-size=1280,720", &format!("--user-data-dir={folder}/profile")])
+/// What the browser prints, on standard output and on standard error, when it opens a page of the desk.
+fn open(browser: &str, desk: &Desk, page: &str, words: &[&str]) -> [String; 2] {
+    let printed = ["printed", "told"].map(|name| desk.folder.join(name));
+    let [output, error] = printed.each_ref().map(|path| File::create(path).unwrap());
+    let path = desk.folder.join(page).display().to_string().replace(' ', "%20");
+    let mut running = Command::new(browser)
+        .args(["--headless", "--no-sandbox", "--disable-gpu", "--hide-scrollbars"])
+        .args(["--enable-logging=stderr", "--window-size=1280,720"])
+        .arg(format!("--user-data-dir={}", desk.folder.join("profile").display()))
         .args(words)
-        .arg(format!("file://{}", desk.folder.join(page).display().to_string().replace(' ', "%20")))
+        .arg(format!("file://{path}"))
         .current_dir(&desk.folder)
-        .output()
-        .unwrap()
+        .stdout(output)
+        .stderr(error)
+        .spawn()
+        .unwrap();
+    let start = Instant::now();
+    while running.try_wait().unwrap().is_none() {
+        if start.elapsed() > LONGEST {
+            running.kill().unwrap();
+            panic!("{browser} does not end on {page}");
+        }
+        thread::sleep(Duration::from_millis(20));
+    }
+    printed.map(|path| String::from_utf8_lossy(&fs::read(path).unwrap()).into_owned())
 }
 
 /// The sheets and the words of the pages that are looked at.
@@ -89,8 +106,7 @@ fn every_section_fits_on_a_slide_and_nothing_overlaps() {
     for (place, (_, words)) in PAGES.iter().enumerate() {
         let page = fs::read_to_string(desk.folder.join(format!("page-{place}.html"))).unwrap();
         fs::write(desk.folder.join("measured.html"), page.replace("</body>", MEASURE)).unwrap();
-        let ended = open(browser, &desk, "measured.html", &["--dump-dom"]);
-        let dom = String::from_utf8(ended.stdout).unwrap();
+        let [dom, _] = open(browser, &desk, "measured.html", &["--dump-dom"]);
         let title = dom.split_once("<title>").and_then(|(_, rest)| rest.split_once("</title>"));
         assert_eq!(title.map(|(title, _)| title), Some("wrong: "), "{words}");
     }
@@ -102,9 +118,7 @@ fn the_browser_says_nothing_on_the_console() {
     let desk = desk("browser console");
     for (place, (_, words)) in PAGES.iter().enumerate() {
         let page = format!("page-{place}.html");
-        let ended = open(browser, &desk, &page, &["--dump-dom"]);
-        let (dom, told) =
-            (String::from_utf8_lossy(&ended.stdout), String::from_utf8_lossy(&ended.stderr));
+        let [dom, told] = open(browser, &desk, &page, &["--dump-dom"]);
         let sections =
             fs::read_to_string(desk.folder.join(&page)).unwrap().matches("<section").count();
         assert_eq!(dom.matches("<section").count(), sections, "{words}");

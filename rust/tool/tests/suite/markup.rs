@@ -50,11 +50,11 @@ impl Element {
         found.unwrap_or_else(|| panic!("there is no element {id}"))
     }
 
-    /// All text in it.
+    /// All text in it. Spaces at which no line is broken are spaces.
     pub fn text(&self) -> String {
         let text = |node: &Node| match node {
             Node::Element(element) => element.text(),
-            Node::Text(text) => text.clone(),
+            Node::Text(text) => text.replace('\u{a0}', " "),
         };
         self.inside.iter().map(text).collect()
     }
