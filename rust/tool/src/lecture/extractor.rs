@@ -14,7 +14,7 @@ use dimkhoros::{EXPONENT, Instance, Places, Round};
 const BESIDE: usize = 4;
 
 /// The longest line of a step, in characters, that is set large.
-const LONG: usize = 56;
+const LONG: usize = 46;
 
 /// The most columns whose witness stands among the steps.
 const FEW: usize = 2;
@@ -140,8 +140,9 @@ fn list(index: &str, sheet: &Instance, steps: &Steps, witness: &Places) -> Strin
 
 /// Lines of a step.
 fn step_lines(index: &str, lines: &[String]) -> String {
+    let long = lines.iter().any(|line| line.chars().count() > LONG);
+    let class = if long { "step long" } else { "step" };
     let line = |line: &String| {
-        let class = if line.chars().count() > LONG { "step long" } else { "step" };
         let line = text::html(&text::with_index(line, index));
         format!("<span class=\"{class}\">{line}</span>\n")
     };

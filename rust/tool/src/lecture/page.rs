@@ -142,7 +142,7 @@ ol { margin: 0; padding-left: 1.6rem; }
 li { margin-bottom: 1.1rem; }
 li::marker { font-weight: 700; color: var(--accent); }
 .step { display: block; padding-left: 1.2rem; margin-top: 0.25rem; font-size: 1.3rem; }
-.step.long { font-size: 1.1rem; }
+.step.long { margin-top: 0.1rem; font-size: 1.05rem; }
 table { border-collapse: collapse; margin: 0 0 0.8rem; }
 section table { align-self: flex-start; }
 section svg { flex: none; }
