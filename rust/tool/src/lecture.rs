@@ -53,7 +53,7 @@ Example:
     $ dimkhoros make schnorr m=23 q=11 h=2 x=7 -o sheet.bin
     sheet.bin has 28 bytes
     $ dimkhoros lecture sheet.bin k=5 c=3 c=1 -o page.html
-    page.html has 43306 bytes
+    page.html has 43301 bytes
 ";
 
 const GRAMMAR: Grammar = Grammar {

@@ -14,7 +14,7 @@ use dimkhoros::{EXPONENT, Instance, Places, Round};
 const BESIDE: usize = 4;
 
 /// The longest line of a step, in characters, that is set large.
-const LONG: usize = 46;
+const LONG: usize = 54;
 
 /// The most columns whose witness stands among the steps.
 const FEW: usize = 2;
