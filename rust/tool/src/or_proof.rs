@@ -3,7 +3,7 @@
 mod extract;
 mod judge;
 mod make;
-mod rounds;
+pub mod rounds;
 
 use crate::failure::Outcome;
 use crate::words;

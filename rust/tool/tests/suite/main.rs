@@ -1,11 +1,14 @@
 //! The tests of the program `dimkhoros`.
 
+mod browser;
 mod desk;
 mod examples;
 mod files;
 mod generator;
+mod lecture;
 mod lines;
 mod marks;
+mod markup;
 mod material;
 mod random;
 mod readme;

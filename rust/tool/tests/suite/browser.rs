@@ -1,0 +1,144 @@
+//! The pages of the command `lecture` in a browser, where one is installed: they fit on slides and on paper, nothing overlaps,
+//! and nothing is said on the console.
+
+use crate::desk::Desk;
+use std::env;
+use std::fs::{self, File};
+use std::io::{self, Write};
+use std::process::Command;
+use std::thread;
+use std::time::{Duration, Instant};
+
+/// The programs that are looked for.
+const BROWSERS: [&str; 3] = ["chromium", "chromium-browser", "google-chrome"];
+
+/// The longest time that a browser may take for a page.
+const LONGEST: Duration = Duration::from_secs(120);
+
+/// The browser that is on PATH. Where there is none a line on standard error names what is not tried.
+fn browser(what: &str) -> Option<&'static str> {
+    let folders: Vec<_> = env::split_paths(&env::var_os("PATH")?).collect();
+    let is_there = |name: &&str| folders.iter().any(|folder| folder.join(name).is_file());
+    let found = BROWSERS.into_iter().find(is_there);
+    if found.is_none() {
+        // The harness keeps back what a macro prints.
+        let names = BROWSERS.join(", ");
+        let line = format!("no browser is installed ({names}): {what} is not tried\n");
+        io::stderr().write_all(line.as_bytes()).unwrap();
+    }
+    found
+}
+
+/// What the browser prints, on standard output and on standard error, when it opens a page of the desk.
+fn open(browser: &str, desk: &Desk, page: &str, words: &[&str]) -> [String; 2] {
+    let printed = ["printed", "told"].map(|name| desk.folder.join(name));
+    let [output, error] = printed.each_ref().map(|path| File::create(path).unwrap());
+    let path = desk.folder.join(page).display().to_string().replace(' ', "%20");
+    let mut running = Command::new(browser)
+        .args(["--headless", "--no-sandbox", "--disable-gpu", "--hide-scrollbars"])
+        .args(["--enable-logging=stderr", "--window-size=1280,720"])
+        .arg(format!("--user-data-dir={}", desk.folder.join("profile").display()))
+        .args(words)
+        .arg(format!("file://{path}"))
+        .current_dir(&desk.folder)
+        .stdout(output)
+        .stderr(error)
+        .spawn()
+        .unwrap();
+    let start = Instant::now();
+    while running.try_wait().unwrap().is_none() {
+        if start.elapsed() > LONGEST {
+            running.kill().unwrap();
+            panic!("{browser} does not end on {page}");
+        }
+        thread::sleep(Duration::from_millis(20));
+    }
+    printed.map(|path| String::from_utf8_lossy(&fs::read(path).unwrap()).into_owned())
+}
+
+/// The sheets and the words of the pages that are looked at.
+const PAGES: [(&str, &str); 4] = [
+    ("dimkhoros make schnorr m=23 q=11 h=2 x=7 -o a.bin", "a.bin"),
+    ("dimkhoros make okamoto m=23 q=11 h=2,3 z=18 -o d.bin", "d.bin"),
+    ("dimkhoros make root m=35 e=5 z=32 -o g.bin", "g.bin"),
+    ("dimkhoros make root m=35 e=11 K=11 z=18 -o root.bin", "a.bin root.bin"),
+];
+
+/// A folder with a page for each of these, page-0.html and so on.
+fn desk(name: &str) -> Desk {
+    let desk = Desk::new(name);
+    for (place, (sheet, words)) in PAGES.iter().enumerate() {
+        let printed =
+            desk.print(&format!("{sheet} && dimkhoros lecture {words} -o page-{place}.html"));
+        assert!(printed.contains(&format!("page-{place}.html has ")), "{printed}");
+    }
+    desk
+}
+
+/// A script that measures a page at the size that it has on a slide of 1280 by 720, and puts what it finds wrong into the page's
+/// title. The window may be lower than it was asked for. The pages themselves have no script.
+const MEASURE: &str = "<style>html { font-size: 20px !important; }</style><script>
+  const wrong = [];
+  for (const section of document.querySelectorAll('section')) {
+    const outer = section.getBoundingClientRect();
+    if (outer.height > 721) wrong.push(section.id + ' is ' + outer.height + ' tall');
+    if (section.scrollWidth > section.clientWidth) wrong.push(section.id + ' is too wide');
+    const texts = [...section.querySelectorAll('svg text')].map(text => [text.textContent, text.getBoundingClientRect()]);
+    texts.forEach(([words, one], place) => {
+      if (one.left < 0 || one.right > 1280) wrong.push(words + ' is cut');
+      for (const [others, other] of texts.slice(place + 1)) {
+        const across = Math.min(one.right, other.right) - Math.max(one.left, other.left);
+        const down = Math.min(one.bottom, other.bottom) - Math.max(one.top, other.top);
+        if (across > 1 && down > 8) wrong.push(words + ' overlaps ' + others);
+      }
+    });
+    for (const text of section.querySelectorAll('p, td, th, caption, text, h1, h2, li')) {
+      if (parseFloat(getComputedStyle(text).fontSize) < 18) wrong.push(text.textContent + ' is small');
+    }
+  }
+  document.title = 'wrong: ' + wrong.join('; ');
+</script></body>";
+
+#[test]
+fn every_section_fits_on_a_slide_and_nothing_overlaps() {
+    let Some(browser) = browser("that pages fit on slides") else { return };
+    let desk = desk("browser slides");
+    for (place, (_, words)) in PAGES.iter().enumerate() {
+        let page = fs::read_to_string(desk.folder.join(format!("page-{place}.html"))).unwrap();
+        fs::write(desk.folder.join("measured.html"), page.replace("</body>", MEASURE)).unwrap();
+        let [dom, _] = open(browser, &desk, "measured.html", &["--dump-dom"]);
+        let title = dom.split_once("<title>").and_then(|(_, rest)| rest.split_once("</title>"));
+        assert_eq!(title.map(|(title, _)| title), Some("wrong: "), "{words}");
+    }
+}
+
+#[test]
+fn the_browser_says_nothing_on_the_console() {
+    let Some(browser) = browser("that pages make no errors") else { return };
+    let desk = desk("browser console");
+    for (place, (_, words)) in PAGES.iter().enumerate() {
+        let page = format!("page-{place}.html");
+        let [dom, told] = open(browser, &desk, &page, &["--dump-dom"]);
+        let sections =
+            fs::read_to_string(desk.folder.join(&page)).unwrap().matches("<section").count();
+        assert_eq!(dom.matches("<section").count(), sections, "{words}");
+        assert!(!told.contains("CONSOLE"), "{words}: {told}");
+    }
+}
+
+#[test]
+fn every_section_is_a_sheet_of_paper() {
+    let Some(browser) = browser("that pages fit on paper") else { return };
+    let desk = desk("browser paper");
+    for (place, (_, words)) in PAGES.iter().enumerate() {
+        let page = format!("page-{place}.html");
+        open(browser, &desk, &page, &["--print-to-pdf=page.pdf", "--no-pdf-header-footer"]);
+        let paper =
+            String::from_utf8_lossy(&fs::read(desk.folder.join("page.pdf")).unwrap()).into_owned();
+        let sheets = paper.matches("/Type /Page").count() - paper.matches("/Type /Pages").count();
+        let sections =
+            fs::read_to_string(desk.folder.join(&page)).unwrap().matches("<section").count();
+        assert_eq!(sheets, sections, "{words}");
+        fs::remove_file(desk.folder.join("page.pdf")).unwrap();
+    }
+}
