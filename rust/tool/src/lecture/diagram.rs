@@ -74,10 +74,7 @@ impl Diagram {
         let measure = [first, second, third].into_iter().find(fits).unwrap_or(last);
         let mut svg = Svg::new(WIDTH);
         let height = self.height(&measure);
-        for life in LIVES {
-            svg.line((life, NAMES), (life, height - 4.0), "life");
-        }
-        self.names(&mut svg, &measure);
+        self.names(&mut svg, &measure, height - 4.0);
         let mut above = NAMES;
         for row in self.sets(&measure) {
             above += row.height(&measure) + measure.space;
@@ -105,10 +102,11 @@ impl Diagram {
         first.into_iter().chain(self.rows.iter().map(|row| Set::new(row, measure))).collect()
     }
 
-    /// Draws the parties' names over their lines, and what they know beside them where it has room.
-    fn names(&self, svg: &mut Svg, measure: &Measure) {
+    /// Draws the parties' names over their lines, which end at this height, and what they know beside them where it has room.
+    fn names(&self, svg: &mut Svg, measure: &Measure, end: f64) {
         for ((name, knows), place) in self.parties.iter().zip([0, 1]) {
             let (life, half) = (LIVES[place], NAME / 2.0);
+            svg.line((life, NAMES), (life, end), "life");
             svg.rectangle((life - half, 2.0), (NAME, NAMES - 2.0), "box");
             svg.prose((life, 36.0), 25.0, Anchor::Middle, "strong", name);
             let (x, anchor) = match place {

@@ -216,13 +216,7 @@ impl Block {
 
     /// Draws a block with its heads.
     fn draw(&self, svg: &mut Svg, heads: &[(&str, &str); 4], rows: &[Set], left: f64) {
-        for (column, (above, below)) in heads.iter().enumerate() {
-            let middle = left + self.middle(column);
-            svg.prose((middle, 22.0), SIZE - 1.0, Anchor::Middle, "strong", above);
-            svg.prose((middle, 49.0), SIZE, Anchor::Middle, "", below);
-        }
-        let line = [left - 12.0, left + self.width() + 12.0].map(|x| (x, HEAD - 8.0));
-        svg.line(line[0], line[1], "rule");
+        self.draw_heads(svg, heads, left);
         let mut above = HEAD;
         for row in rows {
             self.draw_row(svg, row, (left, above));
@@ -230,10 +224,20 @@ impl Block {
         }
     }
 
+    /// Draws the heads of the columns and the line below them.
+    fn draw_heads(&self, svg: &mut Svg, heads: &[(&str, &str); 4], left: f64) {
+        for (column, (above, below)) in heads.iter().enumerate() {
+            let middle = left + self.middle(column);
+            svg.prose((middle, 22.0), SIZE - 1.0, Anchor::Middle, "strong", above);
+            svg.prose((middle, 49.0), SIZE, Anchor::Middle, "", below);
+        }
+        let line = [left - 12.0, left + self.width() + 12.0].map(|x| (x, HEAD - 8.0));
+        svg.line(line[0], line[1], "rule");
+    }
+
     /// Draws a row, that of the run with a frame.
     fn draw_row(&self, svg: &mut Svg, row: &Set, at: (f64, f64)) {
         let (left, above) = at;
-        let starts = self.starts();
         if row.own {
             let size = (self.width() + 24.0, row.height() - 2.0);
             svg.rectangle((left - 12.0, above + 1.0), size, "marked");
@@ -242,12 +246,17 @@ impl Block {
         for column in 0..4 {
             self.draw_cell(svg, row, column, (left, middle));
         }
-        let edge = |column: usize| left + starts[column];
-        svg.arrow((edge(1) - ARROW + 10.0, middle), (edge(1) - 8.0, middle), "join");
-        svg.arrow((edge(3) - 10.0, middle), (edge(3) - ARROW + 8.0, middle), "join");
-        for beside in [-3.0, 3.0] {
-            let y = middle + beside;
-            svg.line((edge(2) - JOIN + 12.0, y), (edge(2) - 12.0, y), "join");
+        self.draw_joins(svg, (left, middle));
+    }
+
+    /// Draws the arrows from the choices to their rounds, and the two lines between the rounds.
+    fn draw_joins(&self, svg: &mut Svg, at: (f64, f64)) {
+        let (left, middle) = at;
+        let [_, second, third, fourth] = self.starts().map(|start| left + start);
+        svg.arrow((second - ARROW + 10.0, middle), (second - 8.0, middle), "join");
+        svg.arrow((fourth - 10.0, middle), (fourth - ARROW + 8.0, middle), "join");
+        for y in [middle - 3.0, middle + 3.0] {
+            svg.line((third - JOIN + 12.0, y), (third - 12.0, y), "join");
         }
     }
 

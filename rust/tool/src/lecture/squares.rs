@@ -77,11 +77,16 @@ impl Square {
             let x = inner + cell * (column as f64 + 0.5);
             svg.prose((x, HEAD - 12.0), SIZE, Anchor::Middle, "strong", head);
         }
+        self.draw_rows(svg, inner);
+        self.draw_cells(svg, inner, cell);
+    }
+
+    /// Draws the heads of the rows, left of the cells.
+    fn draw_rows(&self, svg: &mut Svg, inner: f64) {
         for (row, head) in self.rows.iter().enumerate() {
             let y = HEAD + TALL * row as f64 + 24.0;
             svg.prose((inner - 12.0, y), SIZE, Anchor::End, "strong", head);
         }
-        self.draw_cells(svg, inner, cell);
     }
 
     /// Draws the cells, the marked ones last so that nothing covers their frames.

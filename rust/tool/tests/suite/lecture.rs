@@ -363,13 +363,13 @@ fn page_d_has_two_equal_squares_of_commitments() {
         lines(page.id("rounds")).iter().filter_map(|line| line.parse().ok()).collect();
     let squares: Vec<&[u32]> = numbers.chunks(22 + 121).collect();
     assert_eq!(squares.len(), 2);
-    let mut of_responses = Vec::new();
-    let mut of_nonces = vec![0; 121];
-    for (first, second) in (0..121).map(|place| (place / 11, place % 11)) {
-        of_responses.push(sheet.simulate(1, &places([first, second])).unwrap()[0]);
-        let round = honest(&sheet, places([first, second]), 1, places([1, 2]));
-        of_nonces[(round.response[0] * 11 + round.response[1]) as usize] = round.commitment[0];
-    }
+    let all = (0..121).map(|place| places([place / 11, place % 11]));
+    let of_responses =
+        all.clone().map(|response| sheet.simulate(1, &response).unwrap()[0]).collect();
+    let mut of_nonces: Vec<Round> =
+        all.map(|nonce| honest(&sheet, nonce, 1, places([1, 2]))).collect();
+    of_nonces.sort_by_key(|round| round.response);
+    let of_nonces: Vec<u32> = of_nonces.iter().map(|round| round.commitment[0]).collect();
     for (square, mut expected) in squares.into_iter().zip([of_nonces, of_responses]) {
         // The cells stand behind the heads, the framed one last.
         let mut cells = square[22..].to_vec();
