@@ -1,4 +1,4 @@
-//! What the READMEs and the page for authors show of the tool works as it is printed.
+//! What the READMEs and the pages for authors and lecturers show of the tool works as it is printed.
 
 use crate::desk::Desk;
 use std::fs;
@@ -14,7 +14,7 @@ fn shown(page: &str) -> String {
 
 #[test]
 fn every_command_on_the_pages_prints_what_they_say() {
-    for page in ["README.md", "docs/AUTHORS.md", "rust/tool/README.md"] {
+    for page in ["README.md", "docs/AUTHORS.md", "docs/LECTURE.md", "rust/tool/README.md"] {
         let shown = shown(page);
         assert!(!shown.is_empty(), "{page} shows no command");
         let printed = Desk::new(page).replay(&shown);
