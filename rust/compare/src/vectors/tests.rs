@@ -205,8 +205,8 @@ fn the_pages_show_stored_bytes_and_lines() {
                     let other = block.lines().find(|line| !lines.contains(line));
                     assert_eq!(other, None, "not stored");
                 }
-                // A test of the crate `dimkhoros` runs it.
-                "rust" if page == AUTHORS => {}
+                // Tests of the crate `dimkhoros` and of the tool run them.
+                "rust" | "console" if page == AUTHORS => {}
                 _ => panic!("a block is neither bytes nor lines:\n{block}"),
             }
         }
