@@ -14,8 +14,8 @@ NAME = "libdimkhoros.so"
 
 # What to do where the library is missing or another one.
 ADVICE = (
-    "Run `scripts/shared_library` at the root of the repository, or set DIMKHOROS_LIB to the whole path of the folder "
-    f"that has {NAME}."
+    "Run `./install PREFIX` or `scripts/shared_library` at the root of the repository, or set DIMKHOROS_LIB to the whole "
+    f"path of the folder that has {NAME}."
 )
 
 

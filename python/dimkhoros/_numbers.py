@@ -93,3 +93,9 @@ def data(value: bytes | bytearray | memoryview, name: str) -> bytes:
 def given(value: bytes) -> tuple[bytes, int]:
     """Bytes as the library takes them, with their length."""
     return value, len(value)
+
+
+def of_kind(kind: type, value: object, name: str) -> None:
+    """Raises an error where the value is of another kind."""
+    if not isinstance(value, kind):
+        raise TypeError(f"{name} has to be of the type {kind.__name__}")

@@ -4,7 +4,7 @@ from __future__ import annotations
 
 from . import _structs
 from ._library import calls
-from ._numbers import exactly, given, places, rows
+from ._numbers import exactly, given, of_kind, places, rows
 from .instance import Instance
 from .refusals import check
 from .rounds import OrRound, OrVerdict, OrWitness, Side
@@ -50,6 +50,7 @@ class Pair:
 
     def _struct(self, round: OrRound) -> _structs.OrRound:
         """A round as the library takes it, if it has as many values as rounds of these sheets have."""
+        of_kind(OrRound, round, "the round")
         first, second = self._first.header, self._second.header
         return _structs.OrRound(
             places(exactly(first.rows, round.commitment0, "the commitment of side 0")),

@@ -6,7 +6,7 @@ from dataclasses import dataclass
 from enum import IntEnum
 
 from . import _structs
-from ._numbers import exactly, number, numbers, places
+from ._numbers import exactly, number, numbers, of_kind, places
 
 
 def _hold(instance: object, name: str, value: object) -> None:
@@ -53,6 +53,7 @@ class OrRound:
 
 def round_struct(round: Round, rows: int, columns: int) -> _structs.Round:
     """A round as the library takes it, if it has the values of a sheet of so many rows and columns."""
+    of_kind(Round, round, "the round")
     commitment = exactly(rows, round.commitment, "the commitment")
     response = exactly(columns, round.response, "the response")
     return _structs.Round(places(commitment), round.challenge, places(response))

@@ -143,6 +143,16 @@ class Taken(unittest.TestCase):
             self.assertRaises(TypeError, mark, b"", b"", value)
             self.assertRaises(TypeError, reason, b"", value)
 
+    def test_what_is_no_round(self):
+        """A tuple is none, nor is a round of the other proof."""
+        either = OrRound([9], [9], 1, 1, [4], [4])
+        for value in [(9, 3, 4), None, either]:
+            with self.assertRaisesRegex(TypeError, "^the round has to be of the type Round$"):
+                page_a().judge(value)
+        for value in [(9, 3, 4), Round([9], 3, [4])]:
+            with self.assertRaisesRegex(TypeError, "^the round has to be of the type OrRound$"):
+                Pair(page_a(), page_a()).judge(value)
+
     def test_bytes_in_other_forms_are_taken(self):
         """And kept as they were when they were given."""
         sheet = bytearray(page_a().bytes)

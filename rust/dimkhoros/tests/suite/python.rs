@@ -2,10 +2,10 @@
 //! Python of a version that the module is for, and one line on standard error says where there is none.
 
 use crate::cc;
+use crate::tree::untried;
 
 use dimkhoros_sys::ARCHIVE;
 use std::fs;
-use std::io::{self, Write};
 use std::path::PathBuf;
 use std::process::Command;
 
@@ -31,10 +31,7 @@ fn the_python_module_passes_its_tests() {
     let script = cc::root().join("scripts/shared_library");
     cc::succeed(Command::new(script).env("DIMKHOROS_LIB", folder()));
     if let Some(why) = missing() {
-        // The test harness does not hide what is written so.
-        let line = format!("{why}: the tests of the Python module are not run\n");
-        io::stderr().write_all(line.as_bytes()).unwrap();
-        return;
+        return untried(why, "the tests of the Python module");
     }
     let mut python = Command::new("python3");
     python.args(["-m", "unittest", "discover"]).current_dir(cc::root().join("python"));
