@@ -1,3 +1,3 @@
 -- Laws that the proofs of the functions cite, by topic.
 pub mod TeamNumber
-pub mod AfterShape
+pub mod SheetNumber

@@ -1,20 +1,20 @@
--- The numbers of a team behind those of a sheet's shape, test by test, and the answers that they give.
+-- The numbers of a team, test by test, and the answers that they give.
 -- Assumes nothing.
 use Prim.Native.Nat.{ℕ, _<_, _≤_}
-use mathlib.Core.Path.{_≡_, refl, sym, _∙_}
-use mathlib.Core.Bool.{Bool, false, true, _||_, or-eq-true-iff}
+use mathlib.Core.Path.{_≡_, sym, _∙_}
+use mathlib.Core.Bool.{Bool, false, true, or-eq-true-iff}
 use mathlib.Core.List.{List, [], _∷_, _++_}
 use mathlib.Core.Logic.{_≢_, Or·inr}
 use native.Mathlib.Omega.{arith}
-use lib.Dec.{T, ltb}
+use lib.Dec.{ltb}
 use borrow.Author.Tests.{le-ltb, lt-ltb, ltb-false}
 use Rattle.lists.specs.Places.{pad8, zeros8}
 use Rattle.lists.proofs.Places.{getD-pad8}
 use Rattle.numbers.specs.Search.{any}
 use Rattle.numbers.proofs.Search.{any-agree}
-use Rattle.rules.specs.Rule.{Rule, _when_, allPositive, lowest}
-use Rattle.rules.proofs.Lowest.{clear-lowest, lowest-append-zero, lowest-clear, lowest-earlier, lowest-later-zero, pass, stop}
-use Rattle.sigma.specs.Admission.{badEntries, badStatement, elementRules}
+use Rattle.rules.specs.Rule.{Rule, _when_, lowest}
+use Rattle.rules.proofs.Lowest.{clear-lowest, lowest-clear, lowest-earlier, lowest-later-zero, pass, stop}
+use Rattle.sigma.specs.Admission.{badStatement, elementRules}
 use Rattle.sigma.specs.Answer.{computed}
 use Rattle.sigma.specs.Comparison.{differ, firstDifference}
 use Rattle.sigma.specs.Instance.{Instance}
@@ -29,13 +29,9 @@ module _ (count : ℕ) where
   size = (27 when badTeam count) ∷ []
 
   -- where it does not apply there are at most eight players
-  few-players : badTeam count ≡ false → count ≤ 8
+  pub few-players : badTeam count ≡ false → count ≤ 8
   unfolding badTeam
   few-players good = ltb-false 8 count (both-fail (ltb count 2) (ltb 8 count) .0 good .1)
-
-  -- so there are where its number is 0
-  pub size-few : {n : ℕ} → n ≡ lowest size → n ≡ 0 → count ≤ 8
-  size-few number none = few-players (clear-lowest size tt (sym number ∙ none) .0)
 
   -- a team of fewer than two
   pub team-small : count < 2 → 27 ≡ lowest size
@@ -52,45 +48,21 @@ module _ (count : ℕ) where
   unfolding badTeam
   team-right some few = sym (lowest-clear _ (rw (le-ltb count 2 some, le-ltb 8 count few), tt))
 
--- a number that is given of 10 and 11 is given too where 11 has a further test
-covered : (a b c : Bool) → 0 < lowest ((10 when a) ∷ (11 when b) ∷ [])
-    → lowest ((10 when a) ∷ (11 when b) ∷ []) ≡ lowest ((10 when a) ∷ (11 when (b || c)) ∷ [])
-unfolding lowest
-covered true b c some = refl
-covered false true c some = refl
-covered false false c some = absurd (omega arith)
-
 module _ (inst : Instance) (count : ℕ) (images : List (List ℕ)) where
-  -- the number of a team's size is the first
-  pub size-first : {n : ℕ} → n ≡ lowest (size count) → n ≢ 0 → n ≡ lowest (teamRules inst count images)
-  unfolding teamRules
-  size-first number other = number ∙ sym (lowest-earlier (size count) _ (omega (arith, number)))
+  module _ (team : badTeam count ≡ false) (elements : lowest (elementRules inst) ≡ 0) where
+    -- behind the team's size and the sheet's elements comes an image that is no group element
+    pub image-bad : any count (nonElementPart (inst .header) images) ≡ true → 11 ≡ lowest (teamRules inst count images)
+    unfolding teamRules elementRules badImages nonElementPart
+    image-bad bad =
+        let (entries, (statement, _)) = clear-lowest (elementRules inst) tt elements in
+        sym (pass 27 _ team ∙ pass 10 _ entries ∙ stop 11 _ (or-eq-true-iff (badStatement inst) _ .1 (Or·inr bad)))
 
-  module _ {n : ℕ} (number : n ≡ lowest (size count)) (none : n ≡ 0) where
-    -- where there is none, the others count
-    others-left : lowest (teamRules inst count images) ≡ lowest ((10 when badEntries inst) ∷ (11 when badImages inst count images) ∷ [])
-    unfolding teamRules
-    others-left = lowest-later-zero (size count) _ tt (sym number ∙ none)
-
-    -- that of the sheet's elements is next
-    pub elements-second : {k : ℕ} → k ≡ lowest (elementRules inst) → k ≢ 0 → k ≡ lowest (teamRules inst count images)
-    unfolding elementRules badImages
-    elements-second is-number other = is-number ∙ covered _ _ _ (omega (arith, is-number)) ∙ sym others-left
-
-    module _ {k : ℕ} (is-number : k ≡ lowest (elementRules inst)) (right : k ≡ 0) where
-      -- then comes an image that is no group element
-      pub image-bad : any count (nonElementPart (inst .header) images) ≡ true → 11 ≡ lowest (teamRules inst count images)
-      unfolding elementRules badImages nonElementPart
-      image-bad bad =
-          let (entries, (statement, _)) = clear-lowest (elementRules inst) tt (sym is-number ∙ right) in
-          sym (others-left ∙ pass 10 _ entries ∙ stop 11 _ (or-eq-true-iff (badStatement inst) _ .1 (Or·inr bad)))
-
-      -- and then nothing
-      pub images-right : any count (nonElementPart (inst .header) images) ≡ false → 0 ≡ lowest (teamRules inst count images)
-      unfolding elementRules badImages nonElementPart
-      images-right good =
-          let (entries, (statement, _)) = clear-lowest (elementRules inst) tt (sym is-number ∙ right) in
-          sym (others-left ∙ lowest-clear _ (entries, (both-fail _ _ .1 (statement, good), tt)))
+    -- and then nothing
+    pub images-right : any count (nonElementPart (inst .header) images) ≡ false → 0 ≡ lowest (teamRules inst count images)
+    unfolding teamRules elementRules badImages nonElementPart
+    images-right good =
+        let (entries, (statement, _)) = clear-lowest (elementRules inst) tt elements in
+        sym (lowest-clear _ (team, (entries, (both-fail _ _ .1 (statement, good), tt))))
 
   -- 28 compares the product of the images, with zeros behind it, and the statement
   pub product-read : {whole : List ℕ} → whole ≡ pad8 0 (multiplyAll (inst .header) count images)
@@ -98,18 +70,6 @@ module _ (inst : Instance) (count : ℕ) (images : List (List ℕ)) where
   unfolding badProduct differ firstDifference any
   product-read is-whole =
       rw is-whole (any-agree (inst .header .rows) _ _ (λ i h. rw (getD-pad8 0 (multiplyAll (inst .header) count images) i)))
-
-  -- where the team has no number there are at most eight players
-  pub team-few : {n : ℕ} → n ≡ lowest (teamRules inst count images) → n ≡ 0 → count ≤ 8
-  unfolding teamRules
-  team-few number none = few-players count (clear-lowest (teamRules inst count images) tt (sym number ∙ none) .0)
-
-  -- and where further rules behind those of the team have none either
-  pub rules-few : (rules : List Rule) → T (allPositive rules) → {n : ℕ} → n ≡ lowest (teamRules inst count images ++ rules) → n ≡ 0
-      → count ≤ 8
-  unfolding teamRules
-  rules-few rules positive number none =
-      team-few refl (lowest-append-zero (teamRules inst count images) rules tt positive .0 (sym number ∙ none) .0)
 
   -- ---- the rules of the parts, 14 or 16, and 28 behind those of the team
 

@@ -1,12 +1,10 @@
-// The calls on a sheet's bytes (02, card 6): the number of a sheet that has not the shape of one is the answer, else the tests of
-// the team and of the sheet's elements follow.
+// The calls on a sheet's bytes (02, card 6): each loads the sheet. The number of a refused sheet or of the team's size is the
+// answer, else the tests of what the players bring follow.
 use crate::loaded::join_loaded;
 use crate::loaded::multiply_loaded;
+use crate::testing::sheet_refusal;
 use image::refused;
-use instance::header;
-use instance::read_entries;
-use instance::read_statement;
-use instance::shape_refusal;
+use instance::load;
 use types::Computed;
 ghost use mathlib.Core.Path.{_≡_};
 ghost use Rattle.products.specs.Team.{joinResponses, multiplyCommitments};
@@ -16,14 +14,14 @@ ghost use Rattle.products.specs.Team.{joinResponses, multiplyCommitments};
 pub fn commitment(sheet: &[u8], count: u32, images: [[u32; 8]; 8], parts: [[u32; 8]; 8]) -> Computed
     ensures { λ r. ⌜ r ≡ multiplyCommitments (now (sheet .entry)) count images parts ⌝ }
 {
-    let refusal = shape_refusal(sheet);
+    let loaded = load(sheet);
+    let refusal = sheet_refusal(loaded.refusal, count);
     if refusal != 0 {
         return refused(refusal);
     }
-    let h = header(sheet);
-    let entries = read_entries(sheet, h);
-    let statement = read_statement(sheet, h);
-    multiply_loaded(h, entries, statement, count, images, parts)
+    let h = loaded.header;
+    let statement = loaded.statement;
+    multiply_loaded(h, statement, count, images, parts)
 }
 
 // The responses of a team's players joined, a slot for each column: added mod q in kind 1, multiplied mod m in kind 2; zeros beside
@@ -32,12 +30,12 @@ pub fn commitment(sheet: &[u8], count: u32, images: [[u32; 8]; 8], parts: [[u32;
 pub fn response(sheet: &[u8], count: u32, images: [[u32; 8]; 8], parts: [[u32; 8]; 8]) -> Computed
     ensures { λ r. ⌜ r ≡ joinResponses (now (sheet .entry)) count images parts ⌝ }
 {
-    let refusal = shape_refusal(sheet);
+    let loaded = load(sheet);
+    let refusal = sheet_refusal(loaded.refusal, count);
     if refusal != 0 {
         return refused(refusal);
     }
-    let h = header(sheet);
-    let entries = read_entries(sheet, h);
-    let statement = read_statement(sheet, h);
-    join_loaded(h, entries, statement, count, images, parts)
+    let h = loaded.header;
+    let statement = loaded.statement;
+    join_loaded(h, statement, count, images, parts)
 }

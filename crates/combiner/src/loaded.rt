@@ -1,4 +1,4 @@
-// Multiplying a team's commitments and joining its responses, on the values of a sheet that has the shape of one (02, card 6).
+// Multiplying a team's commitments and joining its responses, on loaded values and for a team of two to eight (02, card 6).
 use crate::testing::commitments_refusal;
 use crate::testing::responses_refusal;
 use image::refused;
@@ -7,26 +7,28 @@ use team_values::multiply_all;
 use types::Computed;
 use types::Header;
 ghost use mathlib.Core.Path.{_≡_};
-ghost use Prim.Native.Nat.{_≤_, _<_};
+ghost use mathlib.Core.Bool.{false};
+ghost use mathlib.Core.List.{List};
+ghost use Prim.Native.Nat.{ℕ, _≤_, _<_};
 ghost use Rattle.rules.specs.Rule.{lowest};
+ghost use Rattle.sigma.specs.Admission.{elementRules};
 ghost use Rattle.sigma.specs.Answer.{computed};
 ghost use Rattle.sigma.specs.Instance.{instanceWith};
-ghost use Rattle.products.specs.Team.{commitmentsRules, joinAll, multiplyAll, responsesRules};
+ghost use Rattle.products.specs.Team.{badTeam, commitmentsRules, joinAll, multiplyAll, responsesRules};
 
-// The players' commitments multiplied, or the number of 10, 11, 14, 27 and 28 that is refused with, beside zeros.
+// The players' commitments multiplied, or the number of 11, 14 and 28 that is refused with, beside zeros.
 pub fn multiply_loaded(
     h: Header,
-    entries: [[u32; 8]; 8],
     statement: [u32; 8],
     count: u32,
     images: [[u32; 8]; 8],
     parts: [[u32; 8]; 8],
 ) -> Computed
-    requires { ⌜ (0 < h .modulus) × (h .rows ≤ 8) × (h .columns ≤ 8) ⌝ }
-    ensures { λ r. ⌜ r ≡ computed (lowest (commitmentsRules (instanceWith h entries statement) count images parts))
-        (multiplyAll h count parts) ⌝ }
+    requires { ⌜ (0 < h .modulus) × (h .rows ≤ 8) × (h .columns ≤ 8) × (count ≤ 8) ⌝ }
+    ensures { λ r. ⌜ ((entries : List (List ℕ)) → badTeam count ≡ false → lowest (elementRules (instanceWith h entries statement)) ≡ 0
+        → r ≡ computed (lowest (commitmentsRules (instanceWith h entries statement) count images parts)) (multiplyAll h count parts)) ⌝ }
 {
-    let refusal = commitments_refusal(h, entries, statement, count, images, parts);
+    let refusal = commitments_refusal(h, statement, count, images, parts);
     if refusal != 0 {
         return refused(refusal);
     }
@@ -37,21 +39,20 @@ pub fn multiply_loaded(
     }
 }
 
-// The players' responses joined, or the number of 10, 11, 16, 27 and 28 that is refused with, beside zeros.
+// The players' responses joined, or the number of 11, 16 and 28 that is refused with, beside zeros.
 pub fn join_loaded(
     h: Header,
-    entries: [[u32; 8]; 8],
     statement: [u32; 8],
     count: u32,
     images: [[u32; 8]; 8],
     parts: [[u32; 8]; 8],
 ) -> Computed
-    requires fields { ⌜ (0 < h .modulus) × (h .rows ≤ 8) × (h .columns ≤ 8) ⌝ }
+    requires fields { ⌜ (0 < h .modulus) × (h .rows ≤ 8) × (h .columns ≤ 8) × (count ≤ 8) ⌝ }
     requires order { ⌜ 0 < h .order ⌝ }
-    ensures { λ r. ⌜ r ≡ computed (lowest (responsesRules (instanceWith h entries statement) count images parts))
-        (joinAll h count parts) ⌝ }
+    ensures { λ r. ⌜ ((entries : List (List ℕ)) → badTeam count ≡ false → lowest (elementRules (instanceWith h entries statement)) ≡ 0
+        → r ≡ computed (lowest (responsesRules (instanceWith h entries statement) count images parts)) (joinAll h count parts)) ⌝ }
 {
-    let refusal = responses_refusal(h, entries, statement, count, images, parts);
+    let refusal = responses_refusal(h, statement, count, images, parts);
     if refusal != 0 {
         return refused(refusal);
     }

@@ -1,16 +1,20 @@
-// The tests of a team on a sheet's values (02, card 6), behind those of the sheet's shape: 27, 10, 11, then 14 or 16, then 28.
+// The tests of a team (02, card 6): 27 between the two steps of testing the sheet, 2 to 9 and 10 and 11; and on loaded values 11 for
+// the images, then 14 or 16, then 28.
 use comparison::differ;
-use instance::element_refusal;
 use team_values::multiply_all;
 use team_values::some_non_coordinate_part;
 use team_values::some_non_element_part;
 use types::Header;
 ghost use mathlib.Core.Path.{_≡_};
-ghost use mathlib.Core.List.{List, [], _∷_};
+ghost use mathlib.Core.Bool.{false};
+ghost use mathlib.Core.List.{List, [], _∷_, _++_};
 ghost use Prim.Native.Nat.{ℕ, _≤_, _<_};
 ghost use Rattle.rules.specs.Rule.{_when_, lowest};
+ghost use Rattle.sigma.specs.Admission.{elementRules};
 ghost use Rattle.sigma.specs.Instance.{instanceWith};
-ghost use Rattle.products.specs.Team.{badProduct, badTeam, commitmentsRules, responsesRules, teamRules};
+ghost use Rattle.formats.specs.Load.{loadRefusal, shapeRules};
+ghost use Rattle.formats.specs.Sheet.{instanceOf};
+ghost use Rattle.products.specs.Team.{badProduct, badTeam, commitmentsRules, responsesRules};
 
 // The number of a team outside 2 to 8, which is 27, or 0.
 fn team_number(count: u32) -> u32
@@ -25,29 +29,23 @@ fn team_number(count: u32) -> u32
     0
 }
 
-// The number of a team, or of the sheet's entries, 10, or of its statement and the images, 11, in this order, or 0.
-fn team_refusal(
-    h: Header,
-    entries: [[u32; 8]; 8],
-    statement: [u32; 8],
-    count: u32,
-    images: [[u32; 8]; 8],
-) -> u32
-    requires { ⌜ (0 < h .modulus) × (h .rows ≤ 8) × (h .columns ≤ 8) ⌝ }
-    ensures { λ r. ⌜ r ≡ lowest (teamRules (instanceWith h entries statement) count images) ⌝ }
+// The number of a sheet and a team's size, of the number that loading the sheet gives: that of the sheet's shape, 2 to 9, then 27,
+// then that of the sheet's elements, 10 or 11, or 0.
+pub fn sheet_refusal(loading: u32, count: u32) -> u32
+    ensures { λ r. ⌜ ((s : List ℕ) → loading ≡ loadRefusal s
+        → r ≡ lowest (shapeRules s ++ (27 when badTeam count) ∷ elementRules (instanceOf s))) ⌝ }
 {
     let team = team_number(count);
-    let elements = element_refusal(h, entries, statement);
-    if team != 0 {
+    if team == 0 {
+        return loading;
+    }
+    if loading == 0 {
         return team;
     }
-    if elements != 0 {
-        return elements;
+    if loading < 10 {
+        return loading;
     }
-    if some_non_element_part(h, images, count as usize) {
-        return 11;
-    }
-    0
+    team
 }
 
 // Whether the images of at most eight players do not multiply to the statement, in some row.
@@ -60,22 +58,21 @@ fn bad_product(h: Header, statement: [u32; 8], count: u32, images: [[u32; 8]; 8]
     differ(whole, statement, rows)
 }
 
-// The number that multiplying commitments is refused with, or 0: that of the team, then 14 for a value of any player's commitment,
-// then 28 for images that do not multiply to the statement.
+// The number that multiplying commitments is refused with, or 0: 11 for a value of any player's image, then 14 for one of any
+// player's commitment, then 28 for images that do not multiply to the statement.
 pub fn commitments_refusal(
     h: Header,
-    entries: [[u32; 8]; 8],
     statement: [u32; 8],
     count: u32,
     images: [[u32; 8]; 8],
     parts: [[u32; 8]; 8],
 ) -> u32
-    requires { ⌜ (0 < h .modulus) × (h .rows ≤ 8) × (h .columns ≤ 8) ⌝ }
-    ensures { λ r. ⌜ r ≡ lowest (commitmentsRules (instanceWith h entries statement) count images parts) ⌝ }
+    requires { ⌜ (0 < h .modulus) × (h .rows ≤ 8) × (h .columns ≤ 8) × (count ≤ 8) ⌝ }
+    ensures { λ r. ⌜ ((entries : List (List ℕ)) → badTeam count ≡ false → lowest (elementRules (instanceWith h entries statement)) ≡ 0
+        → r ≡ lowest (commitmentsRules (instanceWith h entries statement) count images parts)) ⌝ }
 {
-    let refusal = team_refusal(h, entries, statement, count, images);
-    if refusal != 0 {
-        return refusal;
+    if some_non_element_part(h, images, count as usize) {
+        return 11;
     }
     if some_non_element_part(h, parts, count as usize) {
         return 14;
@@ -86,22 +83,21 @@ pub fn commitments_refusal(
     0
 }
 
-// The number that joining responses is refused with, or 0: that of the team, then 16 for a slot of any player's response, then 28
-// for images that do not multiply to the statement.
+// The number that joining responses is refused with, or 0: 11 for a value of any player's image, then 16 for a slot of any player's
+// response, then 28 for images that do not multiply to the statement.
 pub fn responses_refusal(
     h: Header,
-    entries: [[u32; 8]; 8],
     statement: [u32; 8],
     count: u32,
     images: [[u32; 8]; 8],
     parts: [[u32; 8]; 8],
 ) -> u32
-    requires { ⌜ (0 < h .modulus) × (h .rows ≤ 8) × (h .columns ≤ 8) ⌝ }
-    ensures { λ r. ⌜ r ≡ lowest (responsesRules (instanceWith h entries statement) count images parts) ⌝ }
+    requires { ⌜ (0 < h .modulus) × (h .rows ≤ 8) × (h .columns ≤ 8) × (count ≤ 8) ⌝ }
+    ensures { λ r. ⌜ ((entries : List (List ℕ)) → badTeam count ≡ false → lowest (elementRules (instanceWith h entries statement)) ≡ 0
+        → r ≡ lowest (responsesRules (instanceWith h entries statement) count images parts)) ⌝ }
 {
-    let refusal = team_refusal(h, entries, statement, count, images);
-    if refusal != 0 {
-        return refusal;
+    if some_non_element_part(h, images, count as usize) {
+        return 11;
     }
     if some_non_coordinate_part(h, parts, count as usize) {
         return 16;

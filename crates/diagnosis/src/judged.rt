@@ -66,10 +66,11 @@ pub fn write_judged(
         (now (text .exit)) r ⌝ }
     ensures short { λ r. ⌜ r ≤ 201 ⌝ }
 {
-    match verdict_at(h, entries, statement, file, 0) {
+    let width = file_width(file);
+    match verdict_at(h, entries, statement, file, width, 0) {
         Verdict::Accepted => write_word(text, 0, b"accepted\n"),
         Verdict::Rejected(mask) => {
-            let round = round_at(h, file_width(file), file, START);
+            let round = round_at(h, width, file, START);
             write_sides(text, h, entries, statement, round, mask)
         }
         Verdict::Refused(number) => write_refused(text, number, round_spot(h, file, number)),

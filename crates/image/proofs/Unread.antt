@@ -1,13 +1,15 @@
 -- The image, the two sides, the verdict and the response read only the places that 01 reads, and zeros behind a side do not
 -- count in a comparison.
 -- Assumes nothing.
-use mathlib.Core.Path.{_≡_, sym, ap, ap₂, _∙_}
+use mathlib.Core.Path.{_≡_, refl, sym, ap, ap₂, _∙_}
 use mathlib.Core.Bool.{cond, not}
 use mathlib.Core.List.{List}
+use mathlib.Core.Logic.{_≢_}
 use Prim.Native.Nat.{ℕ, _+_, _*_, _%_, _^_, _≤_, _<_}
 use native.Mathlib.Omega.{arith}
 use lib.Dec.{eqb}
 use lib.ListN.{getD}
+use borrow.Author.Tests.{eq-eqb, ne-eqb}
 use Rattle.types.specs.declared.Header.{Header}
 use Rattle.types.specs.declared.Verdict.{Verdict}
 use Rattle.types.specs.declared.Verdict.the-variants.{Accepted, Rejected}
@@ -21,7 +23,7 @@ use Rattle.sigma.specs.Instance.{Instance, Table, tableOf, statementAt}
 use Rattle.sigma.specs.Round.{responseCoordinate, response, expectedImage, verdict}
 use Rattle.sigma.specs.Valid.{Valid, ValidTable}
 use Rattle.sigma.proofs.Unread.{rowImage-agree}
-use Rattle.comparison.proofs.Masks.{Marked, compare-mask, marked-all, marked-on}
+use Rattle.comparison.proofs.Masks.{Marked, compare-mask, marked-all, marked-none, marked-on}
 
 -- zeros behind two lists do not change whether a place differs
 differs-pad8 : (xs ys : List ℕ) (i : ℕ)
@@ -105,3 +107,17 @@ module _ (inst : Instance) where
     verdict-marked v i mask bit past marked is-answer =
         rw (is-answer, marked-all _ _ _ i mask bit past marked, image-places (tableOf inst) (v .table) r, expected-places t c)
         (compare-mask _ _ _)
+
+    module _ (v : Valid inst) (one : inst .header .rows ≡ 1) {left right : ℕ} (is-left : left ≡ rowImage (tableOf inst) r 0)
+        (is-right : right ≡ getD t 0 0 * statementAt inst 0 ^ c % inst .header .modulus) where
+      -- a row that is alone and whose two sides differ is rejected as row 0
+      pub alone-differs : left ≢ right → Rejected 1 ≡ verdict inst (places (inst .header .rows) t) c (places (inst .header .columns) r)
+      alone-differs other =
+          verdict-marked v 1 1 2 (omega arith)
+          (rows-on 0 0 1 (omega arith) is-left is-right (rw (ne-eqb left right other)) (marked-none _ _ _)) refl
+
+      -- and one whose two sides agree is accepted
+      pub alone-agrees : left ≡ right → Accepted ≡ verdict inst (places (inst .header .rows) t) c (places (inst .header .columns) r)
+      alone-agrees same =
+          verdict-marked v 1 0 2 (omega arith)
+          (rows-on 0 0 1 (omega arith) is-left is-right (rw (eq-eqb left right same)) (marked-none _ _ _)) refl

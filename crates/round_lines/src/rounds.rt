@@ -13,7 +13,8 @@ ghost use mathlib.Core.Path.{_≡_};
 ghost use lib.ListN.{length};
 ghost use Rattle.encoding.specs.Placed.{Placed};
 ghost use Rattle.formats.specs.Meaning.{IsRoundFile};
-ghost use Rattle.formats.specs.RoundFile.{countField};
+ghost use Rattle.formats.specs.RoundFile.{challengeWidth, countField};
+ghost use Rattle.round_layout.specs.Width.{IsWidth};
 ghost use Rattle.sigma.specs.Instance.{instanceWith};
 ghost use Rattle.sigma.specs.Answer.{isAccepted};
 ghost use Rattle.sigma.specs.Valid.{Valid};
@@ -25,20 +26,22 @@ pub struct Written {
     pub failed: bool,
 }
 
-// The verdict on round k of a file.
+// The verdict on round k of a file whose challenges have width bytes.
 pub fn verdict_at(
     h: Header,
     entries: [[u32; 8]; 8],
     statement: [u32; 8],
     file: &[u8],
+    width: usize,
     k: u32,
 ) -> Verdict
     requires valid { ⌜ Valid (instanceWith h entries statement) ⌝ }
     requires file { ⌜ IsRoundFile h (now file) ⌝ }
+    requires width { ⌜ width ≡ challengeWidth (now file) ⌝ }
+    requires known { ⌜ IsWidth width ⌝ }
     requires number { ⌜ k < countField (now file) ⌝ }
     ensures { λ r. ⌜ r ≡ verdictIn (instanceWith h entries statement) (now (file .entry)) k ⌝ }
 {
-    let width = file_width(file);
     let start = record_start(h, width, k as usize);
     let round = round_at(h, width, file, start);
     let t = round.commitment;
@@ -80,10 +83,11 @@ pub fn write_rounds(
         (now (text .exit)) (r .next) ⌝ }
     ensures failed { λ r. ⌜ r .failed ≡ failsIn (instanceWith h entries statement) (now (file .entry)) count ⌝ }
 {
+    let width = file_width(file);
     let mut next = at;
     let mut failed = false;
     for k in 0..count {
-        let verdict = verdict_at(h, entries, statement, file, k);
+        let verdict = verdict_at(h, entries, statement, file, width, k);
         next = write_round(text, next, k, verdict);
         failed = fails(failed, verdict);
     }

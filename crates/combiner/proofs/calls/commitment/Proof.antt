@@ -1,69 +1,60 @@
--- `combiner::calls::commitment` meets its contract: the number of the sheet's shape is the answer, else the call is that on the
--- values that are read.
+-- `combiner::calls::commitment` meets its contract: the number of the sheet and the team's size is the answer, else the call is that on
+-- the sheet's values.
 -- Assumes nothing.
-use mathlib.Core.Path.{_≡_, _∙_}
+use mathlib.Core.Path.{_≡_, refl, _∙_}
 use native.Mathlib.Omega.{arith}
-use Rattle.rules.specs.Rule.{lowest}
-use Rattle.formats.specs.Load.{shapeRules}
-use Rattle.instance.proofs.LoadSteps.{shape-header, shape-long, shape-shaped}
+use Rattle.formats.specs.Load.{loadRefusal}
+use Rattle.formats.specs.Sheet.{entriesOf}
+use Rattle.sigma.proofs.Valid.{valid-modulus}
+use Rattle.instance.proofs.Answers.{answer-instance, answer-number, answer-valid}
 use Rattle.products.specs.Team.{commitmentsRules, multiplyAll, multiplyCommitments}
-use Rattle.combiner.proofs.AfterShape.{shape-call, shape-number}
-use Rattle.combiner.proofs.TeamNumber.{number-answer}
+use Rattle.combiner.proofs.SheetNumber.{sized-call, sized-loads, sized-number, sized-passes}
+use Rattle.combiner.proofs.TeamNumber.{few-players, number-answer}
 use Rattle.combiner.proofs.calls.commitment.Statement.{statement}
 use Rattle.combiner.proofs.calls.commitment.Tie as tie
 
-shape-refusal-requires : tie.Need-shape-refusal-requires
-shape-refusal-requires c κs = omega arith
+load-requires : tie.Need-load-requires
+load-requires c κs = omega arith
+
+sheet-refusal-requires : tie.Need-sheet-refusal-requires
+sheet-refusal-requires c κs = omega arith
 
 refused-requires : tie.Need-refused-requires
 refused-requires c κs = omega arith
 
 returns : tie.Need-returns
-unfolding multiplyCommitments
+unfolding multiplyCommitments commitmentsRules
 returns c =
     let tested = c .before .before in
-    c .refused .ensures
-    ∙ number-answer (shape-number _ (tested .shape-refusal .ensures) _ (c .before .if1 .taken)) _ (c .before .if1 .taken)
-
--- past the first test the shape has no number
-shaped : (c : tie.Else1) → lowest (shapeRules (c .before .before .before .args .sheet .now)) ≡ 0
-shaped c = omega arith
-
-header-requires : tie.Need-header-requires
-header-requires c κs = shape-long _ (shaped c)
-
-read-entries-requires : tie.Need-read-entries-requires
-read-entries-requires c κs = shape-shaped _ _ (c .header .ensures) (shaped (c .before))
-
-read-statement-requires : tie.Need-read-statement-requires
-read-statement-requires c κs = shape-shaped _ _ (c .before .header .ensures) (shaped (c .before .before))
+    let number = tested .sheet-refusal .ensures _ (answer-number _ _ (tested .before .load .ensures)) in
+    c .refused .ensures ∙ number-answer (sized-number _ _ number _ _ (c .before .if1 .taken)) _ (c .before .if1 .taken)
 
 multiply-loaded-requires : tie.Need-multiply-loaded-requires
 multiply-loaded-requires c κs =
-    let read = c .before .before in
-    omega (arith, shape-header _ _ (read .header .ensures) (shaped (read .before)))
+    let passed = c .before .before in
+    let tested = passed .before in
+    let loaded = tested .before .load .ensures in
+    let number = tested .sheet-refusal .ensures _ (answer-number _ _ loaded) in
+    let (shape, (team, elements)) = sized-passes _ _ number (passed .if1 .left) in
+    let loads = answer-number _ _ loaded ∙ sized-loads _ _ number (passed .if1 .left) in
+    let valid = answer-valid _ _ loaded loads refl in
+    omega (arith, valid-modulus (valid .table), valid .table .few-rows, valid .table .few-columns, few-players _ team)
 
 returns-2 : tie.Need-returns-2
 unfolding multiplyCommitments
 returns-2 c =
-    let stated = c .before in
-    let entered = stated .before in
-    let read = entered .before in
-    let passed = read .before in
-    let args = passed .before .before .before .args in
-    shape-call _ (passed .before .shape-refusal .ensures) (passed .if1 .left)
-    (λ inst. commitmentsRules inst (args .count) (args .images) (args .parts)) (λ h. multiplyAll h (args .count) (args .parts))
-    (read .header .ensures) (entered .read-entries .ensures) (stated .read-statement .ensures) (c .multiply-loaded .ensures)
+    let passed = c .before .before .before in
+    let tested = passed .before in
+    let args = tested .before .before .before .args in
+    let loaded = tested .before .load .ensures in
+    let number = tested .sheet-refusal .ensures _ (answer-number _ _ loaded) in
+    let (shape, (team, elements)) = sized-passes _ _ number (passed .if1 .left) in
+    let loads = answer-number _ _ loaded ∙ sized-loads _ _ number (passed .if1 .left) in
+    let same = answer-instance _ _ loaded loads refl in
+    sized-call _ _ number (passed .if1 .left) (λ inst. commitmentsRules inst (args .count) (args .images) (args .parts))
+    (λ h. multiplyAll h (args .count) (args .parts)) same (c .multiply-loaded .ensures _ team (rw same elements))
 
 pub commitment-spec : {M : Type 1} → statement M
 commitment-spec =
     tie.close
-    (tie.spec
-    shape-refusal-requires
-    refused-requires
-    returns
-    header-requires
-    read-entries-requires
-    read-statement-requires
-    multiply-loaded-requires
-    returns-2)
+    (tie.spec load-requires sheet-refusal-requires refused-requires returns multiply-loaded-requires returns-2)

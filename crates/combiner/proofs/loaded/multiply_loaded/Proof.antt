@@ -2,8 +2,7 @@
 -- Assumes nothing.
 use mathlib.Core.Path.{_∙_}
 use native.Mathlib.Omega.{arith}
-use Rattle.products.specs.Team.{commitmentsRules}
-use Rattle.combiner.proofs.TeamNumber.{number-answer, rules-few, values-answer}
+use Rattle.combiner.proofs.TeamNumber.{number-answer, values-answer}
 use Rattle.combiner.proofs.loaded.multiply_loaded.Statement.{statement}
 use Rattle.combiner.proofs.loaded.multiply_loaded.Tie as tie
 
@@ -14,14 +13,16 @@ refused-requires : tie.Need-refused-requires
 refused-requires c κs = omega arith
 
 returns : tie.Need-returns
-returns c = c .refused .ensures ∙ number-answer (c .before .before .commitments-refusal .ensures) _ (c .before .if1 .taken)
+returns c = λ entries team elements.
+    c .refused .ensures
+    ∙ number-answer (c .before .before .commitments-refusal .ensures entries team elements) _ (c .before .if1 .taken)
 
 multiply-all-requires : tie.Need-multiply-all-requires
-unfolding commitmentsRules
-multiply-all-requires c κs = omega (arith, rules-few _ _ _ _ tt (c .before .commitments-refusal .ensures) (c .if1 .left))
+multiply-all-requires c κs = omega arith
 
 returns-2 : tie.Need-returns-2
-returns-2 c = values-answer (c .before .before .commitments-refusal .ensures) _ (c .before .if1 .left) (c .multiply-all .ensures)
+returns-2 c = λ entries team elements.
+    values-answer (c .before .before .commitments-refusal .ensures entries team elements) _ (c .before .if1 .left) (c .multiply-all .ensures)
 
 pub multiply-loaded-spec : {M : Type 1} → statement M
 multiply-loaded-spec =

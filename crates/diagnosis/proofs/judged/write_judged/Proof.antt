@@ -8,10 +8,14 @@ use Rattle.diagnosis.proofs.JudgedLine.{accepted-told, first-inside, re
 use Rattle.diagnosis.proofs.judged.write_judged.Statement.{statement}
 use Rattle.diagnosis.proofs.judged.write_judged.Tie as tie
 
+file-width-requires : tie.Need-file-width-requires
+file-width-requires c κs = omega (arith, file-long (c .before .before .pre .1 .0))
+
 verdict-at-requires : tie.Need-verdict-at-requires
 verdict-at-requires c κs =
-    let (valid, (file, (some, room))) = c .before .before .pre in
-    (valid, (file, some))
+    let (valid, (file, (some, room))) = c .before .before .before .pre in
+    let (width, (small, known)) = c .file-width .ensures in
+    (valid, (file, (width, (known, some))))
 
 enum-told : tie.Need-enum-told
 enum-told c = search needs
@@ -25,13 +29,10 @@ write-word-requires c κs = omega arith
 enum-known-mask : tie.Need-enum-known-mask
 enum-known-mask c = search needs
 
-file-width-requires : tie.Need-file-width-requires
-file-width-requires c κs = omega (arith, file-long (c .before .before .before .before .before .before .pre .1 .0))
-
 round-at-requires : tie.Need-round-at-requires
 round-at-requires c κs =
     let (valid, (file, (some, room))) = c .before .before .before .before .before .before .before .pre in
-    let (width, (small, known)) = c .file-width .ensures in
+    let (width, (small, known)) = c .before .before .before .before .file-width .ensures in
     (valid .table .few-rows, (valid .table .few-columns, (known, rw width (first-inside file some))))
 
 write-sides-requires : tie.Need-write-sides-requires
@@ -42,7 +43,7 @@ enum-known-number c = search needs
 
 round-spot-requires : tie.Need-round-spot-requires
 round-spot-requires c κs =
-    let (valid, (file, (some, room))) = c .before .before .before .before .before .before .before .pre in
+    let (valid, (file, (some, room))) = c .before .before .before .before .before .before .before .before .pre in
     (omega arith, (valid .table .few-rows, (valid .table .few-columns, first-inside file some)))
 
 write-refused-requires : tie.Need-write-refused-requires
@@ -67,9 +68,9 @@ returns-2 : tie.Need-returns-2
 returns-2 c =
     let written = c .before .before in
     let read = written .before .before in
-    let mask = read .before .before .before in
+    let mask = read .before .before in
     let judged = mask .before .before in
-    let round = rw (read .before .file-width .ensures .0) at (read .round-at .ensures) in
+    let round = rw (judged .before .file-width .ensures .0) at (read .round-at .ensures) in
     let line = rejected-told _ _ (judged .verdict-at .ensures) round _ (mask .mask .given .1) in
     (rw line (written .write-sides .ensures .0), written .write-sides .ensures .1)
 
@@ -89,12 +90,12 @@ pub write-judged-spec : {M : Type 1} → statement M
 write-judged-spec =
     tie.close
     (tie.spec
+    file-width-requires
     verdict-at-requires
     enum-told
     slice-aggregate-write-word
     write-word-requires
     enum-known-mask
-    file-width-requires
     round-at-requires
     write-sides-requires
     enum-known-number

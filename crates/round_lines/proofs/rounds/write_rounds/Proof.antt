@@ -6,6 +6,7 @@ use mathlib.Core.Path.{_≡_, refl}
 use native.Mathlib.Omega.{arith}
 use lib.ListN.{length}
 use Rattle.encoding.specs.Placed.{Placed}
+use Rattle.formats.proofs.Growing.{file-long}
 use Rattle.sigma.specs.Instance.{instanceWith}
 use Rattle.round_lines.specs.Lines.{failsIn, linesIn}
 use Rattle.round_lines.proofs.LineByLine.{none-placed, none-fails, line-placed, fails-next, line-fits}
@@ -13,28 +14,33 @@ use Rattle.round_lines.proofs.rounds.write_rounds.Statement.{statement}
 use Rattle.round_lines.proofs.rounds.write_rounds.Tie as tie
 
 abbrev Inv-loop : tie.InvT-loop
-Inv-loop text₀ at h entries statement file count next₀ failed₀ k₀ text next failed k =
+Inv-loop text₀ at h entries statement file count width next₀ failed₀ k₀ text next failed k =
     Placed text₀ at (linesIn (instanceWith h entries statement) file k) text next
     × (failed ≡ failsIn (instanceWith h entries statement) file k)
     × (k ≤ count)
     × (length text ≡ length text₀)
 
 abbrev μ-loop : tie.MeasureT-loop
-μ-loop text₀ at h entries statement file count next₀ failed₀ k₀ text next failed k = count - k
+μ-loop text₀ at h entries statement file count width next₀ failed₀ k₀ text next failed k = count - k
+
+file-width-requires : tie.Need-file-width-requires Inv-loop μ-loop
+file-width-requires c κs = omega (arith, file-long (c .before .before .pre .1 .0))
 
 loop-holds : tie.Need-loop-holds Inv-loop μ-loop
 loop-holds c = (none-placed _ _ _ _, none-fails _ _ _ tt, omega arith, refl)
 
 verdict-at-requires : tie.Need-verdict-at-requires Inv-loop μ-loop
 verdict-at-requires c κs =
-    let (valid, (file, (count, room))) = c .before .before .before .before .pre in
-    (valid, (file, omega arith))
+    let measured = c .before .before in
+    let (valid, (file, (count, room))) = measured .before .before .before .pre in
+    let (width, (small, known)) = measured .file-width .ensures in
+    (valid, (file, (width, (known, omega arith))))
 
 write-round-requires : tie.Need-write-round-requires Inv-loop μ-loop
 write-round-requires c κs =
     let judged = c .before in
     let at-loop = judged .before .before in
-    let start = at-loop .before .before .before in
+    let start = at-loop .before .before .before .before in
     let (lines, failed, few, size) = at-loop .loop .inv in
     line-fits _ _ _ lines (start .args .count) _ (judged .verdict-at .ensures) (judged .before .loop-test .taken) (omega arith)
 
@@ -65,7 +71,7 @@ same-length c = omega arith
 returns : tie.Need-returns Inv-loop μ-loop
 returns c =
     let at-loop = c .before in
-    let whole : at-loop .loop .k ≡ at-loop .before .before .before .args .count = omega arith in
+    let whole : at-loop .loop .k ≡ at-loop .before .before .before .before .args .count = omega arith in
     let (lines, failed, few, size) = at-loop .loop .inv in
     (rw (← whole) lines, rw (← whole) failed)
 
@@ -75,6 +81,7 @@ write-rounds-spec =
     (tie.spec
     Inv-loop
     μ-loop
+    file-width-requires
     loop-holds
     verdict-at-requires
     write-round-requires
