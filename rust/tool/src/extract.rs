@@ -235,9 +235,16 @@ fn of_file(words: &Words, out: &mut dyn Write) -> Outcome {
         writeln!(out, "{}", notation::headline(sheet))?;
         let mut found = false;
         let left = if words.flag("--all") { MOST_BY_HAND } else { 0 };
-        let mut how = How { all: pairs <= commitments::MOST, every: words.flag("--all"), left };
+        let mut how = How { all: pairs <= commitments::MOST, left, beyond: 0 };
         for group in &groups {
             found |= of_group(sheet, file, group, &mut how, out)?;
+        }
+        if words.flag("--all") && how.beyond > 0 {
+            writeln!(
+                out,
+                "\nPairs that give a witness and are not worked out: {}. --all works out {MOST_BY_HAND} besides the first ones.",
+                how.beyond
+            )?;
         }
         let none = format!("no two rounds of {} give a witness", files::name(path));
         if found { Ok(()) } else { Err(Failure::failed(none)) }
@@ -248,10 +255,10 @@ fn of_file(words: &Words, out: &mut dyn Write) -> Outcome {
 struct How {
     /// All are tried, and else those with one round of each commitment.
     all: bool,
-    /// All that give a witness are worked out.
-    every: bool,
     /// How many may still be worked out besides the first ones.
     left: usize,
+    /// How many give a witness and are beyond those.
+    beyond: usize,
 }
 
 /// Extracts from a group of rounds with the same commitment. Answers whether a pair gives a witness.
@@ -279,9 +286,6 @@ fn of_group(
         by_hand(sheet, &pair.map(|number| rounds[number]), *pair, out)?;
     }
     out.write_all(further(sheet, tried, &shown).as_bytes())?;
-    if how.every && how.left == 0 {
-        writeln!(out, "{MOST_BY_HAND} pairs besides the first ones are worked out, and no more.")?;
-    }
     if !how.all {
         let pairs = commitments::pair_count(group);
         writeln!(
@@ -299,6 +303,7 @@ impl How {
         let mut further: Vec<[usize; 2]> = giving.flat_map(|tried| tried.pairs.clone()).collect();
         further.retain(|pair| Some(*pair) != first);
         further.sort();
+        self.beyond += further.len().saturating_sub(self.left);
         further.truncate(self.left);
         self.left -= further.len();
         first.into_iter().chain(further).collect()
