@@ -68,13 +68,20 @@ impl<'a> Brought<'a> {
     }
 }
 
+/// The first of these values that a refusal is by, such as `11 in c=`, and its sheet.
+pub fn by<'a>(refusal: Refusal, brought: &[Brought<'a>]) -> Option<(String, &'a Instance)> {
+    let mut same = brought.iter().filter(|brought| brought.refusal == refusal);
+    same.find_map(|brought| {
+        let value = brought.outside()?;
+        Some((format!("{value} in {}=", brought.letter), brought.sheet))
+    })
+}
+
 /// A refusal of a call that was brought these values, with the first value that it is by.
 pub fn refused(refusal: Refusal, brought: &[Brought<'_>]) -> Failure {
-    let same = brought.iter().filter(|brought| brought.refusal == refusal);
-    let found = same.filter_map(|brought| Some((brought.outside()?, brought))).next();
-    match found {
-        Some((value, Brought { letter, sheet, .. })) => {
-            let why = Failure::refused(refusal, format!("{value} in {letter}="));
+    match by(refusal, brought) {
+        Some((by, sheet)) => {
+            let why = Failure::refused(refusal, by);
             Failure::failed(format!("{why}{}", allowed::by(refusal, &sheet.values().header)))
         }
         None => refusal.into(),
@@ -86,8 +93,14 @@ pub fn is_by_value(refusal: Refusal) -> bool {
     matches!(refusal, Refusal::Commitment | Refusal::Challenge | Refusal::Coordinate)
 }
 
-/// A refusal of two rounds that have these commitments, each with its letter, where the first one has this challenge.
-pub fn of_two(refusal: Refusal, commitments: &[(&str, [String; 2])], challenge: u32) -> Failure {
+/// A refusal of two rounds that have these commitments, each with its letter, where the first one has this challenge and these
+/// are rejected.
+pub fn of_two(
+    refusal: Refusal,
+    commitments: &[(&str, [String; 2])],
+    challenge: u32,
+    rejected: [bool; 2],
+) -> Failure {
     let differ = commitments.iter().find(|(_, [one, other])| one != other);
     match (refusal, differ) {
         (Refusal::CommitmentsDiffer, Some((letter, [one, other]))) => {
@@ -96,6 +109,16 @@ pub fn of_two(refusal: Refusal, commitments: &[(&str, [String; 2])], challenge: 
         (Refusal::ChallengesEqual, _) => {
             Failure::refused(refusal, format!("{challenge} in both c="))
         }
+        (Refusal::RoundRejected, _) => Failure::refused(refusal, which(rejected, [0, 1])),
         _ => refusal.into(),
+    }
+}
+
+/// Which of two rounds with these numbers it is, such as `round 1`, or that it is both.
+pub fn which(is: [bool; 2], [first, second]: [usize; 2]) -> String {
+    match is {
+        [true, false] => format!("round {first}"),
+        [false, _] => format!("round {second}"),
+        [true, true] => format!("rounds {first} and {second}"),
     }
 }

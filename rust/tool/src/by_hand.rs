@@ -86,6 +86,14 @@ impl Column {
             Column::Exponent { witness, .. } | Column::Root { witness, .. } => *witness,
         }
     }
+
+    /// The powers of this column.
+    pub fn powers(&self) -> Vec<Power> {
+        match self {
+            Column::Exponent { .. } => Vec::new(),
+            Column::Root { first, second, .. } => vec![*first, *second],
+        }
+    }
 }
 
 /// The extractor on two rounds, step by step.

@@ -35,7 +35,7 @@ pub fn run(words: Vec<OsString>, out: &mut dyn Write) -> Outcome {
     let x = sheets::by_column(&sheet, x)?;
     let image = sheets::image(&sheet, "x", &x)?;
     if image != sheet.values().statement {
-        return Err(no_witness(&sheet, &x));
+        return Err(no_witness(&sheet, "x", &x));
     }
     writeln!(out, "{}", is_witness(&sheet, &x, "the statement"))?;
     Ok(())
@@ -48,13 +48,14 @@ pub fn is_witness(sheet: &Instance, x: &Places, statement: &str) -> String {
     format!("[{}] = {image} is {statement}: {witness} is a witness", notation::bare(&witness))
 }
 
-/// Refuses coordinates of the domain as no witness.
-pub fn no_witness(sheet: &Instance, x: &Places) -> Failure {
+/// Refuses coordinates of the domain that are called by a letter as no witness.
+pub fn no_witness(sheet: &Instance, letter: &str, x: &Places) -> Failure {
     let witness = notation::by_column(sheet, x);
+    let bare = notation::bare(&witness);
     let image = small::image(sheet, x).unwrap_or_default();
     let [image, statement] =
         [&image, &sheet.values().statement].map(|values| notation::by_row(sheet, values));
     let found =
-        format!("[{}] = {image} where the statement is {statement}", notation::bare(&witness));
+        format!("{witness} in {letter}=, as [{bare}] = {image} and the statement is {statement}");
     Failure::refused(Refusal::Witness, found)
 }

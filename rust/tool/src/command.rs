@@ -157,8 +157,8 @@ Each command has a help with an example: `dimkhoros COMMAND --help`.
 
 Values stand behind their letters, as in c=3, and several of one letter have commas between them, as in x=1,2; there are no
 spaces. Rows, rounds, players and sides are numbered from 0, and columns are called x1, x2 and so on. A file that is called - is
-standard input. What begins with - or has the form of a value is taken as a file's name behind the word --. Nothing that is
-there is overwritten without --force.
+standard input, or standard output behind -o. What begins with - or has the form of a value is taken as a file's name behind the
+word --. Nothing that is there is overwritten without --force.
 
 Exit status: 0 done; 1 refused or failed, and a line on standard error says why; 2 the words are wrong.
 

@@ -3,24 +3,29 @@
 use crate::brought::{self, Brought};
 use crate::commitments::{self, Tried};
 use crate::failure::{Failure, Outcome};
+use crate::notation::counted;
 use crate::round_words::{self, Asked};
 use crate::words::{Grammar, Words};
-use crate::{by_hand, files, notation, round_table, sheets, steps};
+use crate::{allowed, by_hand, faults, files, notation, round_table, sheets, steps};
 use dimkhoros::{Instance, Places, Refusal, Round, RoundFile};
-use std::ffi::OsString;
+use std::ffi::{OsStr, OsString};
 use std::io::Write;
 
 /// The command's help.
 pub const HELP: &str = "\
-usage: dimkhoros extract SHEET ROUNDS
+usage: dimkhoros extract SHEET ROUNDS [--all]
+       dimkhoros extract SHEET ROUNDS NUMBER NUMBER
        dimkhoros extract SHEET t=VALUE,... c=CHALLENGE r=VALUE,... [t=VALUE,...] c=CHALLENGE r=VALUE,...
 
 Takes the pairs of accepted rounds with the same commitment and different challenges, of a round file or of two rounds in words,
 and computes the witness that they give away. The first pair of each commitment is worked out line by line, with a and b such
-that ℓ·a + (c - c')·b = 1, where ℓ is q or e; the further ones are counted. Where no pair gives a witness, the exit status is 1.
+that ℓ·a + (c - c')·b = 1, where ℓ is q or e; the further ones are named. Where a file has more than 8192 pairs, only those of
+one round of each commitment are tried. Where no pair gives a witness, the exit status is 1.
 
     SHEET        a sheet
     ROUNDS       a round file of the sheet
+    NUMBER       the number of a round of the file, from 0: these two rounds are worked out
+    --all        works out every pair that gives a witness, up to 64 besides the first one of each commitment
     t=VALUE,...  a commitment, a value for each row; the second round has the first one's where it is left out
     c=CHALLENGE  a challenge, from 0 to K - 1
     r=VALUE,...  a response, a value for each column
@@ -59,24 +64,33 @@ Example:
 ";
 
 const GRAMMAR: Grammar = Grammar {
-    plain: &["SHEET", "ROUNDS"],
-    optional: 1,
+    plain: &["SHEET", "ROUNDS", "NUMBER", "NUMBER"],
+    optional: 3,
     letters: &["t", "c", "r"],
-    flags: &[],
+    flags: &["--all"],
     options: &[],
 };
 
 /// The most pairs that a line names.
-const MOST_NAMED: usize = 8;
+const MOST_NAMED: usize = 10;
+
+/// The most pairs that `--all` works out besides the first ones.
+const MOST_BY_HAND: usize = 64;
 
 /// Runs the command.
 pub fn run(words: Vec<OsString>, out: &mut dyn Write) -> Outcome {
     let words = Words::sort(words, &GRAMMAR)?;
     let in_words = !words.values().is_empty();
-    match (words.plain().len(), in_words) {
+    let count = words.plain().len();
+    if words.flag("--all") && (count != 2 || in_words) {
+        return Err(Failure::words("--all stands behind SHEET and ROUNDS alone"));
+    }
+    match (count, in_words) {
         (1, true) => of_words(&words, out),
         (2, false) => of_file(&words, out),
+        (4, false) => of_numbers(&words, out),
         (1, false) => Err(Failure::words("ROUNDS or two rounds as words are missing")),
+        (3, false) => Err(Failure::words("the second NUMBER is missing: two rounds are needed")),
         _ => Err(Failure::words("ROUNDS and rounds as words are both there")),
     }
 }
@@ -121,14 +135,86 @@ fn refused(
     }
     out.write_all(round_table::of_words(sheet, rounds).as_bytes())?;
     let t = rounds.map(|round| notation::by_row(sheet, &round.commitment));
-    Err(brought::of_two(refusal, &[("t", t)], rounds[0].challenge))
+    Err(brought::of_two(refusal, &[("t", t)], rounds[0].challenge, rejected(sheet, rounds)))
 }
 
-/// Prints the steps of a pair, which end in the library's witness.
-fn by_hand(sheet: &Instance, rounds: &[Round], pair: [usize; 2], out: &mut dyn Write) -> Outcome {
-    let [first, second] = pair.map(|number| rounds[number]);
-    let witness = sheet.extract(&first, &second)?;
-    let steps = by_hand::steps(sheet, &first, &second).filter(|steps| steps.witness == witness);
+/// Which of two rounds are rejected.
+fn rejected(sheet: &Instance, rounds: &[Round; 2]) -> [bool; 2] {
+    rounds.map(|round| sheet.judge(&round).is_ok_and(|verdict| !verdict.is_accepted()))
+}
+
+/// Extracts from two rounds of a file by their numbers.
+fn of_numbers(words: &Words, out: &mut dyn Write) -> Outcome {
+    let pair = [number(&words.plain()[2])?, number(&words.plain()[3])?];
+    sheets::with_rounds(words, |sheet, path, file| {
+        let read = |number: usize| {
+            let count = counted(file.count(), "round");
+            let by = format!("{number}, where {} has {count}", files::name(path));
+            file.read(number).map_err(|refusal| Failure::refused(refusal, by))
+        };
+        let rounds = [read(pair[0])?, read(pair[1])?];
+        if let Err(refusal) = sheet.extract(&rounds[0], &rounds[1]) {
+            if let Some(fault) =
+                pair.iter().find_map(|number| in_round(sheet, file, *number, refusal))
+            {
+                return Err(Failure::failed(format!("{}: {fault}", files::name(path))));
+            }
+            out.write_all(round_table::of_file(sheet, file, pair).as_bytes())?;
+            return Err(refused_numbers(sheet, &rounds, pair, refusal));
+        }
+        writeln!(out, "{}\n", notation::headline(sheet))?;
+        by_hand(sheet, &rounds, pair, out)
+    })
+}
+
+/// The number of a round.
+fn number(word: &OsStr) -> Outcome<usize> {
+    let word = word.to_string_lossy();
+    word.parse().map_err(|_| Failure::words(format!("{word} is no number of a round, from 0 on")))
+}
+
+/// The value of a round of a file that a refusal is by, and what the rule allows.
+fn in_round(
+    sheet: &Instance,
+    file: &RoundFile<'_>,
+    number: usize,
+    refusal: Refusal,
+) -> Option<String> {
+    let fault = faults::in_round(sheet, file, number).filter(|fault| fault.refusal == refusal)?;
+    Some(format!("{fault}{}", allowed::by(refusal, &sheet.values().header)))
+}
+
+/// Why two rounds of a file, which have no refused value, give no witness.
+fn refused_numbers(
+    sheet: &Instance,
+    rounds: &[Round; 2],
+    pair: [usize; 2],
+    refusal: Refusal,
+) -> Failure {
+    let [first, second] = pair;
+    let t = rounds.map(|round| notation::by_row(sheet, &round.commitment));
+    let by = match refusal {
+        Refusal::CommitmentsDiffer => {
+            format!("t = {} of round {first} and t = {} of round {second}", t[0], t[1])
+        }
+        Refusal::ChallengesEqual => {
+            format!("c = {} of rounds {first} and {second}", rounds[0].challenge)
+        }
+        Refusal::RoundRejected => brought::which(rejected(sheet, rounds), pair),
+        _ => return refusal.into(),
+    };
+    Failure::refused(refusal, by)
+}
+
+/// Prints the steps of two rounds with these numbers, which end in the library's witness.
+fn by_hand(
+    sheet: &Instance,
+    [first, second]: &[Round; 2],
+    pair: [usize; 2],
+    out: &mut dyn Write,
+) -> Outcome {
+    let witness = sheet.extract(first, second)?;
+    let steps = by_hand::steps(sheet, first, second).filter(|steps| steps.witness == witness);
     let steps = steps.ok_or_else(|| {
         let witness = notation::by_column(sheet, &witness);
         Failure::failed(format!("the witness is {witness}, and the steps by hand end elsewhere"))
@@ -148,21 +234,39 @@ fn of_file(words: &Words, out: &mut dyn Write) -> Outcome {
         let pairs = groups.iter().map(|group| commitments::pair_count(group)).sum::<usize>();
         writeln!(out, "{}", notation::headline(sheet))?;
         let mut found = false;
+        let left = if words.flag("--all") { MOST_BY_HAND } else { 0 };
+        let mut how = How { all: pairs <= commitments::MOST, left, beyond: 0 };
         for group in &groups {
-            found |= of_group(sheet, file, group, pairs <= commitments::MOST, out)?;
+            found |= of_group(sheet, file, group, &mut how, out)?;
+        }
+        if words.flag("--all") && how.beyond > 0 {
+            writeln!(
+                out,
+                "\nPairs that give a witness and are not worked out: {}. --all works out {MOST_BY_HAND} besides the first ones.",
+                how.beyond
+            )?;
         }
         let none = format!("no two rounds of {} give a witness", files::name(path));
         if found { Ok(()) } else { Err(Failure::failed(none)) }
     })
 }
 
-/// Extracts from a group of rounds with the same commitment, trying all pairs or those with one round alone. Answers whether a
-/// pair gives a witness.
+/// How the pairs of a file are taken.
+struct How {
+    /// All are tried, and else those with one round of each commitment.
+    all: bool,
+    /// How many may still be worked out besides the first ones.
+    left: usize,
+    /// How many give a witness and are beyond those.
+    beyond: usize,
+}
+
+/// Extracts from a group of rounds with the same commitment. Answers whether a pair gives a witness.
 fn of_group(
     sheet: &Instance,
     file: &RoundFile<'_>,
     group: &[usize],
-    all: bool,
+    how: &mut How,
     out: &mut dyn Write,
 ) -> Outcome<bool> {
     let rounds: Vec<Round> = file.rounds().collect();
@@ -170,17 +274,19 @@ fn of_group(
     let commitment = notation::by_row(sheet, &rounds[first].commitment);
     writeln!(out, "\nCommitment {commitment}, in {} rounds\n", group.len())?;
     let pair = commitments::first_pair(sheet, &rounds, group).ok();
-    match pair {
-        Some(pair) => by_hand(sheet, &rounds, pair, out)?,
-        None => {
-            let table = round_table::of_file(sheet, file, group.iter().copied());
-            out.write_all(table.as_bytes())?;
-        }
+    if pair.is_none() {
+        let table = round_table::of_file(sheet, file, group.iter().copied());
+        out.write_all(table.as_bytes())?;
     }
     let with = pair.map_or(first, |pair| pair[0]);
-    let tried = commitments::tried(sheet, &rounds, group, (!all).then_some(with));
-    out.write_all(further(sheet, tried, pair).as_bytes())?;
-    if !all {
+    let tried = commitments::tried(sheet, &rounds, group, (!how.all).then_some(with));
+    let shown = how.worked_out(pair, &tried);
+    for (place, pair) in shown.iter().enumerate() {
+        out.write_all(if place == 0 { b"" } else { b"\n" })?;
+        by_hand(sheet, &pair.map(|number| rounds[number]), *pair, out)?;
+    }
+    out.write_all(further(sheet, tried, &shown).as_bytes())?;
+    if !how.all {
         let pairs = commitments::pair_count(group);
         writeln!(
             out,
@@ -190,17 +296,31 @@ fn of_group(
     Ok(pair.is_some())
 }
 
-/// What pairs give besides the one that was worked out by hand, a line for each answer: the same witness first, refusals last.
-fn further(sheet: &Instance, mut tried: Vec<Tried>, by_hand: Option<[usize; 2]>) -> String {
-    let same = |tried: &Tried| by_hand.is_some_and(|pair| tried.pairs.contains(&pair));
+impl How {
+    /// The pairs of a group that are worked out: the first one, and further ones where all of them are asked for.
+    fn worked_out(&mut self, first: Option<[usize; 2]>, tried: &[Tried]) -> Vec<[usize; 2]> {
+        let giving = tried.iter().filter(|tried| tried.answer.is_ok());
+        let mut further: Vec<[usize; 2]> = giving.flat_map(|tried| tried.pairs.clone()).collect();
+        further.retain(|pair| Some(*pair) != first);
+        further.sort();
+        self.beyond += further.len().saturating_sub(self.left);
+        further.truncate(self.left);
+        self.left -= further.len();
+        first.into_iter().chain(further).collect()
+    }
+}
+
+/// What pairs give besides those that were worked out by hand, a line for each answer: the same witness as that of the first
+/// one before others, and refusals last.
+fn further(sheet: &Instance, mut tried: Vec<Tried>, by_hand: &[[usize; 2]]) -> String {
+    let same = |tried: &Tried| by_hand.first().is_some_and(|pair| tried.pairs.contains(pair));
     tried.sort_by_key(|tried| (!same(tried), tried.answer.is_err()));
     let lines = tried.iter().filter_map(|tried| {
         let pairs: Vec<[usize; 2]> =
-            tried.pairs.iter().filter(|pair| by_hand != Some(**pair)).copied().collect();
+            tried.pairs.iter().filter(|pair| !by_hand.contains(pair)).copied().collect();
         let line = match (&tried.answer, pairs.len()) {
             (_, 0) => return None,
-            (Ok(_), 1) if same(tried) => "1 further pair gives the same witness".to_string(),
-            (Ok(_), count) if same(tried) => format!("{count} further pairs give the same witness"),
+            (Ok(_), _) if same(tried) => format!("{} give the same witness", named(&pairs)),
             (Ok(witness), _) => another(sheet, witness, &pairs),
             (Err(refusal), _) => format!("{}: {refusal}", named(&pairs)),
         };

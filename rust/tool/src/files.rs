@@ -72,8 +72,12 @@ impl Target {
     pub fn of(words: &Words) -> Outcome<Target> {
         let path =
             words.option("-o").ok_or(Failure::words("-o FILE is missing: the file to write"))?;
-        let how = if words.flag("--force") { How::Over } else { How::New };
-        Ok(Target { path: PathBuf::from(path), how })
+        let (path, how) =
+            (PathBuf::from(path), if words.flag("--force") { How::Over } else { How::New });
+        match path.is_dir() && !is_standard(&path) {
+            true => Err(failure(&path, "written", &ErrorKind::IsADirectory.into())),
+            false => Ok(Target { path, how }),
+        }
     }
 
     /// The file that is read, of which nothing gets lost.

@@ -20,9 +20,10 @@ mod witnesses;
 
 use crate::failure::{Failure, Outcome};
 use crate::files::{self, Target};
+use crate::round_words::Asked;
 use crate::words::{Grammar, Words};
-use crate::{check, notation, sheets, small};
-use dimkhoros::{Instance, Pair, Places, Side};
+use crate::{brought, check, notation, or_proof, sheets, small};
+use dimkhoros::{Instance, Pair, Places, Round, Side};
 use or_pair::Shown;
 use or_rounds::Choice;
 use page::Section;
@@ -33,12 +34,16 @@ use std::path::Path;
 /// The command's help.
 pub const HELP: &str = "\
 usage: dimkhoros lecture SHEET [x=VALUE,...] [k=VALUE,...] [c=CHALLENGE [c=CHALLENGE]] -o PAGE
+       dimkhoros lecture SHEET [c=CHALLENGE] [r=VALUE,...] -o PAGE
        dimkhoros lecture SHEET SHEET1 [x=VALUE,...] [x1=VALUE,...] [k=VALUE,...] [c=CHALLENGE [c=CHALLENGE]]
                  [c1=CHALLENGE] [r1=VALUE,...] -o PAGE
+       dimkhoros lecture SHEET SHEET1 [x1=VALUE,...] [k=VALUE,...] [c=CHALLENGE [c=CHALLENGE]]
+                 [c0=CHALLENGE] [r0=VALUE,...] -o PAGE
 
 Makes a page for a projector and for paper that needs nothing else: the statement of SHEET, a run of the protocol, the extractor
 on two rounds with the same commitment, and the honest and the simulated rounds side by side. With SHEET1 the page is on the OR
 proof of the two sheets: both holders' runs, the rounds that both make, and what two rounds on the same commitments give away.
+The second and the fourth line are for a SHEET without a witness.
 
     x=VALUE,...   a witness of SHEET; found by trying all where they are few and it is left out
     x1=VALUE,...  a witness of SHEET1
@@ -53,7 +58,7 @@ Example:
     $ dimkhoros make schnorr m=23 q=11 h=2 x=7 -o sheet.bin
     sheet.bin has 28 bytes
     $ dimkhoros lecture sheet.bin k=5 c=3 c=1 -o page.html
-    page.html has 43301 bytes
+    page.html has 43161 bytes
 ";
 
 const GRAMMAR: Grammar = Grammar {
@@ -68,10 +73,9 @@ const GRAMMAR: Grammar = Grammar {
 pub fn run(words: Vec<OsString>, out: &mut dyn Write) -> Outcome {
     let words = Words::sort(words, &GRAMMAR)?;
     let target = Target::of(&words)?;
-    let sheet = sheets::load(&words.path(0))?;
     let page = match words.plain().len() {
-        1 => single(&words, &sheet)?,
-        _ => double(&words, &sheet, &sheets::load(&words.path(1))?)?,
+        1 => single(&words, &sheets::load(&words.path(0))?)?,
+        _ => double(&words, &or_proof::rounds::load(&words)?)?,
     };
     target.write(page.as_bytes(), out)
 }
@@ -103,13 +107,13 @@ fn witness(words: &Words, letter: &str, path: &Path, sheet: &Instance) -> Outcom
         let witness = sheets::by_column(sheet, value)?;
         return match sheets::image(sheet, letter, &witness)? == sheet.values().statement {
             true => Ok(Some(witness)),
-            false => Err(check::no_witness(sheet, &witness)),
+            false => Err(check::no_witness(sheet, letter, &witness)),
         };
     }
     let all = small::witnesses(sheet, small::MOST as usize).ok_or_else(|| {
         let name = files::name(path);
-        Failure::failed(format!(
-            "{name} is too large to find a witness by trying all: {letter}= has to say one"
+        Failure::words(format!(
+            "{letter}= is missing: a witness of {name}, which is too large to find one by trying all"
         ))
     })?;
     let telling = all
@@ -137,8 +141,12 @@ fn known(words: &Words, sheet: &Instance, witness: &Places) -> Outcome<Vec<Secti
         Some(value) => sheets::by_column(sheet, value)?,
         None => rounds::default_nonce(sheet),
     };
-    let first = sheets::honest(sheet, witness, &nonce, challenges[0])?;
-    let second = sheets::honest(sheet, witness, &nonce, challenges[1])?;
+    let [first, second] = [
+        honest(sheet, witness, &nonce, challenges[0])?,
+        honest(sheet, witness, &nonce, challenges[1])?,
+    ];
+    let extracted = sheet.extract(&first, &second);
+    extracted.map_err(|refusal| brought::of_two(refusal, &[], challenges[0], [false; 2]))?;
     let verdict = rounds::judged(sheet, &first)?;
     let all = small::witnesses(sheet, small::MOST as usize).unwrap_or_default();
     let mut sections = statement::sections(
@@ -153,6 +161,12 @@ fn known(words: &Words, sheet: &Instance, witness: &Places) -> Outcome<Vec<Secti
     sections.extend(witnesses::several(sheet, &all, witness, &first)?);
     sections.extend(squares::grid(sheet, &first.commitment, true));
     Ok(sections)
+}
+
+/// The round of a Peggy. A refusal says by which value it is.
+fn honest(sheet: &Instance, witness: &Places, nonce: &Places, challenge: u32) -> Outcome<Round> {
+    let asked = Asked::Honest { witness: *witness, nonce: *nonce, challenge };
+    asked.round(sheet).map_err(|refusal| asked.refused(sheet, refusal))
 }
 
 /// What is known of the witnesses, of which all were counted, or none where they are too many to try.
@@ -174,7 +188,8 @@ fn unknown(words: &Words, sheet: &Instance) -> Outcome<Vec<Section>> {
         Some(value) => sheets::by_column(sheet, value)?,
         None => rounds::default_response(sheet),
     };
-    let round = rounds::simulated(sheet, challenge, &response)?;
+    let asked = Asked::Simulated { challenge, response };
+    let round = asked.round(sheet).map_err(|refusal| asked.refused(sheet, refusal))?;
     let verdict = rounds::judged(sheet, &round)?;
     let domain = small::domain(sheet, small::MOST as usize).unwrap_or_default();
     let tried = format!("there is none: all {} choices were tried", domain.len());
@@ -186,9 +201,10 @@ fn unknown(words: &Words, sheet: &Instance) -> Outcome<Vec<Section>> {
 }
 
 /// The page on a pair of sheets.
-fn double(words: &Words, first: &Instance, second: &Instance) -> Outcome<String> {
+fn double(words: &Words, sheets: &[Instance; 2]) -> Outcome<String> {
     words.without(&["r"], "with SHEET1")?;
-    let pair = Pair::new(first, second)?;
+    let pair = or_proof::rounds::pair(words, sheets)?;
+    let [first, second] = sheets;
     let witnesses = [
         witness(words, "x", &words.path(0), first)?,
         witness(words, "x1", &words.path(1), second)?,
@@ -203,7 +219,9 @@ fn double(words: &Words, first: &Instance, second: &Instance) -> Outcome<String>
             ));
         }
     };
-    let sections = Shown { pair, witnesses, choice, challenges }.sections()?;
+    let shown = Shown { pair, witnesses, choice, challenges };
+    shown.check()?;
+    let sections = shown.sections()?;
     let names = [0, 1].map(|place| file_name(&words.path(place))).join(" or ");
     Ok(page::page(&format!("{names}: the OR proof"), "", &sections))
 }

@@ -30,7 +30,8 @@ tested; with x the statement is computed of this witness, which the sheet itself
     h=VALUE,...      the public values of the pattern, in its order
     table=ENTRY,...  the entries, with commas within a row and / between rows
     z=VALUE,...      the statement, a value for each row
-    x=VALUE,...      a witness, a value for each column, of which the statement is computed
+    x=VALUE,...      a witness, a value for each column, of which the statement is computed. A root sheet has as many rows and
+                     columns as z or x has values
     --patterns FILE  a pattern file; the shipped one where it is left out
     -o SHEET         where the sheet is written; --force writes over a file that is there
 

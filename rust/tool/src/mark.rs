@@ -8,7 +8,6 @@ use crate::failure::{Failure, Outcome};
 use crate::table::{self, Set};
 use crate::words::{Grammar, Words};
 use marks::{Mark, Tally};
-use progress::Progress;
 use std::ffi::OsString;
 use std::io::Write;
 
@@ -23,8 +22,10 @@ file is refused, sheet, file (the round file) or level, with the number of the r
 folders were marked, whatever the marks are, and 1 where one cannot be read.
 
     FOLDER  a folder with the sheet in sheet.bin, the round file in rounds.bin and the level in level.bin, which is one byte, as
-            printf '\\7' writes it
-    --csv   comma-separated values in the place of the table, with a line of their names, and no summary
+            printf '\\7' writes it. A folder that is called -dash or k=3 stands behind the word --
+    --csv   comma-separated values in the place of the table, with a line of their names, and no summary: folder; result, which
+            is pass, fail, sheet, file, level or unread; refusal, the number where a file is refused; rounds and, of these,
+            accepted, rejected and refused; level; why, as in the table. What is not known is empty
 
 Example:
     $ mkdir anna ben
@@ -46,7 +47,7 @@ const GRAMMAR: Grammar =
 /// Runs the command.
 pub fn run(words: Vec<OsString>, out: &mut dyn Write) -> Outcome {
     let words = Words::sort(words, &GRAMMAR)?;
-    let mut progress = Progress::of(words.plain().len());
+    let mut progress = progress::of(words.plain().len());
     let mut marks = Vec::new();
     for name in words.plain() {
         progress.show(marks.len());

@@ -73,6 +73,9 @@ pub fn run(words: Vec<OsString>, out: &mut dyn Write) -> Outcome {
 
 /// Makes a pattern file.
 fn make(words: &Words, patterns: &[OsString], out: &mut dyn Write) -> Outcome {
+    if patterns.is_empty() {
+        return Err(Failure::words("the word PATTERN is missing"));
+    }
     let target = Target::of(words)?;
     let mut file = b"PAT\x00\x01".to_vec();
     file.push(byte(patterns.len(), "patterns")?);

@@ -97,7 +97,7 @@ impl Asked {
                 brought::refused(refusal, &[c, Brought::coordinates(sheet, "r", response)])
             }
             Asked::Honest { witness, .. } if refusal == Refusal::Witness => {
-                check::no_witness(sheet, witness)
+                check::no_witness(sheet, "x", witness)
             }
             Asked::Honest { witness, nonce, challenge } => {
                 let c = Brought::challenge(sheet, "c", *challenge);

@@ -7,7 +7,7 @@ use crate::notation::{self, coordinate};
 use crate::table::{self, Set};
 use crate::{sheets, small};
 use dimkhoros::{EXPONENT, Instance, Places};
-use numbers::{by_squaring, power_text, powers_text, product, signed};
+use numbers::{by_squaring, power_text, powers_text, product, shows_squares, signed};
 
 /// What stands before each line of a step.
 const INDENT: &str = "       ";
@@ -35,8 +35,27 @@ pub fn text(sheet: &Instance, numbers: [usize; 2], steps: &Steps) -> String {
         columns(sheet, steps),
         format!("\n5. {}:\n\n", is_witness(sheet, &steps.witness)),
         image(sheet, &steps.witness),
+        left_out(sheet, steps),
     ]
     .concat()
+}
+
+/// Says that the squares of powers are left out, where they are.
+fn left_out(sheet: &Instance, steps: &Steps) -> String {
+    let modulus = sheet.values().header.modulus;
+    let sides = steps.sides.iter().flatten();
+    let mut powers: Vec<Power> =
+        sides.flat_map(|sides| [&sides.powers[..], &[sides.statement]].concat()).collect();
+    powers.extend(steps.columns.iter().flat_map(Column::powers));
+    let rows = 0..sheets::row_count(sheet);
+    powers.extend(rows.flat_map(|row| row_powers(sheet, row, &steps.witness)));
+    let is_long = powers.iter().any(|power| power.whole().is_none());
+    match is_long && !shows_squares(modulus) {
+        true => format!(
+            "\nThe squares of which powers are made are left out: modulo {modulus} they can have more than ten digits.\n"
+        ),
+        false => String::new(),
+    }
 }
 
 /// Both sides of each row of both rounds. The numbers of rows are left out where there is one.

@@ -3,7 +3,7 @@
 mod join;
 mod players;
 
-use crate::failure::Outcome;
+use crate::failure::{Failure, Outcome};
 use crate::table::{self, Set};
 use crate::words::{Grammar, Words};
 use crate::{notation, sheets};
@@ -140,9 +140,11 @@ fn alone(sheet: &Instance, columns: &[Column<'_>], round: &Round) -> Outcome<Str
         return Ok(String::new());
     };
     let hers = sheets::honest(sheet, &witness, &nonce, round.challenge)?;
-    let same = if hers == *round { "the same round" } else { "another round" };
+    if hers != *round {
+        return Err(Failure::failed("a single Peggy sends another round than the team"));
+    }
     Ok(format!(
-        "A single Peggy with the witness {} and the nonce {} sends {same}: {}.\n",
+        "A single Peggy with the witness {} and the nonce {} sends the same round: {}.\n",
         notation::by_column(sheet, &witness),
         notation::by_column(sheet, &nonce),
         notation::round(sheet, &hers)

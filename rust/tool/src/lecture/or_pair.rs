@@ -3,9 +3,10 @@
 use super::or_rounds::{self, Choice};
 use super::page::{self, Section, Table};
 use super::statement;
-use crate::failure::Outcome;
+use crate::brought::{self, Brought};
+use crate::failure::{Failure, Outcome};
 use crate::notation;
-use dimkhoros::{OrRound, Pair, Places, Side};
+use dimkhoros::{OrRound, Pair, Places, Refusal, Side};
 
 /// Both sides.
 pub const SIDES: [Side; 2] = [Side::First, Side::Second];
@@ -37,6 +38,33 @@ impl Shown<'_> {
         sections.push(self.two_rounds(&round)?);
         sections.extend(extractors.collect::<Outcome<Vec<_>>>()?.into_iter().flatten());
         Ok(sections)
+    }
+
+    /// Fails where the library refuses the rounds of the two challenges, or the extractor on them, with what that is by.
+    pub fn check(&self) -> Outcome {
+        let [first, second] = self.challenges;
+        let made = |challenge: u32| {
+            let witness = self.witness(self.choice.side);
+            let made = or_rounds::made(&self.pair, &self.choice, challenge, &witness);
+            made.map_err(|refusal| self.refused(challenge, refusal))
+        };
+        let extracted = self.pair.extract(&made(first)?, &made(second)?);
+        let refused = |refusal| brought::of_two(refusal, &[], first, [false; 2]);
+        extracted.map(drop).map_err(refused)
+    }
+
+    /// A refusal of a round of the choice, with the value that it is by.
+    fn refused(&self, challenge: u32, refusal: Refusal) -> Failure {
+        let Choice { side, nonce, challenge: simulated, response } = &self.choice;
+        let (own, other) = (self.pair.instance(*side), self.pair.instance(side.other()));
+        let number = side.other().number();
+        let brought = [
+            Brought::challenge(other, format!("c{number}"), *simulated),
+            Brought::challenge(own, "c", challenge),
+            Brought::coordinates(own, "k", nonce),
+            Brought::coordinates(other, format!("r{number}"), response),
+        ];
+        brought::refused(refusal, &brought)
     }
 
     /// The sides whose witness is known.

@@ -89,7 +89,7 @@ impl Svg {
         let (title, description) =
             (text::escape(&text::plain(title)), text::escape(&text::plain(description)));
         format!(
-            "<svg xmlns=\"http://www.w3.org/2000/svg\" viewBox=\"0 0 {width} {height}\" role=\"img\" \
+            "<svg viewBox=\"0 0 {width} {height}\" role=\"img\" \
              aria-labelledby=\"{id}-title {id}-description\">\n\
              <title id=\"{id}-title\">{title}</title>\n\
              <desc id=\"{id}-description\">{description}</desc>\n{}</svg>\n",

@@ -68,7 +68,10 @@ fn refused(pair: &Pair<'_>, one: &OrRound, other: &OrRound, refusal: Refusal) ->
     let [first, second] = [Side::First, Side::Second].map(|side| pair.instance(side));
     let t0 = [one, other].map(|round| notation::by_row(first, &round.commitment0));
     let t1 = [one, other].map(|round| notation::by_row(second, &round.commitment1));
-    brought::of_two(refusal, &[("t0", t0), ("t1", t1)], one.challenge)
+    let is_rejected =
+        |round: &OrRound| pair.judge(round).is_ok_and(|verdict| !verdict.is_accepted());
+    let rejected = [*one, *other].map(|round| is_rejected(&round));
+    brought::of_two(refusal, &[("t0", t0), ("t1", t1)], one.challenge, rejected)
 }
 
 /// Which side gives its witness and why, the witness, and its image.
@@ -88,7 +91,7 @@ fn explained(
     let [first, second] = [first, second].map(|round| notation::round(sheet, &round));
     let x = notation::by_column(sheet, &witness.values);
     if small::image(sheet, &witness.values) != Some(sheet.values().statement) {
-        return Err(check::no_witness(sheet, &witness.values));
+        return Err(check::no_witness(sheet, "x", &witness.values));
     }
     let checked = check::is_witness(sheet, &witness.values, &format!("the statement of {side}"));
     Ok(format!(

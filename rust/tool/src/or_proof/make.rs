@@ -91,7 +91,9 @@ impl Peggy {
             committed.map_err(|refused| self.refused(pair, challenge, refused.refusal))?;
         let answered = session.respond(pair, challenge, &self.witness);
         let (_, round) = answered.map_err(|refused| match refused.refusal {
-            Refusal::Witness => check::no_witness(sheet, &self.witness),
+            Refusal::Witness => {
+                check::no_witness(sheet, &format!("x{}", self.known.number()), &self.witness)
+            }
             refusal => self.refused(pair, challenge, refusal),
         })?;
         Ok(round)

@@ -42,7 +42,11 @@ fn pattern(number: u32, names: &[(&str, Pattern)], layout: &Layout<'_>) -> Strin
     let sizes = [(layout.rows, "row"), (layout.columns, "column"), (layout.values, "value")]
         .map(|(count, thing)| counted(count, thing));
     let heading = format!("Pattern {number}{name}: {}{values}\n", sizes.join(", "));
-    heading + &digits(layout) + &format!("    {}\n", formula(layout))
+    let letters = match names {
+        [(_, pattern)] => value_names(*pattern),
+        _ => &[],
+    };
+    heading + &digits(layout) + &format!("    {}\n", formula(layout, letters))
 }
 
 /// The names of a pattern's coordinates.
@@ -63,12 +67,14 @@ fn digits(layout: &Layout<'_>) -> String {
     table::lines("    ", &vec![Set::Right; layout.columns + 1], &rows)
 }
 
-/// The homomorphism of a pattern over its public values, such as `x ↦ [x] = (h1^x, h2^x) mod m`.
-fn formula(layout: &Layout<'_>) -> String {
+/// The homomorphism of a pattern over its public values, such as `x ↦ [x] = (h1^x, h2^x) mod m`. The values are called as the
+/// pattern names them, where it does.
+fn formula(layout: &Layout<'_>, letters: &[&str]) -> String {
     let coordinates = coordinates(layout);
     let value = |digit: &u8| {
         let place = usize::from(*digit).checked_sub(1)?;
-        Some(numbered("h", layout.values, place))
+        let named = letters.get(place).map(|letter| letter.to_string());
+        Some(named.unwrap_or_else(|| numbered("h", layout.values, place)))
     };
     let row = |digits: &[u8]| notation::powers(digits.iter().map(value), &coordinates);
     let images: Vec<String> = layout.digits.chunks(layout.columns).map(row).collect();

@@ -52,11 +52,16 @@ pub fn product(factors: &[u32], rest: u32) -> String {
     }
 }
 
+/// Whether a calculator shows the squares of all numbers below a modulus.
+pub fn shows_squares(modulus: u32) -> bool {
+    u64::from(modulus).pow(2) <= CALCULATOR
+}
+
 /// How the powers are had that a calculator does not show, where it shows squares.
 pub fn by_squaring(powers: impl Iterator<Item = Power>, modulus: u32) -> String {
     let mut large: Vec<Power> = Vec::new();
     for power in powers.filter(|power| power.whole().is_none()) {
-        if !large.contains(&power) && u64::from(modulus).pow(2) <= CALCULATOR {
+        if !large.contains(&power) && shows_squares(modulus) {
             large.push(power);
         }
     }

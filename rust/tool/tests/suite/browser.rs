@@ -17,7 +17,7 @@ const LONGEST: Duration = Duration::from_secs(120);
 
 /// The browser that is on PATH. Where there is none a line on standard error names what is not tried.
 fn browser(what: &str) -> Option<&'static str> {
-    let folders: Vec<_> = env::split_paths(&env::var_os("PATH")?).collect();
+    let folders: Vec<_> = env::split_paths(&env::var_os("PATH").unwrap_or_default()).collect();
     let is_there = |name: &&str| folders.iter().any(|folder| folder.join(name).is_file());
     let found = BROWSERS.into_iter().find(is_there);
     if found.is_none() {

@@ -164,11 +164,10 @@ fn every_page_is_well_formed_and_stands_alone() {
             ids.len(),
             "{words}: an id is there twice"
         );
-        let without_namespace = text.replace("xmlns=\"http://www.w3.org/2000/svg\"", "");
         for outside in
             ["http", "<script", "src=", "href", "url(", "@import", "@font-face", "<link", "<img"]
         {
-            assert!(!without_namespace.contains(outside), "{words}: {outside}");
+            assert!(!text.contains(outside), "{words}: {outside}");
         }
         assert_eq!(page.named("h1").len(), 1, "{words}");
         assert_eq!(page.named("html")[0].attribute("lang"), Some("en"));
@@ -430,7 +429,8 @@ fn a_large_sheet_needs_its_witness_and_shows_some_rounds() {
     let failure = desk.print("dimkhoros lecture large.bin -o page.html --force");
     assert_eq!(
         failure,
-        "dimkhoros: large.bin is too large to find a witness by trying all: x= has to say one\n[1]\n"
+        "dimkhoros: x= is missing: a witness of large.bin, which is too large to find one by trying all\n\
+         dimkhoros: `dimkhoros lecture --help` says which words it takes\n[2]\n"
     );
 }
 
@@ -568,16 +568,29 @@ fn a_file_s_name_is_escaped() {
     assert!(page.named("title")[0].text().starts_with("a<b>&\"$x$.bin: "));
 }
 
+/// The stored pages: 01's pages A, D and G, the OR proof of two sheets, and a sheet without a witness.
+const STORED: [(&str, &str); 5] = [
+    ("page-a.html", "a.bin"),
+    ("page-d.html", "d.bin"),
+    ("page-g.html", "g.bin"),
+    ("or-pair.html", "a.bin root.bin"),
+    ("no-witness.html", "none.bin"),
+];
+
 #[test]
-fn the_stored_page_is_what_is_made() {
-    let stored = Path::new(env!("CARGO_MANIFEST_DIR")).join("tests/pages/page-a.html");
-    let made = page(&desk("lecture stored"), "a.bin");
-    if env::var_os("BLESS").is_some() {
-        fs::create_dir_all(stored.parent().unwrap()).unwrap();
-        fs::write(&stored, &made).unwrap();
+fn the_stored_pages_are_what_is_made() {
+    let folder = Path::new(env!("CARGO_MANIFEST_DIR")).join("tests/pages");
+    let desk = desk("lecture stored");
+    let bless = env::var_os("BLESS").is_some();
+    for (name, words) in STORED {
+        let (stored, made) = (folder.join(name), page(&desk, words));
+        if bless {
+            fs::write(&stored, &made).unwrap();
+        }
+        let stored = fs::read_to_string(stored).unwrap_or_default();
+        assert!(made == stored, "the page of {words} is another; BLESS=1 stores it");
     }
-    let stored = fs::read_to_string(stored).unwrap();
-    assert!(made == stored, "the page of page A is another; BLESS=1 stores it");
+    assert_eq!(fs::read_dir(folder).unwrap().count(), STORED.len(), "a stored page is not made");
 }
 
 #[test]

@@ -2,7 +2,7 @@
 
 /// The lines. SHEET, ROUNDS, PATTERNS and FOLDER are files that are read, GROWN is a round file that is written over, OUT is a
 /// file that is written, X, T and C are values for each column, for each row, and a challenge.
-pub const LINES: [&str; 45] = [
+pub const LINES: [&str; 47] = [
     "make 1 --patterns PATTERNS m=23 q=11 h=2 x=7 -o OUT",
     "make 5 --patterns PATTERNS m=23 q=11 h=2,3,3 z=12,9 -o OUT",
     "make root --patterns PATTERNS m=35 e=5 z=32 -o OUT",
@@ -20,6 +20,8 @@ pub const LINES: [&str; 45] = [
     "simulate SHEET c=C",
     "simulate SHEET c=C r=X",
     "extract SHEET ROUNDS",
+    "extract SHEET ROUNDS --all",
+    "extract SHEET ROUNDS 0 1",
     "extract SHEET t=T c=C r=X c=C r=X",
     "or make SHEET SHEET x0=X k0=X c1=C r1=X c=C",
     "or make SHEET SHEET x1=X k1=X c0=C r0=X c=C c=C",
