@@ -15,18 +15,47 @@ const BROWSERS: [&str; 3] = ["chromium", "chromium-browser", "google-chrome"];
 /// The longest time that a browser may take for a page.
 const LONGEST: Duration = Duration::from_secs(120);
 
-/// The browser that is on PATH. Where there is none a line on standard error names what is not tried.
+/// How often a browser is started on a page before it counts as one that cannot open it: on a busy machine one may end early.
+const TRIES: usize = 3;
+
+/// The browser that is on PATH and opens a page. Where there is none a line on standard error names what is not tried.
 fn browser(what: &str) -> Option<&'static str> {
     let folders: Vec<_> = env::split_paths(&env::var_os("PATH").unwrap_or_default()).collect();
     let is_there = |name: &&str| folders.iter().any(|folder| folder.join(name).is_file());
     let found = BROWSERS.into_iter().find(is_there);
-    if found.is_none() {
-        // The harness keeps back what a macro prints.
-        let names = BROWSERS.join(", ");
-        let line = format!("no browser is installed ({names}): {what} is not tried\n");
-        io::stderr().write_all(line.as_bytes()).unwrap();
-    }
-    found
+    let why = match found {
+        None => format!("no browser is installed ({})", BROWSERS.join(", ")),
+        Some(name) if !opens(name, what) => format!("{name} opens no page here"),
+        Some(name) => return Some(name),
+    };
+    // The harness keeps back what a macro prints.
+    io::stderr().write_all(format!("{why}: not tried: {what}\n").as_bytes()).unwrap();
+    None
+}
+
+/// Whether a browser opens a page of one word.
+fn opens(browser: &str, what: &str) -> bool {
+    let desk = Desk::new(&format!("browser opens {what}"));
+    fs::write(desk.folder.join("page.html"), "<!DOCTYPE html><title>opened</title>").unwrap();
+    dumped(browser, &desk, "page.html").is_some_and(|[dom, _]| dom.contains("opened"))
+}
+
+/// The page as the browser has it once it is open, and what it says on standard error.
+fn dumped(browser: &str, desk: &Desk, page: &str) -> Option<[String; 2]> {
+    let tried = (0..TRIES).map(|_| open(browser, desk, page, &["--dump-dom"]));
+    tried.into_iter().find(|[dom, _]| dom.contains("</html>"))
+}
+
+/// The bytes of the page as the browser prints it.
+fn on_paper(browser: &str, desk: &Desk, page: &str) -> Option<Vec<u8>> {
+    let paper = desk.folder.join("page.pdf");
+    let tried = (0..TRIES).map(|_| {
+        open(browser, desk, page, &["--print-to-pdf=page.pdf", "--no-pdf-header-footer"]);
+        fs::read(&paper)
+    });
+    let printed = tried.into_iter().find_map(Result::ok);
+    let _ = fs::remove_file(&paper);
+    printed
 }
 
 /// What the browser prints, on standard output and on standard error, when it opens a page of the desk.
@@ -49,7 +78,6 @@ fn open(browser: &str, desk: &Desk, page: &str, words: &[&str]) -> [String; 2] {
     while running.try_wait().unwrap().is_none() {
         if start.elapsed() > LONGEST {
             running.kill().unwrap();
-            panic!("{browser} does not end on {page}");
         }
         thread::sleep(Duration::from_millis(20));
     }
@@ -106,7 +134,7 @@ fn every_section_fits_on_a_slide_and_nothing_overlaps() {
     for (place, (_, words)) in PAGES.iter().enumerate() {
         let page = fs::read_to_string(desk.folder.join(format!("page-{place}.html"))).unwrap();
         fs::write(desk.folder.join("measured.html"), page.replace("</body>", MEASURE)).unwrap();
-        let [dom, _] = open(browser, &desk, "measured.html", &["--dump-dom"]);
+        let [dom, _] = dumped(browser, &desk, "measured.html").expect(words);
         let title = dom.split_once("<title>").and_then(|(_, rest)| rest.split_once("</title>"));
         assert_eq!(title.map(|(title, _)| title), Some("wrong: "), "{words}");
     }
@@ -118,7 +146,7 @@ fn the_browser_says_nothing_on_the_console() {
     let desk = desk("browser console");
     for (place, (_, words)) in PAGES.iter().enumerate() {
         let page = format!("page-{place}.html");
-        let [dom, told] = open(browser, &desk, &page, &["--dump-dom"]);
+        let [dom, told] = dumped(browser, &desk, &page).expect(words);
         let sections =
             fs::read_to_string(desk.folder.join(&page)).unwrap().matches("<section").count();
         assert_eq!(dom.matches("<section").count(), sections, "{words}");
@@ -132,13 +160,11 @@ fn every_section_is_a_sheet_of_paper() {
     let desk = desk("browser paper");
     for (place, (_, words)) in PAGES.iter().enumerate() {
         let page = format!("page-{place}.html");
-        open(browser, &desk, &page, &["--print-to-pdf=page.pdf", "--no-pdf-header-footer"]);
-        let paper =
-            String::from_utf8_lossy(&fs::read(desk.folder.join("page.pdf")).unwrap()).into_owned();
+        let paper = on_paper(browser, &desk, &page).expect(words);
+        let paper = String::from_utf8_lossy(&paper);
         let sheets = paper.matches("/Type /Page").count() - paper.matches("/Type /Pages").count();
         let sections =
             fs::read_to_string(desk.folder.join(&page)).unwrap().matches("<section").count();
         assert_eq!(sheets, sections, "{words}");
-        fs::remove_file(desk.folder.join("page.pdf")).unwrap();
     }
 }
