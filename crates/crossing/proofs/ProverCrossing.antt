@@ -12,8 +12,9 @@ use Rattle.types.specs.declared.ProverPhase.{ProverPhase}
 use Rattle.types.specs.declared.ProverPhase.the-variants.{New, Committed, Answered, Dropped}
 use Rattle.types.specs.declared.ProverStep.{ProverStep}
 use Rattle.sigma.proofs.Answer.{unlessRefused-positive}
+use Rattle.runs.specs.Ours.{callProver, proverAfter, proverTrace}
 use Rattle.runs.specs.Prover.{proverState}
-use Rattle.runs.specs.ProverCalls.{ProverCall, Commit, Respond, Drop, callProver, proverAfter, proverTrace, answered}
+use Rattle.runs.specs.ProverCalls.{ProverCall, Commit, Respond, Drop, answered}
 use Rattle.runs.specs.Run.{sessionAfter, trace}
 use Rattle.runs.proofs.OneAnswer.{one-answer}
 use Rattle.runs.proofs.ProverCalls.{prover-kept, ended-refuses}
@@ -82,7 +83,7 @@ module _ (call : ProverCall) (s : ProverSession) where
 -- after any calls, each given the session that the last one handed back, the session is the one after the calls
 pub handed-on-all : (calls : List ProverCall) (s : ProverSession)
     → proverOf (sessionAfter answeredProver (λ answer. answer .session) calls s) ≡ proverAfter calls (proverOf s)
-unfolding proverAfter
+unfolding proverAfter callProver
 handed-on-all =
     handed-on-after answeredProver (λ answer. answer .session) callProver (λ step. step .session) proverOf handed-on
 
@@ -97,7 +98,7 @@ answered-same Drop a b later later′ e = e
 -- the calls that crossed answer the challenges that the calls on the session answer
 pub answered-across : (calls : List ProverCall) (s : ProverSession)
     → answered (answeredTrace calls s) ≡ answered (proverTrace calls (proverOf s))
-unfolding answeredTrace proverTrace trace answered proverAnswer
+unfolding answeredTrace proverTrace callProver trace answered proverAnswer
 answered-across [] s = refl
 answered-across (call ∷ calls) s =
     step

@@ -9,10 +9,10 @@ use Rattle.types.specs.declared.VerifierPhase.{VerifierPhase}
 use Rattle.types.specs.declared.VerifierPhase.the-variants.{Waiting, Holding, Asked, Judged}
 use Rattle.rules.specs.Answer.{unlessRefused}
 use Rattle.sigma.proofs.Answer.{unlessRefused-positive}
+use Rattle.runs.specs.Ours.{callVerifier, verifierAfter}
 use Rattle.runs.specs.Run.{sessionAfter}
 use Rattle.runs.specs.Verifier.{verifierState}
-use Rattle.runs.specs.VerifierCalls.{VerifierCall, Commitment, Challenge, Response, callVerifier}
-use Rattle.runs.specs.VerifierCalls.{verifierAfter}
+use Rattle.runs.specs.VerifierCalls.{VerifierCall, Commitment, Challenge, Response}
 use Rattle.runs.proofs.VerifierCalls.{verifier-kept, judged-refuses}
 use Rattle.crossing.specs.Calls.{answeredRefusal, answeredSession}
 use Rattle.crossing.specs.OfFour.{ofFour}
@@ -87,5 +87,5 @@ module _ (call : VerifierCall) (s : VerifierSession) where
 -- after any calls, each given the session that the last one handed back, the session is the one after the calls
 pub handed-on-all : (calls : List VerifierCall) (s : VerifierSession)
     → verifierOf (sessionAfter answeredSession (λ form. form) calls s) ≡ verifierAfter calls (verifierOf s)
-unfolding verifierAfter
+unfolding verifierAfter callVerifier
 handed-on-all = handed-on-after answeredSession (λ form. form) callVerifier (λ step. step .session) verifierOf handed-on

@@ -2,7 +2,8 @@
 -- Assumes nothing.
 use Prim.Native.Nat.{ℕ}
 use mathlib.Core.List.{List}
-use Rattle.runs.specs.ProverCalls.{ProverCall, callProver}
+use Rattle.runs.specs.Ours.{callProver}
+use Rattle.runs.specs.ProverCalls.{ProverCall}
 use Rattle.runs.specs.Run.{trace}
 use Rattle.runs.specs.Verifier.{takeCommitment, takeChallenge, takeResponse}
 use Rattle.runs.specs.VerifierCalls.{VerifierCall, Commitment, Challenge, Response}

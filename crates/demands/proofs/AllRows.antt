@@ -12,7 +12,8 @@ use Rattle.types.specs.declared.Verdict.the-variants.{Accepted, Rejected}
 use Rattle.disjunctions.specs.declared.OrRound.{OrRound}
 use Rattle.disjunctions.specs.declared.OrVerdict.the-variants.{OrAccepted, OrRejected}
 use Rattle.numbers.proofs.Bits.{bit-beyond, bit-digit}
-use Rattle.formats.specs.Load.{loadRefusal}
+use Rattle.formats.specs.Load.{load, loadRefusal}
+use Rattle.formats.specs.Ours.{fileCalls}
 use Rattle.formats.specs.Sheet.{instanceOf}
 use Rattle.formats.proofs.Loads.{loads-valid}
 use Rattle.sigma.specs.Answer.{outcome}
@@ -21,11 +22,13 @@ use Rattle.sigma.specs.Reads.{roundOf}
 use Rattle.sigma.proofs.Fails.{FailsInBits, fails-bits}
 use Rattle.sigma.proofs.Rows.{rows-some}
 use Rattle.runs.specs.Calls.{judgeRound}
+use Rattle.runs.specs.Ours.{runCalls}
 use Rattle.runs.proofs.Protocol.{fits-judged, sheet-accepted, sheet-rejected, verdicts}
 use Rattle.runs.proofs.Verdicts.{takeResponse-given}
+use Rattle.disjunctions.proofs.Pairs.{first-loads, second-loads}
 use Rattle.disjunctions.specs.Judge.{judgeOr}
-use Rattle.disjunctions.specs.Knowledge.{Pair}
-use Rattle.disjunctions.specs.OneOfTwo.{SideMask, orNumber}
+use Rattle.disjunctions.specs.OneOfTwo.{orNumber}
+use Rattle.disjunctions.specs.Ours.{Pair, SideMask, orCalls}
 use Rattle.disjunctions.specs.Round.{firstRound, secondRound}
 use Rattle.disjunctions.proofs.Judged.{Ways, both, earlier, later, or-accepted, or-rejected, or-ways}
 use Rattle.demands.specs.AllRows.{AllRows, Differing, VerdictRows}
@@ -82,28 +85,31 @@ module _ (s s′ : List ℕ) (pair : Pair s s′) (round : OrRound) (passed : or
       × Differing s first mask0 × Differing s′ second mask1
 
   rejects : (mask0 mask1 : ℕ) → judgeOr s s′ round ≡ OrRejected mask0 mask1 → 0 < mask0 + mask1 → Rejects
+  unfolding load
   rejects mask0 mask1 e some =
       let (a, b, other) = or-rejected s s′ pair round mask0 mask1 passed .0 e in (
         mask0,
         mask1,
         e,
         some,
-        side-differ s (pair .first-loads) first mask0 a,
-        side-differ s′ (pair .second-loads) second mask1 b,
+        side-differ s (first-loads pair) first mask0 a,
+        side-differ s′ (second-loads pair) second mask1 b,
       )
 
   -- the three ways
   either-way : Ways s s′ round
       → ((judgeOr s s′ round ≡ OrAccepted) × Holds (instanceOf s) (firstRound round)
       × Holds (instanceOf s′) (secondRound (instanceOf s .header .challenges) round)) ⊎ Rejects
+  unfolding load
   either-way (both a w) =
       let (small, x, y) = or-accepted s s′ pair round .0 w in
-      inl (w, sheet-accepted s (pair .first-loads) first .0 x .1, sheet-accepted s′ (pair .second-loads) second .0 y .1)
-  either-way (later mask a b w) = inr (rejects 0 mask w (omega (arith, rejected-differ s′ (pair .second-loads) second mask b .0)))
+      inl (w, sheet-accepted s (first-loads pair) first .0 x .1, sheet-accepted s′ (second-loads pair) second .0 y .1)
+  either-way (later mask a b w) = inr (rejects 0 mask w (omega (arith, rejected-differ s′ (second-loads pair) second mask b .0)))
   either-way (earlier mask mask′ a w) =
-      inr (rejects mask mask′ w (omega (arith, rejected-differ s (pair .first-loads) first mask a .0)))
+      inr (rejects mask mask′ w (omega (arith, rejected-differ s (first-loads pair) first mask a .0)))
 
-pub all-rows : AllRows
+pub all-rows : AllRows fileCalls runCalls orCalls
+unfolding load
 all-rows = record {
   judged = λ sheet loaded round fits. judged-rows sheet loaded round (fits-judged sheet loaded round fits);
   in-session = λ sheet loaded v r passed.

@@ -1,11 +1,16 @@
--- The demands hold of the definitions of the calls.
+-- The two theorems: the calls as they are defined meet the demands, and no others do.
 -- Assumes nothing.
+use mathlib.Core.Path.{refl}
+use Rattle.rules.specs.Order.{refusalOrder}
 use Rattle.disjunctions.proofs.OneOfTwo.{or-proof}
 use Rattle.disjunctions.proofs.OrRefusals.{or-refusals}
 use Rattle.examples.proofs.Pages.{worked-examples}
 use Rattle.examples.proofs.RowsPage.{rows-page}
 use Rattle.examples.proofs.TeamPage.{team-page}
+use Rattle.formats.specs.Load.{load}
 use Rattle.formats.proofs.ByteLayout.{layout}
+use Rattle.formats.proofs.Converts.{convert-refusals, converts}
+use Rattle.formats.proofs.FileRefusals.{file-refusals}
 use Rattle.formats.proofs.SameCommitment.{words-compare, words-refusals}
 use Rattle.formats.proofs.Writers.{writers}
 use Rattle.patterns.proofs.Meaning.{patterns-mean}
@@ -13,52 +18,72 @@ use Rattle.patterns.proofs.PatternCalls.{pattern-calls, pattern-refusals}
 use Rattle.products.proofs.TeamRefusals.{team-refusals}
 use Rattle.products.proofs.TeamWorks.{team-works}
 use Rattle.reasons.proofs.ReasonsTrue.{reasons-true}
-use Rattle.runs.proofs.ConvertsFiles.{convert-refusals, converts-files}
-use Rattle.runs.proofs.Demand1.{demand1}
 use Rattle.runs.proofs.Demand3.{demand3}
 use Rattle.runs.proofs.MainProtocol.{main-protocol}
 use Rattle.runs.proofs.Protocol.{protocol}
+use Rattle.runs.proofs.ReadsAlike.{loses-nothing}
+use Rattle.runs.proofs.RunRefusals.{mark-refusals, run-refusals}
 use Rattle.runs.proofs.Sessions.{sessions}
 use Rattle.sigma.proofs.Answer.{verdict-outcomes}
+use Rattle.demands.specs.Calls.{Calls}
 use Rattle.demands.specs.Demands.{Demands}
+use Rattle.demands.specs.Evidence.{Evidence}
+use Rattle.demands.specs.Ours.{ours}
+use Rattle.demands.specs.Same.{Same}
 use Rattle.demands.proofs.AllRows.{all-rows}
 use Rattle.demands.proofs.Arithmetic.{arithmetic}
 use Rattle.demands.proofs.MarksFiles.{marks-files}
+use Rattle.demands.proofs.Only.{only}
 use Rattle.demands.proofs.ReadsBack.{reads-back}
 
-pub demands : Demands
-demands = record {
+-- our calls meet the demands
+pub holds : Demands ours
+unfolding load refusalOrder
+holds = record {
   refusals = record {
-    calls = demand1;
+    order = refl;
+    files = file-refusals;
+    runs = run-refusals;
+    marker = mark-refusals;
     patterns = pattern-refusals;
     one-of-two = or-refusals;
     words = words-refusals;
     team = team-refusals;
     sixteen-bits = convert-refusals;
   };
-  sessions = sessions;
   main-protocol = main-protocol;
   protocol = protocol;
-  arithmetic = arithmetic;
-  outcomes = verdict-outcomes;
+  sessions = sessions;
   layout = layout;
   writers = writers;
-  patterns = patterns-mean;
   files = reads-back;
   marker = marks-files;
   knowledge = demand3;
-  pages = worked-examples .0;
-  corners = worked-examples .1;
-  or-page = worked-examples .2;
-  team-page = team-page;
-  rows-page = rows-page;
   cards = record {
     reason = reasons-true;
     patterns = pattern-calls;
     one-of-two = or-proof;
     words = words-compare;
     team = team-works;
-    sixteen-bits = converts-files;
+    sixteen-bits = converts;
+    loses-nothing = loses-nothing;
     rows = all-rows;
   };
+  patterns = patterns-mean;
+  arithmetic = arithmetic;
+  outcomes = verdict-outcomes;
+}
+
+-- whoever meets them answers as ours do, to every input
+pub no-other : (code : Calls) → Demands code → Same code ours
+no-other code d = only code ours d holds
+
+-- pages and corners
+pub evidence : Evidence
+evidence = record {
+  pages = worked-examples .0;
+  corners = worked-examples .1;
+  or-page = worked-examples .2;
+  team-page = team-page;
+  rows-page = rows-page;
 }

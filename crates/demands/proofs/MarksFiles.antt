@@ -10,7 +10,8 @@ use Rattle.types.specs.declared.Verdict.the-variants.{Accepted, Rejected, Refus
 use Rattle.lists.specs.Places.{tabulate}
 use Rattle.lists.proofs.Places.{tabulate-agree}
 use Rattle.encoding.specs.Text.{ascii, digits, decimal}
-use Rattle.formats.specs.Load.{loadRefusal}
+use Rattle.formats.specs.Load.{load, loadRefusal}
+use Rattle.formats.specs.Ours.{fileCalls}
 use Rattle.formats.specs.RoundCalls.{countRounds, fetchRound}
 use Rattle.formats.specs.RoundFile.{countField}
 use Rattle.formats.specs.Sheet.{headerOf, instanceOf}
@@ -18,12 +19,14 @@ use Rattle.sigma.specs.Answer.{rowsOf}
 use Rattle.sigma.specs.Meaning.{FailsExactly, FailsFirst}
 use Rattle.sigma.proofs.Fails.{fails-split}
 use Rattle.runs.specs.Level.{badLevel, levelOf}
-use Rattle.runs.specs.Marker.{newline, wordLine, rowWord, verdictText, verdictLine, resultLine, verdictOn, roundLine, failsAt, markerText}
+use Rattle.runs.specs.Marker.{newline, wordLine, rowWord, verdictText, verdictLine, resultLine, verdictOn, roundLine, failsAt, markerCalls, markerText}
+use Rattle.runs.specs.Ours.{runCalls}
 use Rattle.runs.proofs.Level.{level-passes, says-badLevel}
 use Rattle.runs.proofs.Marker.{empty-fails, passes-at, result-line, round-lines, round-refusal}
 use Rattle.runs.proofs.MarkerLength.{text-short}
 use Rattle.runs.proofs.MarkerRefusal.{file-line, level-line, sheet-line}
 use Rattle.runs.proofs.Protocol.{sheet-rejected}
+use Rattle.demands.specs.Corollaries.{MarkerCorollaries}
 use Rattle.demands.specs.MarksFiles.{rowsLine, printed, textEnding, Passes, MarksFiles}
 
 -- the line of a round
@@ -36,8 +39,8 @@ line-printed k (Refused number) = simp append-assoc
 -- the lines of all rounds behind the count, with a last line
 lines-printed : (sheet f last : List ℕ)
     → wordLine (ascii "rounds") (countField f) ++ flatten (tabulate (countField f) (roundLine sheet f)) ++ last
-    ≡ textEnding sheet f last
-unfolding wordLine roundLine newline ascii countField
+    ≡ textEnding fileCalls runCalls sheet f last
+unfolding wordLine roundLine verdictOn newline ascii countField
 lines-printed sheet f last =
     ap (λ (lines : List (List ℕ)). wordLine (ascii "rounds") (countField f) ++ flatten lines ++ last)
     (tabulate-agree (countField f) _ _ (λ k h. line-printed k (verdictOn sheet f k)))
@@ -45,9 +48,9 @@ lines-printed sheet f last =
 -- the last line is `pass` where the file passes, else `fail`
 ends : (sheet f level : List ℕ) → countRounds sheet f .refusal ≡ 0 → badLevel level ≡ false
     → (failed : Bool) → failsAt sheet f (levelOf level) (countField f) ≡ failed
-    → (Passes sheet f level × (markerText sheet f level ≡ textEnding sheet f (ascii "pass\n")))
-    ⊎ ((¬ Passes sheet f level) × (markerText sheet f level ≡ textEnding sheet f (ascii "fail\n")))
-unfolding headerOf countField resultLine newline ascii
+    → (Passes fileCalls runCalls sheet f level × (markerText sheet f level ≡ textEnding fileCalls runCalls sheet f (ascii "pass\n")))
+    ⊎ ((¬ Passes fileCalls runCalls sheet f level) × (markerText sheet f level ≡ textEnding fileCalls runCalls sheet f (ascii "fail\n")))
+unfolding headerOf countField resultLine verdictOn newline ascii
 ends sheet f level e good false none = inl (
   passes-at sheet f (levelOf level) (countField f) .0 none,
   round-lines sheet f level e good ∙ result-line sheet f (levelOf level) (countField f) false none ∙ lines-printed sheet f _,
@@ -69,16 +72,16 @@ rejected-rows sheet f loaded k mask e =
     let (row, others, whole, first, exactly) = fails-split (instanceOf sheet) round (rowsOf mask) all in
     (row, others, first, exactly, ap (printed k) e ∙ ap (rowsLine k) whole)
 
-pub marks-files : MarksFiles
-unfolding verdictOn wordLine newline ascii decimal digits countField
+pub marks-files : MarksFiles fileCalls runCalls markerCalls
+unfolding load verdictOn wordLine newline ascii decimal digits countField
 marks-files = record {
-  verdicts = λ sheet f k. refl;
   refused-sheet = sheet-line;
   refused-file = file-line;
   refused-level = λ sheet f level e refused. level-line sheet f level e (says-badLevel level .complete refused);
   ending = λ sheet f level e is-level. ends sheet f level e (level-passes level .1 is-level) _ refl;
   empty-fails = λ sheet f level e is-level z. empty-fails sheet f level e (level-passes level .1 is-level) z;
-  rejected = rejected-rows;
-  short = text-short;
-  round-refusals = round-refusal;
 }
+
+pub marker-corollaries : MarkerCorollaries fileCalls runCalls markerCalls
+unfolding load verdictOn
+marker-corollaries = record { rejected = rejected-rows; short = text-short; round-refusals = round-refusal }

@@ -5,6 +5,8 @@ use mathlib.Core.Path.{sym, subst}
 use mathlib.Core.List.{List}
 use mathlib.Core.Logic.{inl, inr, ⊎-elim}
 use Rattle.sigma.specs.Instance.{Instance}
+use Rattle.formats.specs.Load.{load}
+use Rattle.formats.specs.Ours.{fileCalls}
 use Rattle.formats.specs.Outcome.{Puts, front}
 use Rattle.formats.specs.Write.{Writing}
 use Rattle.formats.proofs.Files.{width-only}
@@ -13,15 +15,17 @@ use Rattle.formats.proofs.Growing.{append-grows}
 use Rattle.formats.proofs.Loads.{loads}
 use Rattle.formats.proofs.SheetRoundTrip.{encode-loads, load-encodes}
 use Rattle.formats.proofs.Writing.{puts-front}
+use Rattle.patterns.specs.Ours.{makerCalls}
 use Rattle.patterns.proofs.Making.{make-loads}
 use Rattle.demands.specs.ReadsBack.{LoadsAs, ReadsBack}
 
 -- a sheet that was put at the front loads there
-front-loads : {sheet buffer : List ℕ} {w : Writing} {inst : Instance} → Puts sheet buffer w → LoadsAs sheet inst
-    → LoadsAs (front w) inst
-front-loads {inst = inst} put = subst (λ (s : List ℕ). LoadsAs s inst) (sym (puts-front put))
+front-loads : {sheet buffer : List ℕ} {w : Writing} {inst : Instance} → Puts sheet buffer w → LoadsAs fileCalls sheet inst
+    → LoadsAs fileCalls (front w) inst
+front-loads {inst = inst} put = subst (λ (s : List ℕ). LoadsAs fileCalls s inst) (sym (puts-front put))
 
-pub reads-back : ReadsBack
+pub reads-back : ReadsBack fileCalls makerCalls
+unfolding load
 reads-back = record {
   encoded = λ inst buffer small short e.
       let (put, none, same) = encode-loads inst buffer small short e in

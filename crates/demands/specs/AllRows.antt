@@ -11,16 +11,15 @@ use Rattle.types.specs.declared.Verdict.the-variants.{Accepted, Rejected}
 use Rattle.types.specs.declared.Verifier.{Verifier}
 use Rattle.disjunctions.specs.declared.OrRound.{OrRound}
 use Rattle.disjunctions.specs.declared.OrVerdict.the-variants.{OrAccepted, OrRejected}
-use Rattle.formats.specs.Load.{loadRefusal}
+use Rattle.formats.specs.FileCalls.{FileCalls}
 use Rattle.formats.specs.Sheet.{instanceOf}
 use Rattle.sigma.specs.Answer.{outcome}
 use Rattle.sigma.specs.Meaning.{Fits, Holds, RowHolds}
 use Rattle.sigma.specs.Reads.{roundOf}
-use Rattle.runs.specs.Calls.{judgeRound}
-use Rattle.runs.specs.Verifier.{takeResponse}
-use Rattle.disjunctions.specs.Judge.{judgeOr}
+use Rattle.runs.specs.RunCalls.{RunCalls}
 use Rattle.disjunctions.specs.Knowledge.{Pair}
 use Rattle.disjunctions.specs.OneOfTwo.{orNumber}
+use Rattle.disjunctions.specs.OrCalls.{OrCalls}
 use Rattle.disjunctions.specs.Round.{firstRound, secondRound}
 
 -- bit i of the mask is set exactly if i < s and the two sides of row i differ; so no bit at s or beyond is
@@ -34,18 +33,23 @@ VerdictRows sheet round v =
     ((v ≡ Accepted) × Holds (instanceOf sheet) round) ⊎
     ((mask : ℕ) × (v ≡ Rejected mask) × (0 < mask) × Differing sheet round mask)
 
-pub record AllRows : Type 0 where
-  -- judging a round that fits
-  pub judged : (sheet : List ℕ) → loadRefusal sheet ≡ 0 → (round : Round) → Fits (instanceOf sheet) round
-      → VerdictRows sheet round (judgeRound sheet round)
-  -- Vic's verdict in a session, on the held commitment, the held challenge and the response
-  pub in-session : (sheet : List ℕ) → loadRefusal sheet ≡ 0 → (v : Verifier) (r : List ℕ)
-      → outcome (takeResponse sheet v r .verdict) .number ≡ 0
-      → VerdictRows sheet (roundOf (v .commitment) (v .challenge) r) (takeResponse sheet v r .verdict)
-  -- the OR proof's: accepted where all rows of both sides hold, else rejected with those of both that differ; a side whose rows all
-  -- hold has the mask 0
-  pub both-sides : (s s′ : List ℕ) → Pair s s′ → (round : OrRound) → orNumber (judgeOr s s′ round) ≡ 0
-      → ((judgeOr s s′ round ≡ OrAccepted) × Holds (instanceOf s) (firstRound round)
-      × Holds (instanceOf s′) (secondRound (instanceOf s .header .challenges) round))
-      ⊎ ((mask0 : ℕ) × (mask1 : ℕ) × (judgeOr s s′ round ≡ OrRejected mask0 mask1) × (0 < mask0 + mask1)
-      × Differing s (firstRound round) mask0 × Differing s′ (secondRound (instanceOf s .header .challenges) round) mask1)
+module _ (files : FileCalls) (runs : RunCalls) (either : OrCalls) where
+  open FileCalls files using (load)
+  open RunCalls runs using (judgeRound, takeResponse)
+  open OrCalls either using (judgeOr)
+
+  pub record AllRows : Type 0 where
+    -- judging a round that fits
+    pub judged : (sheet : List ℕ) → load sheet .refusal ≡ 0 → (round : Round) → Fits (instanceOf sheet) round
+        → VerdictRows sheet round (judgeRound sheet round)
+    -- Vic's verdict in a session, on the held commitment, the held challenge and the response
+    pub in-session : (sheet : List ℕ) → load sheet .refusal ≡ 0 → (v : Verifier) (r : List ℕ)
+        → outcome (takeResponse sheet v r .verdict) .number ≡ 0
+        → VerdictRows sheet (roundOf (v .commitment) (v .challenge) r) (takeResponse sheet v r .verdict)
+    -- the OR proof's: accepted where all rows of both sides hold, else rejected with those of both that differ; a side whose rows all
+    -- hold has the mask 0
+    pub both-sides : (s s′ : List ℕ) → Pair files s s′ → (round : OrRound) → orNumber (judgeOr s s′ round) ≡ 0
+        → ((judgeOr s s′ round ≡ OrAccepted) × Holds (instanceOf s) (firstRound round)
+        × Holds (instanceOf s′) (secondRound (instanceOf s .header .challenges) round))
+        ⊎ ((mask0 : ℕ) × (mask1 : ℕ) × (judgeOr s s′ round ≡ OrRejected mask0 mask1) × (0 < mask0 + mask1)
+        × Differing s (firstRound round) mask0 × Differing s′ (secondRound (instanceOf s .header .challenges) round) mask1)

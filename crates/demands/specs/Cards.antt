@@ -1,34 +1,37 @@
--- What the cards of 02 ask beyond 01, a field for each card. Card 3, which changes the marker, stands in Demand1 and MarksFiles,
--- and what card 7 changes of 01's calls on round files in Demand1, Layout, Writers, ReadsBack and ReasonsTrue. That card 8's rows rise
--- and begin with 01's row stands in VerdictOutcomes, Protocol and OneOfTwo, and how they are printed in MarksFiles and ReasonsTrue.
+-- What the cards of 02 ask beyond 01, a field for each card. Card 3, which changes the marker, stands in Refusals and MarksFiles, and
+-- what card 7 changes of 01's calls on round files in Refusals, Layout, Writers, ReadsBack and ReasonsTrue. That card 8's rows rise
+-- stands in VerdictOutcomes, Protocol and OneOfTwo, and how they are printed in MarksFiles and ReasonsTrue.
 -- Assumes nothing.
 use Rattle.disjunctions.specs.OneOfTwo.{OrProof}
-use Rattle.formats.specs.SameCommitment.{WordsCompare}
+use Rattle.formats.specs.Converts.{Converts}
+use Rattle.formats.specs.WordsCompare.{WordsCompare}
 use Rattle.patterns.specs.PatternCalls.{PatternCalls}
 use Rattle.products.specs.TeamWorks.{TeamWorks}
 use Rattle.reasons.specs.ReasonsTrue.{ReasonsTrue}
-use Rattle.runs.specs.ConvertsFiles.{ConvertsFiles}
+use Rattle.runs.specs.ReadsAlike.{LosesNothing}
 use Rattle.demands.specs.AllRows.{AllRows}
+use Rattle.demands.specs.Calls.{Calls}
 
-pub record Cards : Type 0 where
+pub record Cards (code : Calls) : Type 0 where
   -- 1: the line on a sheet, a file or its round 0 tells the first value that breaks the first rule that is broken, or the
   -- rows whose two sides differ
-  pub reason : ReasonsTrue
+  pub reason : ReasonsTrue (code .files) (code .runs) (code .reasons)
   -- 2: which bytes are a pattern file and which pattern a number gives, what the sheet maker writes and what that means, and that
   -- the shipped file gives 01's sheets
-  pub patterns : PatternCalls
+  pub patterns : PatternCalls (code .makers)
   -- 4: which rounds of two sheets with one K are accepted, whose witness two of them give, that the holders of either witness make
   -- exactly the accepted rounds with a challenge, each from a single choice, and that a session answers one challenge at most
-  pub one-of-two : OrProof
-  -- 5: comparing the commitments of two rounds of a file answers 1 exactly where all 4s commitment bytes agree, and so where the
-  -- commitments that are read do
-  pub words : WordsCompare
+  pub one-of-two : OrProof (code .files) (code .runs) (code .either)
+  -- 5: comparing the commitments of two rounds of a file answers 1 exactly where all 4s commitment bytes agree
+  pub words : WordsCompare (code .files)
   -- 6: what the combiner of a team answers is the round that a single Peggy with the joined witness and the joined nonce sends; where
   -- all parts are accepted under their own images so is the whole, and where exactly one is rejected it is rejected with the same rows
-  pub team : TeamWorks
-  -- 7, beside the calls of 01: a round file that converts is put into the lent buffer in the other version, reads there as it did
-  -- and converts back to its own bytes
-  pub sixteen-bits : ConvertsFiles
+  pub team : TeamWorks (code .files) (code .runs) (code .team)
+  -- 7, beside the calls of 01: a round file that converts is put into the lent buffer in the other version and converts back to its
+  -- own bytes
+  pub sixteen-bits : Converts (code .files)
+  -- and reads there as it did, verdict by verdict
+  pub loses-nothing : LosesNothing (code .files) (code .runs) (code .marker)
   -- 8: a verdict that rejects carries exactly the rows whose two sides differ, in a session or out of one, and on both sides of the OR
   -- proof
-  pub rows : AllRows
+  pub rows : AllRows (code .files) (code .runs) (code .either)

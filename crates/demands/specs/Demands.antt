@@ -1,16 +1,10 @@
--- The three demands (00), each once. A contract of a public call is an equation with one of the definitions that these
--- statements speak of, so that what is said here of a definition holds of the call's code.
+-- The three demands (00) and the cards (02), each once, of any calls. The theorem `holds` says that the calls as they are defined
+-- meet them, and `only` that no others do.
 -- Assumes nothing.
 use Prim.Native.Nat.{ℕ}
 use mathlib.Core.Path.{_≡_}
 use mathlib.Core.List.{List}
-use Rattle.examples.specs.Corners.{EveryCorner}
-use Rattle.examples.specs.OrPage.{OrPage}
-use Rattle.examples.specs.Pages.{EveryPage}
-use Rattle.examples.specs.RowsPage.{RowsPage}
-use Rattle.examples.specs.TeamPage.{TeamPage}
 use Rattle.formats.specs.ByteLayout.{Layout}
-use Rattle.formats.specs.Load.{loadRefusal}
 use Rattle.formats.specs.Writers.{Writers}
 use Rattle.patterns.specs.Meaning.{PatternsMean}
 use Rattle.runs.specs.Demand3.{Demand3}
@@ -19,47 +13,38 @@ use Rattle.runs.specs.Protocol.{Protocol}
 use Rattle.runs.specs.Sessions.{Sessions}
 use Rattle.sigma.specs.Answer.{VerdictOutcomes}
 use Rattle.demands.specs.Arithmetic.{Arithmetic}
+use Rattle.demands.specs.Calls.{Calls}
 use Rattle.demands.specs.Cards.{Cards}
 use Rattle.demands.specs.MarksFiles.{MarksFiles}
 use Rattle.demands.specs.ReadsBack.{ReadsBack}
 use Rattle.demands.specs.Refusals.{Refusals}
 
-pub record Demands : Type 0 where
+pub record Demands (code : Calls) : Type 0 where
   -- 1: every call, for any bytes and any numbers, ends in a result or in one of its refusals, whose conditions are fixed, and a
   -- refused call changes neither a lent buffer nor a session
-  pub refusals : Refusals
-  -- 2: over any list of calls Peggy answers one challenge at most and keeps no nonce behind it, and Vic takes one commitment,
-  -- then one challenge, then one response
-  pub sessions : Sessions
-  -- for every sheet that loads, the calls run the main protocol of Maurer's section 5 over groups and a homomorphism
-  pub main-protocol : (sheet : List ℕ) → loadRefusal sheet ≡ 0 → MainProtocol sheet
+  pub refusals : Refusals code
+  -- 2: for every sheet that loads, the calls run the main protocol of Maurer's section 5 over groups and a homomorphism
+  pub main-protocol : (sheet : List ℕ) → code .files .load sheet .refusal ≡ 0 → MainProtocol (code .runs) sheet
   -- which is, row by row and slot by slot, what 01 says of commitments, responses and verdicts
-  pub protocol : (sheet : List ℕ) → loadRefusal sheet ≡ 0 → Protocol sheet
-  -- what the arithmetic and the numerals in these statements mean
-  pub arithmetic : Arithmetic
-  -- an answer that is an enum stands for these numbers and values
-  pub outcomes : VerdictOutcomes
+  pub protocol : (sheet : List ℕ) → code .files .load sheet .refusal ≡ 0 → Protocol (code .runs) sheet
+  -- in its order of steps: over any list of calls Peggy answers one challenge at most and keeps no nonce after it, and Vic takes
+  -- one commitment, then one challenge, then one response
+  pub sessions : Sessions (code .runs)
   -- where each value stands in the bytes of sheets and round files
-  pub layout : Layout
+  pub layout : Layout (code .files)
   -- which bytes the calls that write put into a lent buffer
-  pub writers : Writers
-  -- the shape and the meaning of the patterns
-  pub patterns : PatternsMean
+  pub writers : Writers (code .files)
   -- what is written reads back as what it was, and what reads is written back byte by byte
-  pub files : ReadsBack
-  -- the marker's text on a sheet, a round file and a level is what these verdicts make it, word for word
-  pub marker : MarksFiles
+  pub files : ReadsBack (code .files) (code .makers)
+  -- the marker's text on a sheet, a round file and a level is what the verdicts make it, word for word
+  pub marker : MarksFiles (code .files) (code .runs) (code .marker)
   -- 3: the extractor gives a witness, and simulated and honest rounds are exactly the accepted ones, each met once, for every
   -- sheet that loads
-  pub knowledge : (sheet : List ℕ) → loadRefusal sheet ≡ 0 → Demand3 sheet
-  -- the starred pages, and for each refusal inputs on both sides of its bounds
-  pub pages : EveryPage
-  pub corners : EveryCorner
-  -- a worked pair of sheets for the OR proof
-  pub or-page : OrPage
-  -- worked teams
-  pub team-page : TeamPage
-  -- worked rows that differ
-  pub rows-page : RowsPage
+  pub knowledge : (sheet : List ℕ) → code .files .load sheet .refusal ≡ 0 → Demand3 (code .runs) sheet
   -- what the cards of 02 ask
-  pub cards : Cards
+  pub cards : Cards code
+  -- what the words of these statements mean: the shape and the image of 01's six patterns, the arithmetic and the numerals, and the
+  -- numbers and values that an enum stands for
+  pub patterns : PatternsMean
+  pub arithmetic : Arithmetic
+  pub outcomes : VerdictOutcomes

@@ -1,4 +1,5 @@
--- What is demanded of the calls.
+-- What is demanded of the calls, that nothing else meets it, and what shows it and follows from it.
+pub mod Calls
 pub mod Refusals
 pub mod Arithmetic
 pub mod ReadsBack
@@ -6,3 +7,7 @@ pub mod MarksFiles
 pub mod AllRows
 pub mod Cards
 pub mod Demands
+pub mod Ours
+pub mod Same
+pub mod Evidence
+pub mod Corollaries

@@ -10,7 +10,7 @@ use lib.Seq.{sets}
 use Rattle.encoding.specs.Front.{FrontOf}
 use Rattle.encoding.specs.Placed.{Placed}
 use Rattle.reasons.specs.Reason.{reasonLine, reasonText}
-use Rattle.reasons.proofs.ReasonsTrue.{reasons-true}
+use Rattle.reasons.proofs.ReasonsTrue.{reason-corollaries}
 
 -- a line that is placed at the start is what the contracts ask for
 line-stored : {l bytes m : List ℕ} {r : ℕ} → Placed l 0 bytes m r → {whole : List ℕ} → bytes ≡ whole
@@ -35,4 +35,4 @@ whole-line sheet rounds n k x y enough enough′ placed s f is-front is-front′
     line-stored (placed short)
     (ap₂ (λ (t g : List ℕ). reasonLine t x g y) is-front is-front′
     ∙ ap₂ (λ (a b : ℕ). reasonLine (take (length sheet) s) a (take (length rounds) f) b) (sym size) (sym size′)
-    ∙ reasons-true .kept (length sheet) (length rounds) enough enough′ s f)
+    ∙ reason-corollaries .kept (length sheet) (length rounds) enough enough′ s f)

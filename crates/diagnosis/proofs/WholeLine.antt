@@ -34,8 +34,8 @@ use Rattle.runs.proofs.Marker.{round-refusal}
 use Rattle.instance.proofs.Answers.{answer-header, answer-header-call, answer-instance, answer-number}
 use Rattle.reasons.specs.declared.Spot.{Spot}
 use Rattle.reasons.specs.Lines.{refusedLine}
+use Rattle.reasons.specs.Ours.{firstRound}
 use Rattle.reasons.specs.Reason.{fileSpot, firstVerdict, lineText, reasonLine, roundSpot, sheetSpot, spotOf}
-use Rattle.reasons.specs.ReasonsTrue.{firstRound}
 use Rattle.reasons.proofs.Line.{checked-judged, checked-refused, line-refused}
 use Rattle.reasons.proofs.RoundSpots.{first-record}
 use Rattle.diagnosis.specs.Judged.{judgedLine}

@@ -19,8 +19,8 @@ use Rattle.rules.specs.Rule.{Clear, lowest}
 use Rattle.rules.proofs.Lowest.{lowest-clear, lowest-later}
 use Rattle.formats.specs.Sheet.{instanceOf}
 use Rattle.runs.specs.Calls.{extractWitness}
-use Rattle.runs.specs.Knowledge.{Accepts}
 use Rattle.runs.specs.OnSheet.{Below}
+use Rattle.runs.specs.Ours.{Accepts}
 use Rattle.runs.proofs.Demand3.{sheet-extraction}
 use Rattle.runs.proofs.Loaded.{extract-loaded}
 use Rattle.sigma.specs.Answer.{eightPlaces}
@@ -42,10 +42,11 @@ use Rattle.disjunctions.specs.Extractor.{
   isOrAccepted,
 }
 use Rattle.disjunctions.specs.Judge.{badChallenges, badCommitments, badResponses, judgeOrRules, pairRules, verdictOr}
-use Rattle.disjunctions.specs.Knowledge.{AcceptedOrPair, AcceptsOr, ExtractsSide, Pair}
+use Rattle.disjunctions.specs.Ours.{AcceptedOrPair, AcceptsOr, ExtractsSide, Pair}
 use Rattle.disjunctions.specs.Round.{firstRound, otherChallenge, readOr, secondRound}
 use Rattle.disjunctions.proofs.Challenges.{other-apart}
 use Rattle.disjunctions.proofs.Judged.{accepted-below, accepted-clear, accepted-verdict, or-accepted, pair-clear}
+use Rattle.disjunctions.proofs.Pairs.{first-loads, second-loads}
 
 -- two accepted rounds, the other way round
 swapped-pair : (s s′ : List ℕ) (a b : OrRound) → AcceptedOrPair s s′ a b → AcceptedOrPair s s′ b a
@@ -146,7 +147,7 @@ module _ (s s′ : List ℕ) (pair : Pair s s′) (a b : OrRound) (p : AcceptedO
       → extractOr s s′ a b ≡ record { values = extractWitness s (firstRound a) (firstRound b) .values; side = 0; refusal = 0 }
   unfolding extractedOr extractedSide extractedOf readOr firstRound
   first-answer apart extraction =
-      let loaded = extract-loaded s (pair .first-loads) (firstRound a) (firstRound b) in
+      let loaded = extract-loaded s (first-loads pair) (firstRound a) (firstRound b) in
       let runs = ap (λ (answer : Computed). answer .refusal) (sym loaded ∙ extraction .answer) in
       let given = loaded ∙ extract-given i (firstRound a) (firstRound b) runs in
       let values = ap (λ (answer : Computed). answer .values) given in
@@ -157,7 +158,7 @@ module _ (s s′ : List ℕ) (pair : Pair s s′) (a b : OrRound) (p : AcceptedO
       → extractOr s s′ a b ≡ record { values = extractWitness s′ (secondRound K a) (secondRound K b) .values; side = 1; refusal = 0 }
   unfolding extractedOr extractedSide extractedOf readOr secondRound
   second-answer same extraction =
-      let loaded = extract-loaded s′ (pair .second-loads) (secondRound K a) (secondRound K b) in
+      let loaded = extract-loaded s′ (second-loads pair) (secondRound K a) (secondRound K b) in
       let runs = ap (λ (answer : Computed). answer .refusal) (sym loaded ∙ extraction .answer) in
       let given = loaded ∙ extract-given j (secondRound K a) (secondRound K b) runs in
       let values = ap (λ (answer : Computed). answer .values) given in
@@ -167,7 +168,7 @@ module _ (s s′ : List ℕ) (pair : Pair s s′) (a b : OrRound) (p : AcceptedO
   first-extraction : a .challenge0 ≢ b .challenge0 → Extraction i (extractWitness s) (firstRound a) (firstRound b)
   unfolding firstRound
   first-extraction apart =
-      sheet-extraction s (pair .first-loads) (firstRound a) (firstRound b)
+      sheet-extraction s (first-loads pair) (firstRound a) (firstRound b)
       (record {
         first-accepted = or-accepted s s′ pair a .0 (p .first-accepted) .1;
         second-accepted = or-accepted s s′ pair b .0 (p .second-accepted) .1;
@@ -181,7 +182,7 @@ module _ (s s′ : List ℕ) (pair : Pair s s′) (a b : OrRound) (p : AcceptedO
   second-extraction same =
       let first = or-accepted s s′ pair a .0 (p .first-accepted) in
       let second = or-accepted s s′ pair b .0 (p .second-accepted) in
-      sheet-extraction s′ (pair .second-loads) (secondRound K a) (secondRound K b)
+      sheet-extraction s′ (second-loads pair) (secondRound K a) (secondRound K b)
       (record {
         first-accepted = first .2;
         second-accepted = second .2;

@@ -24,8 +24,8 @@ use Rattle.formats.specs.Load.{loadRules}
 use Rattle.formats.specs.Sheet.{instanceOf}
 use Rattle.formats.proofs.Loads.{loads-valid}
 use Rattle.runs.specs.Calls.{judgeRound}
-use Rattle.runs.specs.Knowledge.{Accepts}
 use Rattle.runs.specs.OnSheet.{Below}
+use Rattle.runs.specs.Ours.{Accepts}
 use Rattle.runs.proofs.Loaded.{judge-loaded, sheet-clear}
 use Rattle.sigma.specs.Answer.{isAccepted}
 use Rattle.sigma.specs.Instance.{Instance}
@@ -50,11 +50,12 @@ use Rattle.disjunctions.specs.Judge.{
   pairRules,
   verdictOr,
 }
-use Rattle.disjunctions.specs.Knowledge.{AcceptsOr, Pair}
-use Rattle.disjunctions.specs.OneOfTwo.{SideMask, orNumber, orOutcome}
+use Rattle.disjunctions.specs.OneOfTwo.{orNumber, orOutcome}
+use Rattle.disjunctions.specs.Ours.{AcceptsOr, Pair, SideMask}
 use Rattle.disjunctions.specs.Round.{firstRound, otherChallenge, readOr, secondRound}
 use Rattle.disjunctions.proofs.Challenges.{other-less}
 use Rattle.disjunctions.proofs.OrRefusals.{load-numbers, or-number, verdict-or-number}
+use Rattle.disjunctions.proofs.Pairs.{first-loads, second-loads}
 
 -- ---- verdicts combined
 
@@ -149,10 +150,10 @@ module _ (s s′ : List ℕ) (pair : Pair s s′) where
 
   -- both are valid
   pub first-valid : Valid (instanceOf s)
-  first-valid = loads-valid s (pair .first-loads)
+  first-valid = loads-valid s (first-loads pair)
 
   pub second-valid : Valid (instanceOf s′)
-  second-valid = loads-valid s′ (pair .second-loads)
+  second-valid = loads-valid s′ (second-loads pair)
 
   -- there is a challenge
   pub some-challenge : 0 < instanceOf s .header .challenges
@@ -165,7 +166,7 @@ module _ (s s′ : List ℕ) (pair : Pair s s′) where
       let count = 26 when not (eqb K (j .header .challenges)) in
       clear-append (eitherRules (loadRules s) (loadRules s′)) (count ∷ []) .1 (
         clear-either (loadRules s) (loadRules s′) (load-numbers s s′) .1
-            (sheet-clear s (pair .first-loads), sheet-clear s′ (pair .second-loads)),
+            (sheet-clear s (first-loads pair), sheet-clear s′ (second-loads pair)),
         (ap not (eq-eqb K (j .header .challenges) (pair .one-count)), tt),
       )
 
@@ -230,7 +231,7 @@ module _ (s s′ : List ℕ) (pair : Pair s s′) where
         ≡ verdict i (places (i .header .rows) (round .commitment0)) (round .challenge0) (places (i .header .columns) (round .response0))
     unfolding firstRound
     first-judged fits =
-        judge-loaded s (pair .first-loads) (firstRound round)
+        judge-loaded s (first-loads pair) (firstRound round)
         ∙ judge-given i (firstRound round) _ (verdict-not-refused i _ _ _) .1 (fits, refl)
 
     second-judged : Fits j (readRound (j .header) (secondRound K round))
@@ -239,7 +240,7 @@ module _ (s s′ : List ℕ) (pair : Pair s s′) where
         (places (j .header .columns) (round .response1))
     unfolding secondRound
     second-judged fits =
-        judge-loaded s′ (pair .second-loads) (secondRound K round)
+        judge-loaded s′ (second-loads pair) (secondRound K round)
         ∙ judge-given j (secondRound K round) _ (verdict-not-refused j _ _ _) .1 (fits, refl)
 
     -- so the verdicts of 01's judging call are combined
@@ -276,8 +277,8 @@ module _ (s s′ : List ℕ) (pair : Pair s s′) where
           let both = combined-both _ _ .0 (sym (both-judged none) ∙ e) in
           (round-clear .0 none .0, both .0, both .1),
       λ (small, first, second).
-          let fits = judge-accepted i (firstRound round) .0 (sym (judge-loaded s (pair .first-loads) (firstRound round)) ∙ first) .0 in
-          let fits′ = judge-accepted j (secondRound K round) .0 (sym (judge-loaded s′ (pair .second-loads) (secondRound K round)) ∙ second) .0 in
+          let fits = judge-accepted i (firstRound round) .0 (sym (judge-loaded s (first-loads pair) (firstRound round)) ∙ first) .0 in
+          let fits′ = judge-accepted j (secondRound K round) .0 (sym (judge-loaded s′ (second-loads pair) (secondRound K round)) ∙ second) .0 in
           both-judged (round-clear .1 (small, fits, fits′)) ∙ combined-both _ _ .1 (first, second),
     )
 
@@ -309,3 +310,12 @@ module _ (s s′ : List ℕ) (pair : Pair s s′) where
         go (Rejected mask) (Rejected mask′) a b = earlier mask mask′ a (not-refused e ∙ ap₂ combined a b)
         go (Rejected mask) (Refused n) a b = absurd (second-given n b)
         go (Refused n) w a b = absurd (first-given n a)
+
+    -- so it is accepted, or rejected with two masks
+    pub or-decided : orNumber (judgeOr s s′ round) ≡ 0
+        → AcceptsOr s s′ round ⊎ ((mask0 : ℕ) × (mask1 : ℕ) × (judgeOr s s′ round ≡ OrRejected mask0 mask1))
+    or-decided e = elim (or-ways e) [
+      | both first accepted ↦ inl accepted
+      | later mask first second rejected ↦ inr (0, mask, rejected)
+      | earlier mask mask′ first rejected ↦ inr (mask, mask′, rejected)
+    ]

@@ -3,6 +3,7 @@ pub mod Challenges
 pub mod Tests
 pub mod SessionTests
 pub mod OrRefusals
+pub mod Pairs
 pub mod Judged
 pub mod SideRows
 pub mod Extracted
@@ -13,3 +14,6 @@ pub mod OrLists
 pub mod Steps
 pub mod OneOfTwo
 pub mod OrSessions
+pub mod OnlyRounds
+pub mod OnlySessions
+pub mod Only

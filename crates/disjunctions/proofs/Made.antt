@@ -10,12 +10,13 @@ use Rattle.disjunctions.specs.declared.OrRound.{OrRound}
 use Rattle.lists.specs.Places.{places}
 use Rattle.lists.proofs.Places.{getD-places, places-agree}
 use Rattle.formats.specs.Sheet.{instanceOf}
-use Rattle.runs.specs.Knowledge.{Accepts}
 use Rattle.runs.specs.OnSheet.{Below}
+use Rattle.runs.specs.Ours.{Accepts}
 use Rattle.sigma.specs.Instance.{Instance}
 use Rattle.sigma.specs.Knowledge.{Choice, MeetsEachOnce}
 use Rattle.sigma.specs.Reads.{Agree, SameRound}
-use Rattle.disjunctions.specs.Knowledge.{AcceptsOr, IsOrChoice, MakesEachOnce, OrChoice, Pair, SameOr}
+use Rattle.disjunctions.specs.Knowledge.{IsOrChoice, OrChoice, SameOr}
+use Rattle.disjunctions.specs.Ours.{AcceptsOr, MakesEachOnce, Pair}
 use Rattle.disjunctions.specs.Round.{firstRound, otherChallenge, readOr, secondRound}
 use Rattle.disjunctions.proofs.Challenges.{other-less}
 use Rattle.disjunctions.proofs.Judged.{accepted-below, or-accepted, some-challenge}

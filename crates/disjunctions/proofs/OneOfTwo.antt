@@ -10,23 +10,28 @@ use Rattle.disjunctions.specs.declared.OrRound.{OrRound}
 use Rattle.lists.specs.Member.{Member}
 use Rattle.lists.proofs.Member.{member-map}
 use Rattle.formats.specs.Load.{loadRefusal}
+use Rattle.formats.specs.Ours.{fileCalls}
 use Rattle.formats.specs.Sheet.{instanceOf}
-use Rattle.runs.specs.Knowledge.{honestRound, simulatedRound}
 use Rattle.runs.specs.OnSheet.{Below}
+use Rattle.runs.specs.Ours.{honestRound, simulatedRound}
 use Rattle.runs.proofs.Demand3.{sheet-honest-list, sheet-simulated-list}
+use Rattle.runs.specs.Ours.{runCalls}
 use Rattle.sigma.specs.Knowledge.{Choice, Witness}
 use Rattle.sigma.specs.Listed.{allChoices}
 use Rattle.sigma.specs.Reads.{paddedRound}
 use Rattle.sigma.proofs.Lists.{all-choices-member}
+use Rattle.disjunctions.specs.Corollaries.{allOrChoices, paddedOr, OrCorollaries, PairCorollaries}
 use Rattle.disjunctions.specs.Extractor.{extractOr, extractOrAfter}
 use Rattle.disjunctions.specs.Judge.{judgeOr, judgeOrAfter}
-use Rattle.disjunctions.specs.Knowledge.{AcceptsOr, IsOrChoice, OrChoice, Pair, allOrChoices, orRound, paddedOr}
+use Rattle.disjunctions.specs.Knowledge.{IsOrChoice, OrChoice}
 use Rattle.disjunctions.specs.OneOfTwo.{OneOfTwo, OrProof, orOutcome, sideRows}
+use Rattle.disjunctions.specs.Ours.{AcceptsOr, Pair, orRound, orCalls}
 use Rattle.disjunctions.specs.Prover.{other, own}
 use Rattle.disjunctions.specs.Round.{firstRound, otherChallenge, secondRound}
 use Rattle.disjunctions.proofs.Challenges.{other-less, other-sum}
 use Rattle.disjunctions.proofs.Extracted.{extracts-first, extracts-second}
-use Rattle.disjunctions.proofs.Judged.{or-accepted, or-rejected, some-challenge}
+use Rattle.disjunctions.proofs.Judged.{or-accepted, or-rejected, some-challenge, or-decided}
+use Rattle.disjunctions.proofs.Pairs.{first-loads, second-loads}
 use Rattle.disjunctions.proofs.SideRows.{or-rejected-first, or-rejected-second}
 use Rattle.disjunctions.proofs.OrLists.{
   made-list-members,
@@ -74,15 +79,15 @@ module _ (s s′ : List ℕ) (pair : Pair s s′) (c : ℕ) (below : Below s c) 
   made-whole zero one x w choice is =
       padded-sides s s′ (orRound s s′ 0 x c choice) K
       (rw (known-first s s′ pair c below x w choice is)
-      (honest-whole s (pair .first-loads) _ (left-below (choice .challenge)) x w (choice .nonce) (is .nonce)))
+      (honest-whole s (first-loads pair) _ (left-below (choice .challenge)) x w (choice .nonce) (is .nonce)))
       (rw (simulated-second s s′ pair c below x w choice is)
-      (simulated-whole s′ (pair .second-loads) _ (both-below _ (left-below _)) (choice .response) (is .response)))
+      (simulated-whole s′ (second-loads pair) _ (both-below _ (left-below _)) (choice .response) (is .response)))
   made-whole (suc zero) one x w choice is =
       padded-sides s s′ (orRound s s′ 1 x c choice) K
       (rw (simulated-first s s′ pair c below x w choice is)
-      (simulated-whole s (pair .first-loads) _ (is .challenge) (choice .response) (is .response)))
+      (simulated-whole s (first-loads pair) _ (is .challenge) (choice .response) (is .response)))
       (rw (known-second s s′ pair c below x w choice is)
-      (honest-whole s′ (pair .second-loads) _ (both-below _ (left-below (choice .challenge))) x w (choice .nonce) (is .nonce)))
+      (honest-whole s′ (second-loads pair) _ (both-below _ (left-below (choice .challenge))) x w (choice .nonce) (is .nonce)))
   made-whole (suc (suc n)) one x w choice is = absurd (omega arith)
 
 module _ (s s′ : List ℕ) (pair : Pair s s′) (c : ℕ) (below : Below s c) where
@@ -102,12 +107,13 @@ module _ (s s′ : List ℕ) (pair : Pair s s′) (c : ℕ) (below : Below s c) 
       made-list-members s s′ 1 c _ (makes s s′ pair c below 1 (omega arith) x w) (made-whole s s′ pair c below 1 (omega arith) x w)
 
 -- the proof, of two sheets that load with one K
-pub one-of-two : (s s′ : List ℕ) → Pair s s′ → OneOfTwo s s′
-unfolding judgeOr judgeOrAfter extractOr extractOrAfter firstRound secondRound
+pub one-of-two : (s s′ : List ℕ) → Pair s s′ → OneOfTwo runCalls orCalls s s′
+unfolding firstRound secondRound orRound
 one-of-two s s′ pair = record {
   challenges = λ c d below taken. (other-less _ c d (some-challenge s s′ pair), other-sum _ c d below taken);
   sides = λ round. (refl, refl);
   accepted = or-accepted s s′ pair;
+  decided = or-decided s s′ pair;
   rejected = or-rejected s s′ pair;
   rejected-first = or-rejected-first s s′ pair;
   rejected-second = or-rejected-second s s′ pair;
@@ -120,6 +126,12 @@ one-of-two s s′ pair = record {
   prover-runs = λ side c one below x w choice is.
       (commit-runs s s′ pair side one choice is, respond-runs s s′ pair side one choice is c below x w);
   prover = λ side c one below x w. makes s s′ pair c below side one x w;
+}
+
+-- what follows, of two sheets that load with one K
+pair-corollaries : (s s′ : List ℕ) → Pair s s′ → PairCorollaries orCalls s s′
+unfolding judgeOr judgeOrAfter extractOr extractOrAfter orRound
+pair-corollaries s s′ pair = record {
   choices = λ side one. (or-choices-member s s′ side, or-choices-once s s′ side);
   prover-list = λ side c one below x w.
       let meets = makes s s′ pair c below side one x w in
@@ -134,10 +146,13 @@ one-of-two s s′ pair = record {
 }
 
 -- the card, but for its refusals
-pub or-proof : OrProof
+pub or-proof : OrProof fileCalls runCalls orCalls
 unfolding orOutcome sideRows
 or-proof = record {
   outcomes = record { accepted = refl; rejected = λ mask0 mask1. refl; refused = λ number. refl };
   sessions = or-sessions;
   proof = one-of-two;
 }
+
+pub or-corollaries : OrCorollaries fileCalls orCalls
+or-corollaries = record { pairs = pair-corollaries }

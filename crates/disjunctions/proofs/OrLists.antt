@@ -28,16 +28,9 @@ use Rattle.sigma.specs.Knowledge.{Choice, Witness}
 use Rattle.sigma.specs.Listed.{allChoices}
 use Rattle.sigma.specs.Reads.{paddedRound}
 use Rattle.sigma.proofs.Lists.{all-choices-member, all-choices-once}
-use Rattle.disjunctions.specs.Knowledge.{
-  AcceptsOr,
-  IsOrChoice,
-  MakesEachOnce,
-  OrChoice,
-  Pair,
-  SameOr,
-  allOrChoices,
-  paddedOr,
-}
+use Rattle.disjunctions.specs.Corollaries.{allOrChoices, paddedOr}
+use Rattle.disjunctions.specs.Knowledge.{IsOrChoice, OrChoice, SameOr}
+use Rattle.disjunctions.specs.Ours.{AcceptsOr, MakesEachOnce, Pair}
 use Rattle.disjunctions.specs.Prover.{other, own}
 use Rattle.disjunctions.specs.Round.{firstRound, readOr, secondRound}
 

@@ -37,6 +37,7 @@ use Rattle.sigma.proofs.Verdict.{verdict-not-refused}
 use Rattle.disjunctions.specs.Extractor.{extractOr, extractOrAfter}
 use Rattle.disjunctions.specs.Judge.{combined, judgeOr, judgeOrAfter, pairRules, verdictOr}
 use Rattle.disjunctions.specs.OneOfTwo.{OrRefusals, OrUnmoved, orNumber, orOutcome}
+use Rattle.disjunctions.specs.Ours.{orCalls}
 use Rattle.disjunctions.specs.Prover.{
   commitOr,
   commitOrAfter,
@@ -132,7 +133,7 @@ step-kept n before after xs ys c some = (
 
 -- ---- all calls
 
-pub or-refusals : OrRefusals
+pub or-refusals : OrRefusals orCalls
 unfolding conditionNumbers isSublist refusalOrder sheetNumbers extractOr extractOrAfter eightPlaces
     commitOr commitOrAfter respondOr respondOrAfter dropOr orStep
 or-refusals = record {

@@ -31,22 +31,10 @@ use Rattle.sigma.specs.Answer.{eightPlaces}
 use Rattle.sigma.specs.Round.{response}
 use Rattle.sigma.proofs.Answer.{unlessRefused-positive}
 use Rattle.sigma.proofs.Calculus.{both-fail, says-passes}
-use Rattle.disjunctions.specs.Calls.{
-  KeepsBoth,
-  OrCall,
-  OrCommit,
-  OrDrop,
-  OrEnded,
-  OrMoves,
-  OrRespond,
-  Wiped,
-  callOr,
-  orAfter,
-  orAnswered,
-  orTrace,
-}
+use Rattle.disjunctions.specs.Calls.{KeepsBoth, OrCall, OrCommit, OrDrop, OrEnded, OrMoves, OrRespond, Wiped, orAnswered}
 use Rattle.disjunctions.specs.Judge.{pairRules}
 use Rattle.disjunctions.specs.OneOfTwo.{OrSessions}
+use Rattle.disjunctions.specs.Ours.{callOr, orAfter, orTrace, orCalls}
 use Rattle.disjunctions.specs.Prover.{
   commitOr,
   commitOrAfter,
@@ -212,7 +200,7 @@ drop-or-phase p e =
     says-passes (says-or (says-or-prover New p) (says-or-prover Committed p)) .0 (clear-lowest (dropOrRules p) tt e .0)
 
 -- a refused call hands back the session
-or-kept : (call : OrCall) (p : OrProver) → 0 < callOr call p .refusal → callOr call p .session ≡ p
+pub or-kept : (call : OrCall) (p : OrProver) → 0 < callOr call p .refusal → callOr call p .session ≡ p
 unfolding callOr
 or-kept (OrCommit s s′ side k d r) p some = or-refusals .committing s s′ p side k d r .left some .0
 or-kept (OrRespond s s′ c x) p some = or-refusals .responding s s′ p c x .left some .0
@@ -295,12 +283,12 @@ wiped-last ((OrDrop, step) ∷ later) p q leads ended =
 
 -- the calls that are carried out lead from the session to the one at the end
 or-leads : (calls : List OrCall) (p : OrProver) → Leads (λ step. step .session) OrMoves p (orTrace calls p) (orAfter calls p)
-unfolding orTrace orAfter
+unfolding orTrace orAfter callOr
 or-leads = trace-leads callOr (λ step. step .session) (λ step. step .refusal) OrMoves or-kept or-moves
 
 -- the session's steps
-pub or-sessions : OrSessions
-unfolding newOrProver wipedOr zeros8 own other
+pub or-sessions : OrSessions orCalls
+unfolding newOrProver wipedOr zeros8 own other callOr orTrace orAfter
 or-sessions = record {
   sides = λ n first second. (refl, later-own n first second, refl, later-other n first second);
   new = refl;

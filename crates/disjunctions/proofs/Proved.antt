@@ -20,8 +20,8 @@ use Rattle.lists.proofs.Places.{getD-places, places-pad8, places-whole}
 use Rattle.rules.specs.Rule.{Clear, lowest}
 use Rattle.rules.proofs.Lowest.{lowest-clear, lowest-later}
 use Rattle.formats.specs.Sheet.{instanceOf}
-use Rattle.runs.specs.Knowledge.{honestRound, simulatedRound}
 use Rattle.runs.specs.OnSheet.{Below, readSlots}
+use Rattle.runs.specs.Ours.{honestRound, simulatedRound}
 use Rattle.runs.proofs.Demand3.{honest-is, sheet-honest-rounds, sheet-simulated-rounds, simulated-is}
 use Rattle.runs.proofs.Witness.{image-carried}
 use Rattle.sigma.specs.Comparison.{differ}
@@ -37,7 +37,8 @@ use Rattle.sigma.proofs.Comparison.{differ-false}
 use Rattle.sigma.proofs.Passed.{challenge-passes, coordinates-pass, witness-passes}
 use Rattle.sigma.proofs.Unread.{coordinates-agree}
 use Rattle.disjunctions.specs.Judge.{pairRules}
-use Rattle.disjunctions.specs.Knowledge.{IsOrChoice, MakesEachOnce, OrChoice, Pair, orRound}
+use Rattle.disjunctions.specs.Knowledge.{IsOrChoice, OrChoice}
+use Rattle.disjunctions.specs.Ours.{MakesEachOnce, Pair, orRound}
 use Rattle.disjunctions.specs.Prover.{
   commitOr,
   commitOrAfter,

@@ -11,7 +11,7 @@ use Rattle.disjunctions.specs.declared.OrRound.{OrRound}
 use Rattle.disjunctions.specs.declared.OrVerdict.{OrVerdict}
 use Rattle.disjunctions.specs.declared.OrVerdict.the-variants.{OrAccepted, OrRejected}
 use Rattle.formats.specs.Sheet.{instanceOf}
-use Rattle.runs.specs.Knowledge.{Accepts}
+use Rattle.runs.specs.Ours.{Accepts}
 use Rattle.runs.proofs.Protocol.{sheet-accepted, sheet-rejected}
 use Rattle.numbers.specs.Bits.{bit}
 use Rattle.lists.specs.Choices.{selected}
@@ -19,10 +19,11 @@ use Rattle.sigma.specs.Answer.{rowsOf}
 use Rattle.sigma.specs.Meaning.{FailsFirst}
 use Rattle.sigma.proofs.Fails.{fails-begin, fails-split}
 use Rattle.disjunctions.specs.Judge.{judgeOr}
-use Rattle.disjunctions.specs.Knowledge.{AcceptsOr, Pair}
 use Rattle.disjunctions.specs.OneOfTwo.{orNumber, orOutcome, sideRows}
+use Rattle.disjunctions.specs.Ours.{AcceptsOr, Pair}
 use Rattle.disjunctions.specs.Round.{firstRound, secondRound}
 use Rattle.disjunctions.proofs.Judged.{both, earlier, later, or-accepted, or-ways}
+use Rattle.disjunctions.proofs.Pairs.{first-loads, second-loads}
 
 -- the values of an outcome
 abbrev valuesOf : OrVerdict → List ℕ
@@ -71,12 +72,12 @@ module _ (s s′ : List ℕ) (pair : Pair s s′) (round : OrRound) (row : ℕ) 
 
   -- an accepted side fails in no row
   accepted-first : Accepts s (firstRound round) → ¬ FailsFirst (instanceOf s) (firstRound round) row
-  accepted-first a fails = fails .fails (sheet-accepted s (pair .first-loads) first .0 a .1 row (fails .inside))
+  accepted-first a fails = fails .fails (sheet-accepted s (first-loads pair) first .0 a .1 row (fails .inside))
 
   second-fails : AcceptsOr s s′ round → ¬ FailsFirst (instanceOf s′) (secondRound (instanceOf s .header .challenges) round) row
   second-fails e fails =
       let (small, a, b) = or-accepted s s′ pair round .0 e in
-      fails .fails (sheet-accepted s′ (pair .second-loads) second .0 b .1 row (fails .inside))
+      fails .fails (sheet-accepted s′ (second-loads pair) second .0 b .1 row (fails .inside))
 
   -- the first values are side 0 and its first row exactly where that side fails first in the row
   pub or-rejected-first : ((others : List ℕ) × (orOutcome (judgeOr s s′ round) .values ≡ 0 ∷ 0 ∷ row ∷ others))
@@ -87,14 +88,14 @@ module _ (s s′ : List ℕ) (pair : Pair s s′) (round : OrRound) (row : ℕ) 
       λ fails. absurd (accepted-first a fails),
     )
     | later mask a b e ↦
-        let all = sheet-rejected s′ (pair .second-loads) second mask .0 b .1 .0 in
+        let all = sheet-rejected s′ (second-loads pair) second mask .0 b .1 .0 in
         let (k, rest, whole, _, _) = fails-split (instanceOf s′) second (rowsOf mask) all in
         let (more, values) = values-second mask k rest whole in (
           λ (others, same). absurd (omega (arith, other-side 1 0 k row more others (sym values ∙ sym (ap valuesOf e) ∙ same))),
           λ fails. absurd (accepted-first a fails),
         )
     | earlier mask mask′ a e ↦
-        let all = sheet-rejected s (pair .first-loads) first mask .0 a .1 .0 in
+        let all = sheet-rejected s (first-loads pair) first mask .0 a .1 .0 in
         let begin = fails-begin (instanceOf s) first (rowsOf mask) all in
         let (k, rest, whole, head, _) = fails-split (instanceOf s) first (rowsOf mask) all in
         let (more, values) = values-first mask mask′ k rest whole in (
@@ -115,7 +116,7 @@ module _ (s s′ : List ℕ) (pair : Pair s s′) (round : OrRound) (row : ℕ) 
       λ (accepted, fails). absurd (second-fails e fails),
     )
     | later mask a b e ↦
-        let all = sheet-rejected s′ (pair .second-loads) second mask .0 b .1 .0 in
+        let all = sheet-rejected s′ (second-loads pair) second mask .0 b .1 .0 in
         let begin = fails-begin (instanceOf s′) second (rowsOf mask) all in
         let (k, rest, whole, head, _) = fails-split (instanceOf s′) second (rowsOf mask) all in
         let (more, values) = values-second mask k rest whole in (
@@ -129,10 +130,10 @@ module _ (s s′ : List ℕ) (pair : Pair s s′) (round : OrRound) (row : ℕ) 
               (more′, ap valuesOf e ∙ values′),
         )
     | earlier mask mask′ a e ↦
-        let all = sheet-rejected s (pair .first-loads) first mask .0 a .1 .0 in
+        let all = sheet-rejected s (first-loads pair) first mask .0 a .1 .0 in
         let (k, rest, whole, head, _) = fails-split (instanceOf s) first (rowsOf mask) all in
         let (more, values) = values-first mask mask′ k rest whole in (
           λ (others, same). absurd (omega (arith, other-side 0 1 k row more others (sym values ∙ sym (ap valuesOf e) ∙ same))),
-          λ (accepted, fails). absurd (head .fails (sheet-accepted s (pair .first-loads) first .0 accepted .1 k (head .inside))),
+          λ (accepted, fails). absurd (head .fails (sheet-accepted s (first-loads pair) first .0 accepted .1 k (head .inside))),
         )
   ]

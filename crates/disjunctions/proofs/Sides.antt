@@ -9,19 +9,21 @@ use Rattle.types.specs.declared.Round.{Round}
 use Rattle.disjunctions.specs.declared.OrRound.{OrRound}
 use Rattle.lists.specs.Places.{pad8}
 use Rattle.formats.specs.Sheet.{instanceOf}
-use Rattle.runs.specs.Knowledge.{honestRound, simulatedRound}
 use Rattle.runs.specs.OnSheet.{Below}
+use Rattle.runs.specs.Ours.{honestRound, simulatedRound}
 use Rattle.runs.proofs.Demand3.{honest-is, sheet-honest-rounds, sheet-simulated-rounds, simulated-is}
 use Rattle.sigma.specs.Instance.{Instance}
 use Rattle.sigma.specs.Knowledge.{Choice, Witness}
 use Rattle.sigma.specs.Reads.{roundOf}
 use Rattle.sigma.specs.Simulator.{simulated}
-use Rattle.disjunctions.specs.Knowledge.{IsOrChoice, MakesEachOnce, OrChoice, Pair, orRound}
+use Rattle.disjunctions.specs.Knowledge.{IsOrChoice, OrChoice}
+use Rattle.disjunctions.specs.Ours.{MakesEachOnce, Pair, orRound}
 use Rattle.disjunctions.specs.Prover.{firstCommitment, other, own, secondCommitment}
 use Rattle.disjunctions.specs.Round.{firstRound, otherChallenge, secondRound}
 use Rattle.disjunctions.proofs.Challenges.{other-less, other-other, other-same}
 use Rattle.disjunctions.proofs.Judged.{some-challenge}
 use Rattle.disjunctions.proofs.Made.{makes-each-once}
+use Rattle.disjunctions.proofs.Pairs.{first-loads, second-loads}
 use Rattle.disjunctions.proofs.Proved.{round-given}
 
 module _ (s s′ : List ℕ) (pair : Pair s s′) (c : ℕ) (below : Below s c) where
@@ -50,7 +52,7 @@ module _ (s s′ : List ℕ) (pair : Pair s s′) (c : ℕ) (below : Below s c) 
     unfolding firstRound firstCommitment own
     known-first =
         ap firstRound (round-given s s′ pair 0 (omega arith) choice is c below x witness _ _ refl refl)
-        ∙ sym (honest-is s (pair .first-loads) _ (left-below (choice .challenge)) x witness (choice .nonce) (is .nonce))
+        ∙ sym (honest-is s (first-loads pair) _ (left-below (choice .challenge)) x witness (choice .nonce) (is .nonce))
 
     -- side 1 is the simulated round
     pub simulated-second : secondRound K (orRound s s′ 0 x c choice)
@@ -58,7 +60,7 @@ module _ (s s′ : List ℕ) (pair : Pair s s′) (c : ℕ) (below : Below s c) 
     unfolding secondRound secondCommitment own other
     simulated-second =
         let back = other-other K c (choice .challenge) below (is .challenge) in
-        let made = simulated-is s′ (pair .second-loads) (choice .challenge) (both-below _ (is .challenge)) (choice .response) (is .response) in
+        let made = simulated-is s′ (second-loads pair) (choice .challenge) (both-below _ (is .challenge)) (choice .response) (is .response) in
         ap (secondRound K) (round-given s s′ pair 0 (omega arith) choice is c below x witness _ _ refl refl)
         ∙ rw back (sym made)
 
@@ -70,7 +72,7 @@ module _ (s s′ : List ℕ) (pair : Pair s s′) (c : ℕ) (below : Below s c) 
     unfolding firstRound firstCommitment own other
     simulated-first =
         ap firstRound (round-given s s′ pair 1 (omega arith) choice is c below x witness _ _ refl refl)
-        ∙ sym (simulated-is s (pair .first-loads) (choice .challenge) (is .challenge) (choice .response) (is .response))
+        ∙ sym (simulated-is s (first-loads pair) (choice .challenge) (is .challenge) (choice .response) (is .response))
 
     -- side 1 is an honest round for the challenge that is left
     pub known-second : secondRound K (orRound s s′ 1 x c choice)
@@ -78,7 +80,7 @@ module _ (s s′ : List ℕ) (pair : Pair s s′) (c : ℕ) (below : Below s c) 
     unfolding secondRound secondCommitment own
     known-second =
         ap (secondRound K) (round-given s s′ pair 1 (omega arith) choice is c below x witness _ _ refl refl)
-        ∙ sym (honest-is s′ (pair .second-loads) _ (both-below _ (left-below (choice .challenge))) x witness (choice .nonce) (is .nonce))
+        ∙ sym (honest-is s′ (second-loads pair) _ (both-below _ (left-below (choice .challenge))) x witness (choice .nonce) (is .nonce))
 
   -- ---- over all choices
 
@@ -87,8 +89,8 @@ module _ (s s′ : List ℕ) (pair : Pair s s′) (c : ℕ) (below : Below s c) 
   unfolding own other orRound
   first-makes x witness =
       makes-each-once s s′ pair 0 c below (λ d. honestRound s x d) (λ d. simulatedRound s′ d)
-      (λ d h. sheet-honest-rounds s (pair .first-loads) d h x witness)
-      (λ d h. sheet-simulated-rounds s′ (pair .second-loads) d (both-below d h))
+      (λ d h. sheet-honest-rounds s (first-loads pair) d h x witness)
+      (λ d h. sheet-simulated-rounds s′ (second-loads pair) d (both-below d h))
       (λ choice. choice .nonce) (λ choice. choice .response) (λ choice. otherChallenge K c (choice .challenge))
       (λ u d v. record { nonce = u; challenge = otherChallenge K c d; response = v })
       (λ choice is. (is .nonce, left-below (choice .challenge), is .response))
@@ -110,8 +112,8 @@ module _ (s s′ : List ℕ) (pair : Pair s s′) (c : ℕ) (below : Below s c) 
   unfolding own other orRound
   second-makes x witness =
       makes-each-once s s′ pair 1 c below (λ d. simulatedRound s d) (λ d. honestRound s′ x d)
-      (λ d h. sheet-simulated-rounds s (pair .first-loads) d h)
-      (λ d h. sheet-honest-rounds s′ (pair .second-loads) d (both-below d h) x witness)
+      (λ d h. sheet-simulated-rounds s (first-loads pair) d h)
+      (λ d h. sheet-honest-rounds s′ (second-loads pair) d (both-below d h) x witness)
       (λ choice. choice .response) (λ choice. choice .nonce) (λ choice. choice .challenge)
       (λ u d v. record { nonce = v; challenge = d; response = u })
       (λ choice is. (is .response, is .challenge, is .nonce))

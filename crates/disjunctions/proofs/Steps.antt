@@ -41,7 +41,7 @@ use Rattle.sigma.proofs.Comparison.{differ-false}
 use Rattle.sigma.proofs.Passed.{challenge-passes, coordinates-pass, witness-passes}
 use Rattle.sigma.proofs.Unread.{coordinates-agree}
 use Rattle.disjunctions.specs.Judge.{pairRules}
-use Rattle.disjunctions.specs.Knowledge.{Pair}
+use Rattle.disjunctions.specs.Ours.{Pair}
 use Rattle.disjunctions.specs.Prover.{
   commitOr,
   commitOrAfter,
@@ -69,6 +69,7 @@ use Rattle.disjunctions.proofs.OrSessions.{
   pair-positive,
   respond-or-given,
 }
+use Rattle.disjunctions.proofs.Pairs.{first-loads, second-loads}
 
 -- ---- 01's calls on a sheet that loads
 
@@ -186,9 +187,9 @@ module _ (s s′ : List ℕ) (pair : Pair s s′) (p : OrProver) where
   commits-first k d r e =
       let (below, slots, slots′) = commit-or-facts s s′ p 0 k d r e in
       let given = commit-or-given s s′ p 0 k d r e _ _ refl refl in (
-        ap (λ (step : OrStep). step .values0) given ∙ sym (commit-values s (pair .first-loads) k slots),
+        ap (λ (step : OrStep). step .values0) given ∙ sym (commit-values s (first-loads pair) k slots),
         ap (λ (step : OrStep). step .values1) given
-            ∙ sym (simulate-values s′ (pair .second-loads) d r (rw (sym (pair .one-count)) below) slots′),
+            ∙ sym (simulate-values s′ (second-loads pair) d r (rw (sym (pair .one-count)) below) slots′),
       )
 
   pub commits-second : (n : ℕ) (k : List ℕ) (d : ℕ) (r : List ℕ) → commitOr s s′ p (suc n) k d r .refusal ≡ 0
@@ -199,9 +200,9 @@ module _ (s s′ : List ℕ) (pair : Pair s s′) (p : OrProver) where
       let given = commit-or-given s s′ p (suc n) k d r e (readSlots s′ k) (readSlots s r)
       (ap (λ (sheet : List ℕ). readSlots sheet k) (sym (later-own n s s′))) (ap (λ (sheet : List ℕ). readSlots sheet r) (sym (later-other n s s′))) in (
         ap (λ (step : OrStep). step .values0) given ∙ ap (pad8 0) (later-first n (instanceOf s) _ d _)
-            ∙ sym (simulate-values s (pair .first-loads) d r below slots′),
+            ∙ sym (simulate-values s (first-loads pair) d r below slots′),
         ap (λ (step : OrStep). step .values1) given ∙ ap (pad8 0) (later-second n (instanceOf s′) _ d _)
-            ∙ sym (commit-values s′ (pair .second-loads) k slots),
+            ∙ sym (commit-values s′ (second-loads pair) k slots),
       )
 
   -- a session of 01 that holds a nonce and its commitment answers a challenge below K with the response
@@ -243,7 +244,7 @@ module _ (s s′ : List ℕ) (pair : Pair s s′) (p : OrProver) where
       let (nonce, first, second) = rw side at (unfit-facts s s′ p (facts .2) _ _ refl refl) in
       let left = otherChallenge K c (p .challenge) in
       let given = respond-or-given s s′ p c x e _ _ _ _ _ refl refl refl refl refl in
-      let mine = answer-values s (pair .first-loads) (record { phase = Committed; nonce = p .nonce; commitment = p .commitment0 }) left x refl
+      let mine = answer-values s (first-loads pair) (record { phase = Committed; nonce = p .nonce; commitment = p .commitment0 }) left x refl
       (other-less K c (p .challenge) (some-challenge s s′ pair)) slots carried nonce first in (
         ap (λ (step : OrStep). step .challenge0) given ∙ ap (λ (n : ℕ). own n left (p .challenge)) side,
         ap (λ (step : OrStep). step .values0) given ∙ ap (λ (n : ℕ). pad8 0 (own n (known n c x) (simulatedSlots n))) side ∙ sym mine,
@@ -265,7 +266,7 @@ module _ (s s′ : List ℕ) (pair : Pair s s′) (p : OrProver) where
       let (nonce, first, second) = rw side at (unfit-facts s s′ p (facts .2) _ _ refl refl) in
       let left = otherChallenge K c (p .challenge) in
       let given = respond-or-given s s′ p c x e _ _ _ _ _ refl refl refl refl refl in
-      let mine = answer-values s′ (pair .second-loads) (record { phase = Committed; nonce = p .nonce; commitment = p .commitment1 }) left x refl
+      let mine = answer-values s′ (second-loads pair) (record { phase = Committed; nonce = p .nonce; commitment = p .commitment1 }) left x refl
       (rw (sym (pair .one-count)) (other-less K c (p .challenge) (some-challenge s s′ pair))) slots carried nonce second in (
         ap (λ (step : OrStep). step .challenge0) given ∙ ap (λ (n : ℕ). own n left (p .challenge)) side,
         ap (λ (step : OrStep). step .values0) given ∙ ap (λ (n : ℕ). pad8 0 (own n (known n c x) (simulatedSlots n))) side,

@@ -10,7 +10,8 @@ use Rattle.disjunctions.specs.declared.OrStep.{OrStep}
 use Rattle.lists.specs.Places.{pad8, zeros8}
 use Rattle.runs.specs.OnSheet.{readSlots}
 use Rattle.runs.specs.Run.{sessionAfter, trace}
-use Rattle.disjunctions.specs.Prover.{commitOr, dropOr, other, own, respondOr}
+use Rattle.disjunctions.specs.OrCalls.{OrCalls}
+use Rattle.disjunctions.specs.Prover.{other, own}
 
 -- a call with what it brings: two sheets, a side, a nonce, and a simulated challenge and response; two sheets, a challenge and a
 -- witness; or nothing
@@ -19,19 +20,22 @@ pub data OrCall : Type 0 where
   OrRespond : List ℕ → List ℕ → ℕ → List ℕ → OrCall
   OrDrop : OrCall
 
--- what a call on a session gives
-unfoldable pub callOr : OrCall → OrProver → OrStep
-callOr (OrCommit s s′ side k d r) p = commitOr s s′ p side k d r
-callOr (OrRespond s s′ c x) p = respondOr s s′ p c x
-callOr OrDrop p = dropOr p
+module _ (either : OrCalls) where
+  open OrCalls either using (commitOr, dropOr, respondOr)
 
--- the session after a list of calls
-unfoldable pub orAfter : List OrCall → OrProver → OrProver
-orAfter calls p = sessionAfter callOr (λ step. step .session) calls p
+  -- what a call on a session gives
+  abbrev pub callOr : OrCall → OrProver → OrStep
+  callOr (OrCommit s s′ side k d r) p = commitOr s s′ p side k d r
+  callOr (OrRespond s s′ c x) p = respondOr s s′ p c x
+  callOr OrDrop p = dropOr p
 
--- the calls of a list that are carried out, each with what it answered
-unfoldable pub orTrace : List OrCall → OrProver → List (OrCall × OrStep)
-orTrace calls p = trace callOr (λ step. step .session) (λ step. step .refusal) calls p
+  -- the session after a list of calls
+  abbrev pub orAfter : List OrCall → OrProver → OrProver
+  orAfter calls p = sessionAfter callOr (λ step. step .session) calls p
+
+  -- the calls of a list that are carried out, each with what it answered
+  abbrev pub orTrace : List OrCall → OrProver → List (OrCall × OrStep)
+  orTrace calls p = trace callOr (λ step. step .session) (λ step. step .refusal) calls p
 
 -- nonce, side, simulated challenge and response are zeros
 pub record Wiped (p : OrProver) : Type 0 where

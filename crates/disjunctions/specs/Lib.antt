@@ -1,4 +1,5 @@
 -- The OR proof over two sheets.
+pub mod OrCalls
 pub mod Round
 pub mod Judge
 pub mod Extractor
@@ -7,3 +8,6 @@ pub mod Refusals
 pub mod Calls
 pub mod Knowledge
 pub mod OneOfTwo
+pub mod Corollaries
+pub mod Same
+pub mod Ours

@@ -119,7 +119,6 @@ use Rattle.patterns.specs.Table.{patterns, shipped, writeShipped}
 use Rattle.patterns.proofs.Shipped.{shipped-bytes, shipped-passes}
 use Rattle.patterns.proofs.Tests.{says-asked}
 use Rattle.runs.specs.Calls.{judgeRound, simulateCommitment, extractWitness}
-use Rattle.runs.specs.Knowledge.{honestRound}
 use Rattle.runs.specs.Level.{badLevel, strongEnough}
 use Rattle.runs.specs.Marker.{
   newline,
@@ -137,6 +136,7 @@ use Rattle.runs.specs.Marker.{
   refusedWord,
   markerText,
 }
+use Rattle.runs.specs.Ours.{honestRound}
 use Rattle.runs.specs.Prover.{
   proverState,
   proverIn,
@@ -202,8 +202,8 @@ use Rattle.disjunctions.specs.Judge.{
   judgeOrAfter,
   judgeOr,
 }
-use Rattle.disjunctions.specs.Knowledge.{orRound}
 use Rattle.disjunctions.specs.OneOfTwo.{sideRows, orOutcome}
+use Rattle.disjunctions.specs.Ours.{orRound}
 use Rattle.disjunctions.specs.Prover.{
   own,
   other,

@@ -53,7 +53,7 @@ use Rattle.products.specs.Team.{
 use Rattle.rules.specs.Answer.{unlessRefused}
 use Rattle.rules.specs.Rule.{lowest}
 use Rattle.runs.specs.Calls.{judgeRound}
-use Rattle.runs.specs.Knowledge.{honestRound}
+use Rattle.runs.specs.Ours.{honestRound}
 use Rattle.runs.specs.Prover.{
   proverState,
   proverIn,

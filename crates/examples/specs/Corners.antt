@@ -19,7 +19,8 @@ use Rattle.examples.specs.Sheets.{schnorrSheet, sheetBytes, smallSheet}
 use Rattle.formats.specs.Append.{append, emptyFile}
 use Rattle.formats.specs.Convert.{convert}
 use Rattle.formats.specs.Encode.{encode}
-use Rattle.formats.specs.Load.{loadRefusal, loaded}
+use Rattle.formats.specs.Load.{loadRefusal}
+use Rattle.formats.specs.Ours.{loaded}
 use Rattle.formats.specs.RoundCalls.{checkRound, countRounds}
 use Rattle.patterns.specs.Maker.{makeFrom}
 use Rattle.patterns.specs.Table.{shipped, writeShipped}

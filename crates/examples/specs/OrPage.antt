@@ -11,8 +11,8 @@ use Rattle.disjunctions.specs.declared.OrProver.{OrProver}
 use Rattle.disjunctions.specs.declared.OrRound.{OrRound}
 use Rattle.disjunctions.specs.Extractor.{extractOr}
 use Rattle.disjunctions.specs.Judge.{judgeOr}
-use Rattle.disjunctions.specs.Knowledge.{orRound}
 use Rattle.disjunctions.specs.OneOfTwo.{orOutcome}
+use Rattle.disjunctions.specs.Ours.{orRound}
 use Rattle.disjunctions.specs.Prover.{commitOr, dropOr, newOrProver, respondOr}
 use Rattle.lists.specs.Places.{places}
 use Rattle.examples.specs.Corners.{Corner, changed, rootBytes}

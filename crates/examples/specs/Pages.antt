@@ -22,9 +22,8 @@ use Rattle.formats.specs.Convert.{convert}
 use Rattle.formats.specs.Load.{loadRefusal}
 use Rattle.formats.specs.Sheet.{headerOf}
 use Rattle.runs.specs.Calls.{judgeRound, simulateCommitment, extractWitness}
-use Rattle.runs.specs.JointRun.{told}
-use Rattle.runs.specs.Knowledge.{honestRound}
 use Rattle.runs.specs.Marker.{markerText}
+use Rattle.runs.specs.Ours.{told, honestRound}
 use Rattle.runs.specs.Prover.{newProver, commit}
 use Rattle.sigma.specs.Answer.{outcome}
 use Rattle.sigma.specs.Reads.{roundOf}

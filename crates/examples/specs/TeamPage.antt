@@ -10,7 +10,7 @@ use Rattle.types.specs.declared.Round.{Round}
 use Rattle.lists.specs.Places.{places, tabulate}
 use Rattle.formats.specs.Sheet.{headerOf}
 use Rattle.runs.specs.Calls.{judgeRound}
-use Rattle.runs.specs.Knowledge.{honestRound}
+use Rattle.runs.specs.Ours.{honestRound}
 use Rattle.sigma.specs.Answer.{outcome}
 use Rattle.sigma.specs.Reads.{roundOf}
 use Rattle.products.specs.Players.{playerSheet}

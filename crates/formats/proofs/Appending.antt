@@ -2,7 +2,7 @@
 -- after the bytes in use, raises the count field by one and changes no other byte.
 -- Assumes nothing.
 use Prim.Native.Nat.{ℕ, _+_, _^_, _<_, _≤_}
-use mathlib.Core.Path.{_≡_, refl, sym, ap, _∙_}
+use mathlib.Core.Path.{_≡_, refl, sym, ap, subst, _∙_}
 use mathlib.Core.Logic.{_↔_, _⊎_, ⊎-elim}
 use mathlib.Core.Bool.{false}
 use mathlib.Core.List.{List, _++_}
@@ -114,7 +114,18 @@ module _ (s buffer : List ℕ) (used : ℕ) (round : Round) where
 
 module _ {h : Header} {buffer : List ℕ} {used : ℕ} (u : InUse h buffer used) (round : Round)
     (fits : used + recordLength (widthInUse buffer used) h ≤ length buffer) where
-  -- the count field is one more
+  -- the count field has the bytes of one more
+  appended-raised : take 2 (drop 5 (appended h buffer used round)) ≡ bytesOf 2 (countField buffer + 1)
+  unfolding appended
+  appended-raised =
+      let raised = bytesOf 2 (countField buffer + 1) in
+      let stored = sets buffer used (recordBytes (widthInUse buffer used) h round) in
+      let size = length-sets buffer used (recordBytes (widthInUse buffer used) h round) in
+      let width = length-bytesOf 2 (countField buffer + 1) in
+      subst (λ (n : ℕ). take n (drop 5 (sets stored 5 raised)) ≡ raised) width
+      (part-sets stored 5 raised (omega (arith, in-use-long u)))
+
+  -- so it is one more, as a number
   pub appended-counted : countField (appended h buffer used round) ≡ countField buffer + 1
   unfolding appended countField
   appended-counted =
@@ -173,7 +184,7 @@ append-adds s buffer used round e =
       number = refl;
       answered = refl;
       stored = appended-stored u round fits;
-      counted = appended-counted u round fits;
+      raised = appended-raised u round fits;
       others = appended-others u round fits;
       size = appended-size (headerOf s) buffer used round;
     })

@@ -36,6 +36,7 @@ use Rattle.formats.specs.ByteLayout.{
 }
 use Rattle.formats.specs.Load.{load, loadRefusal}
 use Rattle.formats.specs.Meaning.{recordSize}
+use Rattle.formats.specs.Ours.{fileCalls}
 use Rattle.formats.specs.RoundCalls.{countRounds}
 use Rattle.formats.specs.RoundFile.{
   challengeWidth,
@@ -60,7 +61,7 @@ use Rattle.formats.specs.Sheet.{
 use Rattle.formats.proofs.Entries.{entryCount-exponent, entryCount-root}
 use Rattle.formats.proofs.Files.{check-runs, count-given, count-runs, fetch-given, width-known, width-only}
 use Rattle.formats.proofs.Loads.{loaded-given, loads, loads-few}
-use Rattle.formats.proofs.Part.{part-given}
+use Rattle.formats.proofs.Part.{part-given, place-given}
 
 -- ---- arrays of eight places
 
@@ -139,7 +140,7 @@ module _ (s : List ℕ) where
   }
 
   -- a sheet that loads
-  loaded-layout : loadRefusal s ≡ 0 → LoadedLayout s
+  loaded-layout : loadRefusal s ≡ 0 → LoadedLayout fileCalls s
   unfolding versionOf sheetMark sheetLength ascii
   loaded-layout e =
       let l = loads s .0 e in
@@ -166,7 +167,7 @@ round-read width h f at few narrow = record {
 
 module _ (s f : List ℕ) where
   -- a file that reads
-  file-layout : countRounds s f .refusal ≡ 0 → FileLayout (challengeWidth f) s f
+  file-layout : countRounds s f .refusal ≡ 0 → FileLayout fileCalls (challengeWidth f) s f
   unfolding countField fileVersion roundMark ascii recordStart recordLength challengeWidth
   file-layout e =
       let (l, r) = count-runs s f .0 e in
@@ -185,6 +186,8 @@ module _ (s f : List ℕ) where
             rw (fetch-given s f k (check-runs s f k .1 (l, r, b))) (refl, at);
         parts = λ k b.
             part-given s f k (check-runs s f k .1 (l, r, b)) ∙ ap (λ (n : ℕ). take n (drop (7 + k * n) f)) width;
+        located = λ k b.
+            place-given s f k (check-runs s f k .1 (l, r, b)) ∙ ap (λ (n : ℕ). record { offset = 7 + k * n; length = n }) width;
       }
 
 -- ---- numbers
@@ -199,12 +202,11 @@ high-byte-first = record {
 }
 
 -- all of it
-pub layout : Layout
+pub layout : Layout fileCalls
 unfolding load challengeWidth fileVersion
 layout = record {
   numbers = high-byte-first;
   sheets = sheet-layout;
-  number = λ s. refl;
   loading = loaded-layout;
   widths = λ f width known. width-only known;
   files = file-layout;

@@ -21,7 +21,6 @@ use Rattle.rules.proofs.Says.{says-decides, says-equal, says-false, says-iff}
 use Rattle.sigma.specs.Reads.{paddedRound}
 use Rattle.sigma.proofs.Calculus.{says-any}
 use Rattle.formats.specs.Convert.{
-  convertConditions,
   convertRules,
   converted,
   otherVersion,
@@ -29,7 +28,7 @@ use Rattle.formats.specs.Convert.{
 }
 use Rattle.formats.specs.Load.{loadRules}
 use Rattle.formats.specs.Meaning.{IsRoundFile, IsVersion, recordSize}
-use Rattle.formats.specs.Refusals.{loadConditions}
+use Rattle.formats.specs.Refusals.{convertConditions, loadConditions}
 use Rattle.formats.specs.RoundCalls.{fileRules, noRound}
 use Rattle.formats.specs.RoundFile.{
   challengeWidth,

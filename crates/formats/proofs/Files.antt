@@ -21,6 +21,7 @@ use Rattle.sigma.proofs.Comparison.{differ-false}
 use Rattle.formats.specs.Append.{badInUse}
 use Rattle.formats.specs.Load.{loadRules}
 use Rattle.formats.specs.Meaning.{Loads, HasWidth, IsRoundFile, IsVersion, InUse}
+use Rattle.formats.specs.Ours.{roundsRead}
 use Rattle.formats.specs.RoundCalls.{fileRules, roundRules, countAfter, checkAfter}
 use Rattle.formats.specs.RoundCalls.{fetchAfter, countRounds, checkRound, fetchRound}
 use Rattle.formats.specs.RoundFile.{
@@ -34,7 +35,7 @@ use Rattle.formats.specs.RoundFile.{
   unknownVersion,
   widthOf,
 }
-use Rattle.formats.specs.Rounds.{roundsRead, roundsOf}
+use Rattle.formats.specs.Rounds.{roundsOf}
 use Rattle.formats.specs.Sheet.{headerOf}
 use Rattle.formats.proofs.Loads.{begins, load-clear}
 use Rattle.formats.proofs.Positive.{count-positive, check-positive}

@@ -10,10 +10,11 @@ use Rattle.lists.specs.Member.{Member}
 use Rattle.sigma.specs.Reads.{paddedRound}
 use Rattle.formats.specs.Append.{emptyFile}
 use Rattle.formats.specs.Meaning.{IsVersion, Loads}
+use Rattle.formats.specs.Ours.{appendEach, roundsRead}
 use Rattle.formats.specs.Outcome.{Puts}
 use Rattle.formats.specs.RoundCalls.{countRounds}
 use Rattle.formats.specs.RoundFile.{countField, fileVersion, recordStart, widthOf}
-use Rattle.formats.specs.Rounds.{Words, appendEach, roundsRead}
+use Rattle.formats.specs.Rounds.{Words}
 use Rattle.formats.specs.Sheet.{headerOf}
 use Rattle.formats.specs.Write.{Writing}
 use Rattle.formats.proofs.Files.{count-runs, count-given, rounds-read}

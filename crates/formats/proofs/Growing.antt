@@ -18,6 +18,7 @@ use Rattle.lists.proofs.Places.{tabulate-agree, tabulate-suc}
 use Rattle.sigma.specs.Reads.{paddedRound}
 use Rattle.formats.specs.Append.{append, appended}
 use Rattle.formats.specs.Meaning.{InUse, IsRoundFile}
+use Rattle.formats.specs.Ours.{fileCalls}
 use Rattle.formats.specs.RoundFile.{challengeWidth, countField, fileVersion, recordBytes, recordLength, recordStart, roundAt, widthInUse}
 use Rattle.formats.specs.Rounds.{Grows, Words, roundsOf}
 use Rattle.formats.specs.Sheet.{headerOf}
@@ -124,7 +125,7 @@ module _ {h : Header} {f : List ℕ} (r : IsRoundFile h f) (room : countField f 
 
 -- a round that is appended stands behind the rounds that were there
 pub append-grows : (s buffer : List ℕ) (used : ℕ) (round : Round) → append s buffer used round .answer .refusal ≡ 0
-    → Grows s (take used buffer) round (take (append s buffer used round .answer .length) (append s buffer used round .buffer))
+    → Grows fileCalls s (take used buffer) round (take (append s buffer used round .answer .length) (append s buffer used round .buffer))
 unfolding fileVersion
 append-grows s buffer used round e =
     let f = take used buffer in

@@ -1,4 +1,5 @@
--- Laws of sheets and round files as bytes: what each test says, what a call answers and reads, and the round trips.
+-- Laws of sheets and round files as bytes: what each test says, what a call answers and reads, the round trips, and that the
+-- demands determine the calls.
 pub mod Tests
 pub mod Refusals
 pub mod Positive
@@ -18,9 +19,14 @@ pub mod Growing
 pub mod RoundFileRoundTrip
 pub mod Converting
 pub mod ConvertCalls
+pub mod Converts
 pub mod Part
+pub mod FileRefusals
 pub mod LongFiles
 pub mod ByteLayout
 pub mod SameCommitment
 pub mod FilesByCalls
 pub mod Writers
+pub mod Corollaries
+pub mod OnlyWriting
+pub mod Only

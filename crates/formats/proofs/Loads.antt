@@ -33,9 +33,9 @@ use Rattle.formats.specs.Load.{
   noHeader,
   load,
   loadEntries,
-  loaded,
 }
 use Rattle.formats.specs.Meaning.{Loads}
+use Rattle.formats.specs.Ours.{loaded}
 use Rattle.formats.specs.Sheet.{sheetMark, versionOf, headerOf, sheetLength, zeros64, instanceOf}
 use Rattle.formats.proofs.Positive.{load-positive}
 

@@ -2,7 +2,7 @@
 -- `given` of the rules).
 -- Assumes nothing.
 use Prim.Native.Nat.{ℕ, _+_, _<_}
-use mathlib.Core.Path.{refl}
+use mathlib.Core.Path.{_≡_, refl}
 use mathlib.Core.Logic.{_≢_}
 use mathlib.Core.List.{List, [], _∷_, _++_}
 use lib.ListN.{length, take}
@@ -10,15 +10,17 @@ use Rattle.types.specs.declared.Header.{Header}
 use Rattle.types.specs.declared.Round.{Round}
 use Rattle.rules.specs.Condition.{_if_, Tests}
 use Rattle.rules.specs.Rule.{_when_}
-use Rattle.rules.proofs.Condition.{tests-append}
+use Rattle.rules.proofs.Condition.{given, tests-append}
+use Rattle.rules.proofs.Determined.{NoneHold, none-zero}
 use Rattle.rules.proofs.Says.{says-at-most, says-equal, says-not}
 use Rattle.sigma.specs.Admission.{headerRules, elementRules}
 use Rattle.sigma.specs.Instance.{Instance}
 use Rattle.sigma.specs.Refusals.{headerConditions, elementConditions}
+use Rattle.sigma.specs.Valid.{Valid}
 use Rattle.sigma.proofs.Refusals.{header-tests, element-tests}
 use Rattle.formats.specs.Append.{appendRules, emptyRules}
 use Rattle.formats.specs.Encode.{encodeRules}
-use Rattle.formats.specs.Load.{badLength, shapeRules, loadRules}
+use Rattle.formats.specs.Load.{badLength, shapeRules, loadRules, loadRefusal}
 use Rattle.formats.specs.Refusals.{
   shapeConditions,
   loadConditions,
@@ -32,6 +34,7 @@ use Rattle.formats.specs.RoundCalls.{fileRules, roundRules}
 use Rattle.formats.specs.RoundFile.{countField, fileVersion, recordLength, widthInUse}
 use Rattle.formats.specs.Sheet.{headerOf, instanceOf, sheetLength, versionOf}
 use Rattle.formats.specs.Write.{short}
+use Rattle.formats.proofs.Loads.{loads-valid}
 use Rattle.formats.proofs.Tests.{
   says-badStart,
   says-badLength,
@@ -119,3 +122,14 @@ pub record-tests : (s buffer : List ℕ) (used : ℕ) (round : Round)
 record-tests s buffer used round =
     tests-append (loadRules s) (appendRules (headerOf s) buffer used round) (loadConditions s)
     (appendConditions (headerOf s) buffer used round) (load-tests s) (append-tests (headerOf s) buffer used round)
+
+-- ---- where no condition holds
+
+-- a sheet of which no condition holds loads by our definitions, so that their laws say what it is
+pub sheet-loads : (sheet : List ℕ) → NoneHold (loadConditions sheet) → loadRefusal sheet ≡ 0
+unfolding loadRefusal
+sheet-loads sheet none = none-zero (loadConditions sheet) _ none (given (loadRules sheet) (loadConditions sheet) (load-tests sheet))
+
+-- and its values are Valid
+pub sheet-valid : (sheet : List ℕ) → NoneHold (loadConditions sheet) → Valid (instanceOf sheet)
+sheet-valid sheet none = loads-valid sheet (sheet-loads sheet none)

@@ -20,6 +20,7 @@ use Rattle.lists.proofs.Rows.{flatten-append}
 use Rattle.sigma.specs.Reads.{paddedRound}
 use Rattle.formats.specs.Append.{append, appended, emptyFile}
 use Rattle.formats.specs.Meaning.{InUse, IsRoundFile, IsVersion, Loads}
+use Rattle.formats.specs.Ours.{appendEach}
 use Rattle.formats.specs.Outcome.{Puts}
 use Rattle.formats.specs.RoundFile.{
   widthInUse,
@@ -33,7 +34,7 @@ use Rattle.formats.specs.RoundFile.{
   recordStart,
   roundMark,
 }
-use Rattle.formats.specs.Rounds.{Words, appendEach, fileIn, roundsOf}
+use Rattle.formats.specs.Rounds.{Words, appendEach as appendEachBy, fileIn, roundsOf}
 use Rattle.formats.specs.Sheet.{headerOf}
 use Rattle.formats.specs.Write.{Writing}
 use Rattle.formats.proofs.Appending.{Narrow, append-given, append-runs, appended-behind, appended-size, width-narrow}
@@ -139,7 +140,7 @@ module _ {version : ℕ} (known : IsVersion version) (s : List ℕ) (l : Loads s
       → AllNarrow version rounds → length done + length rounds ≤ 512
       → recordStart (widthOf version) (headerOf s) (length done + length rounds) ≤ length buffer
       → Puts (fileIn version (headerOf s) (done ++ rounds)) buffer (appendEach s w rounds)
-  unfolding appendEach
+  unfolding appendEachBy
   appendEach-puts [] w done p narrow few fits = rw (append-nil done) p
   appendEach-puts (round ∷ rounds) w done p narrow few fits =
       let more : length (done ++ round ∷ []) ≡ suc (length done) = length-append done (round ∷ []) ∙ add-one (length done) in

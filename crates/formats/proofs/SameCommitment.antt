@@ -1,13 +1,13 @@
 -- Comparing two commitments by bytes (02, card 5): the refusals, and that equal bytes are equal parts and equal values.
 -- Assumes nothing.
-use Prim.Native.Nat.{ℕ, zero, suc, _+_, _*_, _<_, _≤_}
+use Prim.Native.Nat.{ℕ, zero, suc, _+_, _*_, _<_}
 use mathlib.Core.Path.{_≡_, refl, sym, ap, _∙_}
 use mathlib.Core.Bool.{Bool, true, false, cond, false≢true}
 use mathlib.Core.Logic.{_↔_, _⊎_, inl, inr, Iff·trans}
 use mathlib.Core.List.{List, _++_}
 use native.Mathlib.Omega.{arith}
 use lib.Dec.{leb}
-use lib.ListN.{getD, take, drop}
+use lib.ListN.{getD, drop}
 use lib.Seq.{getD-drop, getD-take}
 use Rattle.types.specs.declared.Fetched.{Fetched}
 use Rattle.types.specs.declared.Header.{Header}
@@ -29,15 +29,17 @@ use Rattle.sigma.proofs.Answer.{unlessRefused-positive, unlessRefused-zero}
 use Rattle.sigma.proofs.Calculus.{both-fail}
 use Rattle.sigma.proofs.Comparison.{differ-false}
 use Rattle.formats.specs.Load.{loadRules}
-use Rattle.formats.specs.Refusals.{loadConditions}
+use Rattle.formats.specs.Ours.{fileCalls}
+use Rattle.formats.specs.Refusals.{loadConditions, sameConditions}
 use Rattle.formats.specs.RoundCalls.{checkAfter, checkRound, fetchRound, fileRules, partOfRound, roundRules}
 use Rattle.formats.specs.RoundFile.{challengeWidth, countField, recordLength, recordStart, roundAt}
-use Rattle.formats.specs.SameCommitment.{WordsCompare, WordsRefusals, commitmentBytes, sameAfter, sameCommitment, sameConditions, sameRules}
+use Rattle.formats.specs.SameCommitment.{commitmentBytes, sameAfter, sameCommitment, sameRules}
 use Rattle.formats.specs.Sheet.{headerOf}
+use Rattle.formats.specs.WordsCompare.{WordsCompare, WordsRefusals}
 use Rattle.formats.proofs.ByteLayout.{word-at}
-use Rattle.formats.proofs.Files.{check-runs, fetch-given, number-passes}
+use Rattle.formats.proofs.Files.{fetch-given}
 use Rattle.formats.proofs.Part.{part-given}
-use Rattle.formats.proofs.Positive.{check-positive, load-positive}
+use Rattle.formats.proofs.Positive.{load-positive}
 use Rattle.formats.proofs.Refusals.{load-tests}
 use Rattle.formats.proofs.Tests.{says-badFile}
 
@@ -124,15 +126,27 @@ module _ (sheet f : List ℕ) (i j : ℕ) (e : sameCommitment sheet f i j .refus
       ap (λ (fetched : Fetched). getD (fetched .round .commitment) k 0) (fetch-given sheet f r checked)
       ∙ word-at f (recordStart (challengeWidth f) h r) (h .rows) k less
 
+  -- so it is 1 exactly where the commitments that are read agree
+  pub same-values : AllBytes f
+      → (sameCommitment sheet f i j .same ≡ 1)
+      ↔ Agree (headerOf sheet .rows) (fetchRound sheet f i .round .commitment) (fetchRound sheet f j .round .commitment)
+  same-values all =
+      let (x, y) = both-checked sheet f i j e in
+      let words = words-bytes 4 f a b all (h .rows) in
+      Iff·trans same-bytes (
+        λ same k less. value-at i x k less ∙ words .1 same k less ∙ sym (value-at j y k less),
+        λ same. words .0 (λ k less. sym (value-at i x k less) ∙ same k less ∙ value-at j y k less),
+      )
+
 -- the refusals
-pub words-refusals : WordsRefusals
+pub words-refusals : WordsRefusals fileCalls
 unfolding conditionNumbers isSublist refusalOrder sheetNumbers sameCommitment sameAfter
 words-refusals = record {
   comparing = λ sheet f i j. refuses-tested _ _ refl refl _ (same-tests sheet f i j) (unlessRefused-positive _ 0 _);
 }
 
 -- what the card asks
-pub words-compare : WordsCompare
+pub words-compare : WordsCompare fileCalls
 unfolding sameCommitment sameAfter
 words-compare = record {
   answers = λ sheet f i j.
@@ -143,14 +157,5 @@ words-compare = record {
       Iff·trans (same-bytes sheet f i j e) (
         λ same k less. part-at sheet f i j e i x k less ∙ same k less ∙ sym (part-at sheet f i j e j y k less),
         λ same k less. sym (part-at sheet f i j e i x k less) ∙ same k less ∙ part-at sheet f i j e j y k less,
-      );
-  values = λ sheet f i j all e.
-      let (x, y) = both-checked sheet f i j e in
-      let words = words-bytes 4 f (recordStart (challengeWidth f) (headerOf sheet) i) (recordStart (challengeWidth f) (headerOf sheet) j) all
-      (headerOf sheet .rows) in
-      Iff·trans (same-bytes sheet f i j e) (
-        λ same k less. value-at sheet f i j e i x k less ∙ words .1 same k less ∙ sym (value-at sheet f i j e j y k less),
-        λ same.
-            words .0 (λ k less. sym (value-at sheet f i j e i x k less) ∙ same k less ∙ value-at sheet f i j e j y k less),
       );
 }

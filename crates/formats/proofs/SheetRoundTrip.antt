@@ -10,8 +10,9 @@ use Rattle.encoding.specs.Bytes.{AllBytes}
 use Rattle.sigma.specs.Instance.{Instance}
 use Rattle.sigma.specs.Valid.{Valid}
 use Rattle.formats.specs.Encode.{sheetOf, encode}
-use Rattle.formats.specs.Load.{loadRefusal, loaded}
+use Rattle.formats.specs.Load.{loadRefusal}
 use Rattle.formats.specs.Meaning.{Loads, readInstance}
+use Rattle.formats.specs.Ours.{loaded}
 use Rattle.formats.specs.Outcome.{Puts}
 use Rattle.formats.specs.Sheet.{instanceOf, sheetLength}
 use Rattle.formats.proofs.Loads.{loads, loaded-given}

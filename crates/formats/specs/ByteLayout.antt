@@ -9,9 +9,8 @@ use Rattle.types.specs.declared.Header.{Header}
 use Rattle.types.specs.declared.Round.{Round}
 use Rattle.encoding.specs.Bytes.{numberAt}
 use Rattle.sigma.specs.Instance.{Instance}
-use Rattle.formats.specs.Load.{load, loadRefusal, loaded}
+use Rattle.formats.specs.FileCalls.{FileCalls, loaded}
 use Rattle.formats.specs.Meaning.{HasWidth, recordSize}
-use Rattle.formats.specs.RoundCalls.{countRounds, fetchRound, partOfRound}
 use Rattle.formats.specs.RoundFile.{challengeWidth}
 use Rattle.formats.specs.Sheet.{headerOf, instanceOf, versionOf}
 
@@ -57,40 +56,45 @@ pub record SheetLayout (sheet : List ℕ) : Type 0 where
       → ExponentLayout sheet (instanceOf sheet) (headerOf sheet .rows) (headerOf sheet .columns)
   pub root : headerOf sheet .kind ≢ 1 → headerOf sheet .rows ≤ 8 → RootLayout sheet (instanceOf sheet) (headerOf sheet .rows)
 
--- a sheet that loads: its mark and length, and the loader gives these values
-pub record LoadedLayout (sheet : List ℕ) : Type 0 where
-  pub mark : take 3 sheet ≡ 0x48 ∷ 0x4F ∷ 0x4D ∷ []
-  pub version : numberAt 2 sheet 3 ≡ 1
-  pub exponent : headerOf sheet .kind ≡ 1
-      → length sheet ≡ 20 + 4 * (headerOf sheet .rows * headerOf sheet .columns) + 4 * headerOf sheet .rows
-  pub root : headerOf sheet .kind ≢ 1 → length sheet ≡ 20 + 4 * headerOf sheet .rows
-  pub values : loaded sheet ≡ instanceOf sheet
-
 -- a round as it stands in a file from byte `at` on
 pub record RoundAt (width : ℕ) (h : Header) (file : List ℕ) (at : ℕ) (round : Round) : Type 0 where
   pub commitment : WordsAt file at (h .rows) (round .commitment)
   pub challenge : round .challenge ≡ numberAt width file (at + 4 * h .rows)
   pub response : WordsAt file (at + 4 * h .rows + width) (h .columns) (round .response)
 
--- a round file that reads for a sheet, and whose challenges have so many bytes
-pub record FileLayout (width : ℕ) (sheet file : List ℕ) : Type 0 where
-  pub mark : take 3 file ≡ 0x52 ∷ 0x4E ∷ 0x44 ∷ []
-  pub version : HasWidth (numberAt 2 file 3) width
-  pub count : countRounds sheet file .count ≡ numberAt 2 file 5
-  pub size : length file ≡ 7 + numberAt 2 file 5 * recordSize width (headerOf sheet)
-  pub rounds : (k : ℕ) → k < numberAt 2 file 5
-      → (fetchRound sheet file k .refusal ≡ 0)
-      × RoundAt width (headerOf sheet) file (7 + k * recordSize width (headerOf sheet)) (fetchRound sheet file k .round)
-  pub parts : (k : ℕ) → k < numberAt 2 file 5
-      → partOfRound sheet file k
-      ≡ take (recordSize width (headerOf sheet)) (drop (7 + k * recordSize width (headerOf sheet)) file)
+module _ (code : FileCalls) where
+  open FileCalls code using (load, countRounds, partOfRound, locateRound, fetchRound)
 
-pub record Layout : Type 0 where
-  pub numbers : HighByteFirst
-  pub sheets : (sheet : List ℕ) → SheetLayout sheet
-  -- whether a sheet loads is what the loader's number says
-  pub number : (sheet : List ℕ) → load sheet .refusal ≡ loadRefusal sheet
-  pub loading : (sheet : List ℕ) → loadRefusal sheet ≡ 0 → LoadedLayout sheet
-  -- the width of a file's challenges is that of its version
-  pub widths : (file : List ℕ) (width : ℕ) → HasWidth (numberAt 2 file 3) width → challengeWidth file ≡ width
-  pub files : (sheet file : List ℕ) → countRounds sheet file .refusal ≡ 0 → FileLayout (challengeWidth file) sheet file
+  -- a sheet that loads: its mark and length, and the loader gives these values
+  pub record LoadedLayout (sheet : List ℕ) : Type 0 where
+    pub mark : take 3 sheet ≡ 0x48 ∷ 0x4F ∷ 0x4D ∷ []
+    pub version : numberAt 2 sheet 3 ≡ 1
+    pub exponent : headerOf sheet .kind ≡ 1
+        → length sheet ≡ 20 + 4 * (headerOf sheet .rows * headerOf sheet .columns) + 4 * headerOf sheet .rows
+    pub root : headerOf sheet .kind ≢ 1 → length sheet ≡ 20 + 4 * headerOf sheet .rows
+    pub values : loaded code sheet ≡ instanceOf sheet
+
+  -- a round file that reads for a sheet, and whose challenges have so many bytes
+  pub record FileLayout (width : ℕ) (sheet file : List ℕ) : Type 0 where
+    pub mark : take 3 file ≡ 0x52 ∷ 0x4E ∷ 0x44 ∷ []
+    pub version : HasWidth (numberAt 2 file 3) width
+    pub count : countRounds sheet file .count ≡ numberAt 2 file 5
+    pub size : length file ≡ 7 + numberAt 2 file 5 * recordSize width (headerOf sheet)
+    pub rounds : (k : ℕ) → k < numberAt 2 file 5
+        → (fetchRound sheet file k .refusal ≡ 0)
+        × RoundAt width (headerOf sheet) file (7 + k * recordSize width (headerOf sheet)) (fetchRound sheet file k .round)
+    pub parts : (k : ℕ) → k < numberAt 2 file 5
+        → partOfRound sheet file k
+        ≡ take (recordSize width (headerOf sheet)) (drop (7 + k * recordSize width (headerOf sheet)) file)
+    -- the place of that part in the caller's own file
+    pub located : (k : ℕ) → k < numberAt 2 file 5
+        → locateRound sheet file k
+        ≡ record { offset = 7 + k * recordSize width (headerOf sheet); length = recordSize width (headerOf sheet) }
+
+  pub record Layout : Type 0 where
+    pub numbers : HighByteFirst
+    pub sheets : (sheet : List ℕ) → SheetLayout sheet
+    pub loading : (sheet : List ℕ) → load sheet .refusal ≡ 0 → LoadedLayout sheet
+    -- the width of a file's challenges is that of its version
+    pub widths : (file : List ℕ) (width : ℕ) → HasWidth (numberAt 2 file 3) width → challengeWidth file ≡ width
+    pub files : (sheet file : List ℕ) → countRounds sheet file .refusal ≡ 0 → FileLayout (challengeWidth file) sheet file

@@ -1,22 +1,15 @@
 -- The converter of round files (02, card 7; refusals 2 to 12, 15 and 22): the rounds of a file of one version, written in the
 -- other.
 -- Assumes nothing.
-use Prim.Native.Nat.{ℕ, _+_, _*_, _<_}
-use mathlib.Core.Path.{_≡_}
+use Prim.Native.Nat.{ℕ}
 use mathlib.Core.Bool.{Bool, cond}
-use mathlib.Core.Logic.{_⊎_, _≢_}
 use mathlib.Core.List.{List, [], _∷_, _++_}
 use lib.Dec.{eqb}
-use lib.ListN.{length}
 use Rattle.types.specs.declared.Header.{Header}
-use Rattle.encoding.specs.Bytes.{numberAt}
 use Rattle.numbers.specs.Search.{any}
-use Rattle.rules.specs.Condition.{Condition, _if_}
 use Rattle.rules.specs.Rule.{Rule, _when_, lowest}
 use Rattle.formats.specs.Append.{wideChallenge}
 use Rattle.formats.specs.Load.{loadRules}
-use Rattle.formats.specs.Meaning.{recordSize}
-use Rattle.formats.specs.Refusals.{Refusal12}
 use Rattle.formats.specs.RoundCalls.{fileRules}
 use Rattle.formats.specs.RoundFile.{challengeWidth, countField, fileVersion, recordStart, roundAt, widthOf}
 use Rattle.formats.specs.Rounds.{fileIn, roundsOf}
@@ -50,15 +43,3 @@ convertAfter before h f buffer = writtenAtStart (lowest (before ++ convertRules 
 -- the converter
 unfoldable pub convert : List ℕ → List ℕ → List ℕ → Writing
 convert sheet f buffer = convertAfter (loadRules sheet) (headerOf sheet) f buffer
-
--- its own conditions; 15 is for a record of a version 1 file, wherever it stands, whose challenge is above 65,535, and 22 for a
--- buffer that is shorter than the result, whose challenges have two bytes for a file of version 1, else four
-abbrev pub convertConditions : Header → List ℕ → List ℕ → List Condition
-convertConditions h f buffer =
-    (12 if Refusal12 h f) ∷
-    (15 if
-    ((fileVersion f ≡ 1) × ((k : ℕ) × (k < countField f) ×
-    (65535 < numberAt 4 f (7 + k * recordSize 4 h + 4 * h .rows))))) ∷
-    (22 if
-    (((fileVersion f ≡ 1) × (length buffer < 7 + countField f * recordSize 2 h)) ⊎
-    ((fileVersion f ≢ 1) × (length buffer < 7 + countField f * recordSize 4 h)))) ∷ []

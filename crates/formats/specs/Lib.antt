@@ -1,4 +1,4 @@
--- Sheets and round files as bytes.
+-- Sheets and round files as bytes, the calls on them, and what the demands ask of any such calls.
 pub mod Sheet
 pub mod Load
 pub mod Write
@@ -10,7 +10,14 @@ pub mod Refusals
 pub mod SameCommitment
 pub mod Meaning
 pub mod Outcome
+pub mod FileCalls
 pub mod Rounds
 pub mod Convert
+pub mod Ours
+pub mod FileRefusals
 pub mod ByteLayout
 pub mod Writers
+pub mod WordsCompare
+pub mod Converts
+pub mod Same
+pub mod Corollaries

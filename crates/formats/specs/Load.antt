@@ -12,7 +12,6 @@ use Rattle.rules.specs.Answer.{unlessRefused}
 use Rattle.rules.specs.Rule.{Rule, _when_, lowest}
 use Rattle.sigma.specs.Admission.{headerRules, elementRules}
 use Rattle.sigma.specs.Comparison.{differ}
-use Rattle.sigma.specs.Instance.{Instance}
 use Rattle.formats.specs.Sheet.{
   sheetMark,
   versionOf,
@@ -61,7 +60,3 @@ load s =
 -- the call that gives a sheet's entries, all 0 where it is refused; `load` of the same bytes gives the number
 unfoldable pub loadEntries : List ℕ → List (List ℕ)
 loadEntries s = unlessRefused (loadRefusal s) (entriesOf s (headerOf s)) zeros64
-
--- the values of a sheet as the loader gives them
-abbrev pub loaded : List ℕ → Instance
-loaded s = record { header = load s .header; entries = loadEntries s; statement = load s .statement }

@@ -1,18 +1,21 @@
 -- The conditions of 01's refusals on bytes ("Turned back", 2, 3, 9, 12, 13 and 22; 02, card 7, for 15), as facts, and which of
 -- them each call asks, in order.
 -- Assumes nothing.
-use Prim.Native.Nat.{ℕ, _+_, _<_, _≤_}
+use Prim.Native.Nat.{ℕ, _+_, _*_, _<_, _≤_}
 use mathlib.Core.Path.{_≡_}
 use mathlib.Core.Logic.{_⊎_, _≢_}
 use mathlib.Core.List.{List, [], _∷_, _++_}
 use lib.ListN.{length, take}
 use Rattle.types.specs.declared.Header.{Header}
 use Rattle.types.specs.declared.Round.{Round}
+use Rattle.encoding.specs.Bytes.{numberAt}
 use Rattle.rules.specs.Condition.{Condition, _if_}
+use Rattle.rules.specs.Order.{sheetNumbers}
+use Rattle.rules.specs.Refuses.{Refuses}
 use Rattle.sigma.specs.Instance.{Instance}
 use Rattle.sigma.specs.Reads.{Differ}
 use Rattle.sigma.specs.Refusals.{headerConditions, elementConditions}
-use Rattle.formats.specs.Meaning.{IsVersion}
+use Rattle.formats.specs.Meaning.{IsVersion, recordSize}
 use Rattle.formats.specs.RoundFile.{
   challengeWidth,
   countField,
@@ -41,6 +44,10 @@ shapeConditions s =
 abbrev pub loadConditions : List ℕ → List Condition
 loadConditions s = shapeConditions s ++ elementConditions (instanceOf s)
 
+-- a call on a sheet: the sheet's conditions come first, then the call's own
+abbrev pub RefusesOn : List ℕ → List ℕ → List Condition → ℕ → Type 0 → Type 0
+RefusesOn sheet numbers conditions n Left = Refuses (sheetNumbers ++ numbers) (loadConditions sheet ++ conditions) n Left
+
 -- the second writer; 22 is for a buffer that is shorter than the result
 abbrev pub encodeConditions : Instance → List ℕ → List Condition
 encodeConditions inst buffer =
@@ -65,3 +72,19 @@ appendConditions h buffer used round =
     (12 if ((length buffer < used) ⊎ Refusal12 h (take used buffer) ⊎ (512 ≤ countField (take used buffer)))) ∷
     (15 if ((fileVersion (take used buffer) ≡ 2) × (65535 < round .challenge))) ∷
     (22 if (length buffer < used + recordLength (widthInUse buffer used) h)) ∷ []
+
+-- comparing the commitments of two rounds; 13 is for either number at or beyond the file's count
+abbrev pub sameConditions : Header → List ℕ → ℕ → ℕ → List Condition
+sameConditions h f i j = (12 if Refusal12 h f) ∷ (13 if ((countField f ≤ i) ⊎ (countField f ≤ j))) ∷ []
+
+-- the converter; 15 is for a record of a version 1 file, wherever it stands, whose challenge is above 65,535, and 22 for a
+-- buffer that is shorter than the result, whose challenges have two bytes for a file of version 1, else four
+abbrev pub convertConditions : Header → List ℕ → List ℕ → List Condition
+convertConditions h f buffer =
+    (12 if Refusal12 h f) ∷
+    (15 if
+    ((fileVersion f ≡ 1) × ((k : ℕ) × (k < countField f) ×
+    (65535 < numberAt 4 f (7 + k * recordSize 4 h + 4 * h .rows))))) ∷
+    (22 if
+    (((fileVersion f ≡ 1) × (length buffer < 7 + countField f * recordSize 2 h)) ⊎
+    ((fileVersion f ≢ 1) × (length buffer < 7 + countField f * recordSize 4 h)))) ∷ []

@@ -9,8 +9,7 @@ use Rattle.types.specs.declared.Round.{Round}
 use Rattle.encoding.specs.Bytes.{bytesOf, numberAt}
 use Rattle.lists.specs.Places.{tabulate}
 use Rattle.sigma.specs.Reads.{paddedRound}
-use Rattle.formats.specs.Append.{append}
-use Rattle.formats.specs.RoundCalls.{countRounds, fetchRound}
+use Rattle.formats.specs.FileCalls.{FileCalls}
 use Rattle.formats.specs.RoundFile.{challengeWidth, widthOf, recordBytes, recordStart, roundAt, roundMark, countField}
 use Rattle.formats.specs.Sheet.{headerOf}
 use Rattle.formats.specs.Write.{Writing}
@@ -30,18 +29,21 @@ unfoldable pub fileIn : ℕ → Header → List Round → List ℕ
 fileIn version h rounds =
     roundMark ++ bytesOf 2 version ++ bytesOf 2 (length rounds) ++ flatten (map (recordBytes (widthOf version) h) rounds)
 
--- the record writer called for each round in turn, on the buffer and the bytes in use that the call before it left
-unfoldable pub appendEach : List ℕ → Writing → List Round → Writing
-appendEach sheet w [] = w
-appendEach sheet w (round ∷ rounds) = appendEach sheet (append sheet (w .buffer) (w .answer .length) round) rounds
+module _ (code : FileCalls) where
+  open FileCalls code using (countRounds, fetchRound, append)
 
--- the rounds of a file as the calls read them
-abbrev pub roundsRead : List ℕ → List ℕ → List Round
-roundsRead sheet f = tabulate (countRounds sheet f .count) (λ k. fetchRound sheet f k .round)
+  -- the record writer called for each round in turn, on the buffer and the bytes in use that the call before it left
+  unfoldable pub appendEach : List ℕ → Writing → List Round → Writing
+  appendEach sheet w [] = w
+  appendEach sheet w (round ∷ rounds) = appendEach sheet (append sheet (w .buffer) (w .answer .length) round) rounds
 
--- the file f′ is of the version of the file f and reads as f with one round more, at its end
-pub record Grows (sheet f : List ℕ) (round : Round) (f′ : List ℕ) : Type 0 where
-  pub version : numberAt 2 f′ 3 ≡ numberAt 2 f 3
-  pub count : countRounds sheet f′ ≡ record { refusal = 0; count = countRounds sheet f .count + 1 }
-  pub rounds : Words (challengeWidth f) (headerOf sheet) round
-      → roundsRead sheet f′ ≡ roundsRead sheet f ++ paddedRound (headerOf sheet) round ∷ []
+  -- the rounds of a file as the calls read them
+  abbrev pub roundsRead : List ℕ → List ℕ → List Round
+  roundsRead sheet f = tabulate (countRounds sheet f .count) (λ k. fetchRound sheet f k .round)
+
+  -- the file f′ is of the version of the file f and reads as f with one round more, at its end
+  pub record Grows (sheet f : List ℕ) (round : Round) (f′ : List ℕ) : Type 0 where
+    pub version : numberAt 2 f′ 3 ≡ numberAt 2 f 3
+    pub count : countRounds sheet f′ ≡ record { refusal = 0; count = countRounds sheet f .count + 1 }
+    pub rounds : Words (challengeWidth f) (headerOf sheet) round
+        → roundsRead sheet f′ ≡ roundsRead sheet f ++ paddedRound (headerOf sheet) round ∷ []

@@ -5,3 +5,4 @@ pub mod Extraction
 pub mod Simulation
 pub mod Vectors
 pub mod Rows
+pub mod Determined

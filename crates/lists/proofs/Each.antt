@@ -1,7 +1,7 @@
 -- The values of lists of n numbers that satisfy a predicate, and of lists that are mapped or joined slot by slot.
 -- Assumes nothing.
 use mathlib.Core.Path.{_≡_, refl, ap, _∙_, sym}
-use mathlib.Core.HLevel.{Unit-prop, ⊥-prop, ×-prop}
+use mathlib.Core.HLevel.{Unit-prop, ⊥-prop, ×-prop, Σ-prop-path}
 use mathlib.Core.List.{List, [], _∷_, map, zipWith}
 use Prim.Native.Nat.{ℕ, zero, suc, _<_}
 use native.Mathlib.Omega.{arith}
@@ -47,6 +47,11 @@ module _ (P : ℕ → Type 0) where
   same-values n xs ys e d agree =
       ext-getD 0 xs ys (each-length n xs e ∙ sym (each-length n ys d))
       (λ (j : ℕ) (h : j < length xs). agree j (omega (arith, each-length n xs e)))
+
+  -- and so are the lists with what is known of them, where P is a proposition
+  pub same-slots : ((v : ℕ) → IsProp (P v)) → (n : ℕ) (x y : (xs : List ℕ) × Each P n xs)
+      → ((j : ℕ) → j < n → getD (x .0) j 0 ≡ getD (y .0) j 0) → x ≡ y
+  same-slots p n x y agree = Σ-prop-path (each-proposition p n) (same-values n (x .0) (y .0) (x .1) (y .1) agree)
 
 -- the first n places of an array whose values satisfy P are a list of n numbers that do
 pub each-places : (P : ℕ → Type 0) (n : ℕ) (xs : List ℕ) → ((j : ℕ) → j < n → P (getD xs j 0)) → Each P n (places n xs)

@@ -1,9 +1,11 @@
--- Rising lists: a larger number may follow, the first is the lowest, and the numbers that pass a test rise.
+-- Rising lists: a larger number may follow, the first is the lowest, the numbers that pass a test rise, and the members determine the
+-- list.
 -- Assumes nothing.
 use Prim.Native.Nat.{ℕ, zero, suc, _<_, _≤_}
-use mathlib.Core.Path.{_≡_, sym, ap, subst, _∙_}
+use mathlib.Core.Path.{_≡_, refl, sym, ap, subst, _∙_}
 use mathlib.Core.Bool.{Bool, true, false, cond}
 use mathlib.Core.List.{List, [], _∷_, _++_, append-nil}
+use mathlib.Core.Logic.{_↔_, inl, inr, ⊎-elim}
 use native.Mathlib.Decide.{decLt}
 use native.Mathlib.Omega.{arith}
 use lib.ListN.{length, getD, length-append, List·getD-append}
@@ -45,3 +47,25 @@ first-least xs rises (suc j) inside = omega (arith, rises j inside, first-least 
 -- so no member is below it
 pub rising-first : (xs : List ℕ) → Rising xs → (v : ℕ) → Member v xs → getD xs 0 0 ≤ v
 rising-first xs rises v m = let (j, inside, same) = member-place 0 v xs m in omega (arith, first-least xs rises j inside)
+
+-- and the others are above it
+rising-above : (x : ℕ) (xs : List ℕ) → Rising (x ∷ xs) → (v : ℕ) → Member v xs → x < v
+rising-above x [] rises v m = absurd m
+rising-above x (y ∷ ys) rises v m =
+    let next : x < y = rises 0 (omega arith) in
+    omega (arith, next, rising-first (y ∷ ys) (λ j inside. rises (suc j) (omega arith)) v m)
+
+-- rising lists with the same members are equal
+pub rising-only : (xs ys : List ℕ) → Rising xs → Rising ys → ((v : ℕ) → Member v xs ↔ Member v ys) → xs ≡ ys
+rising-only [] [] rises rises′ same = refl
+rising-only [] (y ∷ ys) rises rises′ same = absurd (same y .1 (inl refl))
+rising-only (x ∷ xs) [] rises rises′ same = absurd (same x .0 (inl refl))
+rising-only (x ∷ xs) (y ∷ ys) rises rises′ same =
+    let low : y ≤ x = rising-first (y ∷ ys) rises′ x (same x .0 (inl refl)) in
+    let high : x ≤ y = rising-first (x ∷ xs) rises y (same y .1 (inl refl)) in
+    let equal : x ≡ y = omega (arith, low, high) in
+    let rest = rising-only xs ys (λ j inside. rises (suc j) (omega arith)) (λ j inside. rises′ (suc j) (omega arith)) (λ v. (
+      λ m. ⊎-elim (λ e. absurd (omega (arith, rising-above x xs rises v m, e, equal))) (λ n. n) (same v .0 (inr m)),
+      λ m. ⊎-elim (λ e. absurd (omega (arith, rising-above y ys rises′ v m, e, equal))) (λ n. n) (same v .1 (inr m)),
+    )) in
+    λ i. equal i ∷ rest i

@@ -9,7 +9,8 @@ use Rattle.rules.specs.Condition.{Applies, Condition, _if_}
 use Rattle.rules.specs.Order.{position, positionIn, refusalOrder}
 use Rattle.rules.proofs.Refuses.{earliest}
 use Rattle.formats.specs.Sheet.{instanceOf}
-use Rattle.disjunctions.specs.Calls.{OrDrop, OrRespond, callOr}
+use Rattle.disjunctions.specs.Calls.{OrDrop, OrRespond}
+use Rattle.disjunctions.specs.Ours.{callOr}
 use Rattle.disjunctions.specs.Prover.{dropOr, dropOrRules, orProverIn, orStep}
 use Rattle.disjunctions.specs.Refusals.{pairConditions, respondOrConditions}
 use Rattle.disjunctions.proofs.OrRefusals.{or-refusals}

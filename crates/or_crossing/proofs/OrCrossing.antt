@@ -12,8 +12,9 @@ use Rattle.sigma.proofs.Answer.{unlessRefused-positive}
 use Rattle.runs.specs.Run.{sessionAfter, trace}
 use Rattle.runs.proofs.Run.{trace-refused, trace-given}
 use Rattle.disjunctions.specs.declared.OrProver.{OrProver}
-use Rattle.disjunctions.specs.Calls.{OrCall, OrCommit, OrDrop, OrEnded, OrRespond, callOr, orAfter, orAnswered, orTrace}
-use Rattle.disjunctions.proofs.OrSessions.{or-sessions}
+use Rattle.disjunctions.specs.Calls.{OrCall, OrCommit, OrDrop, OrEnded, OrRespond, orAnswered}
+use Rattle.disjunctions.proofs.OrSessions.{or-sessions, or-kept}
+use Rattle.disjunctions.specs.Ours.{callOr, orAfter, orTrace}
 use Rattle.crossing.specs.Provers.{proverPhase}
 use Rattle.crossing.proofs.HandedBack.{handed-back, handed-on-after}
 use Rattle.crossing.proofs.Phases.{ofFour-beyond}
@@ -37,15 +38,9 @@ or-in-and-out s few = rw (state-of-phase (s .phase) few)
 -- ---- one call on a session
 
 module _ (call : OrCall) (p : OrProver) where
-  -- a refused call leaves the session
-  refused-left : 0 < callOr call p .refusal → callOr call p .session ≡ p
-  unfolding orTrace orAfter trace sessionAfter
-  refused-left refused =
-      rw (trace-refused callOr (λ step. step .session) (λ step. step .refusal) call [] p refused) at (or-sessions .in-order (call ∷ []) p)
-
   -- every call on a session that is Answered or Dropped is refused
   ended-refused : OrEnded p → 0 < callOr call p .refusal
-  unfolding orTrace trace
+  unfolding callOr trace
   ended-refused ended =
       let one : callOr call p .refusal ≡ 0 → _≡_ {A = ℕ} 1 0 =
       λ e. ap length (sym (trace-given callOr (λ step. step .session) (λ step. step .refusal) call [] p e)
@@ -72,7 +67,7 @@ module _ (call : OrCall) (s : OrSession) where
   -- the session handed back is the one after the call
   pub or-handed-on : orProverOf (answeredOr call s .session) ≡ callOr call (orProverOf s) .session
   unfolding orAnswer
-  or-handed-on = handed-back orProverOf orSession or-out-and-in _ s _ (refused-left call (orProverOf s))
+  or-handed-on = handed-back orProverOf orSession or-out-and-in _ s _ (or-kept call (orProverOf s))
 
   -- a number that is no state's allows no call: it is refused, and the session comes back as it was handed in
   pub or-unknown-refused : 4 ≤ s .phase → (0 < answeredOr call s .refusal) × (answeredOr call s .session ≡ s)
@@ -85,7 +80,7 @@ module _ (call : OrCall) (s : OrSession) where
 -- after any calls, each given the session that the last one handed back, the session is the one after the calls
 pub or-handed-on-all : (calls : List OrCall) (s : OrSession)
     → orProverOf (sessionAfter answeredOr (λ answer. answer .session) calls s) ≡ orAfter calls (orProverOf s)
-unfolding orAfter
+unfolding orAfter callOr
 or-handed-on-all =
     handed-on-after answeredOr (λ answer. answer .session) callOr (λ step. step .session) orProverOf or-handed-on
 
@@ -100,7 +95,7 @@ answered-same OrDrop a b later later′ e = e
 -- the calls that crossed answer the challenges that the calls on the session answer
 pub or-answered-across : (calls : List OrCall) (s : OrSession)
     → orAnswered (answeredOrTrace calls s) ≡ orAnswered (orTrace calls (orProverOf s))
-unfolding answeredOrTrace orTrace trace orAnswered orAnswer
+unfolding answeredOrTrace orTrace callOr trace orAnswered orAnswer
 or-answered-across [] s = refl
 or-answered-across (call ∷ calls) s =
     step
@@ -125,4 +120,5 @@ or-answered-across (call ∷ calls) s =
 
 -- so over any calls, each given the session that the last one handed back, at most one challenge is answered
 pub or-one-answer-across : (calls : List OrCall) (s : OrSession) → length (orAnswered (answeredOrTrace calls s)) ≤ 1
+unfolding orTrace callOr
 or-one-answer-across calls s = rw (or-answered-across calls s) (or-sessions .once calls (orProverOf s))

@@ -2,7 +2,8 @@
 -- Assumes nothing.
 use mathlib.Core.List.{List}
 use Rattle.runs.specs.Run.{trace}
-use Rattle.disjunctions.specs.Calls.{OrCall, callOr}
+use Rattle.disjunctions.specs.Calls.{OrCall}
+use Rattle.disjunctions.specs.Ours.{callOr}
 use Rattle.or_crossing.specs.Provers.{orProverOf, orAnswer}
 use Rattle.or_crossing.specs.declared.OrAnswer.{OrAnswer}
 use Rattle.or_crossing.specs.declared.OrSession.{OrSession}

@@ -1,4 +1,4 @@
--- Laws of pattern files and of the sheet maker over them.
+-- Laws of pattern files and of the sheet maker over them, and that the demands determine both calls.
 pub mod Tests
 pub mod Files
 pub mod Sheets
@@ -7,4 +7,7 @@ pub mod Making
 pub mod Spelled
 pub mod Meaning
 pub mod Shipped
+pub mod OldMaker
 pub mod PatternCalls
+pub mod Corollaries
+pub mod Only

@@ -12,7 +12,8 @@ use Rattle.rules.proofs.Lowest.{clear-lowest}
 use Rattle.sigma.specs.Instance.{Instance}
 use Rattle.sigma.proofs.Tests.{says-someNonElement, says-badModulus, says-badOrder, says-badCount, says-badStatement}
 use Rattle.formats.specs.Encode.{encode, sheetOf}
-use Rattle.formats.specs.Load.{loadRefusal, loaded}
+use Rattle.formats.specs.Load.{loadRefusal}
+use Rattle.formats.specs.Ours.{loaded}
 use Rattle.formats.specs.Outcome.{Keeps, Puts}
 use Rattle.formats.specs.Sheet.{sheetLength}
 use Rattle.formats.specs.Write.{Writing, written, writtenAtStart}
@@ -28,7 +29,7 @@ use Rattle.patterns.proofs.Sheets.{made-read}
 use Rattle.patterns.proofs.Tests.{says-23, says-24, says-asked}
 
 -- the rules of the values and the buffer test the conditions of 5, 6, 8, 10, 11 and 22
-made-tests : (values : List ℕ) (i : Instance) (buffer : List ℕ) → Tests (madeRules values i buffer) (madeConditions values i buffer)
+pub made-tests : (values : List ℕ) (i : Instance) (buffer : List ℕ) → Tests (madeRules values i buffer) (madeConditions values i buffer)
 unfolding madeRules
 made-tests values i buffer = (
   refl,

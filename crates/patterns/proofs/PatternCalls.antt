@@ -12,6 +12,7 @@ use Rattle.sigma.specs.Instance.{Instance, entry, isExponent, tableOf}
 use Rattle.formats.specs.Sheet.{zeros64}
 use Rattle.formats.specs.Write.{written, writtenAtStart}
 use Rattle.patterns.specs.Maker.{asked, askedKind, askedPattern, makeFrom}
+use Rattle.patterns.specs.Ours.{makerCalls}
 use Rattle.patterns.specs.Pattern.{Pattern, digit, headerFor, madeFor, root}
 use Rattle.patterns.specs.PatternCalls.{PatternCalls, PatternRefusals}
 use Rattle.patterns.specs.Table.{writeShipped}
@@ -19,14 +20,12 @@ use Rattle.patterns.proofs.Files.{not-23}
 use Rattle.patterns.proofs.Maker.{asked-pattern}
 use Rattle.patterns.proofs.Making.{make-puts, make-refused, make-tests}
 use Rattle.patterns.proofs.Meaning.{pattern-means}
+use Rattle.patterns.proofs.OldMaker.{one-maker, some-maker}
 use Rattle.patterns.proofs.Sheets.{entryOf-none, entryOf-value, made-entry, made-statement}
 use Rattle.patterns.proofs.Shipped.{
   asks-root,
+  asks-same,
   old-sheet,
-  old-values,
-  others,
-  same,
-  same-values,
   shipped-bytes,
   shipped-puts,
   shipped-refused,
@@ -35,7 +34,7 @@ use Rattle.patterns.proofs.Shipped.{
 use Rattle.patterns.proofs.Spelled.{filed-spells, spells-count, spells-digits, spells-filed, spells-number}
 
 -- demand 1 holds of the calls on pattern files
-pub pattern-refusals : PatternRefusals
+pub pattern-refusals : PatternRefusals makerCalls
 unfolding conditionNumbers isSublist refusalOrder tabulate itemsAt makeFrom writeShipped writtenAtStart written
 pattern-refusals = record {
   order = refl;
@@ -51,7 +50,7 @@ unfolding asked
 asked-sheet f k m ℓ K values z p e =
     ap₂ (λ (kind : ℕ) (q : Pattern). madeFor kind q m ℓ K values z) (asked-pattern f k .0) (sym e)
 
-pub pattern-calls : PatternCalls
+pub pattern-calls : PatternCalls makerCalls
 unfolding asked askedKind askedPattern madeFor headerFor digit root rowImage isExponent zeros64 zeros8
 pattern-calls = record {
   files = λ f. (λ none. (_, filed-spells (not-23 f .0 none)), λ (ps, s). not-23 f .1 (spells-filed s));
@@ -75,9 +74,8 @@ pattern-calls = record {
   root-means = λ f m e K values z x. refl;
   bytes = shipped-bytes;
   ships = shipped-puts;
-  same = same;
-  same-root = old-sheet asks-root;
-  others = others;
-  same-values = same-values;
-  same-root-values = old-values asks-root;
+  same = λ old number m ℓ K values z buffer low high.
+      old-sheet (asks-same number low high) m ℓ K values z buffer ∙ one-maker some-maker old number m ℓ K values z buffer;
+  same-root = λ old m e K values z buffer.
+      old-sheet asks-root m e K values z buffer ∙ one-maker some-maker old 6 m e K values z buffer;
 }

@@ -2,7 +2,6 @@
 -- Assumes nothing.
 use Prim.Native.Nat.{ℕ, _<_, _≤_}
 use mathlib.Core.Path.{_≡_, refl, sym, ap, ap₂, _∙_}
-use mathlib.Core.Logic.{_⊎_, inl}
 use mathlib.Core.Bool.{Bool, false, cond}
 use mathlib.Core.List.{List, [], _∷_, flatten}
 use native.Mathlib.Omega.{arith}
@@ -15,8 +14,7 @@ use Rattle.lists.specs.Places.{itemsAt, tabulate}
 use Rattle.numbers.specs.Search.{any, find}
 use Rattle.rules.specs.Condition.{Tests}
 use Rattle.rules.specs.Rule.{_when_, lowest}
-use Rattle.rules.proofs.Lowest.{clear-lowest, pass, stop}
-use Rattle.rules.proofs.Says.{says-less, says-or, says-true}
+use Rattle.rules.proofs.Lowest.{clear-lowest, pass}
 use Rattle.sigma.specs.Comparison.{differ, firstDifference}
 use Rattle.sigma.specs.Instance.{Instance}
 use Rattle.formats.specs.Encode.{sheetOf}
@@ -109,7 +107,7 @@ asks-read =
     (record { kind = refl; pattern = refl; counts = λ values z. refl })
 
 -- so 1 to 5 ask the shipped file for what they asked for
-asks-same : (number : ℕ) → 1 ≤ number → number ≤ 5 → Asks shipped number number
+pub asks-same : (number : ℕ) → 1 ≤ number → number ≤ 5 → Asks shipped number number
 asks-same number low high =
     rw shipped-bytes (rw (ne-eqb number 6 (λ (e : number ≡ 6). omega arith)) at (asks-read number low (omega arith)))
 
@@ -132,21 +130,7 @@ module _ {number old : ℕ} (asks : Asks shipped number old) (m ℓ K : ℕ) (va
       ∙ ap₂ (λ (b : Bool) (i : Instance). lowest ((1 when b) ∷ madeRules values i buffer)) (asks .counts values z) old-values in
       ap₂ (λ (n : ℕ) (i : Instance). writtenAtStart n (sheetOf i) buffer) number-same old-values
 
--- 1 to 5 give what they gave
-pub same : (number m ℓ K : ℕ) (values z buffer : List ℕ) → 1 ≤ number → number ≤ 5
-    → makeFrom shipped number m ℓ K values z buffer ≡ fromPattern number m ℓ K values z buffer
-same number m ℓ K values z buffer low high = old-sheet (asks-same number low high) m ℓ K values z buffer
-
--- value by value too
+-- of 1 to 5 too
 pub same-values : (number m ℓ K : ℕ) (values z : List ℕ) → 1 ≤ number → number ≤ 5
     → asked shipped number m ℓ K values z ≡ made number m ℓ K values z
 same-values number m ℓ K values z low high = old-values (asks-same number low high) m ℓ K values z
-
--- 01's sheet maker gives every number outside 1 to 6 the number 1
-pub others : (number m ℓ K : ℕ) (values z buffer : List ℕ) → (number < 1) ⊎ (6 < number)
-    → fromPattern number m ℓ K values z buffer .answer .refusal ≡ 1
-unfolding fromPattern writtenAtStart badPattern
-others number m ℓ K values z buffer outside =
-    let test = says-or (says-or (says-less number 1) (says-less 6 number)) (says-true _) in
-    let bad = says-or test (says-true _) .complete (inl (inl outside)) in
-    written-refusal _ _ _ _ ∙ stop 1 _ bad

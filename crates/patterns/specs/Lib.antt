@@ -5,4 +5,8 @@ pub mod Maker
 pub mod Table
 pub mod Refusals
 pub mod Meaning
+pub mod MakerCalls
+pub mod Ours
 pub mod PatternCalls
+pub mod Same
+pub mod Corollaries

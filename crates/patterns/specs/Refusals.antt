@@ -1,4 +1,5 @@
--- The conditions of refusals 23, 24 and 1 (02, card 2), as facts, and which of them the calls on pattern files ask, in order.
+-- The conditions of refusals 23, 24 and 1 (02, card 2; 01 for 1 as it was), as facts, and which of them the calls on pattern files
+-- ask, in order.
 -- Assumes nothing.
 use Prim.Native.Nat.{ℕ, _*_, _<_, _≤_}
 use mathlib.Core.Logic.{_⊎_, _≢_}
@@ -12,6 +13,7 @@ use Rattle.formats.specs.Sheet.{sheetLength}
 use Rattle.patterns.specs.Maker.{askedPattern}
 use Rattle.patterns.specs.Pattern.{Pattern}
 use Rattle.patterns.specs.PatternFile.{patternAt, patternCount, patternMark, patternStart, patternVersion}
+use Rattle.patterns.specs.Table.{patternOf}
 
 -- rows, columns or number of public values lie outside 1 to 8
 abbrev pub Missized : Pattern → Type 0
@@ -53,6 +55,13 @@ makeConditions f number values statement inst buffer =
     (1 if
     ((patternCount f < number) ⊎ (length values ≢ askedPattern f number .values) ⊎
     (length statement ≢ askedPattern f number .rows))) ∷ madeConditions values inst buffer
+
+-- 01's sheet maker; 1 is for a number outside 1 to 6 or a wrong count of public or statement values
+abbrev pub oldConditions : ℕ → List ℕ → List ℕ → Instance → List ℕ → List Condition
+oldConditions number values statement inst buffer =
+    (1 if
+    ((number < 1) ⊎ (6 < number) ⊎ (length values ≢ patternOf number .values) ⊎
+    (length statement ≢ patternOf number .rows))) ∷ madeConditions values inst buffer
 
 -- the call that writes the shipped file, of 34 bytes
 abbrev pub shippedConditions : List ℕ → List Condition

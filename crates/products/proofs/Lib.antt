@@ -6,3 +6,4 @@ pub mod PlayerSheets
 pub mod Whole
 pub mod Single
 pub mod TeamWorks
+pub mod Only

@@ -22,8 +22,8 @@ use Rattle.numbers.proofs.Product.{product-agree}
 use Rattle.formats.specs.Load.{loadRefusal}
 use Rattle.formats.specs.Sheet.{instanceOf}
 use Rattle.formats.proofs.Loads.{loads-valid}
-use Rattle.runs.specs.Knowledge.{honestRound}
 use Rattle.runs.specs.OnSheet.{Below, readSlots, readValues}
+use Rattle.runs.specs.Ours.{honestRound}
 use Rattle.runs.proofs.JointRun.{JointSteps, commitmentOf, joint-steps, jointSteps, readOf, responseOf, sheet-joint-run}
 use Rattle.runs.proofs.Witness.{image-carried, witness-slots}
 use Rattle.sigma.specs.Image.{image, rowImage}
@@ -39,7 +39,8 @@ use Rattle.sigma.proofs.Prover.{honest-accepted}
 use Rattle.sigma.proofs.Unread.{fits-same, rowImage-agree, same-round-sym}
 use Rattle.sigma.proofs.Valid.{valid-modulus}
 use Rattle.sigma.proofs.Values.{image-at, response-at}
-use Rattle.products.specs.Players.{BothRun, Hold, Honest, IsTeam, Joined, Sends, partRound, playerSheet, wholeRound}
+use Rattle.products.specs.Ours.{BothRun, Honest, Sends, wholeRound}
+use Rattle.products.specs.Players.{Hold, IsTeam, Joined, partRound, playerSheet}
 use Rattle.products.specs.Team.{joinAll, multiplyAll, part}
 use Rattle.products.proofs.Combined.{joinAll-in, length-joinAll, response-all, row-all}
 use Rattle.products.proofs.PlayerSheets.{fits-own, player-loads, player-values, restated-valid}
@@ -158,6 +159,7 @@ module _ (sheet : List ℕ) (bytes : AllBytes sheet) (loaded : loadRefusal sheet
       part-same : (p : ℕ) → p < count
           → SameRound (instanceOf sheet .header) (partRound ts c rs p)
           (roundOf (commitmentOf (instanceOf sheet) (part ks p)) c (responseOf (instanceOf sheet) (part xs p) c (part ks p)))
+      unfolding honestRound
       part-same p b = record {
         commitment = λ i d.
             honest p b .commitment i d ∙ ap (λ (round : Round). getD (round .commitment) i 0) (player-round p b) ∙ getD-pad8 0 _ i;
@@ -198,6 +200,7 @@ module _ (sheet : List ℕ) (bytes : AllBytes sheet) (loaded : loadRefusal sheet
 
       -- the whole round is the one that a single Peggy sends
       pub single : BothRun sheet count images ts rs × Sends sheet x c k (wholeRound sheet count images ts c rs)
+      unfolding honestRound
       single =
           let inst = instanceOf sheet in
           let run = sheet-joint-run sheet loaded x k c whole-witness whole-nonce below in

@@ -37,6 +37,8 @@ use Rattle.sigma.proofs.ByKind.{by-kind}
 use Rattle.sigma.proofs.Passed.{commitment-passes, coordinates-pass}
 use Rattle.sigma.proofs.Tests.{says-badStatement}
 use Rattle.sigma.proofs.Valid.{valid-kind}
+use Rattle.products.specs.Corollaries.{TeamCorollaries}
+use Rattle.products.specs.Ours.{teamCalls}
 use Rattle.products.specs.Players.{AgreeParts, IsTeam, Joined, ZeroBeyond}
 use Rattle.products.specs.Team.{
   badImages,
@@ -245,7 +247,7 @@ module _ (sheet : List ℕ) (count : ℕ) (images images′ parts parts′ : Lis
 
 -- ---- the whole
 
-pub team-answers : TeamAnswers
+pub team-answers : TeamAnswers teamCalls
 team-answers = record {
   multiplied = λ sheet count images commitments none.
       let h = instanceOf sheet .header in
@@ -261,6 +263,10 @@ team-answers = record {
         joined-agree (instanceOf sheet) count responses _ _ (λ j b. getD-pad8 0 _ j) (joinAll-joined (instanceOf sheet) count responses),
         padded-beyond (h .columns) _ (valid .table .few-columns) (length-joinAll h responses count),
       );
+}
+
+pub team-corollaries : TeamCorollaries teamCalls
+team-corollaries = record {
   multiplied-read = λ sheet count images images′ commitments commitments′.
       multiply-read sheet count images images′ commitments commitments′;
   joined-read = λ sheet count images images′ responses responses′. join-read sheet count images images′ responses responses′;

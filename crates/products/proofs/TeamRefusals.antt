@@ -30,6 +30,7 @@ use Rattle.sigma.proofs.Tests.{
   says-badStatement,
   says-someNonElement,
 }
+use Rattle.products.specs.Ours.{teamCalls}
 use Rattle.products.specs.Refusals.{Refusal28, joinConditions, multiplyConditions, teamConditions}
 use Rattle.products.specs.Team.{
   badImages,
@@ -98,7 +99,7 @@ module _ (sheet : List ℕ) (count : ℕ) (images : List (List ℕ)) where
 
 -- ---- both calls
 
-pub team-refusals : TeamRefusals
+pub team-refusals : TeamRefusals teamCalls
 unfolding conditionNumbers isSublist refusalOrder multiplyCommitments joinResponses computed eightPlaces
 team-refusals = record {
   multiplying = λ sheet count images commitments.

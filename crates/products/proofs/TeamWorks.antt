@@ -6,14 +6,17 @@ use mathlib.Core.Path.{_≡_, sym, ap, _∙_}
 use mathlib.Core.List.{List}
 use lib.ListN.{getD}
 use Rattle.encoding.specs.Bytes.{AllBytes}
-use Rattle.formats.specs.Load.{loadRefusal}
+use Rattle.formats.specs.Load.{load, loadRefusal}
+use Rattle.formats.specs.Ours.{fileCalls}
 use Rattle.formats.proofs.Loads.{loads-valid}
+use Rattle.runs.specs.Ours.{runCalls}
 use Rattle.sigma.specs.Element.{combine}
 use Rattle.sigma.specs.Instance.{Instance}
 use Rattle.sigma.specs.Joined.{joinSlots}
 use Rattle.sigma.specs.Reads.{Agree}
 use Rattle.sigma.specs.Valid.{Valid}
 use Rattle.sigma.proofs.Joined.{join-at}
+use Rattle.products.specs.Ours.{teamCalls}
 use Rattle.products.specs.Players.{Joined}
 use Rattle.products.specs.Team.{part}
 use Rattle.products.specs.TeamWorks.{TeamOn, TeamWorks}
@@ -34,7 +37,8 @@ one-more {inst} v count parts x y others all j b =
     ∙ sym (join-at h x (part parts count) j b)
 
 -- the team, on a sheet that loads
-team-on : (sheet : List ℕ) → AllBytes sheet → loadRefusal sheet ≡ 0 → TeamOn sheet
+team-on : (sheet : List ℕ) → AllBytes sheet → loadRefusal sheet ≡ 0 → TeamOn fileCalls runCalls teamCalls sheet
+unfolding load
 team-on sheet bytes loaded = record {
   one-more = one-more (loads-valid sheet loaded);
   player-sheet = λ z elements. (player-loads sheet bytes loaded z elements, player-values sheet bytes loaded z elements);
@@ -44,5 +48,6 @@ team-on sheet bytes loaded = record {
   one-rejected = λ count images ts rs c team. one-rejected sheet bytes loaded count images team ts rs c;
 }
 
-pub team-works : TeamWorks
+pub team-works : TeamWorks fileCalls runCalls teamCalls
+unfolding load
 team-works = record { answers = team-answers; team = team-on }

@@ -18,7 +18,7 @@ use Rattle.formats.specs.Load.{loadRefusal, loadRules}
 use Rattle.formats.specs.Sheet.{instanceOf}
 use Rattle.formats.proofs.Loads.{loads-valid}
 use Rattle.runs.specs.Calls.{judgeRound}
-use Rattle.runs.specs.Knowledge.{Accepts}
+use Rattle.runs.specs.Ours.{Accepts}
 use Rattle.runs.proofs.Protocol.{sheet-accepted, sheet-rejected}
 use Rattle.rules.proofs.Says.{says-equal}
 use Rattle.sigma.specs.Answer.{rowsOf}
@@ -29,7 +29,8 @@ use Rattle.sigma.specs.Valid.{Valid}
 use Rattle.sigma.proofs.Calculus.{says-stable}
 use Rattle.sigma.proofs.Fails.{fails-alike}
 use Rattle.sigma.proofs.Unread.{judgeAfter-same}
-use Rattle.products.specs.Players.{BothRun, IsTeam, partRound, playerSheet, wholeRound}
+use Rattle.products.specs.Ours.{BothRun, wholeRound}
+use Rattle.products.specs.Players.{IsTeam, partRound, playerSheet}
 use Rattle.products.specs.Team.{joinAll, multiplyAll, part}
 use Rattle.products.proofs.Combined.{
   PartHolds,

@@ -1,5 +1,9 @@
 -- A prover that is split over a team.
+pub mod TeamCalls
 pub mod Team
 pub mod Refusals
 pub mod Players
 pub mod TeamWorks
+pub mod Corollaries
+pub mod Same
+pub mod Ours

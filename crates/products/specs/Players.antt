@@ -11,13 +11,14 @@ use Rattle.formats.specs.Encode.{sheetOf}
 use Rattle.formats.specs.Sheet.{instanceOf}
 use Rattle.runs.specs.Knowledge.{honestRound}
 use Rattle.runs.specs.OnSheet.{readSlots}
-use Rattle.runs.specs.Prover.{commit, newProver, respond}
+use Rattle.runs.specs.RunCalls.{RunCalls}
 use Rattle.sigma.specs.Instance.{Instance}
 use Rattle.sigma.specs.Joined.{withStatement}
 use Rattle.sigma.specs.Knowledge.{Choice, Witness}
 use Rattle.sigma.specs.Meaning.{Elements}
 use Rattle.sigma.specs.Reads.{Agree, SameRound, roundOf}
-use Rattle.products.specs.Team.{joinResponses, multiplyCommitments, part}
+use Rattle.products.specs.Team.{part}
+use Rattle.products.specs.TeamCalls.{TeamCalls}
 
 -- ---- what the players bring
 
@@ -65,26 +66,33 @@ pub record Hold (sheet : List ℕ) (count : ℕ) (images xs ks : List (List ℕ)
 abbrev pub partRound : List (List ℕ) → ℕ → List (List ℕ) → ℕ → Round
 partRound commitments c responses p = roundOf (part commitments p) c (part responses p)
 
--- each player's round is 01's honest one on the player's own sheet
-abbrev pub Honest : List ℕ → ℕ → List (List ℕ) → List (List ℕ) → ℕ → List (List ℕ) → List (List ℕ) → List (List ℕ) → Type 0
-Honest sheet count images xs c ks commitments responses =
-    (p : ℕ) → p < count
-    → SameRound (instanceOf sheet .header) (partRound commitments c responses p)
-    (honestRound (playerSheet sheet images p) (part xs p) c (part ks p))
+module _ (code : RunCalls) where
+  open RunCalls code using (commit, newProver, respond)
 
--- neither call is refused
-abbrev pub BothRun : List ℕ → ℕ → List (List ℕ) → List (List ℕ) → List (List ℕ) → Type 0
-BothRun sheet count images commitments responses =
-    (multiplyCommitments sheet count images commitments .refusal ≡ 0) × (joinResponses sheet count images responses .refusal ≡ 0)
+  -- each player's round is 01's honest one on the player's own sheet
+  abbrev pub Honest : List ℕ → ℕ → List (List ℕ) → List (List ℕ) → ℕ → List (List ℕ) → List (List ℕ) → List (List ℕ) → Type 0
+  Honest sheet count images xs c ks commitments responses =
+      (p : ℕ) → p < count
+      → SameRound (instanceOf sheet .header) (partRound commitments c responses p)
+      (honestRound code (playerSheet sheet images p) (part xs p) c (part ks p))
 
--- the round of what both calls answer
-abbrev pub wholeRound : List ℕ → ℕ → List (List ℕ) → List (List ℕ) → ℕ → List (List ℕ) → Round
-wholeRound sheet count images commitments c responses =
-    roundOf (multiplyCommitments sheet count images commitments .values) c (joinResponses sheet count images responses .values)
+  -- a single Peggy has the witness x, and for it, the challenge c and the nonce k she sends this round: neither of her calls is
+  -- refused
+  pub record Sends (sheet x : List ℕ) (c : ℕ) (k : List ℕ) (round : Round) : Type 0 where
+    pub witness : Witness (instanceOf sheet) (readSlots sheet x)
+    pub commits : commit sheet newProver k .refusal ≡ 0
+    pub responds : respond sheet (commit sheet newProver k .session) c x .refusal ≡ 0
+    pub sent : round ≡ honestRound code sheet x c k
 
--- a single Peggy has the witness x, and for it, the challenge c and the nonce k she sends this round: neither of her calls is refused
-pub record Sends (sheet x : List ℕ) (c : ℕ) (k : List ℕ) (round : Round) : Type 0 where
-  pub witness : Witness (instanceOf sheet) (readSlots sheet x)
-  pub commits : commit sheet newProver k .refusal ≡ 0
-  pub responds : respond sheet (commit sheet newProver k .session) c x .refusal ≡ 0
-  pub sent : round ≡ honestRound sheet x c k
+module _ (combiner : TeamCalls) where
+  open TeamCalls combiner using (joinResponses, multiplyCommitments)
+
+  -- neither call is refused
+  abbrev pub BothRun : List ℕ → ℕ → List (List ℕ) → List (List ℕ) → List (List ℕ) → Type 0
+  BothRun sheet count images commitments responses =
+      (multiplyCommitments sheet count images commitments .refusal ≡ 0) × (joinResponses sheet count images responses .refusal ≡ 0)
+
+  -- the round of what both calls answer
+  abbrev pub wholeRound : List ℕ → ℕ → List (List ℕ) → List (List ℕ) → ℕ → List (List ℕ) → Round
+  wholeRound sheet count images commitments c responses =
+      roundOf (multiplyCommitments sheet count images commitments .values) c (joinResponses sheet count images responses .values)

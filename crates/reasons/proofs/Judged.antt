@@ -26,8 +26,9 @@ use Rattle.formats.proofs.Loads.{loads, loads-valid}
 use Rattle.runs.specs.Calls.{judgeRound}
 use Rattle.runs.proofs.Protocol.{sheet-accepted, verdicts}
 use Rattle.reasons.specs.declared.Spot.{Spot}
+use Rattle.reasons.specs.Ours.{RejectedLine, firstRound}
 use Rattle.reasons.specs.Reason.{firstVerdict, lineText, reasonLine, reasonNumber, reasonText}
-use Rattle.reasons.specs.ReasonsTrue.{RejectedLine, firstRound, toldRow}
+use Rattle.reasons.specs.ReasonsTrue.{toldRow}
 use Rattle.reasons.proofs.Line.{checked-judged, checked-refused, text-accepted, text-rejected}
 
 -- no other verdict's line is `accepted`
@@ -77,7 +78,7 @@ module _ (s f : List ℕ) where
       (λ (mask, e, all).
       let (row, others, whole, first, exactly) = fails-split (instanceOf s) (firstRound s f) (rowsOf mask) all in
       let text = text-rejected s f mask e (λ k m. all .exactly k .0 m .0) in
-      inr (row, others, first, exactly, text ∙ ap (λ (ks : List ℕ). ascii "rejected" ++ flatten (map (toldRow s f) ks) ++ ascii "\n") whole))
+      inr (row, others, first, exactly, text ∙ ap (λ (ks : List ℕ). ascii "rejected" ++ flatten (map (toldRow s (firstRound s f)) ks) ++ ascii "\n") whole))
       (first-judged none)
 
   -- a round that judging accepts stands in a file that the check lets pass: else it is read as zeros, which are no elements

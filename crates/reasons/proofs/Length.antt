@@ -22,8 +22,9 @@ use Rattle.sigma.specs.Instance.{Table, tableOf}
 use Rattle.sigma.proofs.ByKind.{rowImage-exponent, rowImage-root}
 use Rattle.sigma.proofs.Tests.{says-exponent}
 use Rattle.reasons.specs.Lines.{rejectedLine}
+use Rattle.reasons.specs.Ours.{firstRound}
 use Rattle.reasons.specs.Reason.{reasonNumber, reasonText, rowText}
-use Rattle.reasons.specs.ReasonsTrue.{firstRound, leftSide, rightSide, toldRow}
+use Rattle.reasons.specs.ReasonsTrue.{leftSide, rightSide, toldRow}
 use Rattle.reasons.proofs.Judged.{first-judged, reason-loads}
 use Rattle.reasons.proofs.Line.{text-accepted, text-rejected}
 
@@ -69,17 +70,17 @@ module _ (s f : List ℕ) (bytes : AllBytes s) (none : reasonNumber s f ≡ 0) w
   few-bits = number-fits 4 s 6 bytes
 
   -- so the sides of a row are short
-  told-short : (row : ℕ) → row < 8 → length (toldRow s f row) ≤ 24
+  told-short : (row : ℕ) → row < 8 → length (toldRow s (firstRound s f) row) ≤ 24
   unfolding instanceOf
   told-short row few =
       let left = rowImage-below (tableOf (instanceOf s)) (firstRound s f .response) row some-modulus in
-      let right : rightSide s f row < headerOf s .modulus = mod-lt _ some-modulus in
-      row-short row (leftSide s f row) (rightSide s f row) few (omega (arith, few-bits)) (omega (arith, few-bits))
+      let right : rightSide s (firstRound s f) row < headerOf s .modulus = mod-lt _ some-modulus in
+      row-short row (leftSide s (firstRound s f) row) (rightSide s (firstRound s f) row) few (omega (arith, few-bits)) (omega (arith, few-bits))
 
   -- the line
   pub reason-short : length (reasonText s f) ≤ 201
   unfolding ascii
   reason-short =
       ⊎-elim (λ e. rw (text-accepted s f e) (omega arith))
-      (λ (mask, e, all). rw (text-rejected s f mask e (λ k m. all .exactly k .0 m .0)) (line-short (toldRow s f) mask told-short))
+      (λ (mask, e, all). rw (text-rejected s f mask e (λ k m. all .exactly k .0 m .0)) (line-short (toldRow s (firstRound s f)) mask told-short))
       (first-judged s f none)

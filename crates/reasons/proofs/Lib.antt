@@ -10,3 +10,4 @@ pub mod Judged
 pub mod Length
 pub mod Cut
 pub mod ReasonsTrue
+pub mod Only

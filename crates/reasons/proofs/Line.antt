@@ -36,9 +36,10 @@ use Rattle.runs.specs.Calls.{judgeRound}
 use Rattle.runs.proofs.Outcome.{judged-number}
 use Rattle.reasons.specs.declared.Spot.{Spot}
 use Rattle.reasons.specs.declared.Spot.the-variants.{At, Length}
+use Rattle.reasons.specs.Ours.{firstRound, reasonConditions}
 use Rattle.reasons.specs.Reason.{firstVerdict, lineText, reasonLine, reasonNumber, reasonText, rowText, spotOf, spotText}
 use Rattle.reasons.specs.Lines.{refusedLine, rejectedLine}
-use Rattle.reasons.specs.ReasonsTrue.{firstRound, reasonConditions, toldRow}
+use Rattle.reasons.specs.ReasonsTrue.{toldRow}
 use Rattle.reasons.proofs.Named.{spot}
 
 -- a verdict with a number above 0 is the refusal with that number
@@ -147,14 +148,14 @@ module _ (s f : List ℕ) where
   -- a rejected one
   pub text-rejected : (mask : ℕ) → firstVerdict s f ≡ Rejected mask
       → ((row : ℕ) → Member row (rowsOf mask) → row < instanceOf s .header .rows)
-      → reasonText s f ≡ ascii "rejected" ++ flatten (map (toldRow s f) (rowsOf mask)) ++ ascii "\n"
+      → reasonText s f ≡ ascii "rejected" ++ flatten (map (toldRow s (firstRound s f)) (rowsOf mask)) ++ ascii "\n"
   unfolding reasonText reasonLine rowText instanceOf
   text-rejected mask e inside =
       let left = image (tableOf (instanceOf s)) (firstRound s f .response) in
       let right = expectedImage (instanceOf s) (firstRound s f .commitment) (firstRound s f .challenge) in
       ap (lineOf (length s) (length f)) e ∙ rejected-line mask (spot s f) left right
       ∙ ap (λ (rows : List ℕ). ascii "rejected" ++ rows ++ ascii "\n")
-      (words-agree (rowText left right) (toldRow s f) (rowsOf mask) (λ row m.
+      (words-agree (rowText left right) (toldRow s (firstRound s f)) (rowsOf mask) (λ row m.
       ap₂ (λ (a b : ℕ). ascii " " ++ decimal row ++ ascii " " ++ decimal a ++ ascii " " ++ decimal b)
       (image-at (tableOf (instanceOf s)) (firstRound s f .response) row (inside row m))
       (expected-image-at (instanceOf s) (firstRound s f .commitment) (firstRound s f .challenge) row (inside row m))))

@@ -22,8 +22,8 @@ use Rattle.formats.specs.Sheet.{headerOf, instanceOf}
 use Rattle.formats.proofs.ByteLayout.{word-at}
 use Rattle.formats.proofs.Files.{fetch-given}
 use Rattle.formats.proofs.Refusals.{check-tests}
+use Rattle.reasons.specs.Ours.{firstRound}
 use Rattle.reasons.specs.Reason.{firstNonCoordinate, firstNonElement, roundSpot, spotOf}
-use Rattle.reasons.specs.ReasonsTrue.{firstRound}
 use Rattle.reasons.proofs.Named.{Broken, Named, caused, in-file, value-named}
 use Rattle.reasons.proofs.Words.{words-explained}
 

@@ -6,3 +6,4 @@ pub mod Condition
 pub mod Refuses
 pub mod Explains
 pub mod Either
+pub mod Determined

@@ -19,7 +19,7 @@ use Rattle.rules.proofs.Says.{says-true, says-equal, says-or, says-and,
 -- ---- lists without repetition
 
 -- whether n is one of the numbers of a list
-unfoldable isMember : ℕ → List ℕ → Bool
+unfoldable pub isMember : ℕ → List ℕ → Bool
 isMember n [] = false
 isMember n (m ∷ ms) = eqb n m || isMember n ms
 
@@ -29,7 +29,7 @@ isDistinct [] = true
 isDistinct (n ∷ ns) = not (isMember n ns) && isDistinct ns
 
 -- the test of membership says it
-says-member : (n : ℕ) (ns : List ℕ) → Says (isMember n ns) (Member n ns)
+pub says-member : (n : ℕ) (ns : List ℕ) → Says (isMember n ns) (Member n ns)
 unfolding isMember
 says-member n [] = record { sound = λ e. false≢true e; complete = λ m. absurd m }
 says-member n (m ∷ ms) = says-or (says-equal n m) (says-member n ms)

@@ -9,10 +9,10 @@ use lib.ListN.{length}
 use Rattle.types.specs.declared.Computed.{Computed}
 use Rattle.types.specs.declared.Header.{Header}
 use Rattle.types.specs.declared.Round.{Round}
-use Rattle.lists.specs.Places.{pad8, places}
+use Rattle.lists.specs.Places.{pad8}
 use Rattle.lists.proofs.Each.{each-length}
 use Rattle.lists.proofs.Places.{getD-pad8, places-pad8, places-whole}
-use Rattle.formats.specs.Load.{loadRules, loadRefusal}
+use Rattle.formats.specs.Load.{loadRefusal}
 use Rattle.formats.specs.Sheet.{instanceOf}
 use Rattle.formats.proofs.Loads.{loads-valid}
 use Rattle.sigma.specs.Image.{image}
@@ -29,16 +29,16 @@ use Rattle.sigma.proofs.Lists.{all-choices-member, all-choices-once, lists-acce
 use Rattle.sigma.proofs.Prover.{honest-rounds}
 use Rattle.sigma.proofs.Restated.{meets-alike, pair-alike, extraction-alike}
 use Rattle.sigma.proofs.Simulator.{simulated-rounds, simulate-answer}
-use Rattle.sigma.proofs.Unread.{same-round-of-padded, same-round-sym, same-commitment, same-response, judgeAfter-same, simulateAfter-same, extractAfter-same}
+use Rattle.sigma.proofs.Unread.{same-commitment, same-response}
 use Rattle.sigma.proofs.Values.{length-image, length-response, length-simulated}
-use Rattle.runs.specs.Calls.{judgeRound, simulateCommitment, extractWitness}
-use Rattle.runs.specs.Demand3.{ReadAlone, Demand3}
-use Rattle.runs.specs.Knowledge.{Accepts, honestRound, simulatedRound}
+use Rattle.runs.specs.Calls.{simulateCommitment, extractWitness}
+use Rattle.runs.specs.Corollaries.{RoundsListed}
+use Rattle.runs.specs.Demand3.{Demand3}
 use Rattle.runs.specs.OnSheet.{Below}
+use Rattle.runs.specs.Ours.{Accepts, honestRound, runCalls, simulatedRound}
 use Rattle.runs.specs.Prover.{newProver, commit, respond}
 use Rattle.runs.proofs.JointRun.{JointSteps, jointSteps, joint-steps}
 use Rattle.runs.proofs.Loaded.{accepts-loaded, simulate-loaded, extract-loaded}
-use Rattle.runs.proofs.Unread.{read-agrees, commitAfter-same, respondAfter-same}
 
 -- ---- rounds in eight places
 
@@ -61,29 +61,6 @@ module _ (h : Header) (t : List ℕ) (c : ℕ) (r : List ℕ) where
   -- they are the same round
   same-padded : SameRound h (padded t c r) (roundOf t c r)
   same-padded = record { commitment = λ j b. getD-pad8 0 t j; challenge = refl; response = λ j b. getD-pad8 0 r j }
-
--- ---- unread places
-
--- no answer depends on unread places, whether or not the sheet loads
-pub read-alone : (sheet : List ℕ) → ReadAlone sheet
-unfolding honestRound judgeRound simulateCommitment extractWitness commit respond instanceOf
-read-alone sheet =
-    let before = loadRules sheet in
-    let inst = instanceOf sheet in
-    let slots = read-agrees (inst .header .columns) in
-    let read : (round : Round) → SameRound (inst .header) round (paddedRound (inst .header) round) =
-    λ round. same-round-sym (same-round-of-padded (inst .header) round) in
-    record {
-      honest = λ x c k.
-          let k′ = places (inst .header .columns) k in
-          rw (
-            commitAfter-same before inst newProver k k′ (slots k),
-            respondAfter-same before inst _ c x (places (inst .header .columns) x) (slots x),
-          );
-      simulated = λ c r. simulateAfter-same before inst c r _ (slots r);
-      judged = λ round. judgeAfter-same before inst (read round);
-      extracted = λ first second. extractAfter-same before inst (read first) (read second);
-    }
 
 module _ (sheet : List ℕ) (loaded : loadRefusal sheet ≡ 0) where
   -- the sheet's values
@@ -204,17 +181,23 @@ module _ (sheet : List ℕ) (loaded : loadRefusal sheet ≡ 0) where
   -- ---- the whole
 
   -- demand 3 holds of every sheet that loads
-  pub demand3 : Demand3 sheet
+  pub demand3 : Demand3 runCalls sheet
+  unfolding simulatedRound honestRound
   demand3 = record {
     extractor = sheet-extraction;
     simulator-runs = λ c below r slots. ap (λ (answer : Computed). answer .refusal) (simulated-given c below r slots);
     simulator = sheet-simulated-rounds;
     prover-runs = sheet-honest-runs;
     prover = sheet-honest-rounds;
+  }
+
+  -- so do its lists
+  pub rounds-listed : RoundsListed runCalls sheet
+  unfolding simulatedRound honestRound
+  rounds-listed = record {
     choices = (all-choices-member values, all-choices-once values);
     simulator-list = sheet-simulated-list;
     prover-list = sheet-honest-list;
     same-list = λ c below x w round.
         Iff·trans (sheet-honest-list c below x w .members round) (Iff·symm (sheet-simulated-list c below .members round));
-    read-alone = read-alone sheet;
   }

@@ -32,8 +32,8 @@ use Rattle.sigma.proofs.Prover.{honest-accepted}
 use Rattle.sigma.proofs.Verdict.{verdict-accepted}
 use Rattle.sigma.proofs.Values.{length-image, length-response}
 use Rattle.runs.specs.JointRun.{JointRun}
-use Rattle.runs.specs.Knowledge.{honestRound}
 use Rattle.runs.specs.OnSheet.{readSlots, Below}
+use Rattle.runs.specs.Ours.{honestRound, runCalls}
 use Rattle.runs.specs.Prover.{newProver, commitAfter, commit, respondAfter, respond}
 use Rattle.runs.specs.Verifier.{newVerifier, takeCommitmentAfter, takeChallengeAfter, takeResponseAfter}
 use Rattle.runs.specs.Verifier.{takeCommitment, takeChallenge, takeResponse}
@@ -223,7 +223,7 @@ module _ (sheet : List ℕ) (loaded : loadRefusal sheet ≡ 0) (x k : List ℕ) 
       )
 
   -- none of the calls is refused, and Vic accepts
-  pub sheet-joint-run : JointRun sheet x c k
+  pub sheet-joint-run : JointRun runCalls sheet x c k
   unfolding jointSteps honestRound
   sheet-joint-run = record {
     committed = ap (λ (steps : JointSteps). steps .committed .refusal) joint-steps;

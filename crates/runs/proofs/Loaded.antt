@@ -15,7 +15,7 @@ use Rattle.sigma.specs.Knowledge.{AcceptedRound}
 use Rattle.sigma.specs.Simulator.{simulateLoaded}
 use Rattle.sigma.proofs.After.{judgeAfter-clear, simulateAfter-clear, extractAfter-clear}
 use Rattle.runs.specs.Calls.{judgeRound, simulateCommitment, extractWitness}
-use Rattle.runs.specs.Knowledge.{Accepts}
+use Rattle.runs.specs.Ours.{Accepts}
 
 module _ (sheet : List ℕ) (loaded : loadRefusal sheet ≡ 0) where
   -- no rule of the sheet applies

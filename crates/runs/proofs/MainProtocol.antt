@@ -41,13 +41,15 @@ use Rattle.sigma.proofs.Valid.{valid-kind}
 use Rattle.sigma.proofs.Values.{length-response, length-simulated}
 use Rattle.runs.specs.Calls.{judgeRound, extractWitness}
 use Rattle.runs.specs.MainProtocol.{MainProtocol}
-use Rattle.runs.specs.OnSheet.{Below}
+use Rattle.runs.specs.OnSheet.{Below, readSlots}
+use Rattle.runs.specs.Ours.{runCalls}
 use Rattle.runs.specs.Prover.{newProver, commit, respond}
 use Rattle.runs.specs.Verifier.{newVerifier, takeCommitment, takeChallenge, takeResponse}
 use Rattle.runs.proofs.After.{commitAfter-clear, takeCommitmentAfter-clear, takeChallengeAfter-clear}
 use Rattle.runs.proofs.Demand3.{honest-run, sheet-extraction, simulated-given}
 use Rattle.runs.proofs.JointRun.{jointSteps, joint-commit}
 use Rattle.runs.proofs.Loaded.{accepts-loaded, judge-loaded, sheet-clear}
+use Rattle.runs.proofs.ReadAlone.{read-alone}
 use Rattle.runs.proofs.Verdicts.{takeResponse-judged}
 use Rattle.runs.proofs.VerifierSteps.{takeCommitmentAfter-runs, takeCommitmentAfter-given}
 use Rattle.runs.proofs.VerifierSteps.{takeChallengeAfter-runs, takeChallengeAfter-given}
@@ -202,7 +204,7 @@ module _ (sheet : List ℕ) (loaded : loadRefusal sheet ≡ 0) where
   -- ---- the whole
 
   -- a sheet that loads runs the main protocol
-  pub main-protocol : MainProtocol sheet
+  pub main-protocol : MainProtocol runCalls sheet
   unfolding vectorGroup elementsOf elementGroup homomorphism statementVector
   main-protocol =
       let table = valid .table in
@@ -222,9 +224,10 @@ module _ (sheet : List ℕ) (loaded : loadRefusal sheet ≡ 0) where
         no-other = λ round e.
             let (fits, holds) = valid-judge-accepted values round valid .0 (accepts-loaded sheet loaded round .0 e) in
             (each-places _ _ (round .commitment) (fits .commitment), fits .challenge, each-places _ _ (round .response) (fits .response));
-        simulates = λ c r below.
-            simulated-given sheet loaded c below (r .0) (r .1)
-            ∙ ap (λ (y : List ℕ). record { refusal = 0; values = pad8 0 y }) (simulated-same c r);
+        simulates = λ c r slots below.
+            read-alone sheet .simulated c r
+            ∙ simulated-given sheet loaded c below (readSlots sheet r) slots
+            ∙ ap (λ (y : List ℕ). record { refusal = 0; values = pad8 0 y }) (simulated-same c (readSlots sheet r, slots));
         base = baseOf valid;
         based = base-image valid;
         base-exponent = base-zeros;

@@ -26,9 +26,9 @@ use Rattle.formats.specs.Sheet.{headerOf}
 use Rattle.formats.proofs.Positive.{count-positive, load-positive}
 use Rattle.formats.proofs.Refusals.{count-tests, load-tests}
 use Rattle.sigma.proofs.Answer.{unlessRefused-positive}
-use Rattle.runs.specs.Demand1.{OneLine}
 use Rattle.runs.specs.Level.{badLevel, markConditions, Refusal25}
 use Rattle.runs.specs.Marker.{newline, wordLine, markRules, markRefusal, refusedWord, markerText}
+use Rattle.runs.specs.RunRefusals.{OneLine}
 use Rattle.runs.proofs.Level.{says-badLevel}
 
 -- every number of a list is below the bound

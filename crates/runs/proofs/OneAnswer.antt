@@ -10,9 +10,10 @@ use lib.ListN.{length}
 use Rattle.types.specs.declared.Prover.{Prover}
 use Rattle.types.specs.declared.ProverStep.{ProverStep}
 use Rattle.lists.specs.Places.{zeros8}
+use Rattle.runs.specs.Ours.{callProver, proverAfter, proverTrace, runCalls}
 use Rattle.runs.specs.Prover.{newProver}
-use Rattle.runs.specs.ProverCalls.{ProverCall, Commit, Respond, Drop, callProver, ProverMoves}
-use Rattle.runs.specs.ProverCalls.{proverAfter, proverTrace, answered, Ended}
+use Rattle.runs.specs.ProverCalls.{ProverCall, Commit, Respond, Drop, ProverMoves}
+use Rattle.runs.specs.ProverCalls.{answered, Ended}
 use Rattle.runs.specs.Run.{Leads}
 use Rattle.runs.specs.Sessions.{OneAnswer}
 use Rattle.runs.proofs.ProverCalls.{prover-kept, prover-moves, ended-apart, ended-unmoved}
@@ -59,7 +60,7 @@ wiped-last ((Drop, step) ∷ later) p q leads ended =
 -- the calls that are carried out lead from the session to the one at the end
 pub prover-leads : (calls : List ProverCall) (p : Prover)
     → Leads (λ step. step .session) ProverMoves p (proverTrace calls p) (proverAfter calls p)
-unfolding proverTrace proverAfter
+unfolding proverTrace proverAfter callProver
 prover-leads =
     trace-leads callProver (λ step. step .session) (λ step. step .refusal) ProverMoves
     (λ call p refused. ap (λ (step : ProverStep). step .session) (prover-kept call p refused)) prover-moves
@@ -69,8 +70,8 @@ pub one-answer : (calls : List ProverCall) (p : Prover) → length (answered (pr
 one-answer calls p = answered-once (proverTrace calls p) p (proverAfter calls p) (prover-leads calls p)
 
 -- Peggy's steps are 01's
-pub prover-once : OneAnswer
-unfolding newProver
+pub prover-once : OneAnswer runCalls
+unfolding newProver proverTrace proverAfter callProver
 prover-once = record {
   new = refl;
   in-order = prover-leads;

@@ -9,11 +9,11 @@ use lib.ListN.{length}
 use Rattle.types.specs.declared.Verifier.{Verifier}
 use Rattle.types.specs.declared.VerifierPhase.the-variants.{Judged}
 use Rattle.types.specs.declared.VerifierStep.{VerifierStep}
+use Rattle.runs.specs.Ours.{callVerifier, verifierAfter, verifierTrace, runCalls}
 use Rattle.runs.specs.Run.{Leads}
 use Rattle.runs.specs.Sessions.{StepsInOrder}
 use Rattle.runs.specs.Verifier.{newVerifier, verifierState}
 use Rattle.runs.specs.VerifierCalls.{VerifierCall, Commitment, Challenge, Response, VerifierMoves}
-use Rattle.runs.specs.VerifierCalls.{callVerifier, verifierAfter, verifierTrace}
 use Rattle.runs.proofs.Run.{trace-leads}
 use Rattle.runs.proofs.VerifierCalls.{verifier-kept, verifier-moves, stateOf, next-state}
 
@@ -66,12 +66,12 @@ challenge-kept ((Response sheet r, step) ∷ later) v w h leads =
 -- the calls that are carried out lead from the session to the one at the end
 pub verifier-leads : (calls : List VerifierCall) (v : Verifier)
     → Leads (λ step. step .session) VerifierMoves v (verifierTrace calls v) (verifierAfter calls v)
-unfolding verifierTrace verifierAfter
+unfolding verifierTrace verifierAfter callVerifier
 verifier-leads = trace-leads callVerifier (λ step. step .session) (λ step. step .refusal) VerifierMoves verifier-kept verifier-moves
 
 -- Vic's steps are 01's
-pub verifier-ordered : StepsInOrder
-unfolding newVerifier
+pub verifier-ordered : StepsInOrder runCalls
+unfolding newVerifier verifierTrace verifierAfter callVerifier
 verifier-ordered = record {
   new = refl;
   in-order = verifier-leads;

@@ -1,18 +1,18 @@
 -- Demand 2's protocol: for every sheet that loads, Peggy's commitments and responses and Vic's verdicts are those of the main
 -- protocol in section 5 of Maurer's paper, as 01 writes it down.
 -- Assumes nothing.
-use Prim.Native.Nat.{ℕ, zero, suc, _^_, _<_, _≤_}
+use Prim.Native.Nat.{ℕ, zero, suc, _-_, _^_, _<_, _≤_}
 use mathlib.Core.Path.{_≡_, refl, sym, ap, _∙_}
 use mathlib.Core.Logic.{_↔_, _≢_, _⊎_, ⊎-elim}
 use mathlib.Core.List.{List, _∷_, head-eq-of-cons-eq, tail-eq-of-cons-eq}
 use native.Mathlib.Omega.{arith}
-use lib.ListN.{length, getD, List·getD-eq-default}
+use lib.ListN.{length, length-append, length-replicate, getD, replicate, List·getD-eq-default}
 use Rattle.types.specs.declared.Prover.{Prover}
 use Rattle.types.specs.declared.ProverStep.{ProverStep}
 use Rattle.types.specs.declared.Round.{Round}
 use Rattle.types.specs.declared.Verdict.{Verdict}
 use Rattle.types.specs.declared.Verdict.the-variants.{Accepted, Rejected}
-use Rattle.lists.specs.Places.{pad8, places}
+use Rattle.lists.specs.Places.{pad8, places, zeros8}
 use Rattle.lists.proofs.Places.{getD-places, getD-pad8, getD-zeros8}
 use Rattle.formats.specs.Load.{loadRules, loadRefusal}
 use Rattle.formats.specs.Sheet.{instanceOf}
@@ -31,6 +31,7 @@ use Rattle.sigma.proofs.Unread.{fits-same, rowImage-agree, same-round-of-read, 
 use Rattle.sigma.proofs.Values.{length-image, length-response, image-at, response-at}
 use Rattle.sigma.proofs.Verdict.{verdict-not-refused}
 use Rattle.runs.specs.Calls.{judgeRound}
+use Rattle.runs.specs.Ours.{runCalls}
 use Rattle.runs.specs.Protocol.{JudgesByRows, Protocol}
 use Rattle.runs.specs.Prover.{proverStep, commitAfter, commit, respondAfter, respond}
 use Rattle.runs.proofs.JointRun.{sheet-joint-run}
@@ -44,6 +45,14 @@ pub eight-beyond : (n : ℕ) (xs : List ℕ) (i : ℕ) → length xs ≤ i → g
 unfolding eightPlaces
 eight-beyond zero xs i h = rw unlessRefused-zero (getD-pad8 0 xs i ∙ List·getD-eq-default xs 0 h)
 eight-beyond (suc n) xs i h = rw (unlessRefused-positive (pad8 0 xs) _ (suc n) (omega arith)) (getD-zeros8 i)
+
+-- they are eight
+eight-long : (n : ℕ) (xs : List ℕ) → length xs ≤ 8 → length (eightPlaces n xs) ≡ 8
+unfolding eightPlaces pad8 zeros8
+eight-long zero xs few =
+    rw unlessRefused-zero
+    (omega (arith, length-append xs (replicate (8 - length xs) 0), length-replicate {A = ℕ} (8 - length xs) 0))
+eight-long (suc n) xs few = rw (unlessRefused-positive (pad8 0 xs) _ (suc n) (omega arith))
 
 -- the values of a verdict's outcome, which are not those of a rejected one where it is accepted
 abbrev values-of : Verdict → List ℕ
@@ -120,7 +129,7 @@ module _ (sheet : List ℕ) (loaded : loadRefusal sheet ≡ 0) where
       (not-refused round passed)
 
   -- what is named first is the first row that fails
-  first-named : (round : Round) → outcome (judgeRound sheet round) .number ≡ 0 → (row : ℕ) → FailsFirst (instanceOf sheet) round row
+  pub first-named : (round : Round) → outcome (judgeRound sheet round) .number ≡ 0 → (row : ℕ) → FailsFirst (instanceOf sheet) round row
       ↔ ((others : List ℕ) × (outcome (judgeRound sheet round) .values ≡ 0 ∷ row ∷ others))
   unfolding outcome
   first-named round passed row =
@@ -137,20 +146,19 @@ module _ (sheet : List ℕ) (loaded : loadRefusal sheet ≡ 0) where
       (not-refused round passed)
 
   -- and its rows say which
-  pub verdicts : (round : Round) → outcome (judgeRound sheet round) .number ≡ 0 → JudgesByRows sheet round
+  pub verdicts : (round : Round) → outcome (judgeRound sheet round) .number ≡ 0 → JudgesByRows runCalls sheet round
   verdicts round passed =
       let fits = not-refused-fits round passed in
       record {
         accepted = (λ e. sheet-accepted round .0 e .1, λ holds. sheet-accepted round .1 (fits, holds));
         rejected = λ mask. (λ e. sheet-rejected round mask .0 e .1, λ fails. sheet-rejected round mask .1 (fits, fails));
-        first = first-named round passed;
         decided = not-refused round passed;
       }
 
   -- ---- the whole
 
   -- the protocol holds of every sheet that loads
-  pub protocol : Protocol sheet
+  pub protocol : Protocol runCalls sheet
   unfolding commit commitAfter respond respondAfter proverStep
   protocol = record {
     commitment = commitment-row;
@@ -158,6 +166,8 @@ module _ (sheet : List ℕ) (loaded : loadRefusal sheet ≡ 0) where
     root-response = λ kind p c x e j h.
         let other : values .header .kind ≢ 1 = λ one. omega arith in
         response-slot p c x e j h ∙ responseCoordinate-root (values .header) other _ c _;
+    commitment-eight = λ p k. eight-long _ _ (rw length-image (loads-valid sheet loaded .table .few-rows));
+    response-eight = λ p c x. eight-long _ _ (rw length-response (loads-valid sheet loaded .table .few-columns));
     beyond-rows = λ p k i h. eight-beyond _ _ i (rw length-image h);
     beyond-columns = λ p c x j h. eight-beyond _ _ j (rw length-response h);
     verdicts = verdicts;

@@ -14,8 +14,9 @@ use Rattle.formats.specs.Load.{loadRules}
 use Rattle.formats.specs.Sheet.{instanceOf}
 use Rattle.formats.proofs.Positive.{load-positive}
 use Rattle.runs.specs.OnSheet.{readSlots}
+use Rattle.runs.specs.Ours.{callProver}
 use Rattle.runs.specs.Prover.{commit, respond}
-use Rattle.runs.specs.ProverCalls.{ProverCall, Commit, Respond, Drop, callProver, ProverMoves, Ended}
+use Rattle.runs.specs.ProverCalls.{ProverCall, Commit, Respond, Drop, ProverMoves, Ended}
 use Rattle.runs.proofs.ProverSteps.{commitAfter-runs, commitAfter-given, commitAfter-kept}
 use Rattle.runs.proofs.ProverSteps.{respondAfter-runs, respondAfter-given, respondAfter-kept, drop-runs, drop-given, drop-kept}
 

@@ -10,9 +10,10 @@ use Rattle.types.specs.declared.VerifierVerdict.{VerifierVerdict}
 use Rattle.formats.specs.Load.{loadRules}
 use Rattle.formats.specs.Sheet.{instanceOf}
 use Rattle.formats.proofs.Positive.{load-positive}
+use Rattle.runs.specs.Ours.{callVerifier}
 use Rattle.runs.specs.Verifier.{verifierState, takeCommitment, takeChallenge, takeResponse}
 use Rattle.runs.specs.VerifierCalls.{VerifierCall, Commitment, Challenge, Response}
-use Rattle.runs.specs.VerifierCalls.{callVerifier, VerifierMoves}
+use Rattle.runs.specs.VerifierCalls.{VerifierMoves}
 use Rattle.runs.proofs.VerifierSteps.{takeCommitmentAfter-runs, takeCommitmentAfter-given, takeCommitmentAfter-kept}
 use Rattle.runs.proofs.VerifierSteps.{takeChallengeAfter-runs, takeChallengeAfter-given, takeChallengeAfter-kept}
 use Rattle.runs.proofs.VerifierSteps.{takeResponseAfter-runs, takeResponseAfter-given, takeResponseAfter-kept}

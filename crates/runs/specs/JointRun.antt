@@ -8,25 +8,27 @@ use Rattle.types.specs.declared.Verdict.the-variants.{Accepted}
 use Rattle.types.specs.declared.VerifierStep.{VerifierStep}
 use Rattle.types.specs.declared.VerifierVerdict.{VerifierVerdict}
 use Rattle.runs.specs.Knowledge.{honestRound}
-use Rattle.runs.specs.Prover.{newProver, commit, respond}
-use Rattle.runs.specs.Verifier.{newVerifier, takeCommitment, takeChallenge, takeResponse}
+use Rattle.runs.specs.RunCalls.{RunCalls}
 
--- Vic takes a round's commitment in a new session
-abbrev pub holding : List ℕ → Round → VerifierStep
-holding sheet round = takeCommitment sheet newVerifier (round .commitment)
+module _ (code : RunCalls) where
+  open RunCalls code using (newProver, commit, respond, newVerifier, takeCommitment, takeChallenge, takeResponse)
 
--- then its challenge
-abbrev pub asked : List ℕ → Round → VerifierStep
-asked sheet round = takeChallenge sheet (holding sheet round .session) (round .challenge)
+  -- Vic takes a round's commitment in a new session
+  abbrev pub holding : List ℕ → Round → VerifierStep
+  holding sheet round = takeCommitment sheet newVerifier (round .commitment)
 
--- and gives the verdict on its response
-abbrev pub told : List ℕ → Round → VerifierVerdict
-told sheet round = takeResponse sheet (asked sheet round .session) (round .response)
+  -- then its challenge
+  abbrev pub asked : List ℕ → Round → VerifierStep
+  asked sheet round = takeChallenge sheet (holding sheet round .session) (round .challenge)
 
--- for witness x, challenge c and nonce k none of Peggy's and Vic's calls is refused, and Vic accepts
-pub record JointRun (sheet x : List ℕ) (c : ℕ) (k : List ℕ) : Type 0 where
-  pub committed : commit sheet newProver k .refusal ≡ 0
-  pub held : holding sheet (honestRound sheet x c k) .refusal ≡ 0
-  pub challenged : asked sheet (honestRound sheet x c k) .refusal ≡ 0
-  pub responded : respond sheet (commit sheet newProver k .session) c x .refusal ≡ 0
-  pub accepted : told sheet (honestRound sheet x c k) .verdict ≡ Accepted
+  -- and gives the verdict on its response
+  abbrev pub told : List ℕ → Round → VerifierVerdict
+  told sheet round = takeResponse sheet (asked sheet round .session) (round .response)
+
+  -- for witness x, challenge c and nonce k none of Peggy's and Vic's calls is refused, and Vic accepts
+  pub record JointRun (sheet x : List ℕ) (c : ℕ) (k : List ℕ) : Type 0 where
+    pub committed : commit sheet newProver k .refusal ≡ 0
+    pub held : holding sheet (honestRound code sheet x c k) .refusal ≡ 0
+    pub challenged : asked sheet (honestRound code sheet x c k) .refusal ≡ 0
+    pub responded : respond sheet (commit sheet newProver k .session) c x .refusal ≡ 0
+    pub accepted : told sheet (honestRound code sheet x c k) .verdict ≡ Accepted

@@ -16,5 +16,10 @@ pub mod MainProtocol
 pub mod Demand3
 pub mod Level
 pub mod Marker
-pub mod Demand1
-pub mod ConvertsFiles
+pub mod MarkerCalls
+pub mod RunRefusals
+pub mod ReadsAlike
+pub mod RunCalls
+pub mod Ours
+pub mod Same
+pub mod Corollaries

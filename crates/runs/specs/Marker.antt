@@ -12,11 +12,13 @@ use Rattle.numbers.specs.Search.{any}
 use Rattle.rules.specs.Answer.{unlessRefused}
 use Rattle.rules.specs.Rule.{Rule, _when_, lowest}
 use Rattle.formats.specs.Load.{loadRules}
-use Rattle.formats.specs.RoundCalls.{countRounds, fetchRound, fileRules}
+use Rattle.formats.specs.Ours.{fileCalls}
+use Rattle.formats.specs.RoundCalls.{countRounds, fileRules}
 use Rattle.formats.specs.Sheet.{headerOf}
 use Rattle.sigma.specs.Answer.{isAccepted, rowsOf}
-use Rattle.runs.specs.Calls.{judgeRound}
 use Rattle.runs.specs.Level.{badLevel, levelOf, strongEnough}
+use Rattle.runs.specs.MarkerCalls.{MarkerCalls, verdictOn as verdictOnBy}
+use Rattle.runs.specs.Ours.{runCalls}
 
 -- a line's end
 unfoldable pub newline : List ℕ
@@ -44,9 +46,9 @@ verdictLine k verdict = decimal k ++ ascii " " ++ verdictText verdict ++ newline
 unfoldable pub resultLine : Bool → List ℕ
 resultLine failed = cond failed (ascii "fail") (ascii "pass") ++ newline
 
--- the verdict on round k of a file: what judging answers on the round as the read call gives it
+-- the verdict on round k of a file
 unfoldable pub verdictOn : List ℕ → List ℕ → ℕ → Verdict
-verdictOn sheet f k = judgeRound sheet (fetchRound sheet f k .round)
+verdictOn sheet f k = verdictOnBy fileCalls runCalls sheet f k
 
 -- the line of round k of a file
 unfoldable pub roundLine : List ℕ → List ℕ → ℕ → List ℕ
@@ -79,3 +81,7 @@ unfoldable pub markerText : List ℕ → List ℕ → List ℕ → List ℕ
 markerText sheet f level =
     let refusal : ℕ = markRefusal sheet f level in
     unlessRefused refusal (roundLines sheet f (levelOf level) (countRounds sheet f .count)) (wordLine (refusedWord refusal) refusal)
+
+-- the marker as it is defined
+abbrev pub markerCalls : MarkerCalls
+markerCalls = record { markerText = markerText }

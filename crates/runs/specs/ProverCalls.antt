@@ -9,8 +9,8 @@ use Rattle.types.specs.declared.ProverPhase.the-variants.{New, Committed, Answe
 use Rattle.types.specs.declared.ProverStep.{ProverStep}
 use Rattle.lists.specs.Places.{pad8, zeros8}
 use Rattle.runs.specs.OnSheet.{readSlots}
-use Rattle.runs.specs.Prover.{commit, respond, dropSession}
 use Rattle.runs.specs.Run.{sessionAfter, trace}
+use Rattle.runs.specs.RunCalls.{RunCalls}
 
 -- a call with what it brings: a sheet and a nonce, a sheet, a challenge and a witness, or nothing
 pub data ProverCall : Type 0 where
@@ -18,19 +18,22 @@ pub data ProverCall : Type 0 where
   Respond : List ℕ → ℕ → List ℕ → ProverCall
   Drop : ProverCall
 
--- what a call on a session gives
-unfoldable pub callProver : ProverCall → Prover → ProverStep
-callProver (Commit sheet nonce) p = commit sheet p nonce
-callProver (Respond sheet c witness) p = respond sheet p c witness
-callProver Drop p = dropSession p
+module _ (code : RunCalls) where
+  open RunCalls code using (commit, respond, dropSession)
 
--- the session after a list of calls
-unfoldable pub proverAfter : List ProverCall → Prover → Prover
-proverAfter calls p = sessionAfter callProver (λ step. step .session) calls p
+  -- what a call on a session gives
+  abbrev pub callProver : ProverCall → Prover → ProverStep
+  callProver (Commit sheet nonce) p = commit sheet p nonce
+  callProver (Respond sheet c witness) p = respond sheet p c witness
+  callProver Drop p = dropSession p
 
--- the calls of a list that are carried out, each with what it answered
-unfoldable pub proverTrace : List ProverCall → Prover → List (ProverCall × ProverStep)
-proverTrace calls p = trace callProver (λ step. step .session) (λ step. step .refusal) calls p
+  -- the session after a list of calls
+  abbrev pub proverAfter : List ProverCall → Prover → Prover
+  proverAfter calls p = sessionAfter callProver (λ step. step .session) calls p
+
+  -- the calls of a list that are carried out, each with what it answered
+  abbrev pub proverTrace : List ProverCall → Prover → List (ProverCall × ProverStep)
+  proverTrace calls p = trace callProver (λ step. step .session) (λ step. step .refusal) calls p
 
 -- in which state a call is carried out, and what it hands back: committing leads from New to Committed with the nonce and the
 -- commitment that it answers, responding from Committed to Answered and dropping from either to Dropped, with a nonce of zeros

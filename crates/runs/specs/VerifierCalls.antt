@@ -11,7 +11,7 @@ use Rattle.lists.specs.Places.{pad8}
 use Rattle.sigma.specs.Answer.{outcome}
 use Rattle.runs.specs.OnSheet.{readValues}
 use Rattle.runs.specs.Run.{sessionAfter, trace}
-use Rattle.runs.specs.Verifier.{takeCommitment, takeChallenge, takeResponse}
+use Rattle.runs.specs.RunCalls.{RunCalls}
 
 -- a call with what it brings: a sheet and a commitment, a challenge or a response
 pub data VerifierCall : Type 0 where
@@ -19,21 +19,24 @@ pub data VerifierCall : Type 0 where
   Challenge : List ℕ → ℕ → VerifierCall
   Response : List ℕ → List ℕ → VerifierCall
 
--- what a call on a session gives: the number that it is refused with, 0 for none, and the session that it hands back
-unfoldable pub callVerifier : VerifierCall → Verifier → VerifierStep
-callVerifier (Commitment sheet t) v = takeCommitment sheet v t
-callVerifier (Challenge sheet c) v = takeChallenge sheet v c
-callVerifier (Response sheet r) v =
-    let told : VerifierVerdict = takeResponse sheet v r in
-    record { refusal = outcome (told .verdict) .number; session = told .session }
+module _ (code : RunCalls) where
+  open RunCalls code using (takeCommitment, takeChallenge, takeResponse)
 
--- the session after a list of calls
-unfoldable pub verifierAfter : List VerifierCall → Verifier → Verifier
-verifierAfter calls v = sessionAfter callVerifier (λ step. step .session) calls v
+  -- what a call on a session gives: the number that it is refused with, 0 for none, and the session that it hands back
+  abbrev pub callVerifier : VerifierCall → Verifier → VerifierStep
+  callVerifier (Commitment sheet t) v = takeCommitment sheet v t
+  callVerifier (Challenge sheet c) v = takeChallenge sheet v c
+  callVerifier (Response sheet r) v =
+      let told : VerifierVerdict = takeResponse sheet v r in
+      record { refusal = outcome (told .verdict) .number; session = told .session }
 
--- the calls of a list that are carried out, each with what it answered
-unfoldable pub verifierTrace : List VerifierCall → Verifier → List (VerifierCall × VerifierStep)
-verifierTrace calls v = trace callVerifier (λ step. step .session) (λ step. step .refusal) calls v
+  -- the session after a list of calls
+  abbrev pub verifierAfter : List VerifierCall → Verifier → Verifier
+  verifierAfter calls v = sessionAfter callVerifier (λ step. step .session) calls v
+
+  -- the calls of a list that are carried out, each with what it answered
+  abbrev pub verifierTrace : List VerifierCall → Verifier → List (VerifierCall × VerifierStep)
+  verifierTrace calls v = trace callVerifier (λ step. step .session) (λ step. step .refusal) calls v
 
 -- in which state a call is carried out, and what it hands back: a commitment leads from Waiting to Holding, a challenge from
 -- Holding to Asked, and a response from Asked to Judged; what came before is kept, and no response is

@@ -1,0 +1,26 @@
+-- The public calls of 01 and of 02's cards 1 to 8, those of each topic together: what any code has to give. No call's definition is
+-- named.
+-- Assumes nothing.
+use Rattle.disjunctions.specs.OrCalls.{OrCalls}
+use Rattle.formats.specs.FileCalls.{FileCalls}
+use Rattle.patterns.specs.MakerCalls.{MakerCalls}
+use Rattle.products.specs.TeamCalls.{TeamCalls}
+use Rattle.reasons.specs.ReasonCalls.{ReasonCalls}
+use Rattle.runs.specs.MarkerCalls.{MarkerCalls}
+use Rattle.runs.specs.RunCalls.{RunCalls}
+
+pub record Calls : Type 0 where
+  -- sheets and round files
+  pub files : FileCalls
+  -- rounds, Peggy's session and Vic's
+  pub runs : RunCalls
+  -- the marker's text
+  pub marker : MarkerCalls
+  -- card 1: the reason
+  pub reasons : ReasonCalls
+  -- card 2: sheets from patterns
+  pub makers : MakerCalls
+  -- card 4: the OR proof
+  pub either : OrCalls
+  -- card 6: the team's combiner
+  pub team : TeamCalls

@@ -1,0 +1,63 @@
+-- No answer depends on places beyond s and n, whether or not the sheet loads.
+-- Assumes nothing.
+use Prim.Native.Nat.{ℕ}
+use mathlib.Core.Path.{refl}
+use mathlib.Core.List.{List}
+use Rattle.types.specs.declared.Round.{Round}
+use Rattle.types.specs.declared.Verifier.{Verifier}
+use Rattle.lists.specs.Places.{places}
+use Rattle.formats.specs.Load.{loadRules}
+use Rattle.formats.specs.Sheet.{instanceOf}
+use Rattle.sigma.specs.Reads.{SameRound, paddedRound}
+use Rattle.sigma.proofs.Unread.{same-round-of-padded, same-round-sym, judgeAfter-same, simulateAfter-same, extractAfter-same}
+use Rattle.runs.specs.Calls.{judgeRound, simulateCommitment, extractWitness}
+use Rattle.runs.specs.Corollaries.{ReadAlone, SessionsReadAlone}
+use Rattle.runs.specs.OnSheet.{readProver, readVerifier}
+use Rattle.runs.specs.Ours.{honestRound, runCalls}
+use Rattle.runs.specs.Prover.{newProver, commit, respond}
+use Rattle.runs.specs.Verifier.{takeCommitment, takeChallenge, takeResponse}
+use Rattle.runs.proofs.Unread.{SameVerifier, read-agrees, commitAfter-same, respondAfter-same, respondAfter-held}
+use Rattle.runs.proofs.Unread.{takeCommitmentAfter-same, takeChallengeAfter-held, takeResponseAfter-same, takeResponseAfter-held}
+
+-- the calls on rounds, and an honest round
+pub read-alone : (sheet : List ℕ) → ReadAlone runCalls sheet
+unfolding honestRound judgeRound simulateCommitment extractWitness commit respond instanceOf
+read-alone sheet =
+    let before = loadRules sheet in
+    let inst = instanceOf sheet in
+    let slots = read-agrees (inst .header .columns) in
+    let read : (round : Round) → SameRound (inst .header) round (paddedRound (inst .header) round) =
+    λ round. same-round-sym (same-round-of-padded (inst .header) round) in
+    record {
+      honest = λ x c k.
+          let k′ = places (inst .header .columns) k in
+          rw (
+            commitAfter-same before inst newProver k k′ (slots k),
+            respondAfter-same before inst _ c x (places (inst .header .columns) x) (slots x),
+          );
+      simulated = λ c r. simulateAfter-same before inst c r _ (slots r);
+      judged = λ round. judgeAfter-same before inst (read round);
+      extracted = λ first second. extractAfter-same before inst (read first) (read second);
+    }
+
+-- the calls on sessions
+pub sessions-read-alone : (sheet : List ℕ) → SessionsReadAlone runCalls sheet
+unfolding commit respond takeCommitment takeChallenge takeResponse
+sessions-read-alone sheet =
+    let before = loadRules sheet in
+    let inst = instanceOf sheet in
+    let values = read-agrees (inst .header .rows) in
+    let slots = read-agrees (inst .header .columns) in
+    let alike : (v : Verifier) → SameVerifier (inst .header) v (readVerifier sheet v) =
+    λ v. record { phase = refl; commitment = values (v .commitment); challenge = refl } in
+    record {
+      committed = λ p k. commitAfter-same before inst p k _ (slots k);
+      responded = λ p c x. respondAfter-same before inst p c x _ (slots x);
+      responded-held = λ p c x.
+          respondAfter-held before inst p (readProver sheet p)
+          (record { phase = refl; nonce = slots (p .nonce); commitment = read-agrees 8 (p .commitment) }) c x;
+      commitment = λ v t. takeCommitmentAfter-same before inst v t _ (values t);
+      challenge-held = λ v c. takeChallengeAfter-held before inst v _ refl (values (v .commitment)) c;
+      response = λ v r. takeResponseAfter-same before inst v r _ (slots r);
+      response-held = λ v r. takeResponseAfter-held before inst v (readVerifier sheet v) (alike v) r;
+    }
