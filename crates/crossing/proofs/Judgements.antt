@@ -1,4 +1,4 @@
--- The three numbers of each verdict, and that they tell it: no two verdicts that calls give have the same.
+-- A verdict's three numbers tell it: no two verdicts that calls give have the same.
 -- Assumes nothing.
 use Prim.Native.Nat.{ℕ, _^_, _<_}
 use mathlib.Core.Path.{_≡_, refl, sym, ap}
@@ -21,21 +21,6 @@ use Rattle.runs.specs.Verifier.{takeResponse, takeResponseAfter}
 use Rattle.runs.proofs.Protocol.{protocol}
 use Rattle.crossing.specs.Verdicts.{judgement}
 use Rattle.crossing.specs.declared.Judgement.{Judgement}
-
--- an accepted round has 1 for accepted
-pub judgement-accepted : judgement Accepted ≡ record { refusal = 0; accepted = 1; rows = 0 }
-unfolding judgement
-judgement-accepted = refl
-
--- a rejected round has the mask of its rows
-pub judgement-rejected : (mask : ℕ) → judgement (Rejected mask) ≡ record { refusal = 0; accepted = 0; rows = mask }
-unfolding judgement
-judgement-rejected mask = refl
-
--- a refused round has its number
-pub judgement-refused : (number : ℕ) → judgement (Refused number) ≡ record { refusal = number; accepted = 0; rows = 0 }
-unfolding judgement
-judgement-refused number = refl
 
 -- the number is that of the verdict's outcome
 pub judgement-number : (v : Verdict) → judgement v .refusal ≡ outcome v .number

@@ -4,3 +4,4 @@ pub mod HandedBack
 pub mod Judgements
 pub mod ProverCrossing
 pub mod VerifierCrossing
+pub mod SessionsCross

@@ -1,29 +1,28 @@
 -- Peggy's session crosses and comes back the same, and a call on a session that crossed is the call on the session.
 -- Assumes nothing.
 use Prim.Native.Nat.{ℕ, _≤_, _<_}
-use mathlib.Core.Path.{_≡_, refl, ap, _∙_}
+use mathlib.Core.Path.{_≡_, refl, sym, ap, _∙_}
 use mathlib.Core.List.{List, [], _∷_}
-use mathlib.Core.Logic.{inr}
-use native.Mathlib.Decide.{decLt}
+use mathlib.Core.Logic.{_↔_, _⊎_, inl, inr, ⊎-elim}
 use native.Mathlib.Omega.{arith}
 use lib.ListN.{length}
 use Rattle.types.specs.declared.Prover.{Prover}
 use Rattle.types.specs.declared.ProverPhase.{ProverPhase}
 use Rattle.types.specs.declared.ProverPhase.the-variants.{New, Committed, Answered, Dropped}
 use Rattle.types.specs.declared.ProverStep.{ProverStep}
+use Rattle.lists.specs.Places.{zeros8}
 use Rattle.sigma.proofs.Answer.{unlessRefused-positive}
 use Rattle.runs.specs.Ours.{callProver, proverAfter, proverTrace}
 use Rattle.runs.specs.Prover.{proverState}
-use Rattle.runs.specs.ProverCalls.{ProverCall, Commit, Respond, Drop, answered}
-use Rattle.runs.specs.Run.{sessionAfter, trace}
-use Rattle.runs.proofs.OneAnswer.{one-answer}
+use Rattle.runs.specs.ProverCalls.{ProverCall, Commit, Respond, Drop, answered, Ended}
+use Rattle.runs.specs.Run.{sessionAfter}
+use Rattle.runs.proofs.OneAnswer.{one-answer, prover-once}
 use Rattle.runs.proofs.ProverCalls.{prover-kept, ended-refuses}
-use Rattle.runs.proofs.Run.{trace-refused, trace-given}
-use Rattle.crossing.specs.Calls.{answeredProver, answeredTrace}
+use Rattle.crossing.specs.Calls.{answeredProver, answeredTrace, proverRead, readAnswers}
 use Rattle.crossing.specs.OfFour.{ofFour}
 use Rattle.crossing.specs.Provers.{proverPhase, proverOf, proverSession, proverAnswer}
 use Rattle.crossing.specs.declared.ProverSession.{ProverSession}
-use Rattle.crossing.proofs.HandedBack.{handed-back, handed-on-after}
+use Rattle.crossing.proofs.HandedBack.{handed-back, handed-on-after, handed-out, handed-out-after, trace-across}
 use Rattle.crossing.proofs.Phases.{ofFour-beyond, ofFour-number}
 
 -- ---- the session
@@ -51,6 +50,17 @@ pub in-and-out : (s : ProverSession) → s .phase < 4 → proverSession (proverO
 unfolding proverOf proverSession
 in-and-out s few = rw (state-of-phase (s .phase) few)
 
+-- Answered and Dropped are the states numbered from 2 on
+pub state-ended : (p : ProverPhase) → (2 ≤ proverState p) ↔ ((p ≡ Answered) ⊎ (p ≡ Dropped))
+unfolding proverState
+state-ended p = (late p, ⊎-elim (λ (e : p ≡ Answered). omega (arith, ap proverState e)) (λ (e : p ≡ Dropped). omega (arith, ap proverState e)))
+  where
+    late : (p : ProverPhase) → 2 ≤ proverState p → (p ≡ Answered) ⊎ (p ≡ Dropped)
+    late New few = absurd (omega arith)
+    late Committed few = absurd (omega arith)
+    late Answered few = inl refl
+    late Dropped few = inr refl
+
 -- ---- the calls
 
 module _ (call : ProverCall) (s : ProverSession) where
@@ -72,6 +82,11 @@ module _ (call : ProverCall) (s : ProverSession) where
       handed-back proverOf proverSession out-and-in _ s _
       (λ refused. ap (λ (step : ProverStep). step .session) (prover-kept call (proverOf s) refused))
 
+  -- so an answer reads as what the call answers
+  pub told-across : proverRead (answeredProver call s) ≡ callProver call (proverOf s)
+  unfolding proverAnswer
+  told-across = rw handed-on
+
   -- a number that is no state's allows no call: it is refused, and the session comes back as it was handed in
   pub unknown-refused : 4 ≤ s .phase → (0 < answeredProver call s .refusal) × (answeredProver call s .session ≡ s)
   unfolding proverAnswer proverOf proverPhase
@@ -87,40 +102,44 @@ unfolding proverAfter callProver
 handed-on-all =
     handed-on-after answeredProver (λ answer. answer .session) callProver (λ step. step .session) proverOf handed-on
 
--- one call more in front of two traces that answer the same challenges
-answered-same : {A B : Type 0} (call : ProverCall) (a : A) (b : B) (later : List (ProverCall × A)) (later′ : List (ProverCall × B))
-    → answered later ≡ answered later′ → answered ((call, a) ∷ later) ≡ answered ((call, b) ∷ later′)
-unfolding answered
-answered-same (Commit sheet nonce) a b later later′ e = e
-answered-same (Respond sheet c witness) a b later later′ e = ap (λ (cs : List ℕ). c ∷ cs) e
-answered-same Drop a b later later′ e = e
+-- so is the form that is handed back, if the one that was given has a state's number
+pub handed-out-all : (calls : List ProverCall) (s : ProverSession) → s .phase < 4
+    → sessionAfter answeredProver (λ answer. answer .session) calls s ≡ proverSession (proverAfter calls (proverOf s))
+unfolding proverAfter callProver proverAnswer
+handed-out-all calls s few =
+    handed-out-after answeredProver (λ answer. answer .session) callProver (λ step. step .session) proverOf proverSession out-and-in
+    (λ call s back. handed-out proverOf proverSession _ s _
+    (λ refused. ap (λ (step : ProverStep). step .session) (prover-kept call (proverOf s) refused)) back)
+    calls s (in-and-out s few)
 
--- the calls that crossed answer the challenges that the calls on the session answer
-pub answered-across : (calls : List ProverCall) (s : ProverSession)
-    → answered (answeredTrace calls s) ≡ answered (proverTrace calls (proverOf s))
-unfolding answeredTrace proverTrace callProver trace answered proverAnswer
-answered-across [] s = refl
-answered-across (call ∷ calls) s =
-    step
-    (answered-across calls (answeredProver call s .session) ∙ ap (λ (p : Prover). answered (proverTrace calls p)) (handed-on call s))
-    (decLt 0 (callProver call (proverOf s) .refusal))
-  where
-    step : answered (answeredTrace calls (answeredProver call s .session))
-        ≡ answered (proverTrace calls (callProver call (proverOf s) .session))
-        → Dec (0 < callProver call (proverOf s) .refusal)
-        → answered (answeredTrace (call ∷ calls) s) ≡ answered (proverTrace (call ∷ calls) (proverOf s))
-    step later (yes refused) =
-        rw (
-          trace-refused answeredProver (λ answer. answer .session) (λ answer. answer .refusal) call calls s refused,
-          trace-refused callProver (λ step. step .session) (λ step. step .refusal) call calls (proverOf s) refused,
-        ) later
-    step later (no given) =
-        let none : callProver call (proverOf s) .refusal ≡ 0 = omega arith in
-        rw (
-          trace-given answeredProver (λ answer. answer .session) (λ answer. answer .refusal) call calls s none,
-          trace-given callProver (λ step. step .session) (λ step. step .refusal) call calls (proverOf s) none,
-        ) (answered-same call _ _ _ _ later)
+-- so are the calls that are carried out, with what they answer
+pub prover-trace-across : (calls : List ProverCall) (s : ProverSession)
+    → readAnswers proverRead (answeredTrace calls s) ≡ proverTrace calls (proverOf s)
+unfolding answeredTrace proverTrace callProver
+prover-trace-across =
+    trace-across answeredProver (λ answer. answer .session) (λ answer. answer .refusal) callProver (λ step. step .session)
+    (λ step. step .refusal) proverOf proverRead told-across (λ a. refl) (λ a. refl)
+
+-- the challenges that were answered are fixed by the calls alone
+answered-read : {A B : Type 0} (read : A → B) (answers : List (ProverCall × A)) → answered (readAnswers read answers) ≡ answered answers
+unfolding answered readAnswers
+answered-read read [] = refl
+answered-read read ((Commit sheet nonce, a) ∷ later) = answered-read read later
+answered-read read ((Respond sheet c witness, a) ∷ later) = ap (λ (cs : List ℕ). c ∷ cs) (answered-read read later)
+answered-read read ((Drop, a) ∷ later) = answered-read read later
 
 -- so over any calls, each given the session that the last one handed back, at most one challenge is answered
 pub one-answer-across : (calls : List ProverCall) (s : ProverSession) → length (answered (answeredTrace calls s)) ≤ 1
-one-answer-across calls s = rw (answered-across calls s) (one-answer calls (proverOf s))
+one-answer-across calls s =
+    rw (sym (answered-read proverRead (answeredTrace calls s)), prover-trace-across calls s) (one-answer calls (proverOf s))
+
+-- a session that the calls have led from New or Committed to Answered or Dropped has a nonce of zeros
+pub wiped-across : (calls : List ProverCall) (s s′ : ProverSession) → s .phase < 2
+    → sessionAfter answeredProver (λ answer. answer .session) calls s ≡ s′ → 2 ≤ s′ .phase → s′ .nonce ≡ zeros8
+unfolding proverSession proverOf proverAfter
+wiped-across calls s s′ early after late =
+    let out = sym after ∙ handed-out-all calls s (omega arith) in
+    let number = state-of-phase (s .phase) (omega arith) in
+    let started : ¬ Ended (proverOf s) = λ ended. let z = state-ended (proverOf s .phase) .1 ended in omega arith in
+    let ended : Ended (proverAfter calls (proverOf s)) = state-ended _ .0 (rw out at late) in
+    rw out (prover-once .wiped calls (proverOf s) started ended)

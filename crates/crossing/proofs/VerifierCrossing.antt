@@ -1,26 +1,28 @@
 -- Vic's session crosses and comes back the same, and a call on a session that crossed is the call on the session.
 -- Assumes nothing.
-use Prim.Native.Nat.{ℕ, _≤_, _<_}
-use mathlib.Core.Path.{_≡_, refl}
+use Prim.Native.Nat.{ℕ, _+_, _≤_, _<_}
+use mathlib.Core.Path.{_≡_, refl, sym, ap, ap₂, _∙_}
 use mathlib.Core.List.{List}
 use native.Mathlib.Omega.{arith}
+use lib.ListN.{length, length-map}
 use Rattle.types.specs.declared.Verifier.{Verifier}
 use Rattle.types.specs.declared.VerifierPhase.{VerifierPhase}
 use Rattle.types.specs.declared.VerifierPhase.the-variants.{Waiting, Holding, Asked, Judged}
+use Rattle.types.specs.declared.VerifierStep.{VerifierStep}
 use Rattle.rules.specs.Answer.{unlessRefused}
 use Rattle.sigma.proofs.Answer.{unlessRefused-positive}
-use Rattle.runs.specs.Ours.{callVerifier, verifierAfter}
+use Rattle.runs.specs.Ours.{callVerifier, verifierAfter, verifierTrace}
 use Rattle.runs.specs.Run.{sessionAfter}
 use Rattle.runs.specs.Verifier.{verifierState}
 use Rattle.runs.specs.VerifierCalls.{VerifierCall, Commitment, Challenge, Response}
+use Rattle.runs.proofs.OrderOfSteps.{verifier-ordered}
 use Rattle.runs.proofs.VerifierCalls.{verifier-kept, judged-refuses}
-use Rattle.crossing.specs.Calls.{answeredRefusal, answeredSession}
+use Rattle.crossing.specs.Calls.{answeredVerifier, answeredVerifierTrace, readAnswers, verifierRead}
 use Rattle.crossing.specs.OfFour.{ofFour}
-use Rattle.crossing.specs.Verdicts.{judgement}
 use Rattle.crossing.specs.Verifiers.{verifierPhase, verifierOf, verifierSession, verifierAnswer, verifierJudgement}
 use Rattle.crossing.specs.declared.VerifierSession.{VerifierSession}
 use Rattle.crossing.proofs.Judgements.{judgement-number}
-use Rattle.crossing.proofs.HandedBack.{handed-back, handed-on-after}
+use Rattle.crossing.proofs.HandedBack.{handed-back, handed-on-after, handed-out, handed-out-after, trace-across}
 use Rattle.crossing.proofs.Phases.{ofFour-beyond, ofFour-number}
 
 -- ---- the session
@@ -51,41 +53,77 @@ in-and-out s few = rw (state-of-phase (s .phase) few)
 -- ---- the calls
 
 -- the number in an answer is that of the call
-pub answered-refusal : (call : VerifierCall) (s : VerifierSession) → answeredRefusal call s ≡ callVerifier call (verifierOf s) .refusal
-unfolding answeredRefusal callVerifier verifierAnswer verifierJudgement
+pub answered-refusal : (call : VerifierCall) (s : VerifierSession)
+    → answeredVerifier call s .refusal ≡ callVerifier call (verifierOf s) .refusal
+unfolding answeredVerifier callVerifier verifierAnswer verifierJudgement
 answered-refusal (Commitment sheet t) s = refl
 answered-refusal (Challenge sheet c) s = refl
 answered-refusal (Response sheet r) s = judgement-number _
 
 -- the session in an answer is that after the call, or the one that was handed in
-answered-session : (call : VerifierCall) (s : VerifierSession) → answeredSession call s
+answered-session : (call : VerifierCall) (s : VerifierSession) → answeredVerifier call s .session
     ≡ unlessRefused (callVerifier call (verifierOf s) .refusal) (verifierSession (callVerifier call (verifierOf s) .session)) s
-unfolding answeredSession callVerifier verifierAnswer verifierJudgement
+unfolding answeredVerifier callVerifier verifierAnswer verifierJudgement
 answered-session (Commitment sheet t) s = refl
 answered-session (Challenge sheet c) s = refl
 answered-session (Response sheet r) s = refl
 
 module _ (call : VerifierCall) (s : VerifierSession) where
   -- a refused call hands the session back as it was handed in
-  pub refused-kept : 0 < answeredRefusal call s → answeredSession call s ≡ s
+  pub refused-kept : 0 < answeredVerifier call s .refusal → answeredVerifier call s .session ≡ s
   refused-kept refused = rw (answered-session call s) (unlessRefused-positive _ s _ (rw answered-refusal at refused))
 
   -- the session handed back is the one after the call
-  pub handed-on : verifierOf (answeredSession call s) ≡ callVerifier call (verifierOf s) .session
+  pub handed-on : verifierOf (answeredVerifier call s .session) ≡ callVerifier call (verifierOf s) .session
   handed-on =
       rw (answered-session call s)
       (handed-back verifierOf verifierSession out-and-in _ s _ (verifier-kept call (verifierOf s)))
 
+  -- so an answer reads as what the call answers
+  pub told-across : verifierRead (answeredVerifier call s) ≡ callVerifier call (verifierOf s)
+  told-across = rw (handed-on, answered-refusal call s)
+
   -- a number that is no state's allows no call: it is refused, and the session comes back as it was handed in
-  pub unknown-refused : 4 ≤ s .phase → (0 < answeredRefusal call s) × (answeredSession call s ≡ s)
+  pub unknown-refused : 4 ≤ s .phase → (0 < answeredVerifier call s .refusal) × (answeredVerifier call s .session ≡ s)
   unfolding verifierOf verifierPhase
   unknown-refused unknown =
       let last : verifierOf s .phase ≡ Judged = ofFour-beyond Waiting Holding Asked Judged (omega arith) in
-      let refused : 0 < answeredRefusal call s = rw answered-refusal (judged-refuses call (verifierOf s) last) in
+      let refused : 0 < answeredVerifier call s .refusal = rw answered-refusal (judged-refuses call (verifierOf s) last) in
       (refused, refused-kept refused)
 
 -- after any calls, each given the session that the last one handed back, the session is the one after the calls
 pub handed-on-all : (calls : List VerifierCall) (s : VerifierSession)
-    → verifierOf (sessionAfter answeredSession (λ form. form) calls s) ≡ verifierAfter calls (verifierOf s)
+    → verifierOf (sessionAfter answeredVerifier (λ answer. answer .session) calls s) ≡ verifierAfter calls (verifierOf s)
 unfolding verifierAfter callVerifier
-handed-on-all = handed-on-after answeredSession (λ form. form) callVerifier (λ step. step .session) verifierOf handed-on
+handed-on-all =
+    handed-on-after answeredVerifier (λ answer. answer .session) callVerifier (λ step. step .session) verifierOf handed-on
+
+-- so is the form that is handed back, if the one that was given has a state's number
+pub handed-out-all : (calls : List VerifierCall) (s : VerifierSession) → s .phase < 4
+    → sessionAfter answeredVerifier (λ answer. answer .session) calls s ≡ verifierSession (verifierAfter calls (verifierOf s))
+unfolding verifierAfter callVerifier
+handed-out-all calls s few =
+    handed-out-after answeredVerifier (λ answer. answer .session) callVerifier (λ step. step .session) verifierOf verifierSession
+    out-and-in
+    (λ call s back. answered-session call s
+    ∙ handed-out verifierOf verifierSession _ s _ (verifier-kept call (verifierOf s)) back)
+    calls s (in-and-out s few)
+
+-- so are the calls that are carried out, with what they answer
+pub verifier-trace-across : (calls : List VerifierCall) (s : VerifierSession)
+    → readAnswers verifierRead (answeredVerifierTrace calls s) ≡ verifierTrace calls (verifierOf s)
+unfolding answeredVerifierTrace verifierTrace callVerifier
+verifier-trace-across =
+    trace-across answeredVerifier (λ answer. answer .session) (λ answer. answer .refusal) callVerifier (λ step. step .session)
+    (λ step. step .refusal) verifierOf verifierRead told-across (λ a. refl) (λ a. refl)
+
+-- each call that is carried out leads one state on: there is at most one commitment, one challenge and one verdict
+pub next-across : (calls : List VerifierCall) (s : VerifierSession) → s .phase < 4
+    → sessionAfter answeredVerifier (λ answer. answer .session) calls s .phase ≡ s .phase + length (answeredVerifierTrace calls s)
+unfolding verifierSession verifierOf readAnswers verifierAfter verifierTrace
+next-across calls s few =
+    let read : List (VerifierCall × VerifierStep) = readAnswers verifierRead (answeredVerifierTrace calls s) in
+    let count : length read ≡ length (answeredVerifierTrace calls s) = length-map (answeredVerifierTrace calls s) _ in
+    ap (λ (s : VerifierSession). s .phase) (handed-out-all calls s few)
+    ∙ verifier-ordered .next calls (verifierOf s)
+    ∙ ap₂ (λ (a b : ℕ). a + b) (state-of-phase (s .phase) few) (ap length (sym (verifier-trace-across calls s)) ∙ count)

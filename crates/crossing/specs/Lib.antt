@@ -4,3 +4,4 @@ pub mod Verdicts
 pub mod Provers
 pub mod Verifiers
 pub mod Calls
+pub mod SessionsCross

@@ -4,17 +4,23 @@ use mathlib.Core.Path.{refl}
 use Rattle.rules.specs.Order.{refusalOrder}
 use Rattle.disjunctions.proofs.OneOfTwo.{or-proof}
 use Rattle.disjunctions.proofs.OrRefusals.{or-refusals}
+use Rattle.disjunctions.proofs.RunsWhere.{either-runs}
+use Rattle.examples.proofs.Corners.{every-disjunct}
 use Rattle.examples.proofs.Pages.{worked-examples}
+use Rattle.examples.proofs.ReasonPage.{reason-page}
 use Rattle.examples.proofs.RowsPage.{rows-page}
 use Rattle.examples.proofs.TeamPage.{team-page}
 use Rattle.formats.specs.Load.{load}
 use Rattle.formats.proofs.ByteLayout.{layout}
 use Rattle.formats.proofs.Converts.{convert-refusals, converts}
 use Rattle.formats.proofs.FileRefusals.{file-refusals}
+use Rattle.formats.proofs.RunsWhere.{files-run}
 use Rattle.formats.proofs.SameCommitment.{words-compare, words-refusals}
 use Rattle.formats.proofs.Writers.{writers}
 use Rattle.patterns.proofs.Meaning.{patterns-mean}
 use Rattle.patterns.proofs.PatternCalls.{pattern-calls, pattern-refusals}
+use Rattle.patterns.proofs.RunsWhere.{makers-run}
+use Rattle.products.proofs.RunsWhere.{team-runs}
 use Rattle.products.proofs.TeamRefusals.{team-refusals}
 use Rattle.products.proofs.TeamWorks.{team-works}
 use Rattle.reasons.proofs.ReasonsTrue.{reasons-true}
@@ -23,6 +29,7 @@ use Rattle.runs.proofs.MainProtocol.{main-protocol}
 use Rattle.runs.proofs.Protocol.{protocol}
 use Rattle.runs.proofs.ReadsAlike.{loses-nothing}
 use Rattle.runs.proofs.RunRefusals.{mark-refusals, run-refusals}
+use Rattle.runs.proofs.RunsWhere.{rounds-run}
 use Rattle.runs.proofs.Sessions.{sessions}
 use Rattle.sigma.proofs.Answer.{verdict-outcomes}
 use Rattle.demands.specs.Calls.{Calls}
@@ -50,6 +57,13 @@ holds = record {
     words = words-refusals;
     team = team-refusals;
     sixteen-bits = convert-refusals;
+  };
+  runs-where = record {
+    files = files-run;
+    rounds = rounds-run;
+    patterns = makers-run;
+    one-of-two = either-runs;
+    team = team-runs;
   };
   main-protocol = main-protocol;
   protocol = protocol;
@@ -83,6 +97,13 @@ pub evidence : Evidence
 evidence = record {
   pages = worked-examples .0;
   corners = worked-examples .1;
+  sheet-corners = every-disjunct .0;
+  pattern-corners = every-disjunct .1;
+  file-corners = every-disjunct .2;
+  round-corners = every-disjunct .3;
+  or-corners = every-disjunct .4;
+  team-corners = every-disjunct .5;
+  reason-page = reason-page;
   or-page = worked-examples .2;
   team-page = team-page;
   rows-page = rows-page;

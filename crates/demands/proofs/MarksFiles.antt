@@ -23,6 +23,7 @@ use Rattle.runs.specs.Marker.{newline, wordLine, rowWord, verdictText, verdictL
 use Rattle.runs.specs.Ours.{runCalls}
 use Rattle.runs.proofs.Level.{level-passes, says-badLevel}
 use Rattle.runs.proofs.Marker.{empty-fails, passes-at, result-line, round-lines, round-refusal}
+use Rattle.runs.proofs.MarkerCut.{text-cut}
 use Rattle.runs.proofs.MarkerLength.{text-short}
 use Rattle.runs.proofs.MarkerRefusal.{file-line, level-line, sheet-line}
 use Rattle.runs.proofs.Protocol.{sheet-rejected}
@@ -84,4 +85,9 @@ marks-files = record {
 
 pub marker-corollaries : MarkerCorollaries fileCalls runCalls markerCalls
 unfolding load verdictOn
-marker-corollaries = record { rejected = rejected-rows; short = text-short; round-refusals = round-refusal }
+marker-corollaries = record {
+  rejected = rejected-rows;
+  short = text-short;
+  round-refusals = round-refusal;
+  kept = text-cut;
+}

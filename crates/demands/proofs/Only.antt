@@ -41,13 +41,7 @@ module _ (code : Calls) (d : Demands code) where
   maker-demands = record { refusals = d .refusals .patterns; patterns = d .cards .patterns }
 
   either-demands : EitherDemands (code .files) (code .runs) (code .either)
-  either-demands = record {
-    sheets = d .refusals .files;
-    rounds = d .refusals .runs;
-    protocol = d .protocol;
-    refusals = d .refusals .one-of-two;
-    proof = d .cards .one-of-two;
-  }
+  either-demands = record { runs = run-demands; refusals = d .refusals .one-of-two; proof = d .cards .one-of-two }
 
 -- ---- the theorem
 

@@ -4,7 +4,7 @@
 use Prim.Native.Nat.{ℕ, _≤_}
 use mathlib.Core.Path.{_≡_}
 use mathlib.Core.List.{List, [], _∷_}
-use lib.ListN.{length}
+use lib.ListN.{length, take}
 use Rattle.types.specs.declared.Verdict.the-variants.{Rejected, Refused}
 use Rattle.lists.specs.Member.{Member}
 use Rattle.disjunctions.specs.Corollaries.{OrCorollaries}
@@ -38,6 +38,9 @@ module _ (files : FileCalls) (runs : RunCalls) (marker : MarkerCalls) where
     -- of a sheet that loads, a round is refused with 14, 15 or 16
     pub round-refusals : (sheet f : List ℕ) → load sheet .refusal ≡ 0 → (k number : ℕ)
         → verdictOn files runs sheet f k ≡ Refused number → Member number (14 ∷ 15 ∷ 16 ∷ [])
+    -- 309 bytes of a sheet, 34,824 of a file and two of a level are enough
+    pub kept : (a b n : ℕ) → 309 ≤ a → 34824 ≤ b → 2 ≤ n → (sheet f level : List ℕ)
+        → markerText (take a sheet) (take b f) (take n level) ≡ markerText sheet f level
 
 pub record Corollaries (code : Calls) : Type 0 where
   pub files : FileCorollaries (code .files)

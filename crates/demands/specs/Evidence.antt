@@ -2,9 +2,16 @@
 -- that has to be believed.
 -- Assumes nothing.
 use Rattle.examples.specs.Corners.{EveryCorner}
+use Rattle.examples.specs.FileCorners.{FileCorners}
+use Rattle.examples.specs.OrCorners.{OrCorners}
 use Rattle.examples.specs.OrPage.{OrPage}
 use Rattle.examples.specs.Pages.{EveryPage}
+use Rattle.examples.specs.PatternCorners.{PatternCorners}
+use Rattle.examples.specs.ReasonPage.{ReasonPage}
+use Rattle.examples.specs.RoundCorners.{RoundCorners}
 use Rattle.examples.specs.RowsPage.{RowsPage}
+use Rattle.examples.specs.SheetCorners.{SheetCorners}
+use Rattle.examples.specs.TeamCorners.{TeamCorners}
 use Rattle.examples.specs.TeamPage.{TeamPage}
 
 pub record Evidence : Type 0 where
@@ -12,6 +19,15 @@ pub record Evidence : Type 0 where
   pub pages : EveryPage
   -- for each refusal inputs on both sides of its bounds
   pub corners : EveryCorner
+  -- for each part of each condition an input that it alone refuses
+  pub sheet-corners : SheetCorners
+  pub pattern-corners : PatternCorners
+  pub file-corners : FileCorners
+  pub round-corners : RoundCorners
+  pub or-corners : OrCorners
+  pub team-corners : TeamCorners
+  -- the reason's whole line for every number and each of its causes
+  pub reason-page : ReasonPage
   -- a worked pair of sheets for the OR proof
   pub or-page : OrPage
   -- worked teams

@@ -7,7 +7,6 @@ use mathlib.Core.Logic.{_↔_}
 use native.Mathlib.Omega.{arith}
 use lib.ListN.{length, length-take, take}
 use lib.Seq.{sets}
-use Rattle.encoding.specs.Front.{FrontOf}
 use Rattle.encoding.specs.Placed.{Placed}
 use Rattle.reasons.specs.Reason.{reasonLine, reasonText}
 use Rattle.reasons.proofs.ReasonsTrue.{reason-corollaries}
@@ -25,14 +24,15 @@ pub reason-stored : (s f : List ℕ) {l m : List ℕ} {r : ℕ} → Placed l 0 (
 unfolding reasonText
 reason-stored s f placed = line-stored placed refl
 
--- arrays of 309 and 34,824 bytes hold enough of a sheet and of a round file for the line on the whole files
-pub whole-line : (sheet rounds : List ℕ) (n k x y : ℕ) → 309 ≤ length sheet → 34824 ≤ length rounds → {l m : List ℕ} {r : ℕ}
-    → ((y < 7) ↔ (length (take k rounds) < 7) → Placed l 0 (reasonLine (take n sheet) x (take k rounds) y) m r)
-    → (s f : List ℕ) → FrontOf sheet n s → FrontOf rounds k f → length s ≡ x → length f ≡ y
+-- the line on the first n bytes of a sheet and the first k of a round file, with the lengths of the whole files, is the line on
+-- the whole files, if these are at least 309 and 34,824
+pub whole-line : (n k : ℕ) → 309 ≤ n → 34824 ≤ k → {sheet rounds l m : List ℕ} (x y : ℕ) {r : ℕ}
+    → ((y < 7) ↔ (length rounds < 7) → Placed l 0 (reasonLine sheet x rounds y) m r)
+    → (s f : List ℕ) → sheet ≡ take n s → length s ≡ x → rounds ≡ take k f → length f ≡ y
     → (r ≡ length (reasonText s f)) × (m ≡ sets l 0 (reasonText s f))
-whole-line sheet rounds n k x y enough enough′ placed s f is-front is-front′ size size′ =
-    let short : (y < 7) ↔ (length (take k rounds) < 7) = rw is-front′ (omega (arith, length-take (length rounds) f)) in
+whole-line n k enough enough′ {sheet} {rounds} x y placed s f is-sheet size is-rounds size′ =
+    let short : (y < 7) ↔ (length rounds < 7) = rw is-rounds (omega (arith, length-take k f)) in
     line-stored (placed short)
-    (ap₂ (λ (t g : List ℕ). reasonLine t x g y) is-front is-front′
-    ∙ ap₂ (λ (a b : ℕ). reasonLine (take (length sheet) s) a (take (length rounds) f) b) (sym size) (sym size′)
-    ∙ reason-corollaries .kept (length sheet) (length rounds) enough enough′ s f)
+    (ap₂ (λ (t g : List ℕ). reasonLine t x g y) is-sheet is-rounds
+    ∙ ap₂ (λ (a b : ℕ). reasonLine (take n s) a (take k f) b) (sym size) (sym size′)
+    ∙ reason-corollaries .kept n k enough enough′ s f)

@@ -1,6 +1,8 @@
 // The reason why a sheet, a round file or its round 0 is turned down, as the one line that is printed (02, card 1).
 mod judged; // judged.rt: the line on a round of a file that reads
 
+use files::CountedRounds;
+use files::CountedSheet;
 use instance::load;
 use instance::loaded_entries;
 use judged::write_judged;
@@ -12,21 +14,13 @@ ghost use Prim.Native.Nat.{ℕ, _≤_, _<_};
 ghost use mathlib.Core.List.{List};
 ghost use mathlib.Core.Logic.{_↔_};
 ghost use mathlib.Core.Path.{_≡_};
-ghost use lib.ListN.{length};
+ghost use lib.ListN.{length, take};
 ghost use lib.Seq.{sets};
-ghost use Rattle.encoding.specs.Front.{FrontOf};
 ghost use Rattle.encoding.specs.Placed.{Placed};
 ghost use Rattle.reasons.specs.Reason.{reasonLine, reasonText};
 
 // As many bytes hold every line: the longest is `rejected` with eight rows, each with two values of ten digits.
 pub const LONGEST: usize = 201;
-
-// How many bytes of a sheet have to be kept: one more than the longest has, so that the line on what is kept of a longer one,
-// with its length, is the line on the whole.
-pub const SHEET: usize = 309;
-
-// The same of a round file.
-pub const ROUNDS: usize = 34824;
 
 // Stores the line on the bytes at hand of a sheet and a round file that have so many bytes in all, at the start of text, and
 // answers its length. The file has under 7 bytes in all exactly where the bytes at hand are.
@@ -70,31 +64,28 @@ pub fn reason(sheet: &[u8], file: &[u8], text: &mut [u8; LONGEST]) -> usize
     write_reason(sheet, sheet.len(), file, file.len(), text)
 }
 
-// Stores the reason on two files of which only the first bytes were kept, so many of a sheet and so many of a round file, and
-// answers its length: it is the reason on the whole files, however long they are, if they have so many bytes in all.
-pub fn reason_files(
-    sheet: &[u8; SHEET],
-    sheet_kept: usize,
-    sheet_length: usize,
-    rounds: &[u8; ROUNDS],
-    rounds_kept: usize,
-    rounds_length: usize,
-    text: &mut [u8; LONGEST],
-) -> usize
-    requires sheet { ⌜ «sheet_kept» ≤ length (now sheet) ⌝ }
-    requires rounds { ⌜ «rounds_kept» ≤ length (now rounds) ⌝ }
+// Stores the reason on two files and answers its length. Of the sheet its first 309 bytes were kept, of the round file its first
+// 34,824, or all of a shorter one, and each was counted to its end: it is the reason on the whole files, however long they are.
+pub fn reason_files(sheet: CountedSheet, rounds: CountedRounds, text: &mut [u8; LONGEST]) -> usize
+    requires sheet { ⌜ sheet .count ≤ 309 ⌝ }
+    requires rounds { ⌜ rounds .count ≤ 34824 ⌝ }
     ensures inside { λ r. ⌜ r ≤ length (now (text .exit)) ⌝ }
+    ensures room { λ _. ⌜ (length (sheet .bytes) ≡ 309) × (length (rounds .bytes) ≡ 34824) ⌝ }
     ensures whole { λ r. ⌜ ((s f : List ℕ) →
-        FrontOf (now (sheet .entry)) «sheet_kept» s → FrontOf (now (rounds .entry)) «rounds_kept» f →
-        length s ≡ «sheet_length» → length f ≡ «rounds_length» →
+        take (sheet .count) (sheet .bytes) ≡ take (length (sheet .bytes)) s → length s ≡ sheet .length →
+        take (rounds .count) (rounds .bytes) ≡ take (length (rounds .bytes)) f → length f ≡ rounds .length →
         (r ≡ length (reasonText s f)) × (now (text .exit) ≡ sets (now (text .entry)) 0 (reasonText s f))) ⌝ }
 {
-    let sheet: &[u8] = sheet;
-    let rounds: &[u8] = rounds;
+    let sheet_count = sheet.count();
+    let sheet_bytes = sheet.bytes();
+    let sheet_length = sheet.length();
+    let rounds_count = rounds.count();
+    let rounds_bytes = rounds.bytes();
+    let rounds_length = rounds.length();
     write_reason(
-        &sheet[..sheet_kept],
+        &sheet_bytes[..sheet_count],
         sheet_length,
-        &rounds[..rounds_kept],
+        &rounds_bytes[..rounds_count],
         rounds_length,
         text,
     )

@@ -17,3 +17,5 @@ pub mod OrSessions
 pub mod OnlyRounds
 pub mod OnlySessions
 pub mod Only
+pub mod RoundsWhere
+pub mod RunsWhere

@@ -2,7 +2,7 @@
 -- Assumes nothing.
 use Prim.Native.Nat.{ℕ, _<_}
 use mathlib.Core.Path.{_≡_, sym, ap, subst, _∙_}
-use mathlib.Core.List.{List, [], _∷_, _++_}
+use mathlib.Core.List.{List, [], _∷_}
 use mathlib.Core.Logic.{_⊎_, _≢_, inl, inr, ⊎-elim}
 use native.Mathlib.Omega.{arith}
 use Rattle.types.specs.declared.Computed.{Computed}
@@ -11,22 +11,17 @@ use Rattle.disjunctions.specs.declared.OrRound.{OrRound}
 use Rattle.disjunctions.specs.declared.OrVerdict.the-variants.{OrRefused}
 use Rattle.rules.specs.Condition.{_if_}
 use Rattle.rules.specs.Either.{eitherConditions}
-use Rattle.rules.proofs.Determined.{NoneHold, none-append, none-either, none-join, none-zero, refused-or-not}
+use Rattle.rules.proofs.Determined.{NoneHold, none-append, none-either, refused-or-not}
 use Rattle.rules.proofs.Says.{says-decides, says-equal}
 use Rattle.formats.specs.FileCalls.{FileCalls}
 use Rattle.formats.specs.Refusals.{loadConditions}
 use Rattle.formats.specs.Sheet.{instanceOf}
-use Rattle.formats.specs.FileRefusals.{FileRefusals}
-use Rattle.runs.specs.Knowledge.{Accepts}
+use Rattle.formats.proofs.FileRefusals.{none-loads}
+use Rattle.runs.proofs.OnlyRounds.{accepts, agree-from, all-hold, is-below}
+use Rattle.runs.proofs.RunDemands.{RunDemands}
 use Rattle.runs.specs.OnSheet.{Below}
-use Rattle.runs.specs.Protocol.{Protocol}
 use Rattle.runs.specs.RunCalls.{RunCalls}
-use Rattle.runs.specs.RunRefusals.{RunRefusals}
 use Rattle.runs.specs.Same.{SameRuns}
-use Rattle.sigma.specs.Instance.{Instance}
-use Rattle.sigma.specs.Meaning.{Holds}
-use Rattle.sigma.specs.Reads.{Agree, Differ}
-use Rattle.sigma.specs.Refusals.{Refusal15, judgeConditions}
 use Rattle.sigma.proofs.Calculus.{says-stable}
 use Rattle.disjunctions.specs.Knowledge.{AcceptedOrPair, AcceptsOr, ExtractsSide}
 use Rattle.disjunctions.specs.OneOfTwo.{OneOfTwo, OrProof, OrRefusals, SideMask}
@@ -57,48 +52,22 @@ none-pair s s′ none =
     let sheets = none-either (loadConditions s) (loadConditions s′) (parts .0) in
     record { first = sheets .0; second = sheets .1; count = says-stable (says-equal _ _) (parts .1 .0) }
 
--- of two arrays that are compared, of a round's rows, and of a challenge
-agree-from : (n : ℕ) (xs ys : List ℕ) → ¬ Differ n xs ys → Agree n xs ys
-agree-from n xs ys none j l = says-stable (says-equal _ _) (λ d. none (j, l, d))
-
-all-hold : (inst : Instance) (round : Round) → ¬ (¬ Holds inst round) → Holds inst round
-all-hold inst round holds row l = says-stable (says-equal _ _) (λ n. holds (λ h. n (h row l)))
-
-is-below : (sheet : List ℕ) (c : ℕ) → ¬ Refusal15 (instanceOf sheet) c → Below sheet c
-is-below sheet c none = omega (arith, none)
-
 -- ---- one code
 
--- what the OR proof's calls have to meet, with what is needed of the calls on sheets and rounds
+-- what the demands ask of the OR proof's calls, and of the calls that it rests on
 pub record EitherDemands (files : FileCalls) (code : RunCalls) (either : OrCalls) : Type 0 where
-  pub sheets : FileRefusals files
-  pub rounds : RunRefusals code
-  pub protocol : (sheet : List ℕ) → files .load sheet .refusal ≡ 0 → Protocol code sheet
+  pub runs : RunDemands files code
   pub refusals : OrRefusals either
   pub proof : OrProof files code either
-
-module _ {files : FileCalls} {code : RunCalls} {either : OrCalls} (d : EitherDemands files code either) (sheet : List ℕ)
-    (none : NoneHold (loadConditions sheet)) where
-  -- a sheet of whose conditions none holds loads
-  loads : files .load sheet .refusal ≡ 0
-  loads = none-zero (loadConditions sheet) _ none (d .sheets .loading sheet .given)
-
-  -- a round of whose conditions none holds is accepted by it where every row holds
-  accepts : (round : Round) → NoneHold (judgeConditions (instanceOf sheet) round) → Holds (instanceOf sheet) round
-      → Accepts code sheet round
-  accepts round own holds =
-      let conditions = judgeConditions (instanceOf sheet) round in
-      let passed = none-zero (loadConditions sheet ++ conditions) _ (none-join (loadConditions sheet) conditions none own)
-      (d .rounds .judging sheet round .given) in
-      d .protocol sheet loads .verdicts round passed .accepted .1 holds
 
 module _ {files : FileCalls} {code : RunCalls} {either : OrCalls} (d : EitherDemands files code either) (s s′ : List ℕ)
     (none : NonePair s s′) where
   -- the proof, of two sheets of whose conditions none holds
   pub proof-of : OneOfTwo code either s s′
   proof-of =
+      let loads = none-loads (d .runs .loading) in
       d .proof .proof s s′
-      (record { first-loads = loads d s (none .first); second-loads = loads d s′ (none .second); one-count = none .count })
+      (record { first-loads = loads s (none .first); second-loads = loads s′ (none .second); one-count = none .count })
 
   -- a round of whose conditions none holds and whose sides hold is accepted
   or-accepts : (a : OrRound) → ¬ Or14 (instanceOf s) (instanceOf s′) a → ¬ Or15 (instanceOf s) a
@@ -112,16 +81,16 @@ module _ {files : FileCalls} {code : RunCalls} {either : OrCalls} (d : EitherDem
       subst (λ (L : ℕ). otherChallenge K (a .challenge) (a .challenge0) < L) (none .count) (proof-of .challenges _ _ c c0 .0) in
       proof-of .accepted a .1 (
         c,
-        accepts d s (none .first) (firstRound a)
+        accepts (d .runs) s (none .first) (firstRound a)
             ((λ x. none14 (inl x)), ((λ x. none15 (inr x)), ((λ x. none16 (inl x)), tt)))
             (all-hold (instanceOf s) (firstRound a) (λ h. holds (λ both. h (both .0)))),
-        accepts d s′ (none .second) (secondRound K a)
+        accepts (d .runs) s′ (none .second) (secondRound K a)
             ((λ x. none14 (inr x)), ((λ x. omega (arith, c1, x)), ((λ x. none16 (inr x)), tt)))
             (all-hold (instanceOf s′) (secondRound K a) (λ h. holds (λ both. h (both .1)))),
       )
 
   -- two rounds of which no condition of the extractor holds are two that it takes
-  accepted-pair : (a b : OrRound) → NoneHold (extractOrConditions (instanceOf s) (instanceOf s′) a b)
+  pub accepted-pair : (a b : OrRound) → NoneHold (extractOrConditions (instanceOf s) (instanceOf s′) a b)
       → AcceptedOrPair either s s′ a b
   accepted-pair a b own = record {
     first-accepted =

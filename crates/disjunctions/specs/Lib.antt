@@ -8,6 +8,7 @@ pub mod Refusals
 pub mod Calls
 pub mod Knowledge
 pub mod OneOfTwo
+pub mod RunsWhere
 pub mod Corollaries
 pub mod Same
 pub mod Ours

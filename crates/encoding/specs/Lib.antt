@@ -1,5 +1,4 @@
--- Definitions of encodings: numbers as bytes, bytes placed in a slice, the front of a file, and text.
+-- Definitions of encodings: numbers as bytes, bytes placed in a slice, and text.
 pub mod Bytes
 pub mod Placed
-pub mod Front
 pub mod Text

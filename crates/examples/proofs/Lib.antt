@@ -1,4 +1,6 @@
--- The theorem on the worked examples.
+-- The theorems on the worked examples: each table is computed.
 pub mod Pages
 pub mod TeamPage
 pub mod RowsPage
+pub mod ReasonPage
+pub mod Corners

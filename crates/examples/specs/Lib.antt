@@ -1,4 +1,5 @@
--- 01's calculator pages, the marker's example, a worked pair of sheets for the OR proof, worked teams, and worked rows that differ.
+-- 01's calculator pages, the marker's example, a worked pair of sheets for the OR proof, worked teams, worked rows that differ, the
+-- reason's lines, and the corners of each part of each refusal's condition.
 pub mod Sheets
 pub mod Pages
 pub mod MarkerExample
@@ -6,3 +7,11 @@ pub mod Corners
 pub mod OrPage
 pub mod TeamPage
 pub mod RowsPage
+pub mod TwoRows
+pub mod ReasonPage
+pub mod RoundCorners
+pub mod SheetCorners
+pub mod PatternCorners
+pub mod FileCorners
+pub mod OrCorners
+pub mod TeamCorners

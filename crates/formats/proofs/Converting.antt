@@ -71,7 +71,7 @@ module _ (version : ℕ) where
   ]
 
   -- it is 1 or 2
-  other-known : IsVersion (otherVersion version)
+  pub other-known : IsVersion (otherVersion version)
   other-known = ⊎-elim (λ x. inr (x .1)) (λ x. inl (x .1)) other-version
 
   -- it is 2 exactly for version 1

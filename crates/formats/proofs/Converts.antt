@@ -30,7 +30,7 @@ convert-refusals = record {
 }
 
 -- the other of the two versions
-other-only : (version other : ℕ) → OneAndOther version other → otherVersion version ≡ other
+pub other-only : (version other : ℕ) → OneAndOther version other → otherVersion version ≡ other
 other-only version other known =
     ⊎-elim
     (λ (one, two). ⊎-elim (λ o. two ∙ sym (o .1)) (λ o. absurd (omega (arith, one, o .0))) known)

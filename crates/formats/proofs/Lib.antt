@@ -26,7 +26,9 @@ pub mod LongFiles
 pub mod ByteLayout
 pub mod SameCommitment
 pub mod FilesByCalls
+pub mod AppendedEach
 pub mod Writers
 pub mod Corollaries
+pub mod RunsWhere
 pub mod OnlyWriting
 pub mod Only

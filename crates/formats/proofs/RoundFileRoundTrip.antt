@@ -96,7 +96,7 @@ AllNarrow version rounds = (round : Round) → Member round rounds → Narrow ve
 
 module _ {version : ℕ} (known : IsVersion version) (s : List ℕ) (l : Loads s) (buffer : List ℕ) where
   -- one round more
-  append-puts : (w : Writing) (rounds : List Round) (round : Round) → Puts (fileIn version (headerOf s) rounds) buffer w
+  pub append-puts : (w : Writing) (rounds : List Round) (round : Round) → Puts (fileIn version (headerOf s) rounds) buffer w
       → Narrow version (round .challenge) → length rounds < 512
       → recordStart (widthOf version) (headerOf s) (suc (length rounds)) ≤ length buffer
       → Puts (fileIn version (headerOf s) (rounds ++ round ∷ [])) buffer (append s (w .buffer) (w .answer .length) round)

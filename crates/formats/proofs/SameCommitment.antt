@@ -52,14 +52,21 @@ same-tests sheet f i j =
     (refl, says-badFile (headerOf sheet) f, (refl, says-or (says-at-most (countField f) i) (says-at-most (countField f) j), tt))
 
 module _ (sheet f : List ℕ) (i j : ℕ) where
-  -- where nothing is refused, the check gives 0 for both rounds
-  both-checked : sameCommitment sheet f i j .refusal ≡ 0 → (checkRound sheet f i ≡ 0) × (checkRound sheet f j ≡ 0)
+  -- it runs exactly where the check gives 0 for both rounds
+  pub same-runs : (sameCommitment sheet f i j .refusal ≡ 0) ↔ ((checkRound sheet f i ≡ 0) × (checkRound sheet f j ≡ 0))
   unfolding sameCommitment sameAfter sameRules fileRules checkRound checkAfter roundRules
-  both-checked e =
-      let (loads, rules) = lowest-append-zero (loadRules sheet) _ (load-positive sheet) tt .0 e in
-      let numbers = both-fail (leb (countField f) i) (leb (countField f) j) .0 (rules .1 .0) in (
-        lowest-append-zero (loadRules sheet) _ (load-positive sheet) tt .1 (loads, (rules .0, (numbers .0, tt))),
-        lowest-append-zero (loadRules sheet) _ (load-positive sheet) tt .1 (loads, (rules .0, (numbers .1, tt))),
+  same-runs =
+      let whole = lowest-append-zero (loadRules sheet) (sameRules (headerOf sheet) f i j) (load-positive sheet) tt in
+      let first = lowest-append-zero (loadRules sheet) (roundRules (headerOf sheet) f i) (load-positive sheet) tt in
+      let second = lowest-append-zero (loadRules sheet) (roundRules (headerOf sheet) f j) (load-positive sheet) tt in
+      let numbers = both-fail (leb (countField f) i) (leb (countField f) j) in (
+        λ e.
+            let (loads, (file, (below, none))) = whole .0 e in
+            let (one, two) = numbers .0 below in
+            (first .1 (loads, (file, (one, tt))), second .1 (loads, (file, (two, tt)))),
+        λ (x, y).
+            let (loads, (file, (one, none))) = first .0 x in
+            whole .1 (loads, (file, (numbers .1 (one, second .0 y .1 .1 .0), tt))),
       )
 
 -- 1 is answered exactly where a test fails
@@ -131,7 +138,7 @@ module _ (sheet f : List ℕ) (i j : ℕ) (e : sameCommitment sheet f i j .refus
       → (sameCommitment sheet f i j .same ≡ 1)
       ↔ Agree (headerOf sheet .rows) (fetchRound sheet f i .round .commitment) (fetchRound sheet f j .round .commitment)
   same-values all =
-      let (x, y) = both-checked sheet f i j e in
+      let (x, y) = same-runs sheet f i j .0 e in
       let words = words-bytes 4 f a b all (h .rows) in
       Iff·trans same-bytes (
         λ same k less. value-at i x k less ∙ words .1 same k less ∙ sym (value-at j y k less),
@@ -153,7 +160,7 @@ words-compare = record {
       let h = headerOf sheet in
       zero-or-one (lowest (loadRules sheet ++ sameRules h f i j)) (differ (4 * h .rows) (commitmentBytes h f i) (commitmentBytes h f j));
   bytes = λ sheet f i j e.
-      let (x, y) = both-checked sheet f i j e in
+      let (x, y) = same-runs sheet f i j .0 e in
       Iff·trans (same-bytes sheet f i j e) (
         λ same k less. part-at sheet f i j e i x k less ∙ same k less ∙ sym (part-at sheet f i j e j y k less),
         λ same k less. sym (part-at sheet f i j e i x k less) ∙ same k less ∙ part-at sheet f i j e j y k less,

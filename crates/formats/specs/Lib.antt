@@ -21,3 +21,4 @@ pub mod WordsCompare
 pub mod Converts
 pub mod Same
 pub mod Corollaries
+pub mod RunsWhere

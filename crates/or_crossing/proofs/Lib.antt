@@ -2,3 +2,4 @@
 pub mod OrJudgements
 pub mod OrCrossing
 pub mod HeldSide
+pub mod OrCrosses

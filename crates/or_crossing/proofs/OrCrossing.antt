@@ -4,22 +4,23 @@ use Prim.Native.Nat.{ℕ, _≤_, _<_}
 use mathlib.Core.Path.{_≡_, refl, sym, ap, _∙_}
 use mathlib.Core.List.{List, [], _∷_}
 use mathlib.Core.Logic.{inr}
-use native.Mathlib.Decide.{decLt}
 use native.Mathlib.Omega.{arith}
 use lib.ListN.{length}
 use Rattle.types.specs.declared.ProverPhase.the-variants.{New, Committed, Answered, Dropped}
+use Rattle.lists.specs.Places.{zeros8}
 use Rattle.sigma.proofs.Answer.{unlessRefused-positive}
 use Rattle.runs.specs.Run.{sessionAfter, trace}
-use Rattle.runs.proofs.Run.{trace-refused, trace-given}
+use Rattle.runs.proofs.Run.{trace-given}
+use Rattle.disjunctions.specs.Ours.{callOr, orAfter, orTrace}
 use Rattle.disjunctions.specs.declared.OrProver.{OrProver}
 use Rattle.disjunctions.specs.Calls.{OrCall, OrCommit, OrDrop, OrEnded, OrRespond, orAnswered}
-use Rattle.disjunctions.proofs.OrSessions.{or-sessions, or-kept}
-use Rattle.disjunctions.specs.Ours.{callOr, orAfter, orTrace}
+use Rattle.disjunctions.proofs.OrSessions.{or-kept, or-sessions}
+use Rattle.crossing.specs.Calls.{readAnswers}
 use Rattle.crossing.specs.Provers.{proverPhase}
-use Rattle.crossing.proofs.HandedBack.{handed-back, handed-on-after}
+use Rattle.crossing.proofs.HandedBack.{handed-back, handed-on-after, handed-out, handed-out-after, trace-across}
 use Rattle.crossing.proofs.Phases.{ofFour-beyond}
-use Rattle.crossing.proofs.ProverCrossing.{phase-of-state, state-of-phase}
-use Rattle.or_crossing.specs.Calls.{answeredOr, answeredOrTrace}
+use Rattle.crossing.proofs.ProverCrossing.{phase-of-state, state-of-phase, state-ended}
+use Rattle.or_crossing.specs.Calls.{answeredOr, answeredOrTrace, orRead}
 use Rattle.or_crossing.specs.Provers.{orProverOf, orSession, orAnswer}
 use Rattle.or_crossing.specs.declared.OrSession.{OrSession}
 
@@ -69,6 +70,11 @@ module _ (call : OrCall) (s : OrSession) where
   unfolding orAnswer
   or-handed-on = handed-back orProverOf orSession or-out-and-in _ s _ (or-kept call (orProverOf s))
 
+  -- so an answer reads as what the call answers
+  pub or-told-across : orRead (answeredOr call s) ≡ callOr call (orProverOf s)
+  unfolding orAnswer
+  or-told-across = rw or-handed-on
+
   -- a number that is no state's allows no call: it is refused, and the session comes back as it was handed in
   pub or-unknown-refused : 4 ≤ s .phase → (0 < answeredOr call s .refusal) × (answeredOr call s .session ≡ s)
   unfolding orAnswer orProverOf proverPhase
@@ -84,41 +90,45 @@ unfolding orAfter callOr
 or-handed-on-all =
     handed-on-after answeredOr (λ answer. answer .session) callOr (λ step. step .session) orProverOf or-handed-on
 
--- one call more in front of two traces that answer the same challenges
-answered-same : {A B : Type 0} (call : OrCall) (a : A) (b : B) (later : List (OrCall × A)) (later′ : List (OrCall × B))
-    → orAnswered later ≡ orAnswered later′ → orAnswered ((call, a) ∷ later) ≡ orAnswered ((call, b) ∷ later′)
-unfolding orAnswered
-answered-same (OrCommit s s′ side k d r) a b later later′ e = e
-answered-same (OrRespond s s′ c x) a b later later′ e = ap (λ (cs : List ℕ). c ∷ cs) e
-answered-same OrDrop a b later later′ e = e
+-- so is the form that is handed back, if the one that was given has a state's number
+pub or-handed-out-all : (calls : List OrCall) (s : OrSession) → s .phase < 4
+    → sessionAfter answeredOr (λ answer. answer .session) calls s ≡ orSession (orAfter calls (orProverOf s))
+unfolding orAfter callOr orAnswer
+or-handed-out-all calls s few =
+    handed-out-after answeredOr (λ answer. answer .session) callOr (λ step. step .session) orProverOf orSession or-out-and-in
+    (λ call s back. handed-out orProverOf orSession _ s _ (or-kept call (orProverOf s)) back) calls s (or-in-and-out s few)
 
--- the calls that crossed answer the challenges that the calls on the session answer
-pub or-answered-across : (calls : List OrCall) (s : OrSession)
-    → orAnswered (answeredOrTrace calls s) ≡ orAnswered (orTrace calls (orProverOf s))
-unfolding answeredOrTrace orTrace callOr trace orAnswered orAnswer
-or-answered-across [] s = refl
-or-answered-across (call ∷ calls) s =
-    step
-    (or-answered-across calls (answeredOr call s .session) ∙ ap (λ (p : OrProver). orAnswered (orTrace calls p)) (or-handed-on call s))
-    (decLt 0 (callOr call (orProverOf s) .refusal))
-  where
-    step : orAnswered (answeredOrTrace calls (answeredOr call s .session))
-        ≡ orAnswered (orTrace calls (callOr call (orProverOf s) .session))
-        → Dec (0 < callOr call (orProverOf s) .refusal)
-        → orAnswered (answeredOrTrace (call ∷ calls) s) ≡ orAnswered (orTrace (call ∷ calls) (orProverOf s))
-    step later (yes refused) =
-        rw (
-          trace-refused answeredOr (λ answer. answer .session) (λ answer. answer .refusal) call calls s refused,
-          trace-refused callOr (λ step. step .session) (λ step. step .refusal) call calls (orProverOf s) refused,
-        ) later
-    step later (no given) =
-        let none : callOr call (orProverOf s) .refusal ≡ 0 = omega arith in
-        rw (
-          trace-given answeredOr (λ answer. answer .session) (λ answer. answer .refusal) call calls s none,
-          trace-given callOr (λ step. step .session) (λ step. step .refusal) call calls (orProverOf s) none,
-        ) (answered-same call _ _ _ _ later)
+-- so are the calls that are carried out, with what they answer
+pub or-trace-across : (calls : List OrCall) (s : OrSession)
+    → readAnswers orRead (answeredOrTrace calls s) ≡ orTrace calls (orProverOf s)
+unfolding answeredOrTrace orTrace callOr
+or-trace-across =
+    trace-across answeredOr (λ answer. answer .session) (λ answer. answer .refusal) callOr (λ step. step .session)
+    (λ step. step .refusal) orProverOf orRead or-told-across (λ a. refl) (λ a. refl)
+
+-- the challenges that were answered are fixed by the calls alone
+answered-read : {A B : Type 0} (read : A → B) (answers : List (OrCall × A)) → orAnswered (readAnswers read answers) ≡ orAnswered answers
+unfolding orAnswered readAnswers
+answered-read read [] = refl
+answered-read read ((OrCommit s s′ side k d r, a) ∷ later) = answered-read read later
+answered-read read ((OrRespond s s′ c x, a) ∷ later) = ap (λ (cs : List ℕ). c ∷ cs) (answered-read read later)
+answered-read read ((OrDrop, a) ∷ later) = answered-read read later
 
 -- so over any calls, each given the session that the last one handed back, at most one challenge is answered
 pub or-one-answer-across : (calls : List OrCall) (s : OrSession) → length (orAnswered (answeredOrTrace calls s)) ≤ 1
-unfolding orTrace callOr
-or-one-answer-across calls s = rw (or-answered-across calls s) (or-sessions .once calls (orProverOf s))
+unfolding orTrace
+or-one-answer-across calls s =
+    rw (sym (answered-read orRead (answeredOrTrace calls s)), or-trace-across calls s) (or-sessions .once calls (orProverOf s))
+
+-- a session that the calls have led from New or Committed to Answered or Dropped holds zeros but for the commitments
+pub or-wiped-across : (calls : List OrCall) (s s′ : OrSession) → s .phase < 2
+    → sessionAfter answeredOr (λ answer. answer .session) calls s ≡ s′ → 2 ≤ s′ .phase
+    → (s′ .nonce ≡ zeros8) × (s′ .response ≡ zeros8) × (s′ .challenge ≡ 0) × (s′ .side ≡ 0)
+unfolding orSession orProverOf orAfter
+or-wiped-across calls s s′ early after late =
+    let out = sym after ∙ or-handed-out-all calls s (omega arith) in
+    let number = state-of-phase (s .phase) (omega arith) in
+    let started : ¬ OrEnded (orProverOf s) = λ ended. let z = state-ended (orProverOf s .phase) .1 ended in omega arith in
+    let ended : OrEnded (orAfter calls (orProverOf s)) = state-ended _ .0 (rw out at late) in
+    let wiped = or-sessions .wiped calls (orProverOf s) started ended in
+    rw out (wiped .nonce, wiped .response, wiped .challenge, wiped .side)

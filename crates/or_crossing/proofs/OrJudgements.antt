@@ -1,4 +1,4 @@
--- The four numbers of each verdict on a round of the OR proof, and that they tell it: no two verdicts that judging gives have the same.
+-- A verdict's four numbers on a round of the OR proof tell it: no two verdicts that judging gives have the same.
 -- Assumes nothing.
 use Prim.Native.Nat.{ℕ, zero, suc}
 use mathlib.Core.Path.{_≡_, refl, sym, ap, _∙_}
@@ -17,24 +17,7 @@ use Rattle.disjunctions.specs.Judge.{combined, judgeOr, judgeOrAfter, verdictOr
 use Rattle.or_crossing.specs.Verdicts.{orJudgement}
 use Rattle.or_crossing.specs.declared.OrJudgement.{OrJudgement}
 
--- an accepted round has 1 for accepted
-pub or-judgement-accepted : orJudgement OrAccepted ≡ record { accepted = 1; rows0 = 0; rows1 = 0; refusal = 0 }
-unfolding orJudgement
-or-judgement-accepted = refl
-
--- a rejected round has the masks of both sides' rows
-pub or-judgement-rejected : (mask0 mask1 : ℕ)
-    → orJudgement (OrRejected mask0 mask1) ≡ record { accepted = 0; rows0 = mask0; rows1 = mask1; refusal = 0 }
-unfolding orJudgement
-or-judgement-rejected mask0 mask1 = refl
-
--- a refused round has its number
-pub or-judgement-refused : (number : ℕ)
-    → orJudgement (OrRefused number) ≡ record { accepted = 0; rows0 = 0; rows1 = 0; refusal = number }
-unfolding orJudgement
-or-judgement-refused number = refl
-
--- so a round is accepted exactly where accepted is 1
+-- a round is accepted exactly where accepted is 1
 pub or-accepted-told : (v : OrVerdict) → (orJudgement v .accepted ≡ 1) ↔ (v ≡ OrAccepted)
 unfolding orJudgement
 or-accepted-told v = (accepted v, ap (λ (v : OrVerdict). orJudgement v .accepted))

@@ -2,3 +2,4 @@
 pub mod Verdicts
 pub mod Provers
 pub mod Calls
+pub mod OrCrosses

@@ -10,4 +10,5 @@ pub mod Shipped
 pub mod OldMaker
 pub mod PatternCalls
 pub mod Corollaries
+pub mod RunsWhere
 pub mod Only

@@ -89,7 +89,7 @@ module _ (f : List ℕ) (number modulus order challenges : ℕ) (values statemen
 
   module _ (given : made .answer .refusal ≡ 0) where
     -- where nothing is refused, the first three tests pass
-    make-passes : (badPatternFile f ≡ false) × (badDigits f ≡ false) × (badAsked f number values statement ≡ false)
+    pub make-passes : (badPatternFile f ≡ false) × (badDigits f ≡ false) × (badAsked f number values statement ≡ false)
     unfolding makeRules
     make-passes =
         let (filed, (digits, (fits, rest))) =
@@ -98,7 +98,7 @@ module _ (f : List ℕ) (number modulus order challenges : ℕ) (values statemen
         (filed, digits, fits)
 
     -- so that the maker is the second writer
-    make-encodes : made ≡ encode inst buffer
+    pub make-encodes : made ≡ encode inst buffer
     make-encodes =
         let (filed, digits, fits) = make-passes in
         maker-encodes f number modulus order challenges values statement filed digits fits buffer

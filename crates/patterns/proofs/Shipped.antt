@@ -2,6 +2,7 @@
 -- Assumes nothing.
 use Prim.Native.Nat.{ℕ, _<_, _≤_}
 use mathlib.Core.Path.{_≡_, refl, sym, ap, ap₂, _∙_}
+use mathlib.Core.Logic.{_↔_}
 use mathlib.Core.Bool.{Bool, false, cond}
 use mathlib.Core.List.{List, [], _∷_, flatten}
 use native.Mathlib.Omega.{arith}
@@ -14,7 +15,7 @@ use Rattle.lists.specs.Places.{itemsAt, tabulate}
 use Rattle.numbers.specs.Search.{any, find}
 use Rattle.rules.specs.Condition.{Tests}
 use Rattle.rules.specs.Rule.{_when_, lowest}
-use Rattle.rules.proofs.Lowest.{clear-lowest, pass}
+use Rattle.rules.proofs.Lowest.{clear-lowest, lowest-clear, pass}
 use Rattle.sigma.specs.Comparison.{differ, firstDifference}
 use Rattle.sigma.specs.Instance.{Instance}
 use Rattle.formats.specs.Encode.{sheetOf}
@@ -70,14 +71,24 @@ module _ (buffer : List ℕ) where
   unfolding writeShipped writtenAtStart written
   shipped-refused some = written-refused _ _ _ _ some
 
-  -- else the file stands at the start of the buffer
+  -- it is written exactly into 34 bytes or more
+  pub shipped-runs : (writeShipped buffer .answer .refusal ≡ 0) ↔ (34 ≤ length buffer)
+  unfolding writeShipped writtenAtStart
+  shipped-runs =
+      let rules = (22 when short buffer (length shipped)) ∷ [] in
+      let passes = short-passes buffer (length shipped) in
+      let size = length-shipped in (
+        λ e.
+            let (fits, rest) = clear-lowest rules tt (sym (written-refusal _ _ _ buffer) ∙ e) in
+            omega (arith, passes .0 fits),
+        λ fits. written-refusal _ _ _ buffer ∙ lowest-clear rules (passes .1 (omega arith), tt),
+      )
+
+  -- it then stands at the start of the buffer
   pub shipped-puts : writeShipped buffer .answer .refusal ≡ 0 → Puts shipped buffer (writeShipped buffer)
   unfolding writeShipped writtenAtStart
   shipped-puts e =
-      let rules = (22 when short buffer (length shipped)) ∷ [] in
-      let none = sym (written-refusal _ _ _ buffer) ∙ e in
-      let (fits, rest) = clear-lowest rules tt none in
-      start-written _ shipped buffer none (short-passes buffer (length shipped) .0 fits)
+      start-written _ shipped buffer (sym (written-refusal _ _ _ buffer) ∙ e) (omega (arith, length-shipped, shipped-runs .0 e))
 
 -- ---- its sheets
 

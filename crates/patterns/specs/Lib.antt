@@ -10,3 +10,4 @@ pub mod Ours
 pub mod PatternCalls
 pub mod Same
 pub mod Corollaries
+pub mod RunsWhere

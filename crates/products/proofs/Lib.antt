@@ -6,4 +6,5 @@ pub mod PlayerSheets
 pub mod Whole
 pub mod Single
 pub mod TeamWorks
+pub mod RunsWhere
 pub mod Only

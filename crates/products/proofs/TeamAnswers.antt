@@ -21,7 +21,7 @@ use Rattle.rules.proofs.Says.{says-false}
 use Rattle.formats.specs.Load.{loadRefusal, loadRules, shapeRules}
 use Rattle.formats.specs.Sheet.{instanceOf}
 use Rattle.formats.proofs.ByteLayout.{length-padded}
-use Rattle.formats.proofs.Loads.{load-clear, loads}
+use Rattle.formats.proofs.Loads.{load-clear, loads, loads-valid}
 use Rattle.formats.proofs.Unread.{someNonElement-agree}
 use Rattle.sigma.specs.Answer.{computed}
 use Rattle.sigma.specs.Admission.{elementRules, headerRules}
@@ -66,13 +66,14 @@ use Rattle.products.proofs.Combined.{
 
 module _ (sheet : List ℕ) (count : ℕ) (images : List (List ℕ)) where
   -- where no rule of the sheet's shape, the team and the images applies, the sheet loads
-  clear-loads : Clear (shapeRules sheet) → Clear (teamRules (instanceOf sheet) count images) → Valid (instanceOf sheet)
+  clear-loads : Clear (shapeRules sheet) → Clear (teamRules (instanceOf sheet) count images) → loadRefusal sheet ≡ 0
   unfolding teamRules loadRules elementRules
   clear-loads shape (team, (entries, (elements, none))) =
       let inst = instanceOf sheet in
       let sound = says-false (says-badImages inst count images) .0 elements in
       let statement = says-false (says-badStatement inst) .1 (λ bad. sound (inl bad)) in
-      load-clear sheet .0 (clear-append (shapeRules sheet) (elementRules inst) .1 (shape, (entries, (statement, tt)))) .valid
+      let clear = clear-append (shapeRules sheet) (elementRules inst) .1 (shape, (entries, (statement, tt))) in
+      loads sheet .1 (load-clear sheet .0 clear)
 
   module _ (loaded : loadRefusal sheet ≡ 0) (team : IsTeam sheet count images) where
     -- no rule of a sheet that loads applies
@@ -154,15 +155,17 @@ module _ (inst : Instance) (count : ℕ) (parts : List (List ℕ)) where
 -- ---- what is answered
 
 module _ (sheet : List ℕ) (count : ℕ) (images : List (List ℕ)) where
-  -- where a call's number is 0, the sheet loads
-  answered-loads : (rules : List Rule) → T (allPositive rules)
-      → lowest (shapeRules sheet ++ (teamRules (instanceOf sheet) count images ++ rules)) ≡ 0 → Valid (instanceOf sheet)
+  -- if a call's number is 0, the sheet loads and no rule applies
+  pub answered-clear : (rules : List Rule) → T (allPositive rules)
+      → lowest (shapeRules sheet ++ (teamRules (instanceOf sheet) count images ++ rules)) ≡ 0
+      → (loadRefusal sheet ≡ 0) × Clear (teamRules (instanceOf sheet) count images) × Clear rules
   unfolding shapeRules headerRules teamRules
-  answered-loads rules positive none =
+  answered-clear rules positive none =
       let inst = instanceOf sheet in
       let clear = clear-lowest (shapeRules sheet ++ (teamRules inst count images ++ rules)) positive none in
       let (shape, own) = clear-append (shapeRules sheet) (teamRules inst count images ++ rules) .0 clear in
-      clear-loads sheet count images shape (clear-append (teamRules inst count images) rules .0 own .0)
+      let (team, rest) = clear-append (teamRules inst count images) rules .0 own in
+      (clear-loads sheet count images shape team, team, rest)
 
 -- at most eight values in eight places, with 0 beyond
 padded-beyond : (n : ℕ) (xs : List ℕ) → n ≤ 8 → length xs ≡ n → ZeroBeyond n (pad8 0 xs)
@@ -180,7 +183,7 @@ module _ (sheet : List ℕ) (count : ℕ) (images parts : List (List ℕ)) where
       × (multiplyCommitments sheet count images parts .values ≡ pad8 0 (multiplyAll (instanceOf sheet .header) count parts))
   unfolding multiplyCommitments commitmentsRules computed
   multiplied-given none =
-      (answered-loads sheet count images _ tt none, given-values _ _ (computed-given _ _ none))
+      (loads-valid sheet (answered-clear sheet count images _ tt none .0), given-values _ _ (computed-given _ _ none))
 
   -- the call that joins
   joined-given : joinResponses sheet count images parts .refusal ≡ 0
@@ -188,7 +191,7 @@ module _ (sheet : List ℕ) (count : ℕ) (images parts : List (List ℕ)) where
       × (joinResponses sheet count images parts .values ≡ pad8 0 (joinAll (instanceOf sheet .header) count parts))
   unfolding joinResponses responsesRules computed
   joined-given none =
-      (answered-loads sheet count images _ tt none, given-values _ _ (computed-given _ _ none))
+      (loads-valid sheet (answered-clear sheet count images _ tt none .0), given-values _ _ (computed-given _ _ none))
 
 -- ---- what is read
 

@@ -4,6 +4,7 @@ pub mod Team
 pub mod Refusals
 pub mod Players
 pub mod TeamWorks
+pub mod RunsWhere
 pub mod Corollaries
 pub mod Same
 pub mod Ours

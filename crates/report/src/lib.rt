@@ -1,6 +1,9 @@
 // The marker's text on a sheet, a round file and a level (01, "The marker's lines"; 02, card 3).
 mod level; // level.rt: the level, and whether it is reached
 
+use files::KeptLevel;
+use files::KeptRounds;
+use files::KeptSheet;
 use instance::load;
 use instance::loaded_entries;
 use level::fails_at;
@@ -12,23 +15,12 @@ use round_lines::write_rounds;
 ghost use Prim.Native.Nat.{ℕ, _≤_};
 ghost use mathlib.Core.Path.{_≡_};
 ghost use mathlib.Core.List.{List};
-ghost use lib.ListN.{length};
+ghost use lib.ListN.{length, take};
 ghost use lib.Seq.{sets};
-ghost use Rattle.encoding.specs.Front.{FrontOf};
 ghost use Rattle.runs.specs.Marker.{markerText};
 
 // As many bytes hold every text: `rounds 512`, 512 lines of at most 29 bytes, and `fail`.
 pub const LONGEST: usize = 14864;
-
-// How many bytes of a sheet have to be read: one more than the longest has, so that the text on what is read of a longer one
-// is the text on the whole.
-pub const SHEET: usize = 309;
-
-// The same of a round file.
-pub const ROUNDS: usize = 34824;
-
-// The same of a level, which has one byte.
-pub const LEVEL: usize = 2;
 
 // Stores the marker's text at the start of text and answers its length; no byte behind it is changed. A refused sheet gives
 // the one line `sheet N`, a refused file `file N` and a refused level `level N`; else the text has the count, a line for each
@@ -63,33 +55,35 @@ pub fn mark(sheet: &[u8], file: &[u8], level: &[u8], text: &mut [u8; LONGEST]) -
     write_result(text, written.next, failed)
 }
 
-// Stores the marker's text on three files of which only the first bytes were read, so many of a sheet, of a round file and of a
-// level, and answers its length: it is the text on the whole files, however long they are.
+// Stores the marker's text on three files and answers its length. Of each file its first 309, 34,824 or 2 bytes were kept, or all
+// of a shorter one, and the text is that on the whole files, however long they are.
 pub fn mark_files(
-    sheet: &[u8; SHEET],
-    sheet_bytes: usize,
-    rounds: &[u8; ROUNDS],
-    round_bytes: usize,
-    level: &[u8; LEVEL],
-    level_bytes: usize,
+    sheet: KeptSheet,
+    rounds: KeptRounds,
+    level: KeptLevel,
     text: &mut [u8; LONGEST],
 ) -> usize
-    requires sheet { ⌜ «sheet_bytes» ≤ length (now sheet) ⌝ }
-    requires rounds { ⌜ «round_bytes» ≤ length (now rounds) ⌝ }
-    requires level { ⌜ «level_bytes» ≤ length (now level) ⌝ }
+    requires sheet { ⌜ sheet .count ≤ 309 ⌝ }
+    requires rounds { ⌜ rounds .count ≤ 34824 ⌝ }
+    requires level { ⌜ level .count ≤ 2 ⌝ }
     ensures inside { λ r. ⌜ r ≤ length (now (text .exit)) ⌝ }
+    ensures room { λ _. ⌜ (length (sheet .bytes) ≡ 309) × (length (rounds .bytes) ≡ 34824) × (length (level .bytes) ≡ 2) ⌝ }
     ensures whole { λ r. ⌜ ((s f w : List ℕ) →
-        FrontOf (now (sheet .entry)) «sheet_bytes» s → FrontOf (now (rounds .entry)) «round_bytes» f →
-        FrontOf (now (level .entry)) «level_bytes» w →
+        take (sheet .count) (sheet .bytes) ≡ take (length (sheet .bytes)) s →
+        take (rounds .count) (rounds .bytes) ≡ take (length (rounds .bytes)) f →
+        take (level .count) (level .bytes) ≡ take (length (level .bytes)) w →
         (r ≡ length (markerText s f w)) × (now (text .exit) ≡ sets (now (text .entry)) 0 (markerText s f w))) ⌝ }
 {
-    let sheet: &[u8] = sheet;
-    let rounds: &[u8] = rounds;
-    let level: &[u8] = level;
+    let sheet_count = sheet.count();
+    let sheet_bytes = sheet.bytes();
+    let rounds_count = rounds.count();
+    let rounds_bytes = rounds.bytes();
+    let level_count = level.count();
+    let level_bytes = level.bytes();
     mark(
-        &sheet[..sheet_bytes],
-        &rounds[..round_bytes],
-        &level[..level_bytes],
+        &sheet_bytes[..sheet_count],
+        &rounds_bytes[..rounds_count],
+        &level_bytes[..level_count],
         text,
     )
 }

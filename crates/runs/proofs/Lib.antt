@@ -31,6 +31,7 @@ pub mod Marker
 pub mod MarkerVerdict
 pub mod MarkerLength
 pub mod MarkerCut
+pub mod RunsWhere
 pub mod RunDemands
 pub mod OnlyRounds
 pub mod OnlySessions

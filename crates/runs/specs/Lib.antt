@@ -21,5 +21,6 @@ pub mod RunRefusals
 pub mod ReadsAlike
 pub mod RunCalls
 pub mod Ours
+pub mod RunsWhere
 pub mod Same
 pub mod Corollaries

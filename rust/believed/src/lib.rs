@@ -2,7 +2,7 @@
 //! stand in the sources. And the calls that it speaks of, beside those that the library exports.
 
 pub mod calls;
-pub mod exports;
+pub mod contracts;
 pub mod page;
 pub mod reach;
 pub mod specs;

@@ -3,7 +3,7 @@
 use std::collections::BTreeSet;
 use std::fmt::Write;
 
-use crate::reach::{reach, words};
+use crate::reach::{meant, reach, words};
 use crate::specs::{Definition, Place, Specs};
 
 /// The lines between which the list stands on the page.
@@ -83,6 +83,32 @@ fn fields(lines: &[String]) -> Vec<(String, Vec<String>)> {
     found
 }
 
+/// The record of the forms in which structs cross to other languages, and the records that it is made of. A form itself is not
+/// listed: these records say of each of its fields what it is.
+pub fn crossing(specs: &Specs) -> Vec<usize> {
+    let place = ("dimkhoros".to_string(), "Crosses".to_string());
+    let root = specs.definitions.iter().position(|d| d.place == place && d.name == "Crosses");
+    let mut found = vec![root.expect("the record Crosses is there")];
+    let mut next = 0;
+    while next < found.len() {
+        let definition = &specs.definitions[found[next]];
+        for word in definition.lines.iter().flat_map(|line| words(line)) {
+            let reached =
+                meant(specs, &definition.place, word).filter(|at| is_type(&specs.definitions[*at]));
+            found.extend(reached.filter(|at| !found.contains(at)));
+        }
+        next += 1;
+    }
+    found
+}
+
+/// Whether a definition is a record, a struct or an enum.
+fn is_type(definition: &Definition) -> bool {
+    ["pub record", "pub struct", "pub enum"]
+        .iter()
+        .any(|begin| definition.lines[0].trim_start().starts_with(begin))
+}
+
 /// The list as it stands on the page.
 pub fn list(specs: &Specs) -> String {
     let sections = sections(specs);
@@ -91,10 +117,14 @@ pub fn list(specs: &Specs) -> String {
     let all: Vec<usize> = sections.iter().flat_map(|s| s.added.clone()).collect();
     let record =
         specs.find(&demands(), "Demands").expect("the record Demands is there").lines.len();
+    let forms: Vec<usize> = crossing(specs).into_iter().filter(|at| !all.contains(at)).collect();
     let mut text = format!(
-        "`Demands` reaches {} lines in {} definitions, without blank lines, comments and imports.\n\n",
+        "`Demands` reaches {} lines in {} definitions, and `Crosses` has {} lines in {}, without blank lines, comments and \
+         imports.\n\n",
         lines(&all) + record,
-        all.len() + 1
+        all.len() + 1,
+        lines(&forms),
+        forms.len()
     );
     text += "| field | lines | what it adds, below `crates/` |\n|---|---|---|\n";
     for section in &sections {
@@ -102,6 +132,8 @@ pub fn list(specs: &Specs) -> String {
         writeln!(text, "| `{}` | {} | {} |", section.field, lines(added), by_file(specs, added))
             .expect("text grows");
     }
+    writeln!(text, "| `Crosses` | {} | {} |", lines(&forms), by_file(specs, &forms))
+        .expect("text grows");
     text
 }
 

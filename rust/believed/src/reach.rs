@@ -14,7 +14,7 @@ pub fn words(line: &str) -> impl Iterator<Item = &str> {
 }
 
 /// The index of what a word of a file stands for, if it is a definition of the crates.
-fn meant(specs: &Specs, place: &Place, word: &str) -> Option<usize> {
+pub fn meant(specs: &Specs, place: &Place, word: &str) -> Option<usize> {
     let at = |place: &Place, name: &str| {
         specs.definitions.iter().position(|d| d.place == *place && d.name == name)
     };

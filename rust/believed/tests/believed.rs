@@ -3,7 +3,7 @@
 use std::collections::BTreeSet;
 
 use believed::calls::{Call, ours};
-use believed::exports::{Export, exports};
+use believed::contracts::{Contract, exports, public};
 use believed::page::{self, BEGIN, END};
 use believed::specs::{Specs, root, text_of};
 
@@ -59,7 +59,7 @@ fn each_export_is_one_call_and_each_call_is_exported() {
 }
 
 /// The calls whose definitions an export's contract names, from the very file that `ours` takes them from.
-fn calls_named(export: &Export, calls: &[Call]) -> Vec<String> {
+fn calls_named(export: &Contract, calls: &[Call]) -> Vec<String> {
     if let Some((_, form, call)) = IN_A_FORM.iter().find(|(name, _, _)| *name == export.name) {
         assert!(export.named.contains_key(*form), "{} names {form}", export.name);
         return vec![call.to_string()];
@@ -81,5 +81,25 @@ fn each_field_of_a_call_stands_for_the_definition_of_its_name() {
             call.name,
             call.defined
         );
+    }
+}
+
+/// The functions over whole files that the programs call, with the crates that have them.
+const OF_PROGRAMS: [(&str, &str); 2] = [("report", "mark_files"), ("diagnosis", "reason_files")];
+
+#[test]
+fn the_programs_functions_name_calls_alone() {
+    let calls = ours(&Specs::read());
+    for (crate_name, name) in OF_PROGRAMS {
+        let functions = public(crate_name);
+        let function = functions
+            .iter()
+            .find(|function| function.name == name)
+            .expect("the program's function is there");
+        assert!(!function.named.is_empty(), "{name} names a call");
+        for (word, place) in &function.named {
+            let is_call = calls.iter().any(|call| call.name == *word && call.defined == *place);
+            assert!(is_call, "the contract of {name} names {word}, which is no call");
+        }
     }
 }

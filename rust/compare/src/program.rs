@@ -168,10 +168,10 @@ mod tests {
     fn one_byte_more_than_the_longest_is_enough() {
         for program in &PROGRAMS {
             assert!(passes(program, ENOUGH, |_| {}));
-            for sheet in [308, 64] {
+            for sheet in [308, 307, 64] {
                 assert!(!passes(program, Kept { sheet, ..ENOUGH }, |_| {}));
             }
-            for rounds in [34_823, 32_768, 64] {
+            for rounds in [34_823, 34_822, 32_768, 64] {
                 assert!(!passes(program, Kept { rounds, ..ENOUGH }, |_| {}));
             }
         }
@@ -181,22 +181,59 @@ mod tests {
         }
     }
 
-    #[test]
-    fn the_length_of_what_is_kept_is_found() {
-        let found = REASON.check_runs(SEED, |folder| {
-            let start = |name: &str, most: usize| {
-                let mut bytes = bytes(folder, name);
-                bytes.truncate(most);
-                bytes
-            };
-            let (sheet, rounds) = (start("sheet.bin", 309), start("rounds.bin", 34_824));
+    /// Whether the check finds no difference in a program that prints its text
+    /// on these bytes of each file.
+    fn passes_on(program: &Program, taken: impl Fn(&str, Vec<u8>) -> Vec<u8>) -> bool {
+        let found = program.check_runs(SEED, |folder| {
+            let bytes = |name: &str| taken(name, bytes(folder, name));
+            let text = (program.text)(
+                &bytes("sheet.bin"),
+                &bytes("rounds.bin"),
+                &bytes("level.bin"),
+            );
             Ok(Output {
                 status: ExitStatus::default(),
-                stdout: judge::reason(&sheet, &rounds).into_bytes(),
+                stdout: text.into_bytes(),
                 stderr: Vec::new(),
             })
         });
-        assert!(found.is_err());
+        found.is_ok()
+    }
+
+    /// The length of what is kept, and that of what is kept and the first piece
+    /// after it.
+    #[test]
+    fn a_length_that_is_not_the_files_is_found() {
+        assert!(passes_on(REASON, |_, bytes| bytes));
+        for more in [0, 1, 4095, 4096] {
+            for (cut, kept) in [("sheet.bin", 309), ("rounds.bin", 34_824)] {
+                let passes = passes_on(REASON, |name, mut bytes| {
+                    if name == cut {
+                        bytes.truncate(kept + more);
+                    }
+                    bytes
+                });
+                assert!(!passes, "{cut} {more}");
+            }
+        }
+    }
+
+    #[test]
+    fn a_byte_that_is_dropped_is_found() {
+        for (program, names) in [
+            (MARKER, &["sheet.bin", "rounds.bin", "level.bin"][..]),
+            (REASON, &["sheet.bin", "rounds.bin"]),
+        ] {
+            for cut in names {
+                let passes = passes_on(program, |name, mut bytes| {
+                    if name == *cut {
+                        bytes.pop();
+                    }
+                    bytes
+                });
+                assert!(!passes, "{cut}");
+            }
+        }
     }
 
     #[test]

@@ -1,36 +1,18 @@
--- `marker::main` is safe and ends: each part that it lends lies inside its buffer.
+-- `marker::main` is safe and ends: what it prints lies inside its buffer.
 -- Assumes nothing.
 use borrow.Author.Needs.{needs}
 use Rattle.io.proofs.Counting.{counts}
 use Rattle.marker.proofs.main.Statement.{statement}
 use Rattle.marker.proofs.main.Tie as tie
 
-slice-aggregate-read-file : tie.Need-slice-aggregate-read-file
-slice-aggregate-read-file c = search needs
+read-sheet-requires : tie.Need-read-sheet-requires
+read-sheet-requires c κs = search needs
 
-slice-aggregate-read-file-2 : tie.Need-slice-aggregate-read-file-2
-slice-aggregate-read-file-2 c = search needs
+read-rounds-requires : tie.Need-read-rounds-requires
+read-rounds-requires c κs = search needs
 
-read-file-requires : tie.Need-read-file-requires
-read-file-requires c κs = search needs
-
-slice-aggregate-read-file-3 : tie.Need-slice-aggregate-read-file-3
-slice-aggregate-read-file-3 c = search needs
-
-slice-aggregate-read-file-4 : tie.Need-slice-aggregate-read-file-4
-slice-aggregate-read-file-4 c = search needs
-
-read-file-requires-2 : tie.Need-read-file-requires-2
-read-file-requires-2 c κs = search needs
-
-slice-aggregate-read-file-5 : tie.Need-slice-aggregate-read-file-5
-slice-aggregate-read-file-5 c = search needs
-
-slice-aggregate-read-file-6 : tie.Need-slice-aggregate-read-file-6
-slice-aggregate-read-file-6 c = search needs
-
-read-file-requires-3 : tie.Need-read-file-requires-3
-read-file-requires-3 c κs = search needs
+read-level-requires : tie.Need-read-level-requires
+read-level-requires c κs = search needs
 
 mark-files-requires : tie.Need-mark-files-requires
 mark-files-requires c κs = search needs
@@ -60,15 +42,9 @@ pub main-spec : {M : Type 1} → statement M
 main-spec =
     tie.close
     (tie.spec
-    slice-aggregate-read-file
-    slice-aggregate-read-file-2
-    read-file-requires
-    slice-aggregate-read-file-3
-    slice-aggregate-read-file-4
-    read-file-requires-2
-    slice-aggregate-read-file-5
-    slice-aggregate-read-file-6
-    read-file-requires-3
+    read-sheet-requires
+    read-rounds-requires
+    read-level-requires
     mark-files-requires
     array-share-prefix-text
     slice-aggregate-write-all

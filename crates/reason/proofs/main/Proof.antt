@@ -1,27 +1,15 @@
--- `reason::main` is safe and ends: each part that it lends lies inside its buffer.
+-- `reason::main` is safe and ends: what it prints lies inside its buffer.
 -- Assumes nothing.
 use borrow.Author.Needs.{needs}
 use Rattle.io.proofs.Counting.{counts}
 use Rattle.reason.proofs.main.Statement.{statement}
 use Rattle.reason.proofs.main.Tie as tie
 
-slice-aggregate-read-counted : tie.Need-slice-aggregate-read-counted
-slice-aggregate-read-counted c = search needs
+count-sheet-requires : tie.Need-count-sheet-requires
+count-sheet-requires c κs = search needs
 
-slice-aggregate-read-counted-2 : tie.Need-slice-aggregate-read-counted-2
-slice-aggregate-read-counted-2 c = search needs
-
-read-counted-requires : tie.Need-read-counted-requires
-read-counted-requires c κs = search needs
-
-slice-aggregate-read-counted-3 : tie.Need-slice-aggregate-read-counted-3
-slice-aggregate-read-counted-3 c = search needs
-
-slice-aggregate-read-counted-4 : tie.Need-slice-aggregate-read-counted-4
-slice-aggregate-read-counted-4 c = search needs
-
-read-counted-requires-2 : tie.Need-read-counted-requires-2
-read-counted-requires-2 c κs = search needs
+count-rounds-requires : tie.Need-count-rounds-requires
+count-rounds-requires c κs = search needs
 
 reason-files-requires : tie.Need-reason-files-requires
 reason-files-requires c κs = search needs
@@ -51,12 +39,8 @@ pub main-spec : {M : Type 1} → statement M
 main-spec =
     tie.close
     (tie.spec
-    slice-aggregate-read-counted
-    slice-aggregate-read-counted-2
-    read-counted-requires
-    slice-aggregate-read-counted-3
-    slice-aggregate-read-counted-4
-    read-counted-requires-2
+    count-sheet-requires
+    count-rounds-requires
     reason-files-requires
     array-share-prefix-text
     slice-aggregate-write-all

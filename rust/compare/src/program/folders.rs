@@ -1,6 +1,6 @@
 //! Folders with a sheet, a round file and a level file: files that are missing,
-//! empty, as long as they can be and longer, and those of the marker's and the
-//! reason's cases.
+//! empty, cut, as long as they can be, a byte shorter and longer, and those of
+//! the marker's and the reason's cases.
 
 use std::fmt;
 use std::fs;
@@ -16,6 +16,10 @@ use crate::random::Random;
 
 /// How many of the marker's cases are run, and as many of the reason's.
 const CASES: u64 = 60;
+
+/// How many bytes the program `reason` reads at once of those that it only
+/// counts.
+const PIECE: usize = 4096;
 
 /// 01's example, which the programs are also run on by `./run`.
 const EXAMPLE_SHEET: &[u8] = include_bytes!("../../../../crates/marker/data/sheet.bin");
@@ -87,6 +91,7 @@ impl fmt::Display for Folder {
 pub fn folders(seed: u64) -> Vec<Folder> {
     let mut folders = examples();
     folders.extend(levels());
+    folders.extend(cut());
     folders.extend(longest(&mut Random::new(seed)));
     folders.extend(longest_narrow(&mut Random::new(seed)));
     folders.extend(long_and_wrong(&mut Random::new(seed)));
@@ -125,11 +130,12 @@ fn examples() -> Vec<Folder> {
 
 /// The example's sheet with two and with three accepted rounds, of which the
 /// second is enough for the level 7, at levels that are taken and refused, and
-/// with level files that are longer.
+/// with level files that are empty or longer.
 fn levels() -> Vec<Folder> {
     let mut levels: Vec<Vec<u8>> = [1, 6, 7, 10, 11, 63, 64].map(|level| vec![level]).into();
     levels.extend([0, 65, 128, 255].map(|level| vec![level]));
     levels.extend([
+        vec![],
         vec![7, 7],
         vec![7, 0],
         vec![0, 7],
@@ -148,36 +154,74 @@ fn levels() -> Vec<Folder> {
     folders.collect()
 }
 
+/// The example with its sheet cut, and with its round file cut: to one byte, to
+/// the fixed fields and a byte less, and by one byte.
+fn cut() -> Vec<Folder> {
+    let whole = |bytes: &[u8]| Place::File(bytes.to_vec());
+    let sheets = [1, 19, 20, EXAMPLE_SHEET.len() - 1].map(|length| Folder {
+        sheet: whole(&EXAMPLE_SHEET[..length]),
+        rounds: whole(EXAMPLE_ROUNDS),
+        level: example_level(),
+    });
+    let files = [1, 6, 7, EXAMPLE_ROUNDS.len() - 1].map(|length| Folder {
+        sheet: whole(EXAMPLE_SHEET),
+        rounds: whole(&EXAMPLE_ROUNDS[..length]),
+        level: example_level(),
+    });
+    sheets.into_iter().chain(files).collect()
+}
+
 /// The level of the example.
 fn example_level() -> Place {
     Place::File(EXAMPLE_LEVEL.to_vec())
 }
 
-/// The longest sheet with the longest file of it, and each of them with more
-/// bytes behind it.
+/// The longest sheet with the longest file of it, and each of them a byte
+/// shorter and with more bytes after it: one and two more than it can have,
+/// as many as end the first piece that is only counted, one fewer and one more,
+/// and many.
 fn longest(random: &mut Random) -> Vec<Folder> {
     let instance = longest_instance(random);
     let sheet = instance.sheet.bytes();
     let rounds = mark_file(random, &instance, 1, MOST_ROUNDS);
-    let lengths = [
-        (LONGEST_SHEET, LONGEST_FILE),
-        (LONGEST_SHEET, LONGEST_FILE + 1),
-        (LONGEST_SHEET, 100_000),
-        (LONGEST_SHEET, 1_000_000),
-        (LONGEST_SHEET + 1, LONGEST_FILE),
-        (LONGEST_SHEET + 2, LONGEST_FILE),
-        (5000, LONGEST_FILE),
-    ];
-    let mut extended = |bytes: &[u8], length: usize| {
-        let more = random.bytes(length - bytes.len());
-        Place::File([bytes, &more].concat())
+    let mut resized = |bytes: &[u8], length: usize| {
+        let more = random.bytes(length.saturating_sub(bytes.len()));
+        let kept = &bytes[..bytes.len().min(length)];
+        Place::File([kept, &more].concat())
     };
-    let folders = lengths.map(|(sheet_length, file_length)| Folder {
-        sheet: extended(&sheet, sheet_length),
-        rounds: extended(&rounds, file_length),
+    let mut folders = vec![Folder {
+        sheet: Place::File(sheet.clone()),
+        rounds: Place::File(rounds.clone()),
         level: example_level(),
-    });
-    folders.into()
+    }];
+    let file_lengths = lengths(LONGEST_FILE, &[100_000, 1_000_000]);
+    folders.extend(file_lengths.into_iter().map(|length| Folder {
+        sheet: Place::File(sheet.clone()),
+        rounds: resized(&rounds, length),
+        level: example_level(),
+    }));
+    let sheet_lengths = lengths(LONGEST_SHEET, &[5000]);
+    folders.extend(sheet_lengths.into_iter().map(|length| Folder {
+        sheet: resized(&sheet, length),
+        rounds: Place::File(rounds.clone()),
+        level: example_level(),
+    }));
+    folders
+}
+
+/// Lengths beside that of the longest: a byte less, one and two more, those at
+/// the end of the first piece that is only counted, and these.
+fn lengths(longest: usize, others: &[usize]) -> Vec<usize> {
+    let piece = longest + 1 + PIECE;
+    let bounds = [
+        longest - 1,
+        longest + 1,
+        longest + 2,
+        piece - 1,
+        piece,
+        piece + 1,
+    ];
+    [&bounds, others].concat()
 }
 
 /// The longest file of version 2, whole, with a byte too many, and so long that
@@ -281,13 +325,13 @@ mod tests {
     #[test]
     fn two_rounds_fail_and_three_pass_at_the_level_7() {
         let lines: Vec<String> = levels().iter().map(text).collect();
-        let (two, three) = lines.split_at(16);
+        let (two, three) = lines.split_at(17);
         let last = |text: &String| text.lines().last().map(String::from);
         let last: Vec<_> = [two, three].map(|texts| last(&texts[2])).into();
         assert_eq!(last, ["fail", "pass"].map(|word| Some(word.to_string())));
         for texts in [two, three] {
             let refused = texts.iter().filter(|text| *text == "level 25\n");
-            assert_eq!(refused.count(), 9);
+            assert_eq!(refused.count(), 10);
         }
     }
 
@@ -298,19 +342,34 @@ mod tests {
         let (sheet, rounds) = (whole.sheet.bytes(), whole.rounds.bytes());
         assert_eq!((sheet.len(), rounds.len()), (308, 34_823));
         assert!(text(whole).starts_with("rounds 512\n"));
-        let (files, sheets) = others.split_at(3);
-        for (folder, length) in files.iter().zip([34_824, 100_000, 1_000_000]) {
+        let (files, sheets) = others.split_at(8);
+        let bounds = [
+            34_822, 34_824, 34_825, 38_919, 38_920, 38_921, 100_000, 1_000_000,
+        ];
+        for (folder, length) in files.iter().zip(bounds) {
             assert_eq!(folder.rounds.bytes().len(), length);
-            assert!(folder.rounds.bytes().starts_with(rounds));
+            assert!(folder.rounds.bytes().starts_with(&rounds[..34_822]));
             assert_eq!(text(folder), "file 12\n");
             assert_eq!(reason(folder), format!("refused 12 length {length}\n"));
         }
-        assert_eq!(sheets.len(), 3);
-        for (folder, length) in sheets.iter().zip([309, 310, 5000]) {
+        let bounds = [307, 309, 310, 4404, 4405, 4406, 5000];
+        assert_eq!(sheets.len(), bounds.len());
+        for (folder, length) in sheets.iter().zip(bounds) {
             assert_eq!(folder.sheet.bytes().len(), length);
-            assert!(folder.sheet.bytes().starts_with(sheet));
+            assert!(folder.sheet.bytes().starts_with(&sheet[..307]));
             assert_eq!(text(folder), "sheet 9\n");
             assert_eq!(reason(folder), format!("refused 9 length {length}\n"));
+        }
+    }
+
+    #[test]
+    fn files_that_are_cut_are_told_by_their_length() {
+        let lines: Vec<String> = cut().iter().map(reason).collect();
+        let sheet = ["2 length 1", "2 length 19", "9 length 20", "9 length 27"];
+        let rounds = ["12 length 1", "12 length 6", "12 length 7", "12 length 54"];
+        assert_eq!(lines.len(), 8);
+        for (line, words) in lines.iter().zip([sheet, rounds].concat()) {
+            assert_eq!(line, &format!("refused {words}\n"));
         }
     }
 

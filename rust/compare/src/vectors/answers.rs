@@ -3,7 +3,7 @@
 //! number, is told apart.
 
 use super::bytes;
-use super::inputs::{Inputs, States, PROVER_STATES, UNREAD, VERIFIER_STATES};
+use super::inputs::{Inputs, Phases, PROVER_PHASES, UNREAD, VERIFIER_PHASES};
 use super::or_answers;
 use super::Given;
 use crate::calls::Call;
@@ -31,24 +31,24 @@ pub fn list(places: &[u32], used: usize) -> String {
     words.join(",")
 }
 
-/// The name of a state, or its number where it has none.
-pub fn state(states: States, number: u32) -> String {
-    let named = states.iter().find(|(_, of)| *of == number);
+/// The name of a phase, or its number where it has none.
+pub fn phase(phases: Phases, number: u32) -> String {
+    let named = phases.iter().find(|(_, of)| *of == number);
     named.map_or(number.to_string(), |(name, _)| name.to_string())
 }
 
 /// What Peggy's session holds.
 fn prover(session: &ProverSession) -> String {
     let (nonce, commitment) = (list(&session.nonce, 1), list(&session.commitment, 1));
-    let state = state(PROVER_STATES, session.phase);
-    format!("state={state} nonce={nonce} commitment={commitment}")
+    let phase = phase(PROVER_PHASES, session.phase);
+    format!("phase={phase} nonce={nonce} commitment={commitment}")
 }
 
 /// What Vic's session holds.
 fn verifier(session: &VerifierSession) -> String {
     let (commitment, challenge) = (list(&session.commitment, 1), session.challenge);
-    let state = state(VERIFIER_STATES, session.phase);
-    format!("state={state} commitment={commitment} challenge={challenge}")
+    let phase = phase(VERIFIER_PHASES, session.phase);
+    format!("phase={phase} commitment={commitment} challenge={challenge}")
 }
 
 /// The rows of a mask, rising.

@@ -10,17 +10,17 @@ use crate::library::{Header, OrRound, OrSession, Places, ProverSession, Round, V
 /// What stands in places that no call may read.
 pub const UNREAD: u32 = 99;
 
-/// The names of a session's states, with their numbers.
-pub type States = [(&'static str, u32); 4];
+/// The names of a session's phases, with their numbers.
+pub type Phases = [(&'static str, u32); 4];
 
-pub const PROVER_STATES: States = [
+pub const PROVER_PHASES: Phases = [
     ("new", prover::NEW),
     ("committed", prover::COMMITTED),
     ("answered", prover::ANSWERED),
     ("dropped", prover::DROPPED),
 ];
 
-pub const VERIFIER_STATES: States = [
+pub const VERIFIER_PHASES: Phases = [
     ("waiting", verifier::WAITING),
     ("holding", verifier::HOLDING),
     ("asked", verifier::ASKED),
@@ -127,18 +127,18 @@ impl<'a> Inputs<'a> {
         })
     }
 
-    /// A state by name, or any number.
-    fn state(&mut self, states: States) -> Result<u32, String> {
-        let value = self.value("state")?;
-        match states.iter().find(|(name, _)| *name == value) {
+    /// A phase by name, or any number.
+    fn phase(&mut self, phases: Phases) -> Result<u32, String> {
+        let value = self.value("phase")?;
+        match phases.iter().find(|(name, _)| *name == value) {
             Some((_, number)) => Ok(*number),
-            None => value.parse().map_err(|_| format!("{value} is no state")),
+            None => value.parse().map_err(|_| format!("{value} is no phase")),
         }
     }
 
     pub fn prover(&mut self) -> Result<ProverSession, String> {
         Ok(ProverSession {
-            phase: self.state(PROVER_STATES)?,
+            phase: self.phase(PROVER_PHASES)?,
             nonce: self.places("nonce", 0)?,
             commitment: self.places("commitment", 0)?,
         })
@@ -152,13 +152,13 @@ impl<'a> Inputs<'a> {
             commitment1: self.places("commitment1", 0)?,
             challenge: self.number("challenge")?,
             side: self.number("side")?,
-            phase: self.state(PROVER_STATES)?,
+            phase: self.phase(PROVER_PHASES)?,
         })
     }
 
     pub fn verifier(&mut self) -> Result<VerifierSession, String> {
         Ok(VerifierSession {
-            phase: self.state(VERIFIER_STATES)?,
+            phase: self.phase(VERIFIER_PHASES)?,
             commitment: self.places("commitment", 0)?,
             challenge: self.number("challenge")?,
         })

@@ -1,7 +1,7 @@
 //! The answers of the OR proof's calls as the vectors have them.
 
-use super::answers::{list, rows, sizes, state, told};
-use super::inputs::{Inputs, PROVER_STATES};
+use super::answers::{list, phase, rows, sizes, told};
+use super::inputs::{Inputs, PROVER_PHASES};
 use super::Given;
 use crate::calls::Call;
 use crate::library::{Library, OrAnswer, OrExtracted, OrJudgement, OrSession};
@@ -15,9 +15,9 @@ pub fn session(held: &OrSession) -> String {
         held.commitment1,
     ]
     .map(|places| list(&places, 1));
-    let (state, side, challenge) = (state(PROVER_STATES, held.phase), held.side, held.challenge);
+    let (phase, side, challenge) = (phase(PROVER_PHASES, held.phase), held.side, held.challenge);
     format!(
-        "state={state} side={side} nonce={nonce} challenge={challenge} response={response} \
+        "phase={phase} side={side} nonce={nonce} challenge={challenge} response={response} \
          commitment0={t0} commitment1={t1}"
     )
 }

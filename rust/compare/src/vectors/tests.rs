@@ -213,6 +213,91 @@ fn the_pages_show_stored_bytes_and_lines() {
     }
 }
 
+/// A line of inputs without the values of a round, a nonce or a witness that
+/// stand beyond the s or n of the sheet.
+fn without_rest(line: &str, (rows, columns): (usize, usize)) -> String {
+    let Some((words, answer)) = line.split_once(" ->") else {
+        return line.to_string();
+    };
+    let cut = |word: &str| {
+        let (name, values) = word.split_once('=').unwrap_or((word, ""));
+        let count = match name {
+            "t" | "t2" => rows,
+            "r" | "r2" | "k" | "x" => columns,
+            _ => return word.to_string(),
+        };
+        let kept: Vec<&str> = values.split(',').take(count.max(1)).collect();
+        format!("{name}={}", kept.join(","))
+    };
+    let words: Vec<String> = words.split(' ').map(cut).collect();
+    format!("{} ->{answer}", words.join(" "))
+}
+
+/// As the text's first lines say: values beyond s and n are not read, and can be
+/// left out.
+#[test]
+fn values_beyond_those_of_the_sheet_can_be_left_out() {
+    let (mut sizes, mut text, mut longer) = ((0, 0), String::new(), 0);
+    for line in STORED.lines() {
+        if let Line::Sheet(sheet) = Line::read(line).unwrap() {
+            sizes = answers::sizes(&sheet);
+        }
+        let both = line.starts_with("or_") || line.starts_with("team_");
+        let cut = if both {
+            line.to_string()
+        } else {
+            without_rest(line, sizes)
+        };
+        longer += usize::from(cut != line);
+        text += &(cut + "\n");
+    }
+    assert!(longer >= 8, "{longer} lines have more values");
+    let made = remade(&text, Proved).unwrap();
+    for (made, stored) in made.lines().zip(STORED.lines()) {
+        assert_eq!(
+            made.split_once(" ->").map(|it| it.1),
+            stored.split_once(" ->").map(|it| it.1)
+        );
+    }
+}
+
+/// The lines of a page's blocks, in order. Bytes of a block stand for the line
+/// that gives them to the calls below.
+fn told_in_order(page: &str) -> String {
+    let mut text = String::new();
+    for (language, block) in blocks(page) {
+        if language == "vectors" {
+            text += block;
+        }
+        if language == "hex" {
+            let bytes = block_bytes(block);
+            let kind = match bytes.get(..3) {
+                Some(b"HOM") => "sheet",
+                Some(b"RND") => "file",
+                Some(b"PAT") => "pattern_file",
+                _ => continue,
+            };
+            text += &format!("{kind} {}\n", bytes::text(&bytes));
+        }
+    }
+    text
+}
+
+/// A reader of a page finds before each call the bytes that it is given. In
+/// AUTHORS.md patterns are those of the shipped file.
+#[test]
+fn a_page_gives_each_call_its_bytes() {
+    let shipped = include_bytes!("../../../../share/patterns.bin");
+    let shipped = format!("pattern_file {}\n", bytes::text(shipped));
+    for (start, page) in [("", FORMATS), (&shipped, AUTHORS)] {
+        let told = start.to_string() + &told_in_order(page);
+        let made = remade(&told, Judge).unwrap();
+        let lines = made.lines().zip(told.lines());
+        let others: Vec<_> = lines.filter(|(made, told)| made != told).collect();
+        assert!(others.is_empty(), "made and told:\n{others:#?}");
+    }
+}
+
 #[test]
 fn the_page_has_a_row_for_each_refusal_and_each_call() {
     let refusals = rows(FORMATS, "## Refusals\n");

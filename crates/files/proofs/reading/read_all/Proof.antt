@@ -1,12 +1,12 @@
--- `files::read_all` meets its contract. The invariant: at most the buffer's bytes are read. The measure: how many are left.
+-- `files::reading::read_all` meets its contract. The invariant: at most the buffer's bytes are read. The measure: how many are left.
 -- Assumes nothing.
 use Prim.Native.Nat.{_≤_, _-_}
 use mathlib.Core.Path.{_≡_, refl}
 use native.Mathlib.Omega.{arith}
 use lib.ListN.{length}
 use Rattle.io.proofs.Counting.{counts}
-use Rattle.files.proofs.read_all.Statement.{statement}
-use Rattle.files.proofs.read_all.Tie as tie
+use Rattle.files.proofs.reading.read_all.Statement.{statement}
+use Rattle.files.proofs.reading.read_all.Tie as tie
 
 abbrev Inv-loop : tie.InvT-loop
 Inv-loop fd buffer₀ done₀ buffer done = (done ≤ length buffer) × (length buffer ≡ length buffer₀)

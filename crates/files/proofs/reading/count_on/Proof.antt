@@ -1,15 +1,15 @@
--- `files::count_on` is safe and ends. The invariant: the scratch buffer has its length, and the total fits 64 bits. The measure:
--- how much can still be counted.
+-- `files::reading::count_on` meets its contract. The invariant: the scratch buffer has its length, and the total is at least what
+-- was read before and fits 64 bits. The measure: how much can still be counted.
 -- Assumes nothing.
-use Prim.Native.Nat.{_-_, _^_, _<_}
+use Prim.Native.Nat.{_-_, _^_, _≤_, _<_}
 use mathlib.Core.Path.{_≡_}
 use native.Mathlib.Omega.{arith}
 use lib.ListN.{length}
-use Rattle.files.proofs.count_on.Statement.{statement}
-use Rattle.files.proofs.count_on.Tie as tie
+use Rattle.files.proofs.reading.count_on.Statement.{statement}
+use Rattle.files.proofs.reading.count_on.Tie as tie
 
 abbrev Inv-loop : tie.InvT-loop
-Inv-loop fd done scratch₀ total₀ scratch total = (length scratch ≡ 4096) × (total < 2 ^ 64)
+Inv-loop fd done scratch₀ total₀ scratch total = (length scratch ≡ 4096) × (done ≤ total) × (total < 2 ^ 64)
 
 abbrev μ-loop : tie.MeasureT-loop
 μ-loop fd done scratch₀ total₀ scratch total = 2 ^ 64 - total

@@ -1,0 +1,9 @@
+-- `Crosses` holds.
+-- Assumes nothing.
+use Rattle.crossing.proofs.SessionsCross.{sessions-cross}
+use Rattle.or_crossing.proofs.OrCrosses.{or-crosses}
+use Rattle.tables.proofs.TablesCross.{tables-cross}
+use Rattle.dimkhoros.specs.Crosses.{Crosses}
+
+pub crosses : Crosses
+crosses = record { sessions = sessions-cross; one-of-two = or-crosses; tables = tables-cross }

@@ -1,0 +1,2 @@
+-- All that crosses does so field by field.
+pub mod Crosses

@@ -1,0 +1,2 @@
+-- What crosses to other languages, field by field.
+pub mod Crosses

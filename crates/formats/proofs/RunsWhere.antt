@@ -1,0 +1,245 @@
+-- Exactly when the calls on sheets and round files are not refused, in other words than the conditions: it holds of the definitions.
+-- Assumes nothing.
+use Prim.Native.Nat.{ℕ, _+_, _^_, _<_, _≤_, _∣_}
+use mathlib.Core.Path.{_≡_, refl, sym, ap, subst, _∙_}
+use mathlib.Core.Logic.{_↔_, _⊎_, inl, inr, ⊎-elim}
+use mathlib.Core.List.{List, [], _∷_}
+use native.Mathlib.Omega.{arith}
+use lib.ListN.{length, take}
+use Rattle.types.specs.declared.Counted.{Counted}
+use Rattle.types.specs.declared.Round.{Round}
+use Rattle.encoding.specs.Bytes.{AllBytes, numberAt}
+use Rattle.encoding.proofs.Bytes.{numberAt-take}
+use Rattle.lists.proofs.Member.{member-at}
+use Rattle.rules.specs.Condition.{Condition, _if_, Applies, Given}
+use Rattle.rules.specs.Refuses.{conditionNumbers}
+use Rattle.rules.proofs.Determined.{below-or-not, either}
+use Rattle.rules.proofs.Explains.{applies-fact}
+use Rattle.sigma.specs.Instance.{Instance}
+use Rattle.sigma.specs.Refusals.{Refusal8}
+use Rattle.sigma.specs.Valid.{Valid}
+use Rattle.formats.specs.Append.{append, emptyFile}
+use Rattle.formats.specs.Convert.{convert, otherVersion}
+use Rattle.formats.specs.Converts.{OneAndOther}
+use Rattle.formats.specs.Encode.{encode, sheetOf}
+use Rattle.formats.specs.Load.{load, loadRefusal}
+use Rattle.formats.specs.Meaning.{HasWidth, InUse, IsVersion, readInstance, recordSize}
+use Rattle.formats.specs.Ours.{appendEach, fileCalls, loaded, roundsRead}
+use Rattle.formats.specs.Outcome.{Puts}
+use Rattle.formats.specs.Refusals.{loadConditions}
+use Rattle.formats.specs.RoundCalls.{checkRound, countRounds, fetchAfter, fetchRound, noRound}
+use Rattle.formats.specs.RoundFile.{challengeWidth, countField, fileVersion, recordLength, widthInUse, widthOf}
+use Rattle.formats.specs.Rounds.{roundsOf}
+use Rattle.formats.specs.RunsWhere.{FilesRun}
+use Rattle.formats.specs.Sheet.{headerOf, instanceOf, versionOf}
+use Rattle.formats.proofs.AppendedEach.{written-counted, written-fits}
+use Rattle.formats.proofs.Appending.{Narrow, append-runs, in-use-long, width-narrow}
+use Rattle.formats.proofs.ConvertCalls.{convert-runs}
+use Rattle.formats.proofs.Converting.{narrow-records, other-known, other-version}
+use Rattle.formats.proofs.Converts.{other-only}
+use Rattle.formats.proofs.FileRefusals.{file-refusals}
+use Rattle.formats.proofs.Files.{check-runs, count-given, count-runs, rounds-read, width-known, width-only}
+use Rattle.formats.proofs.FilesByCalls.{rewritten}
+use Rattle.formats.proofs.Loads.{loaded-given, loads, loads-valid}
+use Rattle.formats.proofs.RoundFileRoundTrip.{append-each}
+use Rattle.formats.proofs.Rounds.{each-round, length-roundsOf, round-of}
+use Rattle.formats.proofs.SameCommitment.{same-runs}
+use Rattle.formats.proofs.SheetRoundTrip.{encode-loads, load-encodes}
+use Rattle.formats.proofs.SheetWritten.{sheet-mark, sheet-version}
+use Rattle.formats.proofs.Unread.{read-same, valid-same}
+use Rattle.formats.proofs.Writing.{empty-runs, encode-puts, encode-runs, length-sheetOf, puts-front}
+
+-- ---- sheets
+
+-- a sheet loads exactly if its values are written as the sheet
+loads-written : (s : List ℕ) → AllBytes s → (loadRefusal s ≡ 0) ↔ Puts s s (encode (instanceOf s) s)
+unfolding instanceOf
+loads-written s b = (
+  λ e. subst (λ (i : Instance). Puts s s (encode i s)) (loaded-given s e) (load-encodes s b e s (omega arith)),
+  λ p.
+      let i = instanceOf s in
+      let same : sheetOf i ≡ s = sym (puts-front (encode-puts i s (p .number))) ∙ puts-front p in
+      loads s .1 (record {
+        mark = ap (λ (l : List ℕ). take 3 l) (sym same) ∙ sheet-mark i;
+        version = ap versionOf (sym same) ∙ sheet-version i;
+        valid = encode-runs i s .0 (p .number) .0;
+        exact = ap length (sym same) ∙ length-sheetOf i;
+      }),
+)
+
+-- a number above 0 that conditions give is that of one that holds
+given-applies : (conditions : List Condition) (n : ℕ) → Given conditions n → 0 < n → Applies conditions n
+given-applies [] n none some = absurd (omega arith)
+given-applies ((m if P) ∷ conditions) n (inl here) some = inl here
+given-applies ((m if P) ∷ conditions) n (inr later) some = inr (given-applies conditions n (later .1) some)
+
+-- a sheet that is refused with 8 has its condition
+refused-8 : (s : List ℕ) → loadRefusal s ≡ 8 → Refusal8 (headerOf s)
+unfolding conditionNumbers load
+refused-8 s e =
+    applies-fact (loadConditions s) 8 (omega arith)
+    (given-applies (loadConditions s) 8 (subst (Given (loadConditions s)) e (file-refusals .loading s .given)) (omega arith))
+
+-- K is from 2 to 65,536 and at most every divisor of ℓ from 2 on
+abbrev CountFits : List ℕ → Type 0
+CountFits s =
+    (2 ≤ numberAt 4 s 14) × (numberAt 4 s 14 ≤ 65536) × ((d : ℕ) → 2 ≤ d → d ∣ numberAt 4 s 10 → numberAt 4 s 14 ≤ d)
+
+eight-exactly : (s : List ℕ) → (loadRefusal s ≡ 0) ⊎ (loadRefusal s ≡ 8) → (loadRefusal s ≡ 0) ↔ CountFits s
+unfolding headerOf instanceOf
+eight-exactly s number = (
+  λ e.
+      let v = loads-valid s e .table in (
+        v .some-challenges,
+        v .few-challenges,
+        λ d two divides. below-or-not d (numberAt 4 s 14) (λ less. absurd (v .no-divisor d two less divides)) (λ most. most),
+      ),
+  λ (two, few, most).
+      ⊎-elim (λ e. e)
+      (λ e.
+      absurd (⊎-elim (λ low. omega arith)
+      (⊎-elim (λ high. omega arith) (λ (d, some, less, divides). omega (arith, most d some divides))) (refused-8 s e))) number,
+)
+
+-- values are written exactly if their sheet loads as them and fits
+encodes-loaded : (i : Instance) (buffer : List ℕ) → i .header .modulus < 2 ^ 32 → i .header .order < 2 ^ 32
+    → (encode i buffer .answer .refusal ≡ 0)
+    ↔ ((loadRefusal (sheetOf i) ≡ 0) × (loaded (sheetOf i) ≡ readInstance i) × (length (sheetOf i) ≤ length buffer))
+encodes-loaded i buffer small short =
+    let size = length-sheetOf i in (
+      λ e.
+          let (put, none, same) = encode-loads i buffer small short e in
+          (none, same, omega (arith, encode-runs i buffer .0 e .1)),
+      λ (none, same, fits).
+          let read : Valid (readInstance i) =
+          subst Valid (sym (loaded-given (sheetOf i) none) ∙ same) (loads-valid (sheetOf i) none) in
+          encode-runs i buffer .1 (valid-same (read-same i) read, omega arith),
+    )
+
+-- ---- round files that are read
+
+module _ (s f : List ℕ) where
+  -- a file is counted exactly if the record writer writes it
+  counts-written : AllBytes f
+      → (countRounds s f .refusal ≡ 0)
+      ↔ ((loadRefusal s ≡ 0) × ((version : ℕ) × (rounds : List Round) × Puts f f (appendEach s (emptyFile version f) rounds)))
+  counts-written b = (
+    λ e. (loads s .1 (count-runs s f .0 e .0), (numberAt 2 f 3, roundsRead s f, rewritten s f f b e (omega arith))),
+    λ (e, (version, rounds, p)).
+        subst (λ (g : List ℕ). countRounds s g .refusal ≡ 0) (puts-front p)
+        (written-counted s (loads s .0 e) version f rounds (p .number)),
+  )
+
+  -- a round is checked exactly if its number is below the count
+  checks-below : (k : ℕ) → (checkRound s f k ≡ 0) ↔ (k < countRounds s f .count)
+  checks-below k = (
+    λ e.
+        let (l, file, below) = check-runs s f k .0 e in
+        omega (arith, ap (λ (c : Counted). c .count) (count-given s f (count-runs s f .1 (l, file)))),
+    λ below.
+        either (countRounds s f .refusal)
+        (λ e.
+        let (l, file) = count-runs s f .0 e in
+        check-runs s f k .1 (l, file, omega (arith, ap (λ (c : Counted). c .count) (count-given s f e))))
+        (λ some. absurd (omega (arith, file-refusals .counting s f .left some))),
+  )
+
+-- ---- round files that are written
+
+-- a challenge of 32 bits fits the width of a version that can hold it
+fits-width : {version width : ℕ} → HasWidth version width → (c : ℕ) → c < 2 ^ 32 → Narrow version c → c < 256 ^ width
+fits-width (inl (one, four)) c small narrow = rw four (omega arith)
+fits-width (inr (two, both)) c small narrow = rw both (omega (arith, narrow two))
+
+-- a round is appended exactly if the bytes in use are counted and have room, and the round fits
+appends-counted : (s buffer : List ℕ) (used : ℕ) (round : Round) → round .challenge < 2 ^ 32
+    → (append s buffer used round .answer .refusal ≡ 0)
+    ↔ ((used ≤ length buffer) × (countRounds s (take used buffer) .refusal ≡ 0) × (countRounds s (take used buffer) .count < 512)
+    × ((width : ℕ) × HasWidth (numberAt 2 buffer 3) width × (round .challenge < 256 ^ width)
+    × (used + recordSize width (headerOf s) ≤ length buffer)))
+unfolding recordLength challengeWidth fileVersion
+appends-counted s buffer used round small =
+    let f = take used buffer in
+    let version : 7 ≤ used → numberAt 2 f 3 ≡ numberAt 2 buffer 3 = λ long. numberAt-take 2 used buffer 3 (omega arith) in (
+      λ e.
+          let (l, u, narrow, fits) = append-runs s buffer used round .0 e in
+          let counted = count-runs s f .1 (l, u .file) in
+          let has = width-known (u .file .version) in (
+            u .inside,
+            counted,
+            omega (arith, ap (λ (c : Counted). c .count) (count-given s f counted), u .room),
+            (
+              widthInUse buffer used,
+              subst (λ (v : ℕ). HasWidth v (widthInUse buffer used)) (version (in-use-long u)) has,
+              fits-width has (round .challenge) small narrow,
+              omega arith,
+            ),
+          ),
+      λ (inside, counted, few, (width, has, low, fits)).
+          let (l, file) = count-runs s f .0 counted in
+          let u : InUse (headerOf s) buffer used = record {
+            inside = inside;
+            file = file;
+            room = omega (arith, ap (λ (c : Counted). c .count) (count-given s f counted));
+          } in
+          let same : widthOf (numberAt 2 f 3) ≡ width = ap widthOf (version (in-use-long u)) ∙ width-only has in
+          append-runs s buffer used round .1 (
+            l,
+            u,
+            width-narrow (numberAt 2 f 3) (round .challenge) (rw same low),
+            omega arith,
+          ),
+    )
+
+-- the other of the two versions
+one-and-other : {version : ℕ} → IsVersion version → OneAndOther version (otherVersion version)
+one-and-other {version} known = elim (other-version version) [
+  | inl both ↦ inl both
+  | inr (other, one) ↦ inr (⊎-elim (λ (e : version ≡ 1). absurd (other e)) (λ e. e) known, one)
+]
+
+-- a file is converted exactly if it is counted and its rounds are written in the other version
+converts-written : (s f buffer : List ℕ)
+    → (convert s f buffer .answer .refusal ≡ 0)
+    ↔ ((countRounds s f .refusal ≡ 0) × ((other : ℕ) × OneAndOther (fileVersion f) other
+    × (appendEach s (emptyFile other buffer) (roundsRead s f) .answer .refusal ≡ 0)))
+converts-written s f buffer =
+    let h = headerOf s in
+    let other = otherVersion (fileVersion f) in
+    let count = length-roundsOf h f in (
+      λ e.
+          let (l, r, narrow, fits) = convert-runs s f buffer .0 e in
+          let all = each-round h f (λ round. Narrow other (round .challenge)) (narrow-records h f .0 narrow) in
+          let put = append-each (other-known (fileVersion f)) s l buffer (roundsOf h f) all (omega (arith, r .few)) (rw count fits) in
+          (count-runs s f .1 (l, r), (other, one-and-other (r .version), rw (rounds-read s f l r) (put .number))),
+      λ (counted, (other′, both, e)).
+          let (l, r) = count-runs s f .0 counted in
+          let runs : appendEach s (emptyFile other buffer) (roundsOf h f) .answer .refusal ≡ 0 =
+          rw (other-only (fileVersion f) other′ both, ← rounds-read s f l r) e in
+          let (narrow, room) = written-fits s l (other-known (fileVersion f)) buffer (roundsOf h f) (omega (arith, r .few)) runs in
+          convert-runs s f buffer .1 (
+            l,
+            r,
+            narrow-records h f .1 (λ k below.
+                subst (λ (round : Round). Narrow other (round .challenge)) (round-of h f k below)
+                (narrow _ (member-at noRound (roundsOf h f) k (omega arith)))),
+            rw count at room,
+          ),
+    )
+
+-- ---- all of them
+
+pub files-run : FilesRun fileCalls
+unfolding load fetchRound fetchAfter checkRound fileVersion
+files-run = record {
+  loads = loads-written;
+  eight = eight-exactly;
+  encodes = encodes-loaded;
+  counts = counts-written;
+  checks = checks-below;
+  reads = λ s f k. refl;
+  compares = same-runs;
+  starts = empty-runs;
+  appends = appends-counted;
+  converts = converts-written;
+}
