@@ -19,17 +19,18 @@
  *
  *     DimkhorosProverSession peggy = dimkhoros_prover_new();
  *     uint32_t refusal = dimkhoros_commit(sheet, sheet_length, &peggy, nonce, commitment);
- *     .. where it is 0: send the commitment and hear a challenge ..
- *     refusal = dimkhoros_respond(sheet, sheet_length, &peggy, challenge, witness, response);
- *     .. where it is 0: store peggy over what was stored before, then send the response ..
+ *     .. if it is 0: store the session, send the commitment, and hear a challenge ..
+ *     refusal = dimkhoros_respond_after(sheet, sheet_length, &peggy, challenge, witness, store, box, response);
+ *     .. if it is 0: the session is stored, so send the response ..
  *
  * Each call puts the session that comes after it in the place of the one before. So a second challenge on the same nonce is
  * refused, with 21. "The pure form", at the end, has the same calls with sessions that are handed in and back by value.
+ * dimkhoros_box.h, beside this header, has what a box needs beside the library: a store, random numbers and the lines of a wire.
  *
  * What a call takes. Any bytes and any numbers: every call ends in an answer, and it is proved to be the one that the call's
  * definition gives (docs/promises/exports.md lists the definitions). The caller owes four things. A pointer with a length
  * behind it points to that many bytes or numbers (where the length is 0 it is not used and may be NULL). A pointer written
- * with the size of an array points to that much, and one to a session, a round or a verdict to one. What a call writes to
+ * with the size of an array points to that much, and one to a session or a round to one. What a call writes to
  * shares no byte with anything else that the same call is given. And nobody else changes these bytes during the call.
  *
  * Sheets. A sheet describes a homomorphism, its table, with a statement, and comes as bytes. Each call that takes one tests
@@ -108,13 +109,20 @@ extern "C" {
 #define DIMKHOROS_PATTERN_DIFFIE_HELLMAN 4 /* values h B; rows h and B */
 #define DIMKHOROS_PATTERN_PRODUCT 5        /* values g h B; rows g h 1 and B 1 h */
 
-/* States of Peggy's sessions. In the OR proof the side and the simulated values are held with the nonce, and gone with it. */
+/* Phases of Peggy's sessions. In the OR proof the side and the simulated values are held with the nonce, and gone with it. */
 #define DIMKHOROS_PROVER_NEW 0       /* nothing has happened */
 #define DIMKHOROS_PROVER_COMMITTED 1 /* a nonce and its commitment are held */
 #define DIMKHOROS_PROVER_ANSWERED 2  /* a challenge was answered and the nonce is gone */
 #define DIMKHOROS_PROVER_DROPPED 3   /* the session was given up and the nonce is gone */
 
-/* States of Vic's session. */
+/* What a stored session of Peggy's is found to be when it is reopened: one in a phase of hers, or no session. */
+#define DIMKHOROS_FOUND_NEW 0       /* nothing had happened */
+#define DIMKHOROS_FOUND_COMMITTED 1 /* it held a nonce, which may have been used; it is dropped */
+#define DIMKHOROS_FOUND_ANSWERED 2  /* a challenge was answered */
+#define DIMKHOROS_FOUND_DROPPED 3   /* it was given up */
+#define DIMKHOROS_FOUND_DAMAGED 4   /* the bytes are no stored session */
+
+/* Phases of Vic's session. */
 #define DIMKHOROS_VERIFIER_WAITING 0 /* nothing has been heard */
 #define DIMKHOROS_VERIFIER_HOLDING 1 /* a commitment is held */
 #define DIMKHOROS_VERIFIER_ASKED 2   /* a commitment and the challenge given on it are held */
@@ -165,11 +173,19 @@ enum {
 #undef DIMKHOROS_REFUSAL
 };
 
-/* What a refusal says. 0 is "nothing is refused", and any other number that is no refusal is "no refusal has this number". */
+/* What dimkhoros_respond_after answers if nothing is refused, but the session is not stored. No refusal has this number. */
+#define DIMKHOROS_NOT_STORED 1000
+
+/*
+ * What an answer says: a refusal, 0 or DIMKHOROS_NOT_STORED. 0 is "nothing is refused", and any other number that is no refusal
+ * is "no refusal has this number".
+ */
 static inline const char *dimkhoros_sentence(uint32_t refusal) {
     switch (refusal) {
     case 0:
         return "nothing is refused";
+    case DIMKHOROS_NOT_STORED:
+        return "the session is not stored, and the response is gone";
 #define DIMKHOROS_REFUSAL(number, name, sentence) \
     case number:                                  \
         return sentence;
@@ -288,10 +304,11 @@ typedef struct {
 
 /*
  * Peggy's session. Over any calls on one session at most one challenge is answered: this is proved of the archive's calls. The
- * library cannot know of copies. Whoever answers two challenges from two copies of one session gives the witness away, so a
- * box that stores a session must store the one that comes after a response, over the old, before it sends the response.
+ * library cannot know of copies. Whoever answers two challenges from two copies of one session gives the witness away. So a box
+ * that stores a session must store the one that comes after a response, over the old, before it sends the response, as
+ * dimkhoros_respond_after does; and it must not answer on a session that it finds in a file, which dimkhoros_prover_reopen drops.
  *
- * Any phase beyond the four is a state that allows no call.
+ * Any number beyond the four is a phase that allows no call.
  */
 typedef struct {
     uint32_t nonce[DIMKHOROS_PLACES];
@@ -301,7 +318,7 @@ typedef struct {
 
 /*
  * Peggy's session of the OR proof, of which the same is proved. The side and the simulated values are as secret as the nonce:
- * they tell which of the two witnesses she holds. Any phase beyond the four is a state that allows no call.
+ * they tell which of the two witnesses she holds. Any number beyond the four is a phase that allows no call.
  */
 typedef struct {
     uint32_t nonce[DIMKHOROS_PLACES];       /* of the side whose witness she knows */
@@ -313,7 +330,7 @@ typedef struct {
     uint32_t phase;
 } DimkhorosOrSession;
 
-/* Vic's session. Any phase beyond the four is a state that allows no call. */
+/* Vic's session. Any number beyond the four is a phase that allows no call. */
 typedef struct {
     uint32_t commitment[DIMKHOROS_PLACES];
     uint32_t challenge;
@@ -380,9 +397,9 @@ DimkhorosWritten dimkhoros_from_pattern(const uint8_t *patterns, size_t patterns
 /* --- Peggy's session --- */
 
 /*
- * A call that is given a session's address, Peggy's or Vic's, answers 0 where it is carried out: the session is then the one
- * that comes after the call, and the values are given. Else it answers the refusal's number, and the session, arrays, round
- * and verdict that it was given keep what they hold.
+ * A call that is given a session's address, Peggy's or Vic's, answers 0 if it is carried out: the session is then the one that
+ * comes after the call, and the values are given. Else it answers the refusal's number, and the session, arrays and round that
+ * it was given keep what they hold. dimkhoros_take_response answers a verdict, with the number in its field `refusal`.
  */
 
 /* A new session: DIMKHOROS_PROVER_NEW, with zeros. */
@@ -402,6 +419,23 @@ DIMKHOROS_CHECKED
 static inline uint32_t dimkhoros_respond(const uint8_t *sheet, size_t sheet_length, DimkhorosProverSession *session,
                                          uint32_t challenge, const uint32_t witness[DIMKHOROS_PLACES],
                                          uint32_t response[DIMKHOROS_PLACES]);
+
+/*
+ * Stores a session for dimkhoros_respond_after. It is given the pointer `box`, which is the caller's, and the stored form of the
+ * session. It must write these bytes over those that were stored before, and must answer 0 only after they would be found again
+ * if the box were switched off. Any other answer says that they are not stored. dimkhoros_box.h has such a function.
+ */
+typedef int (*DimkhorosStore)(void *box, const uint8_t *stored, size_t length);
+
+/*
+ * Responds as dimkhoros_respond does, and gives the response only after `store` has stored the session that comes after it. If
+ * `store` fails, DIMKHOROS_NOT_STORED is answered: `response` keeps what it holds, the response is gone, and the session is
+ * Answered, so that it answers no challenge. If the call is refused, `store` is not called. Refuses as dimkhoros_respond does.
+ */
+DIMKHOROS_CHECKED
+static inline uint32_t dimkhoros_respond_after(const uint8_t *sheet, size_t sheet_length, DimkhorosProverSession *session,
+                                               uint32_t challenge, const uint32_t witness[DIMKHOROS_PLACES],
+                                               DimkhorosStore store, void *box, uint32_t response[DIMKHOROS_PLACES]);
 
 /* Gives up a new or committed session and sets the nonce to zeros. Leads to Dropped. Refuses 21. */
 DIMKHOROS_CHECKED
@@ -428,13 +462,13 @@ static inline uint32_t dimkhoros_take_challenge(const uint8_t *sheet, size_t she
                                                 DimkhorosVerifierSession *session, uint32_t challenge);
 
 /*
- * Brings the response to a session that has asked, and gives the verdict. An accepted verdict and a rejected one both lead to
- * Judged. Refuses 2 to 11, 16 and 21: `verdict` may then still hold another round's, so look at the number first.
+ * Brings the response to a session that has asked, and answers the verdict. An accepted verdict and a rejected one both lead to
+ * Judged. Refuses 2 to 11, 16 and 21: the verdict then has `accepted` 0 and the number, and the session keeps what it holds.
  */
 DIMKHOROS_CHECKED
-static inline uint32_t dimkhoros_take_response(const uint8_t *sheet, size_t sheet_length,
-                                               DimkhorosVerifierSession *session,
-                                               const uint32_t response[DIMKHOROS_PLACES], DimkhorosJudgement *verdict);
+static inline DimkhorosJudgement dimkhoros_take_response(const uint8_t *sheet, size_t sheet_length,
+                                                         DimkhorosVerifierSession *session,
+                                                         const uint32_t response[DIMKHOROS_PLACES]);
 
 /* --- Stored sessions --- */
 
@@ -444,13 +478,13 @@ static inline uint32_t dimkhoros_take_response(const uint8_t *sheet, size_t shee
  *     0 to 2   PRV for Peggy's, VRF for Vic's, ORP for Peggy's of the OR proof
  *     3, 4     the version, 1
  *     5, 6     the length of the whole, 79, 51 or 151
- *     7 on     32-bit numbers: Peggy's nonce (8), commitment (8) and state; Vic's commitment (8), challenge and state; in the
- *              OR proof nonce (8), simulated response (8), commitments (8 and 8), simulated challenge, side and state
+ *     7 on     32-bit numbers: Peggy's nonce (8), commitment (8) and phase; Vic's commitment (8), challenge and phase; in the
+ *              OR proof nonce (8), simulated response (8), commitments (8 and 8), simulated challenge, side and phase
  *     last 4   the CRC-32 of IEEE 802.3 of all bytes before
  *
  * Anything else is refused. So a file that is empty, cut, longer or changed in one byte is never taken for a session, and one
  * that is damaged otherwise, by chance, once in four billion times. A session whose phase is beyond the four, or whose side is
- * beyond 1, is stored, and refused when it is restored. A committed Peggy's bytes hold her nonce: whoever reads them computes
+ * beyond 1, is stored, and refused when it is read back. A committed Peggy's bytes hold her nonce: whoever reads them computes
  * the witness from her response.
  */
 
@@ -458,11 +492,34 @@ static inline uint32_t dimkhoros_take_response(const uint8_t *sheet, size_t shee
 static inline void dimkhoros_prover_store(const DimkhorosProverSession *session, uint8_t stored[DIMKHOROS_STORED_PROVER]);
 
 /*
- * Sets Peggy's session to the one that these bytes hold and answers 1. Answers 0, and leaves the session alone, where they are
- * anything else than what dimkhoros_prover_store writes of one of the four states.
+ * Reads a stored Peggy back without her nonce. Answers what these bytes are found to be, DIMKHOROS_FOUND_NEW to
+ * DIMKHOROS_FOUND_DAMAGED, and sets the session to the one to go on with:
+ *
+ *     found        the session is                                     the box
+ *     NEW          New                                                commits it
+ *     COMMITTED    Dropped: its nonce is zeros                        stores it over these bytes, then begins another
+ *     ANSWERED     Answered                                           begins another
+ *     DROPPED      Dropped                                            begins another
+ *     DAMAGED      New, as of dimkhoros_prover_new                    stores it over these bytes, then commits it
+ *
+ * So the session is never Committed. This is rule 1 of docs/BOXES.md: only what this run has drawn is answered. The bytes may be
+ * an old copy, from a backup or a write that the disk lost, of a session whose challenge was answered long ago. Any bytes but
+ * what dimkhoros_prover_store writes of one of the four phases are damaged.
  */
 DIMKHOROS_CHECKED
-static inline int dimkhoros_prover_restore(const uint8_t *stored, size_t length, DimkhorosProverSession *session);
+static inline uint32_t dimkhoros_prover_reopen(const uint8_t *stored, size_t length, DimkhorosProverSession *session);
+
+/*
+ * Reads a stored Peggy back with her nonce: sets the session to the one that these bytes hold and answers 1. If they are damaged
+ * it answers 0 and leaves the session alone.
+ *
+ * A box must not answer on what this call gives. Rule 1 of docs/BOXES.md: only what this run has drawn is answered, and a
+ * committed session that is found in a file is dropped. If the same nonce was answered before, another answer gives the witness
+ * away, and nothing in the bytes tells. Use dimkhoros_prover_reopen. This call is for programs that look at stored sessions, and
+ * for those who know that no other copy of these bytes is ever read.
+ */
+DIMKHOROS_CHECKED
+static inline int dimkhoros_prover_restore_with_nonce(const uint8_t *stored, size_t length, DimkhorosProverSession *session);
 
 /* Puts the stored form of Vic's session into `stored`. */
 static inline void dimkhoros_verifier_store(const DimkhorosVerifierSession *session,
@@ -470,7 +527,7 @@ static inline void dimkhoros_verifier_store(const DimkhorosVerifierSession *sess
 
 /*
  * Sets Vic's session to the one that these bytes hold and answers 1. Answers 0, and leaves the session alone, where they are
- * anything else than what dimkhoros_verifier_store writes of one of the four states.
+ * anything else than what dimkhoros_verifier_store writes of one of the four phases.
  */
 DIMKHOROS_CHECKED
 static inline int dimkhoros_verifier_restore(const uint8_t *stored, size_t length, DimkhorosVerifierSession *session);
@@ -480,11 +537,19 @@ static inline void dimkhoros_or_prover_store(const DimkhorosOrSession *session,
                                              uint8_t stored[DIMKHOROS_STORED_OR_PROVER]);
 
 /*
- * Sets Peggy's session of the OR proof to the one that these bytes hold and answers 1. Answers 0, and leaves the session alone,
- * where they are anything else than what dimkhoros_or_prover_store writes of one of the four states and of side 0 or 1.
+ * Reads a stored Peggy of the OR proof back without nonce, side and simulated values, as dimkhoros_prover_reopen does. Any bytes
+ * but what dimkhoros_or_prover_store writes of one of the four phases and of side 0 or 1 are damaged.
  */
 DIMKHOROS_CHECKED
-static inline int dimkhoros_or_prover_restore(const uint8_t *stored, size_t length, DimkhorosOrSession *session);
+static inline uint32_t dimkhoros_or_prover_reopen(const uint8_t *stored, size_t length, DimkhorosOrSession *session);
+
+/*
+ * Reads a stored Peggy of the OR proof back with nonce, side and simulated values: sets the session to the one that these bytes
+ * hold and answers 1. If they are damaged it answers 0 and leaves the session alone. What dimkhoros_prover_restore_with_nonce
+ * says of rule 1 holds here too: a box must not answer on what this call gives.
+ */
+DIMKHOROS_CHECKED
+static inline int dimkhoros_or_prover_restore_with_nonce(const uint8_t *stored, size_t length, DimkhorosOrSession *session);
 
 /* --- Rounds --- */
 
@@ -546,6 +611,13 @@ DIMKHOROS_CHECKED
 static inline uint32_t dimkhoros_or_respond(const uint8_t *first, size_t first_length, const uint8_t *second,
                                             size_t second_length, DimkhorosOrSession *session, uint32_t challenge,
                                             const uint32_t witness[DIMKHOROS_PLACES], DimkhorosOrRound *round);
+
+/* Responds as dimkhoros_or_respond does, and gives the round only after `store` has succeeded, as dimkhoros_respond_after. */
+DIMKHOROS_CHECKED
+static inline uint32_t dimkhoros_or_respond_after(const uint8_t *first, size_t first_length, const uint8_t *second,
+                                                  size_t second_length, DimkhorosOrSession *session, uint32_t challenge,
+                                                  const uint32_t witness[DIMKHOROS_PLACES], DimkhorosStore store,
+                                                  void *box, DimkhorosOrRound *round);
 
 /* Gives up a new or committed session and sets all but its commitments to zeros. Leads to Dropped. Refuses 21. */
 DIMKHOROS_CHECKED
@@ -818,6 +890,21 @@ static inline uint32_t dimkhoros_respond(const uint8_t *sheet, size_t sheet_leng
     return dimkhoros_prover_step(&answer, session, response);
 }
 
+static inline uint32_t dimkhoros_respond_after(const uint8_t *sheet, size_t sheet_length, DimkhorosProverSession *session,
+                                               uint32_t challenge, const uint32_t witness[DIMKHOROS_PLACES],
+                                               DimkhorosStore store, void *box, uint32_t response[DIMKHOROS_PLACES]) {
+    uint8_t stored[DIMKHOROS_STORED_PROVER];
+    DimkhorosProverAnswer answer = dimkhoros_prover_respond(sheet, sheet_length, *session, challenge, witness);
+    if (answer.refusal == 0) {
+        dimkhoros_prover_store(&answer.session, stored);
+        *session = answer.session;
+        if (store(box, stored, sizeof stored) != 0) {
+            return DIMKHOROS_NOT_STORED;
+        }
+    }
+    return dimkhoros_prover_step(&answer, session, response);
+}
+
 static inline uint32_t dimkhoros_drop(DimkhorosProverSession *session) {
     DimkhorosProverAnswer answer = dimkhoros_prover_drop(*session);
     *session = answer.session;
@@ -839,14 +926,12 @@ static inline uint32_t dimkhoros_take_challenge(const uint8_t *sheet, size_t she
     return answer.refusal;
 }
 
-static inline uint32_t dimkhoros_take_response(const uint8_t *sheet, size_t sheet_length, DimkhorosVerifierSession *session,
-                                               const uint32_t response[DIMKHOROS_PLACES], DimkhorosJudgement *verdict) {
+static inline DimkhorosJudgement dimkhoros_take_response(const uint8_t *sheet, size_t sheet_length,
+                                                         DimkhorosVerifierSession *session,
+                                                         const uint32_t response[DIMKHOROS_PLACES]) {
     DimkhorosVerifierJudgement answer = dimkhoros_verifier_response(sheet, sheet_length, *session, response);
     *session = answer.session;
-    if (answer.verdict.refusal == 0) {
-        *verdict = answer.verdict;
-    }
-    return answer.verdict.refusal;
+    return answer.verdict;
 }
 
 static inline uint32_t dimkhoros_or_commit(const uint8_t *first, size_t first_length, const uint8_t *second,
@@ -865,21 +950,44 @@ static inline uint32_t dimkhoros_or_commit(const uint8_t *first, size_t first_le
     return answer.refusal;
 }
 
+/* Takes over what responding in the OR proof answered: the session first, then the round if nothing is refused. */
+static inline uint32_t dimkhoros_or_prover_step(const DimkhorosOrAnswer *answer, DimkhorosOrSession *session,
+                                                uint32_t challenge, DimkhorosOrRound *round) {
+    *session = answer->session;
+    if (answer->refusal == 0) {
+        dimkhoros_places_copy(round->commitment0, answer->session.commitment0);
+        dimkhoros_places_copy(round->commitment1, answer->session.commitment1);
+        dimkhoros_places_copy(round->response0, answer->values0);
+        dimkhoros_places_copy(round->response1, answer->values1);
+        round->challenge = challenge;
+        round->challenge0 = answer->challenge0;
+    }
+    return answer->refusal;
+}
+
 static inline uint32_t dimkhoros_or_respond(const uint8_t *first, size_t first_length, const uint8_t *second,
                                             size_t second_length, DimkhorosOrSession *session, uint32_t challenge,
                                             const uint32_t witness[DIMKHOROS_PLACES], DimkhorosOrRound *round) {
     DimkhorosOrAnswer answer =
         dimkhoros_or_prover_respond(first, first_length, second, second_length, *session, challenge, witness);
-    *session = answer.session;
+    return dimkhoros_or_prover_step(&answer, session, challenge, round);
+}
+
+static inline uint32_t dimkhoros_or_respond_after(const uint8_t *first, size_t first_length, const uint8_t *second,
+                                                  size_t second_length, DimkhorosOrSession *session, uint32_t challenge,
+                                                  const uint32_t witness[DIMKHOROS_PLACES], DimkhorosStore store,
+                                                  void *box, DimkhorosOrRound *round) {
+    uint8_t stored[DIMKHOROS_STORED_OR_PROVER];
+    DimkhorosOrAnswer answer =
+        dimkhoros_or_prover_respond(first, first_length, second, second_length, *session, challenge, witness);
     if (answer.refusal == 0) {
-        dimkhoros_places_copy(round->commitment0, answer.session.commitment0);
-        dimkhoros_places_copy(round->commitment1, answer.session.commitment1);
-        dimkhoros_places_copy(round->response0, answer.values0);
-        dimkhoros_places_copy(round->response1, answer.values1);
-        round->challenge = challenge;
-        round->challenge0 = answer.challenge0;
+        dimkhoros_or_prover_store(&answer.session, stored);
+        *session = answer.session;
+        if (store(box, stored, sizeof stored) != 0) {
+            return DIMKHOROS_NOT_STORED;
+        }
     }
-    return answer.refusal;
+    return dimkhoros_or_prover_step(&answer, session, challenge, round);
 }
 
 static inline uint32_t dimkhoros_or_drop(DimkhorosOrSession *session) {
@@ -931,7 +1039,7 @@ static inline void dimkhoros_stored_write(const char *mark, const uint32_t *valu
 }
 
 /*
- * Reads the `count` values, a state last, of which these bytes are the stored form under a mark, and answers 1. Answers 0 for
+ * Reads the `count` values, a phase last, of which these bytes are the stored form under a mark, and answers 1. Answers 0 for
  * any other bytes: they are compared with what the values are stored as.
  */
 static inline int dimkhoros_stored_read(const char *mark, const uint8_t *stored, size_t length, uint32_t *values,
@@ -962,7 +1070,7 @@ static inline void dimkhoros_prover_store(const DimkhorosProverSession *session,
     dimkhoros_stored_write("PRV", values, 2 * DIMKHOROS_PLACES + 1, stored);
 }
 
-static inline int dimkhoros_prover_restore(const uint8_t *stored, size_t length, DimkhorosProverSession *session) {
+static inline int dimkhoros_prover_restore_with_nonce(const uint8_t *stored, size_t length, DimkhorosProverSession *session) {
     uint32_t values[2 * DIMKHOROS_PLACES + 1];
     if (!dimkhoros_stored_read("PRV", stored, length, values, 2 * DIMKHOROS_PLACES + 1)) {
         return 0;
@@ -973,6 +1081,17 @@ static inline int dimkhoros_prover_restore(const uint8_t *stored, size_t length,
     }
     session->phase = values[2 * DIMKHOROS_PLACES];
     return 1;
+}
+
+static inline uint32_t dimkhoros_prover_reopen(const uint8_t *stored, size_t length, DimkhorosProverSession *session) {
+    DimkhorosProverSession found = dimkhoros_prover_new();
+    const int taken = dimkhoros_prover_restore_with_nonce(stored, length, &found);
+    const uint32_t phase = found.phase;
+    if (phase == DIMKHOROS_PROVER_COMMITTED) {
+        found = dimkhoros_prover_drop(found).session;
+    }
+    *session = found;
+    return taken ? phase : DIMKHOROS_FOUND_DAMAGED;
 }
 
 static inline void dimkhoros_verifier_store(const DimkhorosVerifierSession *session,
@@ -1012,7 +1131,7 @@ static inline void dimkhoros_or_prover_store(const DimkhorosOrSession *session,
     dimkhoros_stored_write("ORP", values, 4 * DIMKHOROS_PLACES + 3, stored);
 }
 
-static inline int dimkhoros_or_prover_restore(const uint8_t *stored, size_t length, DimkhorosOrSession *session) {
+static inline int dimkhoros_or_prover_restore_with_nonce(const uint8_t *stored, size_t length, DimkhorosOrSession *session) {
     uint32_t values[4 * DIMKHOROS_PLACES + 3];
     if (!dimkhoros_stored_read("ORP", stored, length, values, 4 * DIMKHOROS_PLACES + 3) ||
         values[4 * DIMKHOROS_PLACES + 1] > 1) {
@@ -1026,6 +1145,17 @@ static inline int dimkhoros_or_prover_restore(const uint8_t *stored, size_t leng
     session->side = values[4 * DIMKHOROS_PLACES + 1];
     session->phase = values[4 * DIMKHOROS_PLACES + 2];
     return 1;
+}
+
+static inline uint32_t dimkhoros_or_prover_reopen(const uint8_t *stored, size_t length, DimkhorosOrSession *session) {
+    DimkhorosOrSession found = dimkhoros_or_prover_new();
+    const int taken = dimkhoros_or_prover_restore_with_nonce(stored, length, &found);
+    const uint32_t phase = found.phase;
+    if (phase == DIMKHOROS_PROVER_COMMITTED) {
+        found = dimkhoros_or_prover_drop(found).session;
+    }
+    *session = found;
+    return taken ? phase : DIMKHOROS_FOUND_DAMAGED;
 }
 
 #ifdef __cplusplus

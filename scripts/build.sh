@@ -3,7 +3,7 @@
 
 # Ends with the status and one line.
 fail() {
-    echo "$me: $2" >&2
+    printf '%s: %s\n' "$me" "$2" >&2
     exit "$1"
 }
 

@@ -27,8 +27,8 @@ int main(void) {
     expect(dimkhoros_respond(sheet, length, &peggy, c, witness, r));
     printf("Peggy responds by the witness 7: r = %u\n", r[0]);
 
-    DimkhorosJudgement verdict = {0};
-    expect(dimkhoros_take_response(sheet, length, &vic, r, &verdict));
+    DimkhorosJudgement verdict = dimkhoros_take_response(sheet, length, &vic, r);
+    expect(verdict.refusal);
     printf("Vic judges r = %u: %s\n", r[0], verdict.accepted ? "accepted" : "rejected");
 
     printf("Peggy is asked c = 1 on the same nonce: ");

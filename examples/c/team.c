@@ -113,8 +113,8 @@ static void play(const Sheet *sheet, uint32_t error) {
     printf("Vic asks c = %u\n", vic.challenge);
 
     DimkhorosComputed r = respond_all(sheet, own, sessions, vic.challenge, error);
-    DimkhorosJudgement verdict = {0};
-    expect(dimkhoros_take_response(sheet->bytes, sheet->length, &vic, r.values, &verdict));
+    DimkhorosJudgement verdict = dimkhoros_take_response(sheet->bytes, sheet->length, &vic, r.values);
+    expect(verdict.refusal);
     printf("the combiner joins: r = %u, and Vic says: %s\n", r.values[0], word(verdict));
 }
 

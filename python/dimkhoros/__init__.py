@@ -12,7 +12,7 @@ from .marker import mark, reason
 from .or_prover import OrProver
 from .pair import Pair
 from .patterns import Layout, Pattern, Patterns
-from .prover import Prover, ProverPhase
+from .prover import Found, Prover, ProverPhase
 from .refusals import Refusal
 from .round_file import RoundFile, RoundWriter
 from .rounds import OrRound, OrVerdict, OrWitness, Round, Side, Verdict
@@ -24,6 +24,7 @@ __all__ = [
     "EXPONENT",
     "ROOT",
     "Damaged",
+    "Found",
     "Header",
     "Instance",
     "Layout",

@@ -6,52 +6,68 @@ from __future__ import annotations
 
 import ctypes
 import operator
-from collections.abc import Iterable
+from collections.abc import Iterable, Mapping, Set
+from typing import TypeVar
 
 from ._sizes import PLACES
 from ._structs import U32, Parts, Places
+
+_Value = TypeVar("_Value")
 
 MOST = 2**32 - 1
 MOST_SIZE = 2**64 - 1
 
 
-def _whole(value: int, most: int, name: str) -> int:
-    """The value, if it is a whole number from 0 to `most`."""
+def whole(value: int, name: str) -> int:
+    """The value, if it is a whole number. `True` and `False` are none, though Python counts with them."""
     try:
-        whole = operator.index(value)
+        if not isinstance(value, bool):
+            return operator.index(value)
     except TypeError:
-        raise TypeError(f"{name} has to be a whole number") from None
-    if not 0 <= whole <= most:
+        pass
+    raise TypeError(f"{name} has to be a whole number")
+
+
+def _bounded(value: int, most: int, name: str) -> int:
+    """The value, if it is a whole number from 0 to `most`."""
+    found = whole(value, name)
+    if not 0 <= found <= most:
         raise ValueError(f"{name} has to be a number from 0 to {most}")
-    return whole
+    return found
 
 
 def number(value: int, name: str) -> int:
     """The value, if it is a number of 32 bits."""
-    return _whole(value, MOST, name)
+    return _bounded(value, MOST, name)
 
 
 def size(value: int, name: str) -> int:
     """The value, if it is a number of 64 bits, as the number of a round may be."""
-    return _whole(value, MOST_SIZE, name)
+    return _bounded(value, MOST_SIZE, name)
+
+
+def listed(values: Iterable[_Value], name: str) -> tuple[_Value, ...]:
+    """The values as a tuple, if they have an order. Those of a set have none, nor do those of a dictionary."""
+    try:
+        if not isinstance(values, (Set, Mapping)):
+            return tuple(values)
+    except TypeError:
+        pass
+    raise TypeError(f"{name} has to be a list of values")
 
 
 def numbers(values: Iterable[int], name: str) -> tuple[int, ...]:
     """The values as a tuple, if each is a number of 32 bits."""
-    try:
-        listed = tuple(values)
-    except TypeError:
-        raise TypeError(f"{name} has to be a list of values") from None
-    return tuple(number(value, f"a value of {name}") for value in listed)
+    return tuple(number(value, f"a value of {name}") for value in listed(values, name))
 
 
 def exactly(count: int, values: Iterable[int], name: str) -> tuple[int, ...]:
     """The values as a tuple, if there are so many and each is a number of 32 bits."""
-    listed = numbers(values, name)
-    if len(listed) != count:
+    found = numbers(values, name)
+    if len(found) != count:
         words = "1 value" if count == 1 else f"{count} values"
-        raise ValueError(f"{name} has to have {words} on this sheet, and has {len(listed)}")
-    return listed
+        raise ValueError(f"{name} has to have {words} on this sheet, and has {len(found)}")
+    return found
 
 
 def places(values: tuple[int, ...]) -> ctypes.Array:

@@ -1,4 +1,4 @@
-"""The sizes, kinds of sheets and states of sessions of include/dimkhoros.h."""
+"""The sizes, kinds of sheets and phases of sessions of include/dimkhoros.h."""
 
 PLACES = 8
 ENTRIES = 64

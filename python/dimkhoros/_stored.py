@@ -6,11 +6,11 @@ import struct
 import zlib
 
 _VERSION = 1
-_LAST_STATE = 3
+_LAST_PHASE = 3
 
 
 class Damaged(ValueError):
-    """The bytes are no stored session: they are of another length, mark, version or state, or the check value is
+    """The bytes are no stored session: they are of another length, mark, version or phase, or the check value is
     another."""
 
     def __init__(self) -> None:
@@ -26,10 +26,10 @@ def write(mark: bytes, values: tuple[int, ...]) -> bytes:
 
 
 def read(mark: bytes, count: int, stored: bytes) -> tuple[int, ...]:
-    """The values, a state last, of which these bytes are the stored form under a mark."""
+    """The values, a phase last, of which these bytes are the stored form under a mark."""
     if len(stored) != 11 + 4 * count:
         raise Damaged()
     values = struct.unpack_from(f">{count}I", stored, 7)
-    if write(mark, values) != stored or values[-1] > _LAST_STATE:
+    if write(mark, values) != stored or values[-1] > _LAST_PHASE:
         raise Damaged()
     return values

@@ -7,7 +7,7 @@ from dataclasses import astuple, dataclass, fields, replace
 
 from . import _structs
 from ._library import buffer, calls
-from ._numbers import data, exactly, given, number, numbers, places, rows, several
+from ._numbers import data, exactly, given, listed, number, numbers, of_kind, places, rows, several
 from ._sizes import EXPONENT, LONGEST_SHEET, PLACES
 from .patterns import Patterns
 from .refusals import check
@@ -43,7 +43,7 @@ class Values:
 
     def __post_init__(self) -> None:
         """Lists become tuples."""
-        table = tuple(numbers(row, "a row of the table") for row in self.entries)
+        table = tuple(numbers(row, "a row of the table") for row in listed(self.entries, "the table"))
         object.__setattr__(self, "entries", table)
         object.__setattr__(self, "statement", numbers(self.statement, "the statement"))
 
@@ -84,6 +84,7 @@ class Instance:
     ) -> Instance:
         """Makes a sheet by the pattern of this number of a file, from 1, or a root sheet by 0; `order` is q, or e of
         a root sheet. Refuses it with 1, 5, 6, 8, 10 or 11."""
+        of_kind(Patterns, patterns, "the pattern file")
         public, z = numbers(values, "the public values"), numbers(statement, "the statement")
         fixed = [
             number(pattern, "the pattern"),
@@ -100,6 +101,7 @@ class Instance:
     @classmethod
     def encode(cls, values: Values) -> Instance:
         """Makes the sheet of these values, or refuses them with 4 to 8, 10 or 11."""
+        of_kind(Values, values, "what is encoded")
         header = values.header
         # Where rows or columns are more than eight the library refuses the header and looks at no value.
         fits = header.rows <= PLACES and header.columns <= PLACES
@@ -129,6 +131,14 @@ class Instance:
     def header(self) -> Header:
         """The sheet's fixed fields."""
         return self._values.header
+
+    def image(self, witness: Iterable[int]) -> tuple[int, ...]:
+        """The image [x] of a witness x, which is the statement z that x is a witness of, or refusal 16. It does not
+        depend on the sheet's own statement. It is the commitment to the nonce x."""
+        x = places(exactly(self.header.columns, witness, "the witness"))
+        answer = calls.prover_commit(*given(self._bytes), calls.prover_new(), x)
+        check(answer.refusal)
+        return tuple(answer.values[: self.header.rows])
 
     def judge(self, round: Round) -> Verdict:
         """The verifier's verdict on a round, or a refusal 14 to 16."""
@@ -164,6 +174,12 @@ class Instance:
     def __repr__(self) -> str:
         """The sheet's values."""
         return f"Instance({self._values!r})"
+
+
+def sheet_of(instance: Instance) -> tuple[bytes, int]:
+    """The bytes of a sheet as the library takes them, if it is one."""
+    of_kind(Instance, instance, "the sheet")
+    return given(instance.bytes)
 
 
 def verdict(judged: _structs.Judgement) -> Verdict:

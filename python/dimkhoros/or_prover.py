@@ -9,12 +9,11 @@ from ._library import calls
 from ._numbers import exactly, held, number, numbers, places
 from ._stored import Damaged
 from .pair import Pair, sheets
-from .prover import ProverPhase, store_or_raise
+from .prover import ProverPhase, ProverSession, store_or_raise
 from .rounds import OrRound, Side
-from .session import Session
 
 
-class OrProver(Session):
+class OrProver(ProverSession):
     """A prover's session of the OR proof, of which the same is proved as of a `Prover`.
 
     Holders of either witness make exactly the accepted rounds for a challenge, each from a single choice of nonce,
@@ -36,7 +35,7 @@ class OrProver(Session):
         with which the other side is simulated. Answers the session and both commitments. Refused with 15, 16 or 21.
 
         Nonce, challenge and response are the caller's, and have to be drawn at random, anew for each session."""
-        both, side = sheets(pair), Side(known)
+        both, side = sheets(pair), Side(number(known, "the side"))
         k = places(exactly(_columns(pair, side), nonce, "the nonce"))
         d = number(challenge, "the simulated challenge")
         r = places(exactly(_columns(pair, side.other), response, "the simulated response"))
@@ -69,18 +68,12 @@ class OrProver(Session):
         return session
 
     @classmethod
-    def from_stored(cls, stored: bytes) -> OrProver:
-        """The session of a stored form. Any other bytes are `Damaged`, and so is a session whose side is neither 0
-        nor 1."""
-        session = super().from_stored(stored)
+    def _read(cls, stored: bytes) -> OrProver:
+        """The session of a stored form. One whose side is neither 0 nor 1 is `Damaged` too."""
+        session = super()._read(stored)
         if session._look().side > Side.SECOND:
             raise Damaged()
         return session
-
-    @property
-    def phase(self) -> ProverPhase:
-        """The session's state."""
-        return ProverPhase(self._look().phase)
 
     @property
     def commitments(self) -> tuple[tuple[int, ...], tuple[int, ...]]:
@@ -90,14 +83,14 @@ class OrProver(Session):
 
     def _witness(self, pair: Pair, witness: Iterable[int]) -> tuple[int, ...]:
         """The witness, if it has as many values as the side that a committed session holds asks for. A session in any
-        other state holds no side, and is refused whatever the witness: then it may have those of either side."""
-        listed = numbers(witness, "the witness")
-        if self.phase == ProverPhase.COMMITTED or len(listed) not in [_columns(pair, side) for side in Side]:
-            return exactly(_columns(pair, self._look().side), listed, "the witness")
-        return listed
+        other phase holds no side, and is refused whatever the witness: then it may have those of either side."""
+        found = numbers(witness, "the witness")
+        if self.phase == ProverPhase.COMMITTED or len(found) not in [_columns(pair, side) for side in Side]:
+            return exactly(_columns(pair, self._look().side), found, "the witness")
+        return found
 
     def _shown(self) -> str:
-        """The state and the commitments, and never the nonce or which side is known."""
+        """The phase and the commitments, and never the nonce or which side is known."""
         return f"phase={self.phase.name}, commitments={self.commitments}"
 
 

@@ -4,8 +4,8 @@ from __future__ import annotations
 
 from . import _structs
 from ._library import calls
-from ._numbers import exactly, given, of_kind, places, rows
-from .instance import Instance
+from ._numbers import exactly, given, number, of_kind, places, rows
+from .instance import Instance, sheet_of
 from .refusals import check
 from .rounds import OrRound, OrVerdict, OrWitness, Side
 
@@ -23,14 +23,14 @@ class Pair:
         """Takes two sheets together, or refuses them with 26."""
         # No call of the library only tests two sheets: judging does so first. A commitment of zeros is none, so that
         # it is refused with 14 where the counts are the same, and else with 26.
-        judged = calls.or_judge(*given(first.bytes), *given(second.bytes), _structs.OrRound())
+        judged = calls.or_judge(*sheet_of(first), *sheet_of(second), _structs.OrRound())
         if judged.refusal != _COMMITMENT:
             check(judged.refusal)
         self._first, self._second = first, second
 
     def instance(self, side: int) -> Instance:
         """The sheet of a side."""
-        return self._second if Side(side) == Side.SECOND else self._first
+        return self._second if Side(number(side, "the side")) == Side.SECOND else self._first
 
     def judge(self, round: OrRound) -> OrVerdict:
         """The verdict on a round, or a refusal 14 to 16: accepted where both sides are, else rejected with the rows
@@ -68,4 +68,5 @@ class Pair:
 
 def sheets(pair: Pair) -> tuple[bytes, int, bytes, int]:
     """Both sheets' bytes as the library takes them."""
+    of_kind(Pair, pair, "the pair")
     return (*given(pair.instance(Side.FIRST).bytes), *given(pair.instance(Side.SECOND).bytes))

@@ -4,16 +4,20 @@ from __future__ import annotations
 
 from collections.abc import Callable, Iterable
 from enum import IntEnum
+from typing import TypeVar
 
 from . import _sizes, _structs
 from ._library import calls
-from ._numbers import exactly, given, held, number, places
-from .instance import Instance
+from ._numbers import exactly, held, number, places
+from ._stored import Damaged
+from .instance import Instance, sheet_of
 from .session import NotStored, Session
+
+_Peggy = TypeVar("_Peggy", bound="ProverSession")
 
 
 class ProverPhase(IntEnum):
-    """The states of a prover's session."""
+    """The phases of a prover's session."""
 
     NEW = _sizes.PROVER_NEW
     COMMITTED = _sizes.PROVER_COMMITTED
@@ -21,13 +25,69 @@ class ProverPhase(IntEnum):
     DROPPED = _sizes.PROVER_DROPPED
 
 
-class Prover(Session):
+class Found(IntEnum):
+    """What `reopen` found: a session in one of the prover's phases, or bytes that are none."""
+
+    NEW = _sizes.PROVER_NEW
+    """Nothing had happened."""
+    COMMITTED = _sizes.PROVER_COMMITTED
+    """It held a nonce, which may have been used. It is dropped: the session that is handed back has to be stored."""
+    ANSWERED = _sizes.PROVER_ANSWERED
+    """A challenge was answered."""
+    DROPPED = _sizes.PROVER_DROPPED
+    """It was given up."""
+    DAMAGED = 4
+    """The bytes are no stored session. What is handed back is a new one, which has to be stored."""
+
+
+class ProverSession(Session):
+    """What both kinds of a prover's session have in common."""
+
+    __slots__ = ()
+
+    @classmethod
+    def reopen(cls: type[_Peggy], stored: bytes) -> tuple[_Peggy, Found]:
+        """Reads a stored session back without its nonce, and answers the session and what was found. A session that
+        was committed is dropped; of bytes that are damaged, a new session is handed back. Both have to be stored over
+        these bytes. A session in another phase is handed back as it was stored.
+
+        So the session is never committed. This is rule 1 of docs/BOXES.md: only what this run has drawn is answered.
+        The bytes may be an old copy, from a backup or a write that the disk lost, of a session whose challenge was
+        answered long ago."""
+        try:
+            session = cls.from_stored_with_nonce(stored)
+        except Damaged:
+            return cls(), Found.DAMAGED
+        found = Found(session.phase)
+        return (session.drop() if found == Found.COMMITTED else session), found
+
+    @classmethod
+    def from_stored_with_nonce(cls: type[_Peggy], stored: bytes) -> _Peggy:
+        """Reads a stored session back with its nonce. Bytes that are no stored form are `Damaged`.
+
+        A box must not answer on what this hands back. Rule 1 of docs/BOXES.md: only what this run has drawn is
+        answered, and a committed session that is found in a file is dropped. If the same nonce was answered before,
+        another answer gives the witness away, and nothing in the bytes tells. Use `reopen`. This is for programs that
+        look at stored sessions, and for those who know that no other copy of these bytes is ever read."""
+        return cls._read(stored)
+
+    def drop(self: _Peggy) -> _Peggy:
+        """Gives up a new or committed session. Refused with 21."""
+        raise NotImplementedError
+
+    @property
+    def phase(self) -> ProverPhase:
+        """The session's phase."""
+        return ProverPhase(self._look().phase)
+
+
+class Prover(ProverSession):
     """A prover's session.
 
     Over any chain of calls in which each is made on the session that the last one handed back, at most one challenge
     is answered: this is proved of the library. It cannot know of copies that are made by `to_stored` and
-    `from_stored`; a box that stores its session answers by `respond_after`. Nor does anything wipe the memory that a
-    nonce stood in."""
+    `from_stored_with_nonce`. A box that stores its session answers by `respond_after` and reads it back by `reopen`.
+    Nor does anything wipe the memory that a nonce stood in."""
 
     __slots__ = ()
     _MARK = b"PRV"
@@ -41,14 +101,14 @@ class Prover(Session):
         """Commits a new session to a nonce, and answers the session and the commitment. Refused with 16 or 21.
 
         The nonce is the caller's. It has to be drawn at random from all coordinates, anew for each session."""
-        sheet, k = given(instance.bytes), places(exactly(instance.header.columns, nonce, "the nonce"))
+        sheet, k = sheet_of(instance), places(exactly(instance.header.columns, nonce, "the nonce"))
         session, answer = self._step(lambda found: calls.prover_commit(*sheet, found, k))
         return session, tuple(answer.values[: instance.header.rows])
 
     def respond(self, instance: Instance, challenge: int, witness: Iterable[int]) -> tuple[Prover, tuple[int, ...]]:
         """Answers the session and the response of a committed session to a challenge, by a witness, and sets the held
         nonce to zeros. Refused with 15 to 17 or 21; a committed session that is refused can still answer."""
-        sheet, c = given(instance.bytes), number(challenge, "the challenge")
+        sheet, c = sheet_of(instance), number(challenge, "the challenge")
         x = places(exactly(instance.header.columns, witness, "the witness"))
         session, answer = self._step(lambda found: calls.prover_respond(*sheet, found, c, x))
         return session, tuple(answer.values[: instance.header.columns])
@@ -72,17 +132,12 @@ class Prover(Session):
         return session
 
     @property
-    def phase(self) -> ProverPhase:
-        """The session's state."""
-        return ProverPhase(self._look().phase)
-
-    @property
     def commitment(self) -> tuple[int, ...]:
         """The commitment that the session holds, no values in a new one."""
         return held(self._look().commitment)
 
     def _shown(self) -> str:
-        """The state and the commitment, and never the nonce."""
+        """The phase and the commitment, and never the nonce."""
         return f"phase={self.phase.name}, commitment={self.commitment}"
 
 

@@ -3,9 +3,10 @@
 from __future__ import annotations
 
 from collections.abc import Iterator
+from typing import overload
 
 from ._library import buffer, calls
-from ._numbers import data, given, number, size
+from ._numbers import data, given, number, of_kind, size, whole
 from ._sizes import LONGEST_FILE
 from .instance import Instance
 from .refusals import check
@@ -16,12 +17,13 @@ class RoundFile:
     """A round file of an instance. Its version is 1 or 2: in version 2 a challenge is stored in 16 bits, in version 1
     in 32.
 
-    It has a length, the number of its rounds, and goes through them in order."""
+    It has a length, the number of its rounds, goes through them in order, and gives each by its number: `file[0]`."""
 
     __slots__ = ("_instance", "_bytes", "_count")
 
     def __init__(self, instance: Instance, file: bytes) -> None:
         """Opens a round file, as `open` does."""
+        of_kind(Instance, instance, "the sheet")
         self._instance, self._bytes = instance, data(file, "the round file")
         counted = calls.count(*self._given())
         check(counted.refusal)
@@ -53,6 +55,22 @@ class RoundFile:
     def __iter__(self) -> Iterator[Round]:
         """All rounds of the file, in order."""
         return map(self.read, range(self._count))
+
+    @overload
+    def __getitem__(self, number: int) -> Round: ...
+
+    @overload
+    def __getitem__(self, number: slice) -> tuple[Round, ...]: ...
+
+    def __getitem__(self, number: int | slice) -> Round | tuple[Round, ...]:
+        """The round of this number as in a tuple of all rounds: -1 is the last, and one that is not there is an
+        `IndexError`. A slice gives a tuple of rounds."""
+        if isinstance(number, slice):
+            return tuple(map(self.read, range(self._count)[number]))
+        place = whole(number, "the number of a round")
+        if not -self._count <= place < self._count:
+            raise IndexError(f"the file has {self._count} rounds, and none of this number")
+        return self.read(place % self._count)
 
     def part(self, number: int) -> slice:
         """Where the round of this number, from 0, stands in the file's bytes, or refusal 13:
@@ -108,6 +126,7 @@ class RoundWriter:
 
     def __init__(self, instance: Instance, version: int = 1) -> None:
         """Begins a file, as `start` does."""
+        of_kind(Instance, instance, "the sheet")
         self._instance, self._buffer = instance, buffer(LONGEST_FILE)
         written = calls.empty(number(version, "the version"), self._buffer, len(self._buffer))
         check(written.refusal)

@@ -87,8 +87,8 @@ class Session:
         return _stored.write(self._MARK, tuple(words))
 
     @classmethod
-    def from_stored(cls: type[_Self], stored: bytes) -> _Self:
-        """The session of a stored form. Any other bytes are `Damaged`."""
+    def _read(cls: type[_Self], stored: bytes) -> _Self:
+        """The session of a stored form, with all that it holds. Any other bytes are `Damaged`."""
         count = ctypes.sizeof(cls._STRUCT) // 4
         values = _stored.read(cls._MARK, count, data(stored, "the stored session"))
         return cls._of(cls._STRUCT.from_buffer_copy((U32 * count)(*values)))
@@ -98,7 +98,7 @@ class Session:
         raise NotImplementedError
 
     def __repr__(self) -> str:
-        """The state and what is public."""
+        """The phase and what is public."""
         name = type(self).__name__
         return f"{name}(spent)" if self._held is None else f"{name}({self._shown()})"
 

@@ -7,9 +7,9 @@ from collections.abc import Callable, Iterable
 
 from . import _structs
 from ._library import calls
-from ._numbers import exactly, given, parts
+from ._numbers import exactly, given, listed, parts
 from ._sizes import MOST_PLAYERS, PARTS
-from .instance import Instance
+from .instance import Instance, sheet_of
 from .refusals import Refusal, check
 
 # What a team of another number of players is refused with.
@@ -29,12 +29,13 @@ class Team:
     def __init__(self, instance: Instance, images: Iterable[Iterable[int]]) -> None:
         """Takes the players of these images together, or refuses them: with 27 where they are not 2 to 8, 11 where an
         image's value is no group element, and 28 where the images do not multiply to the statement."""
-        listed = [exactly(instance.header.rows, image, "an image") for image in images]
-        self._instance, self._players = instance, len(listed)
-        self._images = parts(listed[:MOST_PLAYERS])
+        sheet = sheet_of(instance)
+        found = [exactly(instance.header.rows, image, "an image") for image in listed(images, "the images")]
+        self._instance, self._players = instance, len(found)
+        self._images = parts(found[:MOST_PLAYERS])
         # No call of the library only tests a team: both joining calls do so. Ones are commitments on every sheet.
         ones = _structs.Parts(*[1] * PARTS)
-        joined = calls.team_commitment(*given(instance.bytes), self._players, self._images, ones)
+        joined = calls.team_commitment(*sheet, self._players, self._images, ones)
         check(joined.refusal)
 
     @property
@@ -51,7 +52,7 @@ class Team:
         """The players' commitments, in the order of their images, multiplied modulo m row by row; or refusal 14.
         Another number of commitments than of players is refused with 27."""
         rows = self._instance.header.rows
-        brought = [exactly(rows, values, "a commitment") for values in commitments]
+        brought = [exactly(rows, values, "a commitment") for values in listed(commitments, "the commitments")]
         return self._joined(brought, calls.team_commitment)[:rows]
 
     def join_responses(self, responses: Iterable[Iterable[int]]) -> tuple[int, ...]:
@@ -59,7 +60,7 @@ class Team:
         sheets) or multiplied modulo m (root sheets); or refusal 16. Another number of responses than of players is
         refused with 27."""
         columns = self._instance.header.columns
-        brought = [exactly(columns, values, "a response") for values in responses]
+        brought = [exactly(columns, values, "a response") for values in listed(responses, "the responses")]
         return self._joined(brought, calls.team_response)[:columns]
 
     def _joined(self, brought: list[tuple[int, ...]], call: Callable[..., ctypes.Structure]) -> tuple[int, ...]:

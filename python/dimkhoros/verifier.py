@@ -7,14 +7,14 @@ from enum import IntEnum
 
 from . import _sizes, _structs
 from ._library import calls
-from ._numbers import exactly, given, held, number, places
-from .instance import Instance, verdict
+from ._numbers import exactly, held, number, places
+from .instance import Instance, sheet_of, verdict
 from .rounds import Verdict
 from .session import Session
 
 
 class VerifierPhase(IntEnum):
-    """The states of a verifier's session, in their order."""
+    """The phases of a verifier's session, in their order."""
 
     WAITING = _sizes.VERIFIER_WAITING
     HOLDING = _sizes.VERIFIER_HOLDING
@@ -38,27 +38,33 @@ class Verifier(Session):
 
     def take_commitment(self, instance: Instance, commitment: Iterable[int]) -> Verifier:
         """Brings the commitment to a waiting session. Refused with 14 or 21."""
-        sheet, t = given(instance.bytes), places(exactly(instance.header.rows, commitment, "the commitment"))
+        sheet, t = sheet_of(instance), places(exactly(instance.header.rows, commitment, "the commitment"))
         session, _ = self._step(lambda found: calls.verifier_commitment(*sheet, found, t))
         return session
 
     def take_challenge(self, instance: Instance, challenge: int) -> Verifier:
         """Brings the challenge to a session that holds a commitment. Refused with 15 or 21. The challenge is the
         caller's, and has to be drawn at random below the sheet's challenge count."""
-        sheet, c = given(instance.bytes), number(challenge, "the challenge")
+        sheet, c = sheet_of(instance), number(challenge, "the challenge")
         session, _ = self._step(lambda found: calls.verifier_challenge(*sheet, found, c))
         return session
 
     def take_response(self, instance: Instance, response: Iterable[int]) -> tuple[Verifier, Verdict]:
         """Brings the response to a session that has asked, and answers the session and the verdict. Refused with 16
         or 21."""
-        sheet, r = given(instance.bytes), places(exactly(instance.header.columns, response, "the response"))
+        sheet, r = sheet_of(instance), places(exactly(instance.header.columns, response, "the response"))
         session, answer = self._step(lambda found: calls.verifier_response(*sheet, found, r))
         return session, verdict(answer.verdict)
 
+    @classmethod
+    def from_stored(cls, stored: bytes) -> Verifier:
+        """Reads a stored session back. Bytes that are no stored form are `Damaged`. Vic goes on with what he finds: it
+        holds no secret, and he asks the stored challenge again and never another."""
+        return cls._read(stored)
+
     @property
     def phase(self) -> VerifierPhase:
-        """The session's state."""
+        """The session's phase."""
         return VerifierPhase(self._look().phase)
 
     @property
@@ -72,5 +78,5 @@ class Verifier(Session):
         return self._look().challenge
 
     def _shown(self) -> str:
-        """The state and all that is held."""
+        """The phase and all that is held."""
         return f"phase={self.phase.name}, commitment={self.commitment}, challenge={self.challenge}"

@@ -29,7 +29,7 @@ from .vectors import NoCall
 PROVER_STATES = ["new", "committed", "answered", "dropped"]
 VERIFIER_STATES = ["waiting", "holding", "asked", "judged"]
 
-# What a session holds, in the order in which it is stored: names with the number of places, and its states.
+# What a session holds, in the order in which it is stored: names with the number of places, and its phases.
 SESSIONS = {
     Prover: (b"PRV", [("nonce", 8), ("commitment", 8)], PROVER_STATES),
     Verifier: (b"VRF", [("commitment", 8), ("challenge", 1)], VERIFIER_STATES),
@@ -58,22 +58,23 @@ def written(made, buffer):
 
 def found_session(kind, inputs):
     """The session that a line describes."""
-    mark_of, fields, states = SESSIONS[kind]
+    mark_of, fields, phases = SESSIONS[kind]
     values = []
     for name, count in fields:
         some = inputs.list(name)
         values += some + [0] * (count - len(some))
-    state = inputs.text("state")
-    if state not in states or (kind is OrProver and values[-1] > 1):
-        raise NoCall("the module makes no session of a state or a side that is none")
-    values.append(states.index(state))
+    phase = inputs.text("phase")
+    if phase not in phases or (kind is OrProver and values[-1] > 1):
+        raise NoCall("the module makes no session of a phase or a side that is none")
+    values.append(phases.index(phase))
     before = struct.pack(f">3sHH{len(values)}I", mark_of, 1, 11 + 4 * len(values), *values)
-    return kind.from_stored(before + struct.pack(">I", zlib.crc32(before)))
+    read = kind.from_stored if kind is Verifier else kind.from_stored_with_nonce
+    return read(before + struct.pack(">I", zlib.crc32(before)))
 
 
 def shown_session(session):
     """What a session holds, as a line has it. Lists are shown up to the last number that is not 0."""
-    _, fields, states = SESSIONS[type(session)]
+    _, fields, phases = SESSIONS[type(session)]
     stored = session.to_stored()
     values = list(struct.unpack(f">{(len(stored) - 11) // 4}I", stored[7:-4]))
     shown, rest = {}, values
@@ -82,7 +83,7 @@ def shown_session(session):
         last = max([1] + [place + 1 for place, value in enumerate(places) if value])
         shown[name] = listed(places[:last])
     order = OR_ORDER if isinstance(session, OrProver) else shown
-    return " ".join([f"state={states[rest[0]]}"] + [f"{name}={shown[name]}" for name in order])
+    return " ".join([f"phase={phases[rest[0]]}"] + [f"{name}={shown[name]}" for name in order])
 
 
 def stepped(session, call):

@@ -132,16 +132,65 @@ class Taken(unittest.TestCase):
 
     def test_what_is_no_number_or_no_bytes(self):
         """A number is no bytes, though Python would make bytes of it."""
-        for value in ["3", 3.0, None, b"3"]:
+        for value in ["3", 3.0, None, b"3", True, False]:
             self.assertRaises(TypeError, page_a().simulate, value, [0])
-        for value in [3, None, [3.0], ["3"], "3"]:
+        for value in [3, None, [3.0], ["3"], "3", [True], {3}, frozenset([3]), {3: 3}, {3: 3}.keys()]:
             self.assertRaises(TypeError, page_a().simulate, 3, value)
         for value in [28, "HOM", None, [1]]:
-            for call in [Instance.load, Patterns.load, Prover.from_stored]:
+            for call in [Instance.load, Patterns.load, Prover.reopen, Verifier.from_stored]:
                 self.assertRaises(TypeError, call, value)
             self.assertRaises(TypeError, RoundFile.open, page_a(), value)
             self.assertRaises(TypeError, mark, b"", b"", value)
             self.assertRaises(TypeError, reason, b"", value)
+
+    def test_a_list_has_an_order_and_no_truth_values(self):
+        """A set has no order, so a nonce of two values could be held either way round. `True` is no 1."""
+        for nonce in [{5}, {5: 7}, [True], True, None, 5]:
+            with self.assertRaisesRegex(TypeError, "the nonce has to be a (list of values|whole number)"):
+                Prover().commit(page_a(), nonce)
+        for call in [
+            lambda: Prover().commit(page_d(), {7, 8}),
+            lambda: Round({9}, 3, [4]),
+            lambda: Round([9], True, [4]),
+            lambda: Verifier().take_challenge(page_a(), True),
+            lambda: Team(page_a(), {(8,), (16,)}),
+            lambda: Team(page_a(), [[8], [16]]).join_responses({(1,), (2,)}),
+            lambda: Values(page_a().header, {(2,)}, [13]),
+            lambda: Header(True, 23, 11, 11, 1, 1),
+            lambda: OrProver().commit(Pair(page_a(), page_a()), True, [5], 3, [0]),
+            lambda: Pair(page_a(), page_a()).instance(True),
+            lambda: RoundWriter.start(page_a(), True),
+            lambda: RoundWriter.start(page_a()).file.read(False),
+        ]:
+            self.assertRaises(TypeError, call)
+        for nonce in [(5,), range(5, 6), iter([5]), (k for k in [5])]:
+            self.assertEqual(Prover().commit(page_a(), nonce)[1], (9,))
+
+    def test_what_is_no_sheet(self):
+        """In a sentence, wherever a sheet is asked for. So are pairs, patterns and values."""
+        for value in [None, page_a().bytes, 5]:
+            for call in [
+                lambda: Prover().commit(value, [5]),
+                lambda: Prover().respond(value, 3, [7]),
+                lambda: Verifier().take_commitment(value, [9]),
+                lambda: Verifier().take_challenge(value, 3),
+                lambda: Verifier().take_response(value, [4]),
+                lambda: Pair(page_a(), value),
+                lambda: Pair(value, page_a()),
+                lambda: Team(value, [[8], [16]]),
+                lambda: RoundFile.open(value, b"RND\0\1\0\0"),
+                lambda: RoundWriter.start(value),
+            ]:
+                with self.assertRaisesRegex(TypeError, "^the sheet has to be of the type Instance$"):
+                    call()
+            for call in [
+                lambda: OrProver().commit(value, Side.FIRST, [5], 3, [0]),
+                lambda: OrProver().respond(value, 3, [7]),
+                lambda: Instance.from_pattern(value, 1, modulus=23, order=11, challenges=11, statement=[13]),
+                lambda: Instance.encode(value),
+            ]:
+                with self.assertRaisesRegex(TypeError, "has to be of the type"):
+                    call()
 
     def test_what_is_no_round(self):
         """A tuple is none, nor is a round of the other proof."""
@@ -176,6 +225,18 @@ class Sheets(unittest.TestCase):
         self.assertEqual(page_f().values.statement, (12, 9))
         self.assertEqual(page_g().values, Values(Header(ROOT, 35, 5, 5, 1, 1), (), (32,)))
         self.assertEqual(page_a().header, Header(EXPONENT, 23, 11, 11, 1, 1))
+
+    def test_the_image_of_a_witness_is_its_statement(self):
+        """Whatever statement the sheet has. A value that is no coordinate is refused."""
+        witnesses = [(page_a(), [7]), (page_d(), [1, 2]), (page_e(), [7]), (page_f(), [2, 1, 0]), (page_g(), [2])]
+        for page, witness in witnesses:
+            self.assertEqual(page.image(witness), page.values.statement)
+            other = page.with_statement([1] * page.header.rows)
+            self.assertEqual(other.with_statement(other.image(witness)), page)
+            self.assertRaises(ValueError, page.image, [*witness, 0])
+        with refused(self, 16):
+            page_a().image([11])
+        self.assertRaises(TypeError, page_a().image, {7})
 
     def test_a_table_of_another_shape_is_told(self):
         """A row too few, a column too many, and a statement value too many."""
@@ -255,6 +316,27 @@ class Rounds(unittest.TestCase):
             self.assertEqual(mark(page_a().bytes, found.bytes, b"\7"), expected)
             self.assertEqual(reason(page_a().bytes, found.bytes), "accepted\n")
 
+    def test_rounds_are_found_by_their_numbers(self):
+        """As in a list of them."""
+        writer = RoundWriter.start(page_a())
+        rounds = [round_of(9, 3, 4), round_of(9, 1, 1), round_of(5, 0, 0)]
+        for made in rounds:
+            writer.append(made)
+        file = writer.file
+        for number in range(-3, 3):
+            self.assertEqual(file[number], rounds[number])
+        for part in [slice(None), slice(1, None), slice(None, None, -1), slice(5, 9), slice(-2, -1)]:
+            self.assertEqual(file[part], tuple(rounds[part]))
+        for number in [3, -4, 2**64, -(2**64)]:
+            with self.assertRaisesRegex(IndexError, "^the file has 3 rounds, and none of this number$"):
+                file[number]
+        with self.assertRaisesRegex(IndexError, "^the file has 0 rounds, and none of this number$"):
+            RoundWriter.start(page_a()).file[0]
+        for number in [True, "0", 0.0, None]:
+            with self.assertRaisesRegex(TypeError, "^the number of a round has to be a whole number$"):
+                file[number]
+        self.assertEqual((rounds[1] in file, round_of(9, 2, 2) in file), (True, False))
+
     def test_a_writer_goes_on(self):
         """In the version that it finds, and up to 512 rounds."""
         narrow = RoundWriter.start(page_a(), 2)
@@ -314,7 +396,8 @@ class AnyBytes(unittest.TestCase):
             self.assertTrue(mark(page_a().bytes, file, self.bytes_like(b"\7")).endswith("\n"))
             self.assertTrue(reason(sheet, file).endswith("\n"))
             for kind, right in zip((Prover, Verifier, OrProver), stored):
-                self.tried(lambda: kind.from_stored(self.bytes_like(right)), Damaged)
+                read = kind.from_stored if kind is Verifier else kind.reopen
+                self.tried(lambda: read(self.bytes_like(right)), Damaged)
 
     def test_calls_of_any_numbers(self):
         """On sheets of many shapes that load."""

@@ -44,7 +44,7 @@ class Header(unittest.TestCase):
         other = type("Written", (ctypes.Structure,), {"_fields_": fields})
         self.assertNotEqual(list(layout(other)), list(layout(_structs.Written)))
 
-    def test_sizes_kinds_and_states_are_the_same(self):
+    def test_sizes_kinds_and_phases_are_the_same(self):
         """Every constant of the module is one that the program in C prints."""
         in_c = dict(line.split() for line in run_c("rust/sys/tests/c/numbers.c").splitlines())
         for name, value in vars(_sizes).items():
@@ -60,6 +60,11 @@ class Header(unittest.TestCase):
         patterns = [f"PATTERN_{pattern.name} {pattern.value}" for pattern in dimkhoros.Pattern]
         self.assertEqual([line for line in lines if line.startswith("PATTERN_")], patterns)
         self.assertIn(dimkhoros.Refusal(2**32 - 1).sentence, lines)
+
+    def test_what_can_be_found_is_the_same(self):
+        """The names and numbers of what a stored session is found to be."""
+        found = re.findall(r"^#define DIMKHOROS_FOUND_(\w+) (\d+)", HEADER, re.MULTILINE)
+        self.assertEqual(found, [(what.name, str(what.value)) for what in dimkhoros.Found])
 
     def test_the_library_has_the_version_of_the_module(self):
         """And of the header."""

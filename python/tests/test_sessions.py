@@ -10,6 +10,7 @@ from concurrent.futures import ThreadPoolExecutor
 
 from dimkhoros import (
     Damaged,
+    Found,
     NotStored,
     OrProver,
     Pair,
@@ -39,6 +40,11 @@ def or_committed():
     pair = Pair(page_a(), page_d())
     peggy, _ = OrProver().commit(pair, Side.SECOND, [4, 9], 6, [2])
     return pair, peggy
+
+
+def whole(kind):
+    """The call that reads all that a stored session of this kind holds."""
+    return kind.from_stored if kind is Verifier else kind.from_stored_with_nonce
 
 
 class Spending(unittest.TestCase):
@@ -83,7 +89,7 @@ class Spending(unittest.TestCase):
             peggy.respond(a, 11, [7])
         for witness in [[7, 7], [-1], [2**32], []]:
             self.assertRaises(ValueError, peggy.respond, a, 3, witness)
-        self.assertRaises(AttributeError, peggy.respond, b"no instance", 3, [7])
+        self.assertRaises(TypeError, peggy.respond, b"no instance", 3, [7])
         self.assertEqual(peggy.to_stored(), before)
         self.assertEqual(peggy.respond(a, 3, [7])[1], (4,))
 
@@ -92,7 +98,7 @@ class Spending(unittest.TestCase):
         vic = Verifier()
         with refused(self, 21):
             vic.take_challenge(page_a(), 3)
-        self.assertRaises(AttributeError, vic.take_challenge, b"no instance", 3)
+        self.assertRaises(TypeError, vic.take_challenge, b"no instance", 3)
         self.assertEqual(vic.take_commitment(page_a(), [9]).phase, VerifierPhase.HOLDING)
 
     def test_threads_get_one_answer(self):
@@ -208,13 +214,53 @@ class Storing(unittest.TestCase):
         self.assertEqual(printed[3], f"vic 9{zeros} 3 2")
         self.assertEqual(printed[6], f"either 4 9{zeros[2:]} 2{zeros} 16{zeros} 12{zeros} 6 1 1")
 
-    def test_a_stored_session_goes_on(self):
-        """As if it had not been stored."""
-        peggy = Prover.from_stored(committed().to_stored())
+    def test_an_old_copy_answers_no_second_challenge(self):
+        """The accident of document 00: the file of a committed session comes back."""
+        peggy = committed()
+        copy = peggy.to_stored()
+        peggy.respond(page_a(), 3, [7])
+        old, found = Prover.reopen(copy)
+        self.assertEqual((found, old.phase, old.commitment), (Found.COMMITTED, ProverPhase.DROPPED, (9,)))
+        self.assertEqual(old.to_stored(), _stored.write(b"PRV", (0,) * 8 + (9,) + (0,) * 7 + (3,)))
+        with refused(self, 21):
+            old.respond(page_a(), 1, [7])
+        pair, either = or_committed()
+        old, found = OrProver.reopen(either.to_stored())
+        self.assertEqual((found, old.phase, old.commitments), (Found.COMMITTED, ProverPhase.DROPPED, ((16,), (12,))))
+        expected = (0,) * 16 + (16,) + (0,) * 7 + (12,) + (0,) * 9 + (3,)
+        self.assertEqual(old.to_stored(), _stored.write(b"ORP", expected))
+        with refused(self, 21):
+            old.respond(pair, 1, [7])
+
+    def test_what_is_reopened_in_another_phase_is_as_it_was(self):
+        """And is never committed."""
+        answered, _ = committed().respond(page_a(), 3, [7])
+        pair, either = or_committed()
+        either, _ = either.respond(pair, 4, [1, 2])
+        sessions = [(Prover(), Found.NEW), (answered, Found.ANSWERED), (committed().drop(), Found.DROPPED)]
+        sessions += [(OrProver(), Found.NEW), (either, Found.ANSWERED), (or_committed()[1].drop(), Found.DROPPED)]
+        for session, expected in sessions:
+            found, what = type(session).reopen(session.to_stored())
+            self.assertEqual((found.to_stored(), what), (session.to_stored(), expected))
+
+    def test_damaged_bytes_are_reopened_as_a_new_session(self):
+        """Which is told. What is no bytes is a wrong type."""
+        for session in [committed(), or_committed()[1]]:
+            kind, stored = type(session), session.to_stored()
+            for bad in [b"", stored[:-1], stored + b"\0", bytes([stored[0] ^ 1]) + stored[1:], Verifier().to_stored()]:
+                found, what = kind.reopen(bad)
+                self.assertEqual((found.to_stored(), what), (kind().to_stored(), Found.DAMAGED))
+            self.assertRaises(TypeError, kind.reopen, None)
+
+    def test_the_call_that_keeps_the_nonce_has_a_long_name(self):
+        """The short one, which Vic has, is not there for Peggy."""
+        for kind in [Prover, OrProver]:
+            self.assertFalse(hasattr(kind, "from_stored"))
+        peggy = Prover.from_stored_with_nonce(committed().to_stored())
         self.assertEqual(peggy.respond(page_a(), 3, [7])[1], (4,))
         for session in self.sessions():
             stored = session.to_stored()
-            self.assertEqual(type(session).from_stored(bytearray(stored)).to_stored(), stored)
+            self.assertEqual(whole(type(session))(bytearray(stored)).to_stored(), stored)
 
     def test_damaged_bytes_are_refused(self):
         """Every byte changed, every cut, a byte behind, and another's session."""
@@ -224,24 +270,25 @@ class Storing(unittest.TestCase):
             cut = [stored[:i] for i in range(len(stored))]
             others = [other.to_stored() for other in self.sessions() if not isinstance(other, kind)]
             for bad in [*changed, *cut, *others, stored + b"\0"]:
-                self.assertRaises(Damaged, kind.from_stored, bad)
+                self.assertRaises(Damaged, whole(kind), bad)
 
-    def test_a_state_or_side_that_is_none_is_refused(self):
+    def test_a_phase_or_side_that_is_none_is_refused(self):
         """Though the check value is right."""
         for values, mark, kind in [(17, b"PRV", Prover), (10, b"VRF", Verifier), (35, b"ORP", OrProver)]:
-            self.assertEqual(kind.from_stored(_stored.write(mark, (0,) * values)).to_stored()[:3], mark)
+            self.assertEqual(whole(kind)(_stored.write(mark, (0,) * values)).to_stored()[:3], mark)
             bad = _stored.write(mark, (0,) * (values - 1) + (4,))
-            self.assertRaises(Damaged, kind.from_stored, bad)
+            self.assertRaises(Damaged, whole(kind), bad)
         side = _stored.write(b"ORP", (0,) * 33 + (2, 0))
-        self.assertRaises(Damaged, OrProver.from_stored, side)
+        self.assertRaises(Damaged, OrProver.from_stored_with_nonce, side)
+        self.assertEqual(OrProver.reopen(side)[1], Found.DAMAGED)
 
     def test_the_response_comes_after_the_store(self):
         """What is stored answers no challenge."""
         disk = []
         _, response = committed().respond_after(page_a(), 3, [7], disk.append)
         self.assertEqual(response, (4,))
-        found = Prover.from_stored(disk[0])
-        self.assertEqual(found.phase, ProverPhase.ANSWERED)
+        found, what = Prover.reopen(disk[0])
+        self.assertEqual((found.phase, what), (ProverPhase.ANSWERED, Found.ANSWERED))
         with refused(self, 21):
             found.respond(page_a(), 1, [7])
         pair, peggy = or_committed()

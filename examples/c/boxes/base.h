@@ -1,12 +1,10 @@
-/* What both boxes have: a name, a folder for their files and the sheet, and how they end where something goes wrong. */
+/* What both boxes have: a name, a folder for their files and the sheet, how they store, and how they end if something fails. */
 #ifndef BASE_H
 #define BASE_H
 
-#include "dimkhoros.h"
-#include <fcntl.h>
-#include <stdio.h>
-#include <stdlib.h>
-#include <unistd.h>
+#include "points.h"
+#define DIMKHOROS_BOX_BETWEEN() point("before a rename")
+#include "dimkhoros_box.h"
 
 typedef struct {
     const char *name; /* what the box calls itself in what it prints */
@@ -22,29 +20,18 @@ static inline void fail(const Base *base, const char *what) {
     exit(1);
 }
 
-/* Ends the program where something is refused that should not be. */
+/* Ends the program if something is refused that should not be. */
 static inline void expect(const Base *base, uint32_t refusal) {
     if (refusal != 0) {
         fail(base, dimkhoros_sentence(refusal));
     }
 }
 
-/* Reads a file of the folder, as much of it as there is room for, and answers how many bytes: -1 where there is no file. */
-static inline ssize_t read_file(const Base *base, const char *file, void *bytes, size_t room) {
-    int opened = openat(base->folder, file, O_RDONLY);
-    if (opened < 0) {
-        return -1;
-    }
-    ssize_t length = read(opened, bytes, room);
-    close(opened);
-    return length;
-}
-
 /* Opens the folder and loads the sheet in it, sheet.bin. */
 static inline void open_base(Base *base, const char *name, const char *folder) {
     base->name = name;
     base->folder = open(folder, O_RDONLY | O_DIRECTORY);
-    ssize_t length = read_file(base, "sheet.bin", base->sheet, sizeof base->sheet);
+    ssize_t length = dimkhoros_box_find(base->folder, "sheet.bin", base->sheet, sizeof base->sheet);
     if (length < 0) {
         fail(base, "there is no sheet.bin in the folder");
     }
@@ -52,6 +39,30 @@ static inline void open_base(Base *base, const char *name, const char *folder) {
     DimkhorosLoaded loaded = dimkhoros_load(base->sheet, base->sheet_length);
     expect(base, loaded.refusal);
     base->header = loaded.header;
+}
+
+/* Reads the stored session and answers how many bytes it has: -1 if the box never stored one. */
+static inline ssize_t find_session(const Base *base, uint8_t *bytes, size_t room) {
+    ssize_t length = dimkhoros_box_find(base->folder, DIMKHOROS_BOX_SESSION, bytes, room);
+    if (length < 0 && errno != ENOENT) {
+        fail(base, "the stored session cannot be read");
+    }
+    return length;
+}
+
+/* Stores the bytes of a session and answers 0 after they are on the disk. */
+static inline int try_to_store(const Base *base, const uint8_t *bytes, size_t length) {
+    point("before a write");
+    int error = dimkhoros_box_store(base->folder, bytes, length);
+    point("after a write");
+    return error;
+}
+
+/* Stores the bytes of a session, or ends the program. */
+static inline void store(const Base *base, const uint8_t *bytes, size_t length) {
+    if (try_to_store(base, bytes, length) != 0) {
+        fail(base, "the session is not stored");
+    }
 }
 
 #endif

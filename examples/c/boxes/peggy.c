@@ -4,8 +4,6 @@
  * docs/BOXES.md.
  */
 #define _POSIX_C_SOURCE 200809L
-#include "random.h"
-#include "store.h"
 #include "wire.h"
 
 /* The tests also build a Peggy without one of these two rules, and without both, and find what she gives away. */
@@ -24,12 +22,13 @@ typedef struct {
 
 /* Reads the witness from its file, a line of the word `witness` and a number for each column. */
 static void read_witness(Peggy *peggy) {
-    Line line;
-    ssize_t length = read_file(&peggy->base, "witness.txt", line.text, LONGEST_LINE - 1);
+    DimkhorosLine line;
+    ssize_t length = dimkhoros_box_find(peggy->base.folder, "witness.txt", line.text, sizeof line.text - 1);
     line.text[length < 0 ? 0 : length] = '\0';
-    line.text[strcspn(line.text, "\n")] = '\0';
-    read_line(&line);
-    if (!is_line(&line, "witness", peggy->base.header.columns)) {
+    line.length = strcspn(line.text, "\n");
+    line.text[line.length] = '\0';
+    dimkhoros_box_take_apart(&line);
+    if (!dimkhoros_box_is(&line, "witness", peggy->base.header.columns)) {
         fail(&peggy->base, "there is no witness.txt for this sheet in the folder");
     }
     memcpy(peggy->witness, line.numbers, sizeof peggy->witness);
@@ -47,30 +46,11 @@ static void send_on_session(const Peggy *peggy, const char *word, const uint32_t
     send_line(&peggy->base, word, peggy->session.commitment, peggy->base.header.rows, numbers, count);
 }
 
-/*
- * Draws a nonce, place by place: any number below q (exponent sheets), or any number from 1 to m - 1 that is a group element
- * (root sheets), which the library knows. The places that are not drawn yet hold 1, which no sheet refuses.
- */
-static void draw_nonce(const Base *base, uint32_t nonce[DIMKHOROS_PLACES]) {
-    const int root = base->header.kind == DIMKHOROS_ROOT;
-    uint32_t refusal, commitment[DIMKHOROS_PLACES];
-    for (size_t j = 0; j < DIMKHOROS_PLACES; j++) {
-        nonce[j] = 1;
-    }
-    for (size_t j = 0; j < base->header.columns; j++) {
-        do {
-            DimkhorosProverSession trial = dimkhoros_prover_new();
-            nonce[j] = root ? 1 + random_below(base, base->header.modulus - 1) : random_below(base, base->header.order);
-            refusal = dimkhoros_commit(base->sheet, base->sheet_length, &trial, nonce, commitment);
-        } while (refusal == DIMKHOROS_REFUSED_COORDINATE);
-    }
-}
-
 /* Steps 2 to 4: begins a session. */
 static void begin(Peggy *peggy) {
     const Base *base = &peggy->base;
     uint32_t nonce[DIMKHOROS_PLACES], commitment[DIMKHOROS_PLACES];
-    draw_nonce(base, nonce);
+    expect(base, dimkhoros_box_nonce(base->sheet, base->sheet_length, nonce));
     peggy->session = dimkhoros_prover_new();
     expect(base, dimkhoros_commit(base->sheet, base->sheet_length, &peggy->session, nonce, commitment));
     store_session(peggy);
@@ -86,48 +66,66 @@ static void say_commitment(Peggy *peggy) {
     }
 }
 
+/* Stores a session that was dropped, and says so. */
+static void store_dropped(const Peggy *peggy) {
+    store_session(peggy);
+    fprintf(stderr, "peggy drops a session\n");
+}
+
 /* Gives up a session that waits for its challenge, and with it the nonce. */
 static void give_up(Peggy *peggy) {
     if (peggy->session.phase == DIMKHOROS_PROVER_COMMITTED) {
         expect(&peggy->base, dimkhoros_drop(&peggy->session));
-        store_session(peggy);
-        fprintf(stderr, "peggy drops a session\n");
+        store_dropped(peggy);
+    }
+}
+
+/* Reads the stored session back. One that holds a nonce is dropped. */
+static void reopen(Peggy *peggy, const uint8_t *stored, size_t length) {
+    if (ANSWER_FOUND_SESSION && dimkhoros_prover_restore_with_nonce(stored, length, &peggy->session)) {
+        return;
+    }
+    uint32_t found = dimkhoros_prover_reopen(stored, length, &peggy->session);
+    if (found == DIMKHOROS_FOUND_COMMITTED) {
+        store_dropped(peggy);
+    } else if (found == DIMKHOROS_FOUND_DAMAGED) {
+        fprintf(stderr, "peggy finds no session: the bytes are no stored session, or they are damaged\n");
     }
 }
 
 /*
- * Step 1. Where nothing is stored, Peggy never ran. Where something is, a run of hers has ended: a session that holds a nonce
- * is given up, and she begins another, since Vic may wait for her.
+ * Step 1. If nothing is stored, Peggy never ran. If something is, a run of hers has ended, and she begins another session,
+ * since Vic may wait for her.
  */
 static void start(Peggy *peggy) {
     uint8_t stored[DIMKHOROS_STORED_PROVER + 1];
-    ssize_t length = read_file(&peggy->base, "session.bin", stored, sizeof stored);
-    peggy->session = dimkhoros_prover_new();
+    ssize_t length = find_session(&peggy->base, stored, sizeof stored);
     if (length < 0) {
+        peggy->session = dimkhoros_prover_new();
         store_session(peggy);
         return;
     }
-    if (!dimkhoros_prover_restore(stored, (size_t)length, &peggy->session)) {
-        fprintf(stderr, "peggy finds no session: the bytes are no stored session, or they are damaged\n");
-    }
-    if (!ANSWER_FOUND_SESSION) {
-        give_up(peggy);
-    }
+    reopen(peggy, stored, (size_t)length);
     say_commitment(peggy);
 }
 
-/* Steps 6 to 8: answers a challenge, stores the session, whose nonce is gone, and only then sends the response. */
+/* Stores the session that has answered, whose nonce is gone. */
+static int store_answered(void *base, const uint8_t *stored, size_t length) {
+    return SEND_BEFORE_STORING ? 0 : try_to_store(base, stored, length);
+}
+
+/* Steps 6 to 8: answers a challenge. The response is sent only after the session is stored. */
 static void answer(Peggy *peggy, uint32_t challenge) {
-    const Base *base = &peggy->base;
+    Base *base = &peggy->base;
     uint32_t response[DIMKHOROS_PLACES];
-    uint32_t refusal =
-        dimkhoros_respond(base->sheet, base->sheet_length, &peggy->session, challenge, peggy->witness, response);
+    uint32_t refusal = dimkhoros_respond_after(base->sheet, base->sheet_length, &peggy->session, challenge,
+                                               peggy->witness, store_answered, base, response);
+    if (refusal == DIMKHOROS_NOT_STORED) {
+        fail(base, dimkhoros_sentence(refusal));
+    }
     if (refusal != 0) {
         fprintf(stderr, "peggy does not answer: %s\n", dimkhoros_sentence(refusal));
         return;
-    }
-    if (!SEND_BEFORE_STORING) {
-        store_session(peggy);
     }
     send_on_session(peggy, "response", response, base->header.columns);
     if (SEND_BEFORE_STORING) {
@@ -135,12 +133,12 @@ static void answer(Peggy *peggy, uint32_t challenge) {
     }
 }
 
-/* Step 5: a challenge is answered only where it names the commitment of the session. */
-static void take_line(Peggy *peggy, const Line *line) {
+/* Step 5: a challenge is answered only if it names the commitment of the session. */
+static void take_line(Peggy *peggy, const DimkhorosLine *line) {
     const size_t rows = peggy->base.header.rows;
-    if (is_line(line, "ready", 0)) {
+    if (dimkhoros_box_is(line, "ready", 0)) {
         say_commitment(peggy);
-    } else if (is_line(line, "challenge", rows + 1) && same(line->numbers, peggy->session.commitment, rows)) {
+    } else if (dimkhoros_box_is(line, "challenge", rows + 1) && same(line->numbers, peggy->session.commitment, rows)) {
         answer(peggy, line->numbers[rows]);
     } else {
         fprintf(stderr, "peggy does not answer: this is not for her commitment\n");
@@ -149,7 +147,7 @@ static void take_line(Peggy *peggy, const Line *line) {
 
 int main(int argc, char **argv) {
     Peggy peggy;
-    Line line;
+    DimkhorosLine line;
     if (argc != 2) {
         fprintf(stderr, "usage: peggy FOLDER\n");
         return 2;

@@ -4,8 +4,6 @@
  * of docs/BOXES.md.
  */
 #define _POSIX_C_SOURCE 200809L
-#include "random.h"
-#include "store.h"
 #include "wire.h"
 
 typedef struct {
@@ -34,7 +32,7 @@ static void say_ready(const Vic *vic) { send_line(&vic->base, "ready", NULL, 0, 
 /* Step 1: goes on with the session that is found, or with a new one, and says that he is ready. */
 static void start(Vic *vic) {
     uint8_t stored[DIMKHOROS_STORED_VERIFIER + 1];
-    ssize_t length = read_file(&vic->base, "session.bin", stored, sizeof stored);
+    ssize_t length = find_session(&vic->base, stored, sizeof stored);
     vic->session = dimkhoros_verifier_new();
     if (length >= 0 && !dimkhoros_verifier_restore(stored, (size_t)length, &vic->session)) {
         fprintf(stderr, "vic finds no session: the bytes are no stored session, or they are damaged\n");
@@ -59,7 +57,7 @@ static int take_commitment(Vic *vic, const uint32_t *commitment) {
 static void ask(Vic *vic) {
     const Base *base = &vic->base;
     if (vic->session.phase == DIMKHOROS_VERIFIER_HOLDING) {
-        uint32_t challenge = random_below(base, base->header.challenges);
+        uint32_t challenge = dimkhoros_box_below(base->header.challenges);
         expect(base, dimkhoros_take_challenge(base->sheet, base->sheet_length, &vic->session, challenge));
         store_session(vic);
     }
@@ -80,10 +78,9 @@ static void say(DimkhorosJudgement verdict) {
 /* Steps 6 and 7: judges a response, stores that it is judged, and only then says the verdict. */
 static void judge(Vic *vic, const uint32_t *response) {
     const Base *base = &vic->base;
-    DimkhorosJudgement verdict = {0};
-    uint32_t refusal = dimkhoros_take_response(base->sheet, base->sheet_length, &vic->session, response, &verdict);
-    if (refusal != 0) {
-        fprintf(stderr, "vic does not take it: %s\n", dimkhoros_sentence(refusal));
+    DimkhorosJudgement verdict = dimkhoros_take_response(base->sheet, base->sheet_length, &vic->session, response);
+    if (verdict.refusal != 0) {
+        fprintf(stderr, "vic does not take it: %s\n", dimkhoros_sentence(verdict.refusal));
         return;
     }
     store_session(vic);
@@ -95,14 +92,14 @@ static void judge(Vic *vic, const uint32_t *response) {
     }
 }
 
-/* Steps 2 and 5: a response is judged only where it names the commitment of the session. */
-static void take_line(Vic *vic, const Line *line) {
+/* Steps 2 and 5: a response is judged only if it names the commitment of the session. */
+static void take_line(Vic *vic, const DimkhorosLine *line) {
     const size_t rows = vic->base.header.rows;
-    if (is_line(line, "commitment", rows)) {
+    if (dimkhoros_box_is(line, "commitment", rows)) {
         if (holds(vic, line->numbers) || take_commitment(vic, line->numbers)) {
             ask(vic);
         }
-    } else if (is_line(line, "response", rows + vic->base.header.columns) && holds(vic, line->numbers)) {
+    } else if (dimkhoros_box_is(line, "response", rows + vic->base.header.columns) && holds(vic, line->numbers)) {
         judge(vic, line->numbers + rows);
     } else {
         fprintf(stderr, "vic does not take it: this is not for his commitment\n");
@@ -111,7 +108,7 @@ static void take_line(Vic *vic, const Line *line) {
 
 int main(int argc, char **argv) {
     Vic vic = {0};
-    Line line;
+    DimkhorosLine line;
     if (argc != 3) {
         fprintf(stderr, "usage: vic FOLDER COUNT\n");
         return 2;

@@ -5,7 +5,9 @@
 mod boxes;
 
 use boxes::{Base, Failure, Line, random_below};
-use dimkhoros::{NoResponse, PLACES, Places, Prover, ProverPhase, ROOT, Refusal, STORED_PROVER};
+use dimkhoros::{
+    Found, NoResponse, PLACES, Places, Prover, ProverPhase, ROOT, Refusal, STORED_PROVER,
+};
 use std::env;
 use std::fs;
 use std::io;
@@ -82,26 +84,40 @@ impl Peggy {
             return Ok(session);
         }
         let session = session.drop_session()?;
-        self.base.store(&session.to_stored())?;
-        eprintln!("peggy drops a session");
+        self.store_dropped(&session)?;
         Ok(session)
     }
 
-    /// Step 1. Where nothing is stored, Peggy never ran. Where something is, a run of hers has ended: a session that holds a
-    /// nonce is given up, and she begins another, since Vic may wait for her.
+    /// Stores a session that was dropped, and says so.
+    fn store_dropped(&self, session: &Prover) -> io::Result<()> {
+        self.base.store(&session.to_stored())?;
+        eprintln!("peggy drops a session");
+        Ok(())
+    }
+
+    /// Reads the stored session back. One that holds a nonce is dropped.
+    fn reopen(&self, stored: &[u8]) -> io::Result<Prover> {
+        if let (true, Ok(session)) = (ANSWER_FOUND_SESSION, Prover::from_stored_with_nonce(stored))
+        {
+            return Ok(session);
+        }
+        let (session, found) = Prover::reopen(stored);
+        match found {
+            Found::Committed => self.store_dropped(&session)?,
+            Found::Damaged => eprintln!("peggy finds no session: {found}"),
+            _ => {}
+        }
+        Ok(session)
+    }
+
+    /// Step 1. If nothing is stored, Peggy never ran. If something is, a run of hers has ended, and she begins another session,
+    /// since Vic may wait for her.
     fn start(&self) -> Result<Prover, Failure> {
         let Some(stored) = self.base.stored()? else {
             self.base.store(&Prover::new().to_stored())?;
             return Ok(Prover::new());
         };
-        let mut session = Prover::from_stored(&stored).unwrap_or_else(|damaged| {
-            eprintln!("peggy finds no session: {damaged}");
-            Prover::new()
-        });
-        if !ANSWER_FOUND_SESSION {
-            session = self.give_up(session)?;
-        }
-        self.say_commitment(session)
+        self.say_commitment(self.reopen(&stored)?)
     }
 
     /// Steps 6 to 8: answers a challenge, stores the session, whose nonce is gone, and only then sends the response.

@@ -3,6 +3,7 @@
 #![deny(missing_docs)]
 #![forbid(unsafe_code)]
 
+mod found;
 mod instance;
 mod marker;
 mod no_response;
@@ -33,6 +34,7 @@ pub use dimkhoros_sys::{
     LONGEST_SHEET, LONGEST_TEXT, MOST_PATTERNS, MOST_PLAYERS, MOST_ROUNDS, OrRound, PLACES, Places,
     ROOT, Round, SHIPPED_PATTERNS, version,
 };
+pub use found::Found;
 pub use instance::{Instance, Values};
 pub use marker::mark;
 pub use no_response::NoResponse;

@@ -1,8 +1,8 @@
 //! Peggy's session of the OR proof.
 
 use crate::{
-    Damaged, NoResponse, OrRound, PLACES, Pair, Places, ProverPhase, Refused, STORED_OR_PROVER,
-    Side, stored,
+    Damaged, Found, NoResponse, OrRound, PLACES, Pair, Places, ProverPhase, Refused,
+    STORED_OR_PROVER, Side, stored,
 };
 use core::fmt;
 use dimkhoros_sys::{self as sys, OrSession};
@@ -172,7 +172,7 @@ impl OrProver {
     /// assert!(pair.judge(&round)?.is_accepted());
     ///
     /// // The box is restarted, and asked another challenge.
-    /// let peggy = OrProver::from_stored(&disk).unwrap();
+    /// let (peggy, _) = OrProver::reopen(&disk);
     /// let again = peggy.respond(&pair, 1, &places([7])).unwrap_err();
     /// assert_eq!(again.refusal, Refusal::Session);
     /// # Ok::<(), Refusal>(())
@@ -205,7 +205,7 @@ impl OrProver {
         Refused::check(OrProver { session: answer.session }, answer.refusal)
     }
 
-    /// The session's state.
+    /// The session's phase.
     ///
     /// ```
     /// use dimkhoros::{OrProver, ProverPhase};
@@ -249,19 +249,49 @@ impl OrProver {
         stored::write(MARK, &values)
     }
 
-    /// The session of a stored form. Any other bytes are [`Damaged`]: a file that was cut, changed in a byte, lengthened or
-    /// emptied, another session, and one whose side is neither 0 nor 1.
+    /// Reads a stored session back without nonce, side and simulated values, and tells what was found, as
+    /// [`Prover::reopen`](crate::Prover::reopen) does. The session is never Committed.
+    ///
+    /// ```
+    /// use dimkhoros::{Found, OrProver, ProverPhase, Side, places};
+    /// # use dimkhoros::{Instance, Pair, Patterns, Plan};
+    /// # let plan = Plan { pattern: 1, modulus: 23, order: 11, challenges: 11, values: &[2], statement: &[13] };
+    /// # let first = Instance::from_pattern(&Patterns::shipped(), &plan)?;
+    /// # let pair = Pair::new(&first, &first)?;
+    ///
+    /// let (peggy, _) = OrProver::new().commit(&pair, Side::First, &places([5]), 3, &places([0]))?;
+    /// let (peggy, found) = OrProver::reopen(&peggy.to_stored());
+    /// assert_eq!((found, peggy.phase()), (Found::Committed, ProverPhase::Dropped));
+    /// # Ok::<(), dimkhoros::Refusal>(())
+    /// ```
+    pub fn reopen(bytes: &[u8]) -> (OrProver, Found) {
+        let Ok(OrProver { session }) = OrProver::from_stored_with_nonce(bytes) else {
+            return (OrProver::new(), Found::Damaged);
+        };
+        let found = Found::of(ProverPhase::from_number(session.phase));
+        let kept = match found {
+            Found::Committed => sys::or_prover_drop(session).session,
+            _ => session,
+        };
+        (OrProver { session: kept }, found)
+    }
+
+    /// Reads a stored session back with nonce, side and simulated values. Bytes that are no stored form are [`Damaged`]: a file
+    /// that was cut, changed in a byte, lengthened or emptied, another session, and one whose side is neither 0 nor 1.
+    ///
+    /// A box must not answer on what this hands back, by rule 1 of docs/BOXES.md, as
+    /// [`Prover::from_stored_with_nonce`](crate::Prover::from_stored_with_nonce) says. Use [`reopen`](OrProver::reopen).
     ///
     /// ```
     /// use dimkhoros::{Damaged, OrProver, ProverPhase};
     ///
     /// let mut stored = OrProver::new().to_stored();
-    /// assert_eq!(OrProver::from_stored(&stored)?.phase(), ProverPhase::New);
+    /// assert_eq!(OrProver::from_stored_with_nonce(&stored)?.phase(), ProverPhase::New);
     /// stored[20] = 1;
-    /// assert_eq!(OrProver::from_stored(&stored).unwrap_err(), Damaged);
+    /// assert_eq!(OrProver::from_stored_with_nonce(&stored).unwrap_err(), Damaged);
     /// # Ok::<(), Damaged>(())
     /// ```
-    pub fn from_stored(bytes: &[u8]) -> Result<OrProver, Damaged> {
+    pub fn from_stored_with_nonce(bytes: &[u8]) -> Result<OrProver, Damaged> {
         let values = stored::read::<STORED_OR_PROVER, NUMBERS>(MARK, bytes)?;
         let mut session = sys::or_prover_new();
         let OrSession { nonce, response, commitment0, commitment1, .. } = &mut session;
@@ -326,7 +356,7 @@ impl Default for OrProver {
     }
 }
 
-/// Shows the state and the commitments, and never the nonce or which side is known.
+/// Shows the phase and the commitments, and never the nonce or which side is known.
 impl fmt::Debug for OrProver {
     fn fmt(&self, f: &mut fmt::Formatter<'_>) -> fmt::Result {
         f.debug_struct("OrProver")
@@ -353,7 +383,7 @@ impl fmt::Debug for OrProver {
 /// ```
 #[derive(PartialEq, Eq)]
 pub struct OrProverParts {
-    /// The state.
+    /// The phase.
     pub phase: ProverPhase,
     /// The side whose witness is known.
     pub side: Side,

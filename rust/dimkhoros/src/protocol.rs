@@ -1,9 +1,32 @@
-//! Judging, simulating and extracting.
+//! Images, judging, simulating and extracting.
 
 use crate::{Instance, Places, Refusal, Round, Rows, Verdict};
 use dimkhoros_sys::{self as sys, Judgement};
 
 impl Instance {
+    /// The image [x] of a witness x: the statement z that x is a witness of. Refused with 16.
+    ///
+    /// It does not depend on the sheet's own statement. So a sheet for x is made with ones, which every group has, and then gets
+    /// the image as its statement. The library's call is that of the commitment to the nonce x.
+    ///
+    /// ```
+    /// use dimkhoros::{Instance, Patterns, Plan, Refusal, places};
+    ///
+    /// let plan = Plan { pattern: 1, modulus: 23, order: 11, challenges: 11, values: &[2], statement: &[1] };
+    /// let ones = Instance::from_pattern(&Patterns::shipped(), &plan)?;
+    /// let z = ones.image(&places([7]))?;
+    /// assert_eq!(z, places([13]));
+    /// let instance = ones.with_statement(&z)?;
+    /// assert_eq!(instance.values().statement, z);
+    /// assert_eq!(instance.image(&places([11])), Err(Refusal::Coordinate));
+    /// # Ok::<(), Refusal>(())
+    /// ```
+    pub fn image(&self, witness: &Places) -> Result<Places, Refusal> {
+        let answer = sys::prover_commit(self.bytes(), sys::prover_new(), witness);
+        Refusal::check(answer.refusal)?;
+        Ok(answer.values)
+    }
+
     /// The verifier's verdict on a round, or a refusal 14 to 16.
     ///
     /// ```

@@ -1,6 +1,6 @@
 //! Peggy's session.
 
-use crate::{Damaged, Instance, NoResponse, PLACES, Places, Refused, STORED_PROVER, stored};
+use crate::{Damaged, Found, Instance, NoResponse, PLACES, Places, Refused, STORED_PROVER, stored};
 use core::fmt;
 use dimkhoros_sys::phases::prover::{ANSWERED, COMMITTED, DROPPED, NEW};
 use dimkhoros_sys::{self as sys, ProverAnswer, ProverSession};
@@ -8,7 +8,7 @@ use dimkhoros_sys::{self as sys, ProverAnswer, ProverSession};
 /// What a stored session of Peggy's begins with.
 const MARK: &[u8; 3] = b"PRV";
 
-/// The states of a prover's session.
+/// The phases of a prover's session.
 ///
 /// ```
 /// use dimkhoros::{Prover, ProverPhase};
@@ -29,7 +29,7 @@ pub enum ProverPhase {
 }
 
 impl ProverPhase {
-    /// The state's number, 0 to 3, for a box that stores it.
+    /// The phase's number, 0 to 3, for a box that stores it.
     ///
     /// ```
     /// assert_eq!(dimkhoros::ProverPhase::Answered.number(), 2);
@@ -38,7 +38,7 @@ impl ProverPhase {
         self as u32
     }
 
-    /// The state of a number. A number that is no state's is taken as Dropped, which allows no call.
+    /// The phase of a number. A number that is no phase's is taken as Dropped, which allows no call.
     ///
     /// ```
     /// use dimkhoros::ProverPhase;
@@ -61,9 +61,10 @@ impl ProverPhase {
 /// Each call takes the session and hands it back, refused calls too, and there is no way to copy it by mistake: it is neither
 /// `Clone` nor `Copy`. Over any chain of calls in which each is given the session that the last one handed back, at most one
 /// challenge is answered: this is proved of the library. It cannot know of copies that are made by
-/// [`to_stored`](Prover::to_stored) and [`from_stored`](Prover::from_stored), or by [`into_parts`](Prover::into_parts) and
-/// [`from_parts`](Prover::from_parts); a box that stores its session answers by [`respond_after`](Prover::respond_after). Nor
-/// does it wipe the memory that a session was moved out of.
+/// [`to_stored`](Prover::to_stored) and [`from_stored_with_nonce`](Prover::from_stored_with_nonce), or by
+/// [`into_parts`](Prover::into_parts) and [`from_parts`](Prover::from_parts). A box that stores its session answers by
+/// [`respond_after`](Prover::respond_after) and reads it back by [`reopen`](Prover::reopen). Nor does the library wipe the
+/// memory that a session was moved out of.
 ///
 /// ```
 /// use dimkhoros::{places, Prover, ProverPhase, Refusal};
@@ -184,7 +185,7 @@ impl Prover {
     /// assert_eq!(response, places([4]));
     ///
     /// // The box is restarted, and asked another challenge.
-    /// let peggy = Prover::from_stored(&disk).unwrap();
+    /// let (peggy, _) = Prover::reopen(&disk);
     /// let again = peggy.respond(&instance, 1, &places([7])).unwrap_err();
     /// assert_eq!(again.refusal, Refusal::Session);
     /// # Ok::<(), Refusal>(())
@@ -217,7 +218,7 @@ impl Prover {
         Ok(session)
     }
 
-    /// The session's state.
+    /// The session's phase.
     ///
     /// ```
     /// use dimkhoros::{Prover, ProverPhase};
@@ -261,19 +262,60 @@ impl Prover {
         stored::write(MARK, &values)
     }
 
-    /// The session of a stored form. Any other bytes are [`Damaged`]: a file that was cut, changed in a byte, lengthened or
-    /// emptied, and a session of Vic's.
+    /// Reads a stored session back without its nonce, and tells what was found. A session that was Committed is dropped; of
+    /// bytes that are damaged, a new session is handed back. Both have to be stored over these bytes. A session in another
+    /// phase is handed back as it was stored.
+    ///
+    /// So the session is never Committed. This is rule 1 of docs/BOXES.md: only what this run has drawn is answered. The bytes may
+    /// be an old copy, from a backup or a write that the disk lost, of a session whose challenge was answered long ago.
+    ///
+    /// ```
+    /// use dimkhoros::{Found, Prover, ProverPhase, Refusal, places};
+    /// # use dimkhoros::{Instance, Patterns, Plan};
+    /// # let plan = Plan { pattern: 1, modulus: 23, order: 11, challenges: 11, values: &[2], statement: &[13] };
+    /// # let instance = Instance::from_pattern(&Patterns::shipped(), &plan)?;
+    ///
+    /// let (peggy, _) = Prover::new().commit(&instance, &places([5]))?;
+    /// let old_copy = peggy.to_stored();
+    /// let (_, response) = peggy.respond(&instance, 3, &places([7]))?;
+    /// assert_eq!(response, places([4]));
+    ///
+    /// let (peggy, found) = Prover::reopen(&old_copy);
+    /// assert_eq!((found, peggy.phase()), (Found::Committed, ProverPhase::Dropped));
+    /// let again = peggy.respond(&instance, 1, &places([7])).unwrap_err();
+    /// assert_eq!(again.refusal, Refusal::Session);
+    /// # Ok::<(), Refusal>(())
+    /// ```
+    pub fn reopen(bytes: &[u8]) -> (Prover, Found) {
+        let Ok(Prover { session }) = Prover::from_stored_with_nonce(bytes) else {
+            return (Prover::new(), Found::Damaged);
+        };
+        let found = Found::of(ProverPhase::from_number(session.phase));
+        let kept = match found {
+            Found::Committed => sys::prover_drop(session).session,
+            _ => session,
+        };
+        (Prover { session: kept }, found)
+    }
+
+    /// Reads a stored session back with its nonce. Bytes that are no stored form are [`Damaged`]: a file that was cut, changed
+    /// in a byte, lengthened or emptied, and a session of Vic's.
+    ///
+    /// A box must not answer on what this hands back. Rule 1 of docs/BOXES.md: only what this run has drawn is answered, and a
+    /// committed session that is found in a file is dropped. If the same nonce was answered before, another answer gives the
+    /// witness away, and nothing in the bytes tells. Use [`reopen`](Prover::reopen). This is for programs that look at stored
+    /// sessions, and for those who know that no other copy of these bytes is ever read.
     ///
     /// ```
     /// use dimkhoros::{Damaged, Prover, ProverPhase};
     ///
     /// let mut stored = Prover::new().to_stored();
-    /// assert_eq!(Prover::from_stored(&stored)?.phase(), ProverPhase::New);
+    /// assert_eq!(Prover::from_stored_with_nonce(&stored)?.phase(), ProverPhase::New);
     /// stored[20] = 1;
-    /// assert_eq!(Prover::from_stored(&stored).unwrap_err(), Damaged);
+    /// assert_eq!(Prover::from_stored_with_nonce(&stored).unwrap_err(), Damaged);
     /// # Ok::<(), Damaged>(())
     /// ```
-    pub fn from_stored(bytes: &[u8]) -> Result<Prover, Damaged> {
+    pub fn from_stored_with_nonce(bytes: &[u8]) -> Result<Prover, Damaged> {
         let values = stored::read::<STORED_PROVER, { 2 * PLACES + 1 }>(MARK, bytes)?;
         let mut session = sys::prover_new();
         session.nonce.copy_from_slice(&values[..PLACES]);
@@ -327,7 +369,7 @@ impl Default for Prover {
     }
 }
 
-/// Shows the state and the commitment, and never the nonce.
+/// Shows the phase and the commitment, and never the nonce.
 impl fmt::Debug for Prover {
     fn fmt(&self, f: &mut fmt::Formatter<'_>) -> fmt::Result {
         f.debug_struct("Prover")
@@ -343,7 +385,7 @@ impl fmt::Debug for Prover {
 /// nonce gives the witness away, and the library cannot know of copies: what is proved, that one session answers at most one
 /// challenge, is proved of chains of calls in which each is given the session that the last one handed back. So a box that
 /// stores a session stores what a call handed back in the place of what it gave, and does so before it sends the answer:
-/// [`Prover::respond_after`] keeps this order.
+/// [`Prover::respond_after`] keeps this order. And it answers on no session that it finds: [`Prover::reopen`] drops it.
 ///
 /// ```
 /// use dimkhoros::{Prover, ProverParts, ProverPhase};
@@ -353,7 +395,7 @@ impl fmt::Debug for Prover {
 /// ```
 #[derive(PartialEq, Eq)]
 pub struct ProverParts {
-    /// The state.
+    /// The phase.
     pub phase: ProverPhase,
     /// The nonce, zeros where the session holds none.
     pub nonce: Places,

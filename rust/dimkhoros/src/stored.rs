@@ -24,12 +24,12 @@ pub const STORED_VERIFIER: usize = 51;
 /// ```
 pub const STORED_OR_PROVER: usize = 151;
 
-/// The bytes are no stored session: they are of another length, mark, version or state, or the check value is another.
+/// The bytes are no stored session: they are of another length, mark, version or phase, or the check value is another.
 ///
 /// ```
-/// use dimkhoros::{Damaged, Prover};
+/// use dimkhoros::{Damaged, Verifier};
 ///
-/// assert_eq!(Prover::from_stored(&[]).unwrap_err(), Damaged);
+/// assert_eq!(Verifier::from_stored(&[]).unwrap_err(), Damaged);
 /// assert_eq!(Damaged.to_string(), "the bytes are no stored session, or they are damaged");
 /// ```
 #[derive(Clone, Copy, Debug, PartialEq, Eq, Hash)]
@@ -47,8 +47,8 @@ impl Error for Damaged {}
 const START: usize = 7;
 const CHECK: usize = 4;
 
-/// The last of a session's four states.
-const LAST_STATE: u32 = 3;
+/// The last of a session's four phases.
+const LAST_PHASE: u32 = 3;
 
 /// The stored form of these values under a mark. They fill its `LENGTH` bytes.
 pub(crate) fn write<const LENGTH: usize>(mark: &[u8; 3], values: &[u32]) -> [u8; LENGTH] {
@@ -64,7 +64,7 @@ pub(crate) fn write<const LENGTH: usize>(mark: &[u8; 3], values: &[u32]) -> [u8;
     stored
 }
 
-/// The values, a state last, of which these bytes are the stored form under a mark.
+/// The values, a phase last, of which these bytes are the stored form under a mark.
 pub(crate) fn read<const LENGTH: usize, const COUNT: usize>(
     mark: &[u8; 3],
     bytes: &[u8],
@@ -74,7 +74,7 @@ pub(crate) fn read<const LENGTH: usize, const COUNT: usize>(
     for (value, place) in values.iter_mut().zip(stored[START..].chunks_exact(4)) {
         *value = place.iter().fold(0, |number, byte| number << 8 | u32::from(*byte));
     }
-    if write(mark, &values) == *stored && values[COUNT - 1] <= LAST_STATE {
+    if write(mark, &values) == *stored && values[COUNT - 1] <= LAST_PHASE {
         Ok(values)
     } else {
         Err(Damaged)

@@ -8,7 +8,7 @@ use dimkhoros_sys::{self as sys, VerifierAnswer, VerifierSession};
 /// What a stored session of Vic's begins with.
 const MARK: &[u8; 3] = b"VRF";
 
-/// The states of a verifier's session, in their order.
+/// The phases of a verifier's session, in their order.
 ///
 /// ```
 /// use dimkhoros::{Verifier, VerifierPhase};
@@ -29,7 +29,7 @@ pub enum VerifierPhase {
 }
 
 impl VerifierPhase {
-    /// The state's number, 0 to 3, for a box that stores it.
+    /// The phase's number, 0 to 3, for a box that stores it.
     ///
     /// ```
     /// assert_eq!(dimkhoros::VerifierPhase::Asked.number(), 2);
@@ -38,7 +38,7 @@ impl VerifierPhase {
         self as u32
     }
 
-    /// The state of a number. A number that is no state's is taken as Judged, which allows no call.
+    /// The phase of a number. A number that is no phase's is taken as Judged, which allows no call.
     ///
     /// ```
     /// use dimkhoros::VerifierPhase;
@@ -167,7 +167,7 @@ impl Verifier {
         }
     }
 
-    /// The session's state.
+    /// The session's phase.
     ///
     /// ```
     /// use dimkhoros::{Verifier, VerifierPhase};
@@ -303,7 +303,7 @@ impl Default for Verifier {
 /// ```
 #[derive(Debug, PartialEq, Eq)]
 pub struct VerifierParts {
-    /// The state.
+    /// The phase.
     pub phase: VerifierPhase,
     /// The commitment, zeros where the session has heard none.
     pub commitment: Places,

@@ -4,7 +4,7 @@
 //! refusal, a number from 1 to 28. The earliest that applies is given, in the
 //! order 23, 24, then 1 to 9, then 27, 10, 11, 26, 12, 25, then 13 to 16, then
 //! 28 and then 17 to 22. A refused call changes neither a lent buffer nor a
-//! session.
+//! session nor a watch.
 //!
 //! Each sheet is handed in as bytes and is tested on every call.
 
@@ -25,6 +25,8 @@ mod round_file;
 mod sessions;
 mod sheet;
 mod team;
+// A module of its own name: its `open` is about a watch only.
+pub mod watch;
 
 pub use marker::marker;
 pub use pattern::make;

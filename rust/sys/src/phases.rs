@@ -1,6 +1,6 @@
-//! The numbers of the states of sessions. Any other number is a state that allows no call.
+//! The numbers of the phases of sessions. Any other number is a phase that allows no call.
 
-/// The states of Peggy's session, and of her session of the OR proof.
+/// The phases of Peggy's session, and of her session of the OR proof.
 pub mod prover {
     /// Nothing has happened.
     pub const NEW: u32 = 0;
@@ -12,7 +12,7 @@ pub mod prover {
     pub const DROPPED: u32 = 3;
 }
 
-/// The states of Vic's session.
+/// The phases of Vic's session.
 pub mod verifier {
     /// Nothing has been heard.
     pub const WAITING: u32 = 0;

@@ -198,7 +198,7 @@ pub struct ProverSession {
     pub nonce: Places,
     /// The commitment.
     pub commitment: Places,
-    /// The state, a number of [`phases::prover`](crate::phases::prover) or any other.
+    /// The phase, a number of [`phases::prover`](crate::phases::prover) or any other.
     pub phase: u32,
 }
 
@@ -222,7 +222,7 @@ pub struct VerifierSession {
     pub commitment: Places,
     /// The challenge.
     pub challenge: u32,
-    /// The state, a number of [`phases::verifier`](crate::phases::verifier) or any other.
+    /// The phase, a number of [`phases::verifier`](crate::phases::verifier) or any other.
     pub phase: u32,
 }
 
@@ -265,7 +265,7 @@ pub struct OrSession {
     pub challenge: u32,
     /// The side whose witness she knows, 0 or 1.
     pub side: u32,
-    /// The state, a number of [`phases::prover`](crate::phases::prover) or any other.
+    /// The phase, a number of [`phases::prover`](crate::phases::prover) or any other.
     pub phase: u32,
 }
 

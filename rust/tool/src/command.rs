@@ -111,13 +111,13 @@ const CLASS: [Command; 7] = [
 const MARKERS: [Command; 2] = [
     Command {
         name: "mark",
-        summary: "mark folders with a sheet, a round file and a level",
+        summary: "mark students' folders by the course's sheet and level",
         help: mark::HELP,
         run: mark::run,
     },
     Command {
         name: "reason",
-        summary: "say why a sheet, a round file or its round 0 is turned down",
+        summary: "say why a student's rounds fail",
         help: reason::HELP,
         run: reason::run,
     },

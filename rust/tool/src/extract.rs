@@ -3,12 +3,11 @@
 use crate::brought::{self, Brought};
 use crate::commitments::{self, Tried};
 use crate::failure::{Failure, Outcome};
-use crate::notation::counted;
 use crate::round_words::{self, Asked};
 use crate::words::{Grammar, Words};
 use crate::{allowed, by_hand, faults, files, notation, round_table, sheets, steps};
 use dimkhoros::{Instance, Places, Refusal, Round, RoundFile};
-use std::ffi::{OsStr, OsString};
+use std::ffi::OsString;
 use std::io::Write;
 
 /// The command's help.
@@ -145,14 +144,10 @@ fn rejected(sheet: &Instance, rounds: &[Round; 2]) -> [bool; 2] {
 
 /// Extracts from two rounds of a file by their numbers.
 fn of_numbers(words: &Words, out: &mut dyn Write) -> Outcome {
-    let pair = [number(&words.plain()[2])?, number(&words.plain()[3])?];
+    let pair = [words.round_number(2)?, words.round_number(3)?];
     sheets::with_rounds(words, |sheet, path, file| {
-        let read = |number: usize| {
-            let count = counted(file.count(), "round");
-            let by = format!("{number}, where {} has {count}", files::name(path));
-            file.read(number).map_err(|refusal| Failure::refused(refusal, by))
-        };
-        let rounds = [read(pair[0])?, read(pair[1])?];
+        let name = files::name(path);
+        let rounds = [sheets::round(file, pair[0], &name)?, sheets::round(file, pair[1], &name)?];
         if let Err(refusal) = sheet.extract(&rounds[0], &rounds[1]) {
             if let Some(fault) =
                 pair.iter().find_map(|number| in_round(sheet, file, *number, refusal))
@@ -165,12 +160,6 @@ fn of_numbers(words: &Words, out: &mut dyn Write) -> Outcome {
         writeln!(out, "{}\n", notation::headline(sheet))?;
         by_hand(sheet, &rounds, pair, out)
     })
-}
-
-/// The number of a round.
-fn number(word: &OsStr) -> Outcome<usize> {
-    let word = word.to_string_lossy();
-    word.parse().map_err(|_| Failure::words(format!("{word} is no number of a round, from 0 on")))
 }
 
 /// The value of a round of a file that a refusal is by, and what the rule allows.

@@ -11,6 +11,8 @@ pub enum Failure {
     Words(String),
     /// The library refused something, or it cannot be had, read or written.
     Failed(String),
+    /// Nobody reads any more what is written to a pipe, as in `dimkhoros ... | head`. That is told to nobody.
+    ReaderGone,
 }
 
 /// What a command answers.
@@ -36,7 +38,7 @@ impl Failure {
     pub fn status(&self) -> u8 {
         match self {
             Failure::Words(_) => 2,
-            Failure::Failed(_) => 1,
+            Failure::Failed(_) | Failure::ReaderGone => 1,
         }
     }
 }
@@ -50,6 +52,7 @@ impl fmt::Display for Failure {
     fn fmt(&self, f: &mut fmt::Formatter<'_>) -> fmt::Result {
         match self {
             Failure::Words(why) | Failure::Failed(why) => f.write_str(why),
+            Failure::ReaderGone => f.write_str("the reader has gone away"),
         }
     }
 }
@@ -63,6 +66,9 @@ impl From<Refusal> for Failure {
 /// Only what is printed is written by way of `?`; a file names itself.
 impl From<io::Error> for Failure {
     fn from(error: io::Error) -> Failure {
-        Failure::failed(format!("the text cannot be written: {error}"))
+        match error.kind() {
+            io::ErrorKind::BrokenPipe => Failure::ReaderGone,
+            _ => Failure::failed(format!("the text cannot be written: {error}")),
+        }
     }
 }

@@ -120,6 +120,18 @@ pub fn in_round(sheet: &Instance, file: &RoundFile<'_>, number: usize) -> Option
     Some(fault)
 }
 
+/// The library's line on a round of a file as if it were the first one, but with the offset that a value has in this file.
+pub fn line(sheet: &Instance, file: &RoundFile<'_>, number: usize) -> Option<String> {
+    let mut buffer = [0; LONGEST_ROUND];
+    let alone = alone(sheet, file.version(), &file.read(number).ok()?, &mut buffer).ok()?;
+    match in_round(sheet, file, number) {
+        Some(Fault { refusal, found: Found::Value { offset, .. } }) => {
+            Some(format!("refused {} {offset}\n", refusal.number()))
+        }
+        _ => Some(reason(sheet.bytes(), alone, &mut [0; LONGEST_REASON]).to_string()),
+    }
+}
+
 /// The fault of a pattern file. The number is the library's, and the place is found here.
 pub fn in_patterns(file: &[u8]) -> Option<Fault> {
     let refusal = Patterns::load(file).err()?;

@@ -171,6 +171,7 @@ fn escaped(text: &str) -> String {
 /// Says which file cannot be read or written, and why.
 fn failure(path: &Path, what: &str, error: &io::Error) -> Failure {
     let why = match error.kind() {
+        ErrorKind::BrokenPipe => return Failure::ReaderGone,
         ErrorKind::NotFound if what == "read" => "there is no such file".to_string(),
         ErrorKind::NotFound | ErrorKind::NotADirectory => "there is no such folder".to_string(),
         ErrorKind::IsADirectory => "it is a folder".to_string(),

@@ -8,17 +8,22 @@ mod by_hand;
 mod check;
 mod command;
 mod commitments;
+mod course;
 mod equation;
 mod extract;
 mod failure;
 mod faults;
 mod files;
+mod folder;
 mod grid;
+mod judged;
 mod lecture;
+mod levels;
 mod make;
 mod mark;
 mod notation;
 mod or_proof;
+mod output;
 mod patterns;
 mod reason;
 mod round_table;
@@ -35,16 +40,17 @@ mod words;
 
 use command::Command;
 use failure::{Failure, Outcome};
+use output::Output;
 use std::env;
 use std::ffi::OsString;
-use std::io::{self, BufWriter, Write};
+use std::io::{BufWriter, Write};
 use std::process::ExitCode;
 
 /// Runs the command that the words name, and answers its exit status.
 fn main() -> ExitCode {
     let mut words = env::args_os().skip(1);
     let name = words.next().unwrap_or_default();
-    let mut out = BufWriter::new(io::stdout().lock());
+    let mut out = BufWriter::new(Output::new());
     let ended = run(&name, words.collect(), &mut out);
     let ended = ended.and_then(|()| Ok(out.flush()?));
     match ended {
@@ -52,9 +58,13 @@ fn main() -> ExitCode {
         Err(failure) => {
             // What was printed before the failure belongs before its line.
             let _ = out.flush();
-            files::note(&failure);
-            if let Failure::Words(_) = failure {
-                files::note(&whose_help(&name));
+            match failure {
+                Failure::ReaderGone => {}
+                Failure::Failed(_) => files::note(&failure),
+                Failure::Words(_) => {
+                    files::note(&failure);
+                    files::note(&whose_help(&name));
+                }
             }
             ExitCode::from(failure.status())
         }

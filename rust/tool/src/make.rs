@@ -65,12 +65,8 @@ pub fn run(words: Vec<OsString>, out: &mut dyn Write) -> Outcome {
 
 /// The statement or the witness that the words have.
 fn stated(words: &Words) -> Outcome<&Value> {
-    match (words.once("z")?, words.once("x")?) {
-        (Some(value), None) | (None, Some(value)) => Ok(value),
-        _ => Err(Failure::words(
-            "either z= or x= has to be there: the statement, or a witness of it",
-        )),
-    }
+    let what = "the statement, or a witness of it";
+    words.needed(words.either(["z", "x"], what)?, what)
 }
 
 /// The sheet that is asked for, with ones in the place of the statement.

@@ -35,6 +35,12 @@ pub fn rounds<'a>(sheet: &'a Instance, path: &Path, bytes: &'a [u8]) -> Outcome<
     RoundFile::open(sheet, bytes).map_err(fault)
 }
 
+/// The round of a number in a round file of a name.
+pub fn round(file: &RoundFile<'_>, number: usize, name: &str) -> Outcome<Round> {
+    let by = || format!("{number}, where {name} has {}", counted(file.count(), "round"));
+    file.read(number).map_err(|refusal| Failure::refused(refusal, by()))
+}
+
 /// Reads the sheet and the round file that are the first two plain words, and goes on with them and the file's path.
 pub fn with_rounds<T>(
     words: &Words,

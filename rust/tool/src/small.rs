@@ -57,7 +57,7 @@ pub fn image(sheet: &Instance, coordinates: &Places) -> Option<Places> {
 
 /// The sheet with the challenge count 2. It has the same elements, coordinates and images, and its bytes are tested faster, which
 /// counts where many values are tried.
-fn light(sheet: &Instance) -> Instance {
+pub fn light(sheet: &Instance) -> Instance {
     let values = sheet.values();
     let header = Header { challenges: 2, ..values.header };
     Instance::encode(&Values { header, ..*values }).unwrap_or_else(|_| sheet.clone())

@@ -115,6 +115,13 @@ impl Words {
         self.plain.get(place).map(PathBuf::from).unwrap_or_default()
     }
 
+    /// The number of a round in a plain word that is known to be there.
+    pub fn round_number(&self, place: usize) -> Outcome<usize> {
+        let word = self.plain[place].to_string_lossy();
+        let number = word.parse().ok().filter(|_| word.bytes().all(|byte| byte.is_ascii_digit()));
+        number.ok_or_else(|| Failure::words(format!("{word} is no number of a round, from 0 on")))
+    }
+
     /// Whether a flag is there.
     pub fn flag(&self, name: &str) -> bool {
         self.flags.contains(&name)
@@ -156,6 +163,21 @@ impl Words {
         match letters.iter().find(|letter| !self.all(letter).is_empty()) {
             Some(letter) => Err(Failure::words(format!("{letter}= has no meaning {when}"))),
             None => Ok(()),
+        }
+    }
+
+    /// The one of two letters that is there, which is neither both nor none of them, and what they are.
+    pub fn either(&self, letters: [&'static str; 2], what: &str) -> Outcome<&'static str> {
+        let [first, second] = letters;
+        match letters.map(|letter| !self.all(letter).is_empty()) {
+            [true, false] => Ok(first),
+            [false, true] => Ok(second),
+            [true, true] => Err(Failure::words(format!(
+                "{first}= and {second}= are both there; leave one out: {what}"
+            ))),
+            [false, false] => {
+                Err(Failure::words(format!("{first}= or {second}= is missing: {what}")))
+            }
         }
     }
 

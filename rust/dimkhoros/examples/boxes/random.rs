@@ -3,10 +3,11 @@
 use std::fs::File;
 use std::io::{self, Read};
 
-/// A random number of 32 bits.
+/// A random number of 32 bits. From Linux 5.6 on this file waits until the system's generator is ready, and only until then;
+/// `/dev/urandom` answers before.
 fn random_word() -> io::Result<u32> {
     let mut bytes = [0; 4];
-    File::open("/dev/urandom")?.read_exact(&mut bytes)?;
+    File::open("/dev/random")?.read_exact(&mut bytes)?;
     Ok(u32::from_ne_bytes(bytes))
 }
 

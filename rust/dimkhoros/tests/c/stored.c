@@ -40,11 +40,11 @@ typedef union {
 static int restore(Whose whose, const uint8_t *stored, size_t length, Session *session) {
     switch (whose) {
     case PEGGY:
-        return dimkhoros_prover_restore(stored, length, &session->peggy);
+        return dimkhoros_prover_restore_with_nonce(stored, length, &session->peggy);
     case VIC:
         return dimkhoros_verifier_restore(stored, length, &session->vic);
     default:
-        return dimkhoros_or_prover_restore(stored, length, &session->either);
+        return dimkhoros_or_prover_restore_with_nonce(stored, length, &session->either);
     }
 }
 

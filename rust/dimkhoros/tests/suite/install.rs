@@ -31,13 +31,14 @@ const NO_MODULE: [&str; 5] = [
 ];
 
 /// What an install puts under PREFIX, with the modes.
-const TREE: [&str; 21] = [
+const TREE: [&str; 22] = [
     "bin/ 755",
     "bin/dimkhoros 755",
     "bin/marker 755",
     "bin/reason 755",
     "include/ 755",
     "include/dimkhoros.h 644",
+    "include/dimkhoros_box.h 644",
     "lib/ 755",
     "lib/libdimkhoros.a 644",
     "lib/libdimkhoros.so -> libdimkhoros.so.0",
@@ -64,6 +65,7 @@ fn laid_out(test: &str) -> Home {
     let home = Home::new("install", test, &TOOLS, CRATES);
     home.put("scripts/shared_library");
     home.put("include/dimkhoros.h");
+    home.put("include/dimkhoros_box.h");
     home.put("share/patterns.bin");
     home.put("rust/dimkhoros/Cargo.toml");
     for file in MODULE.iter().chain(&NO_MODULE).chain(&["python/dimkhoros/verbs.py"]) {
@@ -121,6 +123,7 @@ fn all_files_stand_in_their_places() {
         ("bin/marker", "target/bin/marker"),
         ("bin/reason", "target/bin/reason"),
         ("include/dimkhoros.h", "include/dimkhoros.h"),
+        ("include/dimkhoros_box.h", "include/dimkhoros_box.h"),
         ("lib/libdimkhoros.a", "target/staticlib/libdimkhoros.a"),
         ("lib/libdimkhoros.so", "target/staticlib/libdimkhoros.so"),
         ("share/dimkhoros/patterns.bin", "share/patterns.bin"),
@@ -142,7 +145,7 @@ fn the_end_says_what_is_where_and_how_to_use_it() {
     for name in named.iter().flat_map(|line| line[2..34].split(", ")).map(str::trim) {
         assert!(home.0.join("it's").join(name).exists(), "{name} is said to be there");
     }
-    assert_eq!(named.len(), 9);
+    assert_eq!(named.len(), 10);
     let used = format!(
         "{}\necho \"$PATH\n$PKG_CONFIG_PATH\n$LD_LIBRARY_PATH\n$PYTHONPATH\"",
         lines.next().unwrap()

@@ -33,7 +33,12 @@ fn installed() -> &'static (PathBuf, String) {
 fn laid_out() -> Home {
     let home = Home::new("install", "whole", &[], "marker:\nreason:\ndimkhoros:\n");
     home.put_tool("rt", "echo 'A test has started the prover.' >&2; exit 1");
-    for file in ["scripts/shared_library", "include/dimkhoros.h", "share/patterns.bin"] {
+    for file in [
+        "scripts/shared_library",
+        "include/dimkhoros.h",
+        "include/dimkhoros_box.h",
+        "share/patterns.bin",
+    ] {
         home.put(file);
     }
     cc::succeed(Command::new("cp").arg("-R").arg(cc::root().join("python")).arg(&home.0));
@@ -88,6 +93,7 @@ fn what_is_installed_is_what_is_built() {
         ("bin/marker", built("marker")),
         ("bin/reason", built("reason")),
         ("include/dimkhoros.h", cc::root().join("include/dimkhoros.h")),
+        ("include/dimkhoros_box.h", cc::root().join("include/dimkhoros_box.h")),
         ("lib/libdimkhoros.a", PathBuf::from(ARCHIVE)),
         ("share/dimkhoros/patterns.bin", cc::root().join("share/patterns.bin")),
     ] {
@@ -116,6 +122,19 @@ fn c_is_compiled_with_either_library() {
     let header = "set -- -I \"$prefix/include\"";
     assert!(!run_session("static", &format!("{header} \"$prefix/lib/libdimkhoros.a\"")));
     assert!(run_session("shared", &format!("{header} -L \"$prefix/lib\" -ldimkhoros")));
+}
+
+/// The boxes in C need nothing else of the repository than their own folder.
+#[test]
+fn the_boxes_are_compiled_with_what_is_installed() {
+    let compile = |name| {
+        format!(
+            "cc -std=c99 -Wall -Wextra -Werror -I \"$prefix/include\" \"$root/examples/c/boxes/{name}.c\" \
+             \"$prefix/lib/libdimkhoros.a\" -o {name}"
+        )
+    };
+    let run = "\"$root/examples/boxes/run\" ./peggy ./vic 2";
+    shell("boxes", &format!("{} && {} && {run}", compile("peggy"), compile("vic")));
 }
 
 #[test]

@@ -2,6 +2,7 @@
 //! of the Python module.
 
 mod archive;
+mod box_header;
 mod boxes;
 #[path = "../../../sys/tests/suite/cc.rs"]
 mod cc;
@@ -17,6 +18,7 @@ mod or_sessions;
 mod pages;
 mod patterns;
 mod python;
+mod reading;
 mod readme;
 mod reasons;
 mod refusals;

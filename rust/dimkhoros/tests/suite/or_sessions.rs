@@ -136,7 +136,7 @@ fn what_is_stored_goes_on_and_a_failed_store_answers_nothing() {
     };
     let (_, round) = committed(&pair).respond_after(&pair, 1, &root().1, store).unwrap();
     assert!(pair.judge(&round).unwrap().is_accepted());
-    let parts = OrProver::from_stored(&disk).unwrap().into_parts();
+    let parts = OrProver::from_stored_with_nonce(&disk).unwrap().into_parts();
     assert_eq!((parts.phase, parts.nonce, parts.response), (ProverPhase::Answered, [0; 8], [0; 8]));
     let result = committed(&pair).respond_after(&pair, 1, &root().1, |_| Err("full"));
     let Err(NoResponse::NotStored { session, error }) = result else {

@@ -2,7 +2,9 @@
 //! says, and those in C, each in braces of its own, in a program that is compiled as the README says.
 
 use crate::cc;
+use crate::pages::page_a;
 
+use dimkhoros::{Found, Prover, Round, Verdict, places};
 use dimkhoros_sys::ARCHIVE;
 use std::env;
 use std::fs;
@@ -12,8 +14,8 @@ use std::process::Command;
 const RUST_FRAME: &str = "use dimkhoros::*;
 use std::fs;
 
-fn store(_: &[u8; STORED_PROVER]) -> std::io::Result<()> {
-    Ok(())
+fn store(stored: &[u8; STORED_PROVER]) -> std::io::Result<()> {
+    fs::write(\"session.bin\", stored)
 }
 
 fn main() -> Result<(), Box<dyn std::error::Error>> {
@@ -22,20 +24,18 @@ PIECES
 }
 ";
 
-/// What it leaves to its reader in C: page A's sheet, nonce and witness, and storing.
-const C_FRAME: &str = "#include \"dimkhoros.h\"
-#include <stdio.h>
+/// What it leaves to its reader in C: page A's sheet and witness, and the box's folder.
+const C_FRAME: &str = "#define _POSIX_C_SOURCE 200809L
+#include \"dimkhoros_box.h\"
 
 static const uint8_t sheet[] = {'H', 'O', 'M', 0, 1, 1, 0, 0, 0, 23, 0, 0, 0, 11,
                                 0, 0, 0, 11, 1, 1, 0, 0, 0, 2, 0, 0, 0, 13};
 static const size_t length = sizeof sheet;
-static const uint32_t nonce[8] = {5};
 static const uint32_t witness[8] = {7};
 
-static void store(const DimkhorosProverSession *peggy) { printf(\"store %u\\n\", peggy->phase); }
-
-int main(void) {
-uint32_t commitment[8], response[8];
+int main(int argc, char **argv) {
+int folder = open(argc == 2 ? argv[1] : \".\", O_RDONLY | O_DIRECTORY);
+uint32_t nonce[8], commitment[8], response[8];
 {
 PIECES
 }
@@ -69,7 +69,7 @@ fn the_pieces_in_rust_run() {
     command.args(["run", "--offline", "--quiet"]).current_dir(&folder);
     let printed = cc::succeed(&mut command);
     let expected = "8 the challenge count K has to be 2 to 65536, and no number from 2 to K - 1 may divide the order or \
-                    exponent\nsend 9\nsend 4\nrounds 1\n0 accepted\npass\nrejected 0 4 2\nrefused 12 length 9\n";
+                    exponent\nsend 9\nsend 4\nthe session has answered\nrounds 1\n0 accepted\npass\nrejected 0 4 2\nrefused 12 length 9\n";
     assert_eq!(printed, expected);
 }
 
@@ -94,7 +94,19 @@ fn the_pieces_in_c_run() {
     let mut command = Command::new(&words[0]);
     command.args(&words[1..]).args(cc::STRICT).arg("-o").arg(&program).current_dir(cc::root());
     cc::succeed(&mut command);
-    let expected = "send 9\nstore 2\nsend 4\n21 the session's state does not allow the call, or what it holds does not \
-                    fit this sheet\naccepted\n";
-    assert_eq!(cc::succeed(&mut Command::new(program)), expected);
+    let folder = cc::scratch("readme-box");
+    fs::create_dir_all(&folder).unwrap();
+    let printed = cc::succeed(Command::new(program).arg(&folder));
+    let lines: Vec<&str> = printed.lines().collect();
+    let sent = |line: &str| places([line.strip_prefix("send ").unwrap().parse().unwrap()]);
+    let round = Round { commitment: sent(lines[0]), challenge: 3, response: sent(lines[1]) };
+    assert_eq!(page_a().judge(&round), Ok(Verdict::Accepted));
+    let expected = [
+        "21 the session's state does not allow the call, or what it holds does not fit this sheet",
+        "the last challenge was answered",
+        "accepted",
+    ];
+    assert_eq!(lines[2..], expected);
+    let (_, found) = Prover::reopen(&fs::read(folder.join("session.bin")).unwrap());
+    assert_eq!(found, Found::Answered);
 }

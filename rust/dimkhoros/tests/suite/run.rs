@@ -4,6 +4,7 @@ use crate::cc;
 use crate::home::{Ended, Home, built, copy, ended};
 
 use std::fs::{self, OpenOptions};
+use std::os::unix::fs::symlink;
 use std::process::{Command, Stdio};
 
 /// The marker's text on 01's example.
@@ -189,15 +190,98 @@ fn a_text_that_cannot_be_written_is_told_of() {
     assert_eq!(several, failed(1, "the text cannot be written"));
 }
 
-/// The reader has ended before the script begins.
+/// The reader has ended before the script begins. For one folder the program meets that, for several the script itself.
 #[test]
-fn a_reader_that_has_gone_away_is_told_of() {
+fn nothing_is_said_of_a_reader_that_has_gone_away() {
     let home = laid_out("pipe");
-    let mut reader = Command::new("true").stdin(Stdio::piped()).spawn().unwrap();
-    let pipe = reader.stdin.take().unwrap();
-    assert!(reader.wait().unwrap().success());
-    let run = ended(home.command(&["no files"]).stdout(pipe));
-    assert_eq!(run, failed(1, &unwritten("marker")));
+    for (words, status) in [
+        (&["no files"][..], Some(1)),
+        (&["reason", "no files"], Some(1)),
+        (&["no files", "no files"], None),
+    ] {
+        let mut reader = Command::new("true").stdin(Stdio::piped()).spawn().unwrap();
+        let pipe = reader.stdin.take().unwrap();
+        assert!(reader.wait().unwrap().success());
+        let run = ended(home.command(words).stdout(pipe));
+        assert_eq!(run, Ended { status, ..marked("") }, "{words:?}");
+    }
+}
+
+#[test]
+fn a_closed_output_is_told_of() {
+    let home = laid_out("closed");
+    for words in ["'no files'", "'no files' 'no files'", "reason"] {
+        let mut shell = Command::new("/bin/sh");
+        shell.arg("-c").arg(format!("./run {words} >&-"));
+        let line = "the text cannot be written: standard output is closed";
+        assert_eq!(ended(home.prepared(&mut shell)), failed(1, line), "{words}");
+    }
+    let mut shell = Command::new("/bin/sh");
+    let help = ended(home.prepared(shell.arg("-c").arg("./run --help >&-")));
+    assert!(help.status == Some(1) && !help.stderr.is_empty(), "{help:?}");
+}
+
+/// A pipe that nobody writes to, a device that has no end and a folder, each in the place of each file, by itself and by a link.
+#[test]
+fn what_is_no_regular_file_is_named_and_the_others_are_marked() {
+    let home = laid_out("irregular");
+    cc::succeed(Command::new("mkfifo").arg(home.0.join("pipe")));
+    symlink("/dev/zero", home.0.join("zero")).unwrap();
+    for file in ["sheet.bin", "rounds.bin", "level.bin"] {
+        for other in ["pipe", "zero", "no files"] {
+            let folder = home.0.join("odd");
+            fs::create_dir(&folder).unwrap();
+            symlink(home.0.join(other), folder.join(file)).unwrap();
+            let line = format!("{file} in the folder odd is no regular file");
+            assert_eq!(home.run(&["odd"]), failed(1, &line), "{other}");
+            let stdout = format!("no files:\nsheet 2\ncrates/marker/data:\n{EXAMPLE}");
+            let several = Ended { stdout, ..failed(1, &line) };
+            assert_eq!(home.run(&["no files", "odd", "crates/marker/data"]), several, "{other}");
+            // The program `reason` does not read the level.
+            let reason = match file {
+                "level.bin" => marked("refused 2 length 0\n"),
+                _ => failed(1, &line),
+            };
+            assert_eq!(home.run(&["reason", "odd"]), reason, "{other}");
+            fs::remove_dir_all(folder).unwrap();
+        }
+    }
+}
+
+/// A link to nothing is a file that is missing, and one to a file is that file.
+#[test]
+fn links_are_followed() {
+    let home = laid_out("links");
+    let folder = home.0.join("links");
+    fs::create_dir(&folder).unwrap();
+    symlink(home.0.join("crates/marker/data/sheet.bin"), folder.join("sheet.bin")).unwrap();
+    symlink("nothing", folder.join("rounds.bin")).unwrap();
+    assert_eq!(home.run(&["links"]), marked("file 12\n"));
+}
+
+/// A name cannot make a line of its own, on either output.
+#[test]
+fn a_folders_name_stays_in_its_line() {
+    let home = laid_out("names");
+    let names = [
+        ("a\npass\nb", "a\\npass\\nb"),
+        ("pass\n", "pass\\n"),
+        ("\r\t\u{1b}[2K\u{7f}", "\\r\\t\\u{1b}[2K\\u{7f}"),
+        ("\u{85}\u{9b}1A\u{2028}\u{2029}", "\\u{85}\\u{9b}1A\\u{2028}\\u{2029}"),
+        ("Ægir & \\n %s", "Ægir & \\n %s"),
+    ];
+    for (name, shown) in names {
+        let missing = format!("there is no folder {shown} that can be entered");
+        assert_eq!(home.run(&[name]), failed(1, &missing));
+        fs::create_dir(home.0.join(name)).unwrap();
+        let text = format!("no files:\nsheet 2\n{shown}:\nsheet 2\n");
+        assert_eq!(home.run(&["no files", name]), marked(&text));
+        fs::create_dir(home.0.join(name).join("sheet.bin")).unwrap();
+        let odd = format!("sheet.bin in the folder {shown} is no regular file");
+        assert_eq!(home.run(&[name]), failed(1, &odd));
+    }
+    let option = r"there is no option -a\npass; ./run --help says what there is";
+    assert_eq!(home.run(&["-a\npass"]), failed(2, option));
 }
 
 #[test]

@@ -16,6 +16,22 @@ fn every_pattern_reads_back() {
     }
 }
 
+/// Whatever statement the sheet has.
+#[test]
+fn the_image_of_a_witness_is_its_statement() {
+    let witnesses: [&[u32]; 6] = [&[7], &[1, 2], &[7], &[7], &[2, 1, 0], &[2]];
+    for (plan, witness) in PLANS.iter().zip(witnesses) {
+        let instance = made(plan).unwrap();
+        let mut x = [u32::MAX; 8];
+        x[..witness.len()].copy_from_slice(witness);
+        let z = instance.values().statement;
+        assert_eq!(instance.image(&x), Ok(z));
+        let ones = instance.with_statement(&[1; 8]).unwrap();
+        assert_eq!(ones.image(&x).and_then(|z| ones.with_statement(&z)), Ok(instance));
+        assert_eq!(ones.image(&[u32::MAX; 8]), Err(Refusal::Coordinate));
+    }
+}
+
 #[test]
 fn entries_stand_by_row_and_column() {
     let product = made(&PLANS[4]).unwrap();

@@ -4,9 +4,9 @@ use crate::cc;
 use crate::pages::page_a;
 
 use dimkhoros::{
-    Damaged, OrProver, OrProverParts, Pair, Places, Prover, ProverParts, ProverPhase,
-    STORED_OR_PROVER, STORED_PROVER, STORED_VERIFIER, Side, Verifier, VerifierParts, VerifierPhase,
-    places,
+    Damaged, Found, OrProver, OrProverParts, Pair, Places, Prover, ProverParts, ProverPhase,
+    Refusal, STORED_OR_PROVER, STORED_PROVER, STORED_VERIFIER, Side, Verifier, VerifierParts,
+    VerifierPhase, places,
 };
 use std::fmt::Write;
 
@@ -145,11 +145,11 @@ fn c_and_rust_write_the_same_bytes_and_read_each_other() {
     // Every third line, from the second, is what C stored.
     let mut stored_by_c = printed.lines().skip(1).step_by(3).map(from_hex);
     for (phase, start) in cases() {
-        let read = Prover::from_stored(&stored_by_c.next().unwrap()).unwrap();
+        let read = Prover::from_stored_with_nonce(&stored_by_c.next().unwrap()).unwrap();
         assert!(read.into_parts() == peggy(phase, start));
         let read = Verifier::from_stored(&stored_by_c.next().unwrap()).unwrap();
         assert_eq!(read.into_parts(), vic(phase, start));
-        let read = OrProver::from_stored(&stored_by_c.next().unwrap()).unwrap();
+        let read = OrProver::from_stored_with_nonce(&stored_by_c.next().unwrap()).unwrap();
         assert!(read.into_parts() == either(phase, start));
     }
 }
@@ -174,14 +174,22 @@ fn damaged(stored: &[u8]) -> Vec<Vec<u8>> {
 fn no_damaged_session_is_taken() {
     for (phase, start) in cases() {
         let stored = stored_peggy(phase, start);
-        assert!(Prover::from_stored(&stored).unwrap().into_parts() == peggy(phase, start));
-        assert!(damaged(&stored).iter().all(|bytes| Prover::from_stored(bytes).is_err()));
+        assert!(
+            Prover::from_stored_with_nonce(&stored).unwrap().into_parts() == peggy(phase, start)
+        );
+        assert!(
+            damaged(&stored).iter().all(|bytes| Prover::from_stored_with_nonce(bytes).is_err())
+        );
         let stored = stored_vic(phase, start);
         assert_eq!(Verifier::from_stored(&stored).unwrap().into_parts(), vic(phase, start));
         assert!(damaged(&stored).iter().all(|bytes| Verifier::from_stored(bytes).is_err()));
         let stored = stored_either(phase, start);
-        assert!(OrProver::from_stored(&stored).unwrap().into_parts() == either(phase, start));
-        assert!(damaged(&stored).iter().all(|bytes| OrProver::from_stored(bytes).is_err()));
+        assert!(
+            OrProver::from_stored_with_nonce(&stored).unwrap().into_parts() == either(phase, start)
+        );
+        assert!(
+            damaged(&stored).iter().all(|bytes| OrProver::from_stored_with_nonce(bytes).is_err())
+        );
     }
 }
 
@@ -213,9 +221,9 @@ fn others() -> Vec<Vec<u8>> {
 fn right_check_values_do_not_make_a_session() {
     let others = others();
     for bytes in &others {
-        assert_eq!(Prover::from_stored(bytes).unwrap_err(), Damaged);
+        assert_eq!(Prover::from_stored_with_nonce(bytes).unwrap_err(), Damaged);
         assert_eq!(Verifier::from_stored(bytes).unwrap_err(), Damaged);
-        assert_eq!(OrProver::from_stored(bytes).unwrap_err(), Damaged);
+        assert_eq!(OrProver::from_stored_with_nonce(bytes).unwrap_err(), Damaged);
     }
     let input = others.iter().fold(String::new(), |text, bytes| text + &hex(bytes) + "\n");
     assert_eq!(cc::run_on("stored.c", &input), "refused\n".repeat(others.len()));
@@ -224,17 +232,106 @@ fn right_check_values_do_not_make_a_session() {
         assert_eq!(Verifier::from_stored(bytes).unwrap_err(), Damaged);
     }
     for bytes in [&vic[..], &either] {
-        assert_eq!(Prover::from_stored(bytes).unwrap_err(), Damaged);
+        assert_eq!(Prover::from_stored_with_nonce(bytes).unwrap_err(), Damaged);
     }
     for bytes in [&peggy[..], &vic] {
-        assert_eq!(OrProver::from_stored(bytes).unwrap_err(), Damaged);
+        assert_eq!(OrProver::from_stored_with_nonce(bytes).unwrap_err(), Damaged);
+    }
+}
+
+/// What a session is that was stored in this state and is reopened.
+fn reopened(phase: ProverPhase) -> (Found, ProverPhase) {
+    match phase {
+        ProverPhase::New => (Found::New, ProverPhase::New),
+        ProverPhase::Committed => (Found::Committed, ProverPhase::Dropped),
+        ProverPhase::Answered => (Found::Answered, ProverPhase::Answered),
+        ProverPhase::Dropped => (Found::Dropped, ProverPhase::Dropped),
     }
 }
 
 #[test]
-fn a_session_of_stored_bytes_goes_on() {
+fn a_nonce_that_is_found_is_dropped() {
+    for (phase, start) in cases() {
+        let (read, found) = Prover::reopen(&stored_peggy(phase, start));
+        let mut expected = peggy(phase, start);
+        let committed = expected.phase == ProverPhase::Committed;
+        let after = reopened(expected.phase);
+        expected.nonce = if committed { [0; 8] } else { expected.nonce };
+        expected.phase = after.1;
+        assert_eq!(found, after.0);
+        assert!(read.into_parts() == expected);
+        let (read, found) = OrProver::reopen(&stored_either(phase, start));
+        let parts = read.into_parts();
+        assert_eq!((found, parts.phase), reopened(either(phase, start).phase));
+        assert_eq!(parts.commitments, either(phase, start).commitments);
+        if committed {
+            assert_eq!((parts.nonce, parts.response, parts.challenge), ([0; 8], [0; 8], 0));
+            assert_eq!(parts.side, Side::First);
+        }
+    }
+}
+
+#[test]
+fn damaged_bytes_are_reopened_as_a_new_session() {
+    let (new, either) = (Prover::new().to_stored(), OrProver::new().to_stored());
+    for (phase, start) in [(1, 2), (2, 3)] {
+        for bytes in damaged(&stored_peggy(phase, start)) {
+            let (session, found) = Prover::reopen(&bytes);
+            assert_eq!((found, session.to_stored()), (Found::Damaged, new));
+        }
+        for bytes in damaged(&stored_either(phase, start)) {
+            let (session, found) = OrProver::reopen(&bytes);
+            assert_eq!((found, session.to_stored()), (Found::Damaged, either));
+        }
+    }
+}
+
+#[test]
+fn c_finds_what_rust_finds() {
+    let mut lines = others();
+    for (phase, start) in cases() {
+        lines.push(stored_peggy(phase, start).to_vec());
+        lines.push(stored_vic(phase, start).to_vec());
+        lines.push(stored_either(phase, start).to_vec());
+    }
+    let (mut input, mut expected) = (String::new(), String::new());
+    for bytes in &lines {
+        writeln!(input, "{}", hex(bytes)).unwrap();
+        let (peggy, found) = Prover::reopen(bytes);
+        writeln!(expected, "{} {}", found.number(), hex(&peggy.to_stored())).unwrap();
+        let (either, found) = OrProver::reopen(bytes);
+        writeln!(expected, "{} {}", found.number(), hex(&either.to_stored())).unwrap();
+    }
+    let printed = cc::run_on("reopen.c", &input);
+    assert!(printed == expected, "C and Rust find different sessions");
+    for number in 0..5 {
+        assert!(expected.contains(&format!("\n{number} ")), "nothing is found as {number}");
+    }
+}
+
+/// The accident of document 00: an old copy of the file comes back, and is asked a second challenge.
+#[test]
+fn an_old_copy_answers_no_second_challenge() {
     let a = page_a();
     let (peggy, _) = Prover::new().commit(&a, &places([5])).unwrap();
-    let peggy = Prover::from_stored(&peggy.to_stored()).unwrap();
+    let copy = peggy.to_stored();
+    assert_eq!(peggy.respond(&a, 3, &places([7])).unwrap().1, places([4]));
+    let (old, _) = Prover::reopen(&copy);
+    assert_eq!(old.respond(&a, 1, &places([7])).unwrap_err().refusal, Refusal::Session);
+    let pair = Pair::new(&a, &a).unwrap();
+    let drawn = (places([5]), 3, places([6]));
+    let (peggy, _) =
+        OrProver::new().commit(&pair, Side::First, &drawn.0, drawn.1, &drawn.2).unwrap();
+    let copy = peggy.to_stored();
+    assert!(peggy.respond(&pair, 3, &places([7])).is_ok());
+    let (old, _) = OrProver::reopen(&copy);
+    assert_eq!(old.respond(&pair, 1, &places([7])).unwrap_err().refusal, Refusal::Session);
+}
+
+#[test]
+fn a_session_that_is_read_with_its_nonce_goes_on() {
+    let a = page_a();
+    let (peggy, _) = Prover::new().commit(&a, &places([5])).unwrap();
+    let peggy = Prover::from_stored_with_nonce(&peggy.to_stored()).unwrap();
     assert_eq!(peggy.respond(&a, 3, &places([7])).unwrap().1, places([4]));
 }

@@ -75,7 +75,7 @@ fn restart_and_ask(
     disk: Disk,
     challenge: u32,
 ) -> bool {
-    let Ok(peggy) = Prover::from_stored(file) else { return false };
+    let Ok(peggy) = Prover::from_stored_with_nonce(file) else { return false };
     let store = |bytes: &[u8; STORED_PROVER]| {
         let (written, result) = match disk {
             Disk::Writes => (STORED_PROVER, Ok(())),

@@ -10,15 +10,14 @@
 #define LOOK(call, at) seen += (call) at
 #endif
 
-size_t look(const uint8_t *sheet, size_t length, uint8_t *bytes, uint32_t *eight, uint32_t *table);
+size_t look(const uint8_t *sheet, size_t length, uint8_t *bytes, uint32_t *eight, uint32_t *table, DimkhorosStore store);
 
-size_t look(const uint8_t *sheet, size_t length, uint8_t *bytes, uint32_t *eight, uint32_t *table) {
+size_t look(const uint8_t *sheet, size_t length, uint8_t *bytes, uint32_t *eight, uint32_t *table, DimkhorosStore store) {
     size_t seen = 0;
     DimkhorosHeader header = {1, 23, 11, 11, 1, 1};
     DimkhorosRound round = {{9}, 3, {4}};
     DimkhorosProverSession peggy = {{0}, {0}, DIMKHOROS_PROVER_NEW};
     DimkhorosVerifierSession vic = {{0}, 0, DIMKHOROS_VERIFIER_WAITING};
-    DimkhorosJudgement verdict = {0, 0, 0};
     DimkhorosOrRound two = {{9}, {33}, {4}, {6}, 3, 2};
     DimkhorosOrSession either = {{0}, {0}, {0}, {0}, 0, 0, DIMKHOROS_PROVER_NEW};
 
@@ -31,13 +30,15 @@ size_t look(const uint8_t *sheet, size_t length, uint8_t *bytes, uint32_t *eight
     LOOK(dimkhoros_prover_new(), .phase);
     LOOK(dimkhoros_commit(sheet, length, &peggy, eight, eight), );
     LOOK(dimkhoros_respond(sheet, length, &peggy, 3, eight, eight), );
+    LOOK(dimkhoros_respond_after(sheet, length, &peggy, 3, eight, store, NULL, eight), );
     LOOK(dimkhoros_drop(&peggy), );
-    LOOK(dimkhoros_prover_restore(bytes, length, &peggy), != 0);
+    LOOK(dimkhoros_prover_reopen(bytes, length, &peggy), );
+    LOOK(dimkhoros_prover_restore_with_nonce(bytes, length, &peggy), != 0);
 
     LOOK(dimkhoros_verifier_new(), .phase);
     LOOK(dimkhoros_take_commitment(sheet, length, &vic, eight), );
     LOOK(dimkhoros_take_challenge(sheet, length, &vic, 3), );
-    LOOK(dimkhoros_take_response(sheet, length, &vic, eight, &verdict), );
+    LOOK(dimkhoros_take_response(sheet, length, &vic, eight), .accepted);
     LOOK(dimkhoros_verifier_restore(bytes, length, &vic), != 0);
 
     LOOK(dimkhoros_judge(sheet, length, round), .refusal);
@@ -47,8 +48,10 @@ size_t look(const uint8_t *sheet, size_t length, uint8_t *bytes, uint32_t *eight
     LOOK(dimkhoros_or_prover_new(), .phase);
     LOOK(dimkhoros_or_commit(sheet, length, sheet, length, &either, 0, eight, 3, eight, eight, table), );
     LOOK(dimkhoros_or_respond(sheet, length, sheet, length, &either, 3, eight, &two), );
+    LOOK(dimkhoros_or_respond_after(sheet, length, sheet, length, &either, 3, eight, store, NULL, &two), );
     LOOK(dimkhoros_or_drop(&either), );
-    LOOK(dimkhoros_or_prover_restore(bytes, length, &either), != 0);
+    LOOK(dimkhoros_or_prover_reopen(bytes, length, &either), );
+    LOOK(dimkhoros_or_prover_restore_with_nonce(bytes, length, &either), != 0);
     LOOK(dimkhoros_or_judge(sheet, length, sheet, length, two), .refusal);
     LOOK(dimkhoros_or_extract(sheet, length, sheet, length, two, two), .refusal);
 
@@ -82,5 +85,5 @@ size_t look(const uint8_t *sheet, size_t length, uint8_t *bytes, uint32_t *eight
     dimkhoros_or_prover_store(&either, bytes);
     dimkhoros_sentence(DIMKHOROS_REFUSED_SESSION);
     dimkhoros_version();
-    return seen + verdict.accepted;
+    return seen;
 }

@@ -30,6 +30,8 @@ static void make_sheets(void) {
 
 static Seen commits = {"commit", {0}, 0, 0};
 static Seen responds = {"respond", {0}, 0, 0};
+static Seen afters = {"respond_after", {0}, 0, 0};
+static Seen failures = {"respond_after with a store that fails", {0}, 0, 0};
 static Seen drops = {"drop", {0}, 0, 0};
 static Seen commitments = {"take_commitment", {0}, 0, 0};
 static Seen asks = {"take_challenge", {0}, 0, 0};
@@ -58,6 +60,27 @@ static void try_respond(const Sheet *sheet, Lent session, uint32_t challenge, co
     compare(&values, filled(0xEE), pure.values, sizeof pure.values, refusal, &responds);
 }
 
+/* Responds with a store that succeeds, and with one that fails. The bytes are those of the session after the response. */
+static void try_respond_after(const Sheet *sheet, Lent session, uint32_t challenge, const uint32_t witness[8]) {
+    static const int codes[] = {0, 1, -1};
+    uint8_t stored[DIMKHOROS_STORED_PROVER];
+    DimkhorosProverAnswer pure =
+        dimkhoros_prover_respond(sheet->bytes, sheet->length, session.lent.peggy, challenge, witness);
+    dimkhoros_prover_store(&pure.session, stored);
+    for (size_t i = 0; i < COUNT(codes); i++) {
+        Seen *seen = codes[i] == 0 ? &afters : &failures;
+        Lent after = session, values = filled(0xEE);
+        Disk disk = {codes[i], 0, {0}, 0, &values};
+        uint32_t answer = dimkhoros_respond_after(sheet->bytes, sheet->length, &after.lent.peggy, challenge, witness, keep,
+                                                  &disk, values.lent.values);
+        require((answer == DIMKHOROS_NOT_STORED) == (codes[i] != 0 && pure.refusal == 0), seen, "another answer");
+        count(seen, answer == DIMKHOROS_NOT_STORED ? 0 : answer, pure.refusal);
+        look_at(&disk, stored, sizeof stored, pure.refusal, seen);
+        compare(&after, session, &pure.session, sizeof pure.session, pure.refusal, seen);
+        compare(&values, filled(0xEE), pure.values, sizeof pure.values, answer, seen);
+    }
+}
+
 static void try_drop(Lent session) {
     Lent after = session;
     DimkhorosProverAnswer pure = dimkhoros_prover_drop(session.lent.peggy);
@@ -82,6 +105,7 @@ static void try_peggy(const Sheet *sheet, Lent session) {
         try_commit(sheet, session, arrays[i]);
         for (size_t c = 0; c < COUNT(challenges); c++) {
             try_respond(sheet, session, challenges[c], arrays[i]);
+            try_respond_after(sheet, session, challenges[c], arrays[i]);
         }
     }
 }
@@ -120,17 +144,18 @@ static void try_take_challenge(const Sheet *sheet, Lent session, uint32_t challe
 }
 
 static void try_take_response(const Sheet *sheet, Lent session, const uint32_t response[8]) {
-    Lent after = session, verdict = filled(0xEE);
+    Lent after = session;
     DimkhorosVerifierJudgement pure =
         dimkhoros_verifier_response(sheet->bytes, sheet->length, session.lent.vic, response);
-    uint32_t refusal =
-        dimkhoros_take_response(sheet->bytes, sheet->length, &after.lent.vic, response, &verdict.lent.verdict);
-    count(&responses, refusal, pure.verdict.refusal);
-    compare(&after, session, &pure.session, sizeof pure.session, refusal, &responses);
-    compare(&verdict, filled(0xEE), &pure.verdict, sizeof pure.verdict, refusal, &responses);
-    if (refusal == 0) {
-        responses.accepted += verdict.lent.verdict.accepted == 1;
-        responses.rejected += verdict.lent.verdict.accepted == 0;
+    DimkhorosJudgement verdict = dimkhoros_take_response(sheet->bytes, sheet->length, &after.lent.vic, response);
+    count(&responses, verdict.refusal, pure.verdict.refusal);
+    compare(&after, session, &pure.session, sizeof pure.session, verdict.refusal, &responses);
+    require(memcmp(&verdict, &pure.verdict, sizeof verdict) == 0, &responses, "the verdicts differ");
+    if (verdict.refusal == 0) {
+        responses.accepted += verdict.accepted == 1;
+        responses.rejected += verdict.accepted == 0;
+    } else {
+        require(verdict.accepted == 0 && verdict.rows == 0, &responses, "a refused response has a verdict");
     }
 }
 
@@ -168,6 +193,8 @@ int main(void) {
     }
     print(&commits);
     print(&responds);
+    print(&afters);
+    print(&failures);
     print(&drops);
     print(&commitments);
     print(&asks);

@@ -51,7 +51,6 @@ typedef struct {
     union {
         DimkhorosProverSession peggy;
         DimkhorosVerifierSession vic;
-        DimkhorosJudgement verdict;
         DimkhorosOrSession either;
         DimkhorosOrRound round;
         uint32_t values[8];
@@ -78,6 +77,34 @@ static inline void compare(const Lent *after, Lent expected, const void *answer,
 static inline void count(Seen *seen, uint32_t in_place, uint32_t pure) {
     require(in_place == pure && pure < COUNT(seen->answered), seen, "the numbers differ");
     seen->answered[pure]++;
+}
+
+/* What a store of a test does: it fails or not, and keeps what it is given. It must be called before the answer is given. */
+typedef struct {
+    int fails;
+    int called;
+    uint8_t stored[DIMKHOROS_STORED_OR_PROVER];
+    size_t length;
+    const Lent *answer; /* where the answer is put later */
+} Disk;
+
+static inline int keep(void *disk, const uint8_t *stored, size_t length) {
+    const Seen seen = {"store", {0}, 0, 0};
+    Disk *kept = (Disk *)disk;
+    const Lent untouched = filled(0xEE);
+    require(memcmp(kept->answer, &untouched, sizeof untouched) == 0, &seen, "the answer is given before it is stored");
+    require(length <= sizeof kept->stored, &seen, "too many bytes");
+    memcpy(kept->stored, stored, length);
+    kept->length = length;
+    kept->called++;
+    return kept->fails;
+}
+
+/* A disk is given these bytes once where the call is carried out, and nothing where it is refused. */
+static inline void look_at(const Disk *disk, const uint8_t *stored, size_t length, uint32_t refusal, const Seen *seen) {
+    require(disk->called == (refusal == 0), seen, "the store is called another number of times");
+    require(refusal != 0 || (disk->length == length && memcmp(disk->stored, stored, length) == 0), seen,
+            "other bytes are stored");
 }
 
 static inline void print(const Seen *seen) {

@@ -34,6 +34,8 @@ static void make_sheets(void) {
 
 static Seen commits = {"or_commit", {0}, 0, 0};
 static Seen responds = {"or_respond", {0}, 0, 0};
+static Seen afters = {"or_respond_after", {0}, 0, 0};
+static Seen failures = {"or_respond_after with a store that fails", {0}, 0, 0};
 static Seen drops = {"or_drop", {0}, 0, 0};
 
 /* --- The calls --- */
@@ -52,19 +54,25 @@ static void try_commit(const Sheet *a, const Sheet *b, Lent session, uint32_t si
     compare(&second, filled(0xEE), pure.values1, sizeof pure.values1, refusal, &commits);
 }
 
+/* The round of a pure answer to a challenge. */
+static DimkhorosOrRound round_of(Lent session, const DimkhorosOrAnswer *pure, uint32_t challenge) {
+    DimkhorosOrRound whole;
+    memcpy(whole.commitment0, session.lent.either.commitment0, sizeof whole.commitment0);
+    memcpy(whole.commitment1, session.lent.either.commitment1, sizeof whole.commitment1);
+    memcpy(whole.response0, pure->values0, sizeof whole.response0);
+    memcpy(whole.response1, pure->values1, sizeof whole.response1);
+    whole.challenge = challenge;
+    whole.challenge0 = pure->challenge0;
+    return whole;
+}
+
 static void try_respond(const Sheet *a, const Sheet *b, Lent session, uint32_t challenge, const uint32_t witness[8]) {
     Lent after = session, round = filled(0xEE);
     DimkhorosOrAnswer pure = dimkhoros_or_prover_respond(a->bytes, a->length, b->bytes, b->length, session.lent.either,
                                                          challenge, witness);
     uint32_t refusal = dimkhoros_or_respond(a->bytes, a->length, b->bytes, b->length, &after.lent.either, challenge,
                                             witness, &round.lent.round);
-    DimkhorosOrRound whole;
-    memcpy(whole.commitment0, session.lent.either.commitment0, sizeof whole.commitment0);
-    memcpy(whole.commitment1, session.lent.either.commitment1, sizeof whole.commitment1);
-    memcpy(whole.response0, pure.values0, sizeof whole.response0);
-    memcpy(whole.response1, pure.values1, sizeof whole.response1);
-    whole.challenge = challenge;
-    whole.challenge0 = pure.challenge0;
+    DimkhorosOrRound whole = round_of(session, &pure, challenge);
     count(&responds, refusal, pure.refusal);
     compare(&after, session, &pure.session, sizeof pure.session, refusal, &responds);
     compare(&round, filled(0xEE), &whole, sizeof whole, refusal, &responds);
@@ -73,6 +81,27 @@ static void try_respond(const Sheet *a, const Sheet *b, Lent session, uint32_t c
             dimkhoros_or_judge(a->bytes, a->length, b->bytes, b->length, round.lent.round);
         require(verdict.accepted == 1, &responds, "the round is not accepted");
         responds.accepted++;
+    }
+}
+
+/* Responds with a store that succeeds, and with one that fails. The bytes are those of the session after the response. */
+static void try_respond_after(const Sheet *a, const Sheet *b, Lent session, uint32_t challenge, const uint32_t witness[8]) {
+    uint8_t stored[DIMKHOROS_STORED_OR_PROVER];
+    DimkhorosOrAnswer pure = dimkhoros_or_prover_respond(a->bytes, a->length, b->bytes, b->length, session.lent.either,
+                                                         challenge, witness);
+    DimkhorosOrRound whole = round_of(session, &pure, challenge);
+    dimkhoros_or_prover_store(&pure.session, stored);
+    for (int code = 0; code < 2; code++) {
+        Seen *seen = code == 0 ? &afters : &failures;
+        Lent after = session, round = filled(0xEE);
+        Disk disk = {code, 0, {0}, 0, &round};
+        uint32_t answer = dimkhoros_or_respond_after(a->bytes, a->length, b->bytes, b->length, &after.lent.either,
+                                                     challenge, witness, keep, &disk, &round.lent.round);
+        require((answer == DIMKHOROS_NOT_STORED) == (code != 0 && pure.refusal == 0), seen, "another answer");
+        count(seen, answer == DIMKHOROS_NOT_STORED ? 0 : answer, pure.refusal);
+        look_at(&disk, stored, sizeof stored, pure.refusal, seen);
+        compare(&after, session, &pure.session, sizeof pure.session, pure.refusal, seen);
+        compare(&round, filled(0xEE), &whole, sizeof whole, answer, seen);
     }
 }
 
@@ -106,6 +135,7 @@ static void try_choices(const Sheet *a, const Sheet *b, Lent session, uint32_t s
                                    .session;
             for (size_t x = 0; x < COUNT(arrays); x++) {
                 try_respond(a, b, next, challenges[(d + x) % COUNT(challenges)], arrays[x]);
+                try_respond_after(a, b, next, challenges[(d + x) % COUNT(challenges)], arrays[x]);
             }
             try_drop(next);
         }
@@ -128,6 +158,8 @@ int main(void) {
     }
     print(&commits);
     print(&responds);
+    print(&afters);
+    print(&failures);
     print(&drops);
     return 0;
 }

@@ -45,7 +45,7 @@ pub fn run_on(name: &str, input: &str) -> String {
 static BUILT: AtomicUsize = AtomicUsize::new(0);
 
 /// Compiles a program of the crate's folder tests/c, and answers where it stands.
-fn build(name: &str) -> PathBuf {
+pub fn build(name: &str) -> PathBuf {
     let number = BUILT.fetch_add(1, Ordering::Relaxed);
     let program = scratch(&format!("{number}-{name}")).with_extension("program");
     let standard = if name.ends_with(".cpp") { "-std=c++11" } else { "-std=c99" };

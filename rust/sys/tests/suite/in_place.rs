@@ -5,16 +5,36 @@
 
 use crate::cc;
 
+use std::fs;
+
 #[test]
 fn calls_in_place_are_the_pure_ones() {
-    let expected = "commit 0 2 16 21\nrespond 0 2 15 16 17 21\ndrop 0 21\ntake_commitment 0 2 14 21\n\
+    let expected = "commit 0 2 16 21\nrespond 0 2 15 16 17 21\nrespond_after 0 2 15 16 17 21\n\
+                    respond_after with a store that fails 0 2 15 16 17 21\ndrop 0 21\ntake_commitment 0 2 14 21\n\
                     take_challenge 0 2 15 21\ntake_response 0 2 16 21 accepted rejected\n";
     assert_eq!(cc::run("in_place.c"), expected);
 }
 
 #[test]
 fn calls_in_place_of_the_or_proof_are_the_pure_ones() {
-    let expected =
-        "or_commit 0 2 15 16 21 26\nor_respond 0 2 15 16 17 21 26 accepted\nor_drop 0 21\n";
+    let expected = "or_commit 0 2 15 16 21 26\nor_respond 0 2 15 16 17 21 26 accepted\n\
+                    or_respond_after 0 2 15 16 17 21 26\n\
+                    or_respond_after with a store that fails 0 2 15 16 17 21 26\nor_drop 0 21\n";
     assert_eq!(cc::run("or_in_place.c"), expected);
+}
+
+#[test]
+fn a_verdict_that_is_kept_over_rounds_is_never_an_old_one() {
+    let expected = "right: accepted 0\ntoo large: not accepted 16\nright: accepted 0\nwrong: not accepted 0\n\
+                    right: accepted 0\nnothing was asked: not accepted 21\nright: accepted 0\nno sheet: not accepted 2\n";
+    assert_eq!(cc::run("careless.c"), expected);
+}
+
+/// A verdict that is answered by value is a whole one, whatever stood in the variable before.
+#[test]
+fn no_call_gives_a_verdict_by_its_address() {
+    let header = fs::read_to_string(cc::root().join("include/dimkhoros.h")).unwrap();
+    let text: String = header.split_whitespace().collect();
+    assert!(text.contains("staticinlineDimkhorosJudgementdimkhoros_take_response("));
+    assert!(!text.contains("Judgement*"), "a pointer to a verdict");
 }

@@ -1,4 +1,4 @@
-//! The header is free of warnings, and each answer that has to be looked at is warned of where it is not: under every compiler of
+//! The headers are free of warnings, and each answer that has to be looked at is warned of where it is not: under every compiler of
 //! a list that this machine has, and every standard that it knows.
 
 use crate::cc;
@@ -29,6 +29,10 @@ const LANGUAGES: [Language; 2] = [
     },
 ];
 
+/// The headers, each with the file that has its calls.
+const HEADERS: [(&str, &str); 2] =
+    [("dimkhoros.h", "answers.c"), ("dimkhoros_box.h", "box_answers.c")];
+
 /// A compiler with a language and a standard.
 struct Dialect {
     compiler: &'static str,
@@ -37,13 +41,13 @@ struct Dialect {
 }
 
 impl Dialect {
-    /// The command that compiles the file answers.c, with the object file under a name of its own.
-    fn command(&self, purpose: &str) -> Command {
-        let object = format!("{purpose}-{}-{}.o", self.compiler, self.standard);
+    /// The command that compiles a file, with the object file under a name of its own.
+    fn command(&self, purpose: &str, file: &str) -> Command {
+        let object = format!("{purpose}-{file}-{}-{}.o", self.compiler, self.standard);
         let mut command = Command::new(self.compiler);
         command.env("LC_ALL", "C");
         command.arg(format!("-std={}", self.standard)).args(["-x", self.language, "-c"]);
-        command.arg(cc::source("answers.c")).arg("-I").arg(cc::root().join("include"));
+        command.arg(cc::source(file)).arg("-I").arg(cc::root().join("include"));
         command.arg("-o").arg(cc::scratch(&object));
         command
     }
@@ -97,22 +101,22 @@ fn dialects() -> Vec<Dialect> {
     found
 }
 
-/// The lines of answers.c, from 1, that throw an answer away, and the names of the calls there.
-fn wrong_lines() -> (BTreeSet<usize>, BTreeSet<String>) {
-    let text = fs::read_to_string(cc::source("answers.c")).unwrap();
+/// The lines of a file, from 1, that throw an answer away, and the names of the calls there.
+fn wrong_lines(file: &str) -> (BTreeSet<usize>, BTreeSet<String>) {
+    let text = fs::read_to_string(cc::source(file)).unwrap();
     let lines = (1..).zip(text.lines());
     let calls = lines.filter_map(|(number, line)| Some((number, line.split("LOOK(dimk").nth(1)?)));
     calls.map(|(number, rest)| (number, format!("dimk{}", rest.split('(').next().unwrap()))).unzip()
 }
 
-/// The lines of answers.c at which a compiler warned, all of them of an answer that is thrown away.
-fn warned_lines(dialect: &Dialect) -> BTreeSet<usize> {
-    let output = dialect.command("wrong").arg("-DWRONG").output().unwrap();
+/// The lines of a file at which a compiler warned, all of them of an answer that is thrown away.
+fn warned_lines(dialect: &Dialect, file: &str) -> BTreeSet<usize> {
+    let output = dialect.command("wrong", file).arg("-DWRONG").output().unwrap();
     let text = String::from_utf8_lossy(&output.stderr);
     let mut lines = BTreeSet::new();
     for warning in text.lines().filter(|line| line.contains("warning:")) {
         assert!(warning.contains("[-Wunused-result]"), "another warning: {warning}");
-        let place = warning.split("answers.c:").nth(1).expect("the warning is on answers.c");
+        let place = warning.split("answers.c:").nth(1).expect("the warning is on the file");
         lines.insert(place.split(':').next().unwrap().parse().unwrap());
     }
     lines
@@ -120,30 +124,35 @@ fn warned_lines(dialect: &Dialect) -> BTreeSet<usize> {
 
 #[test]
 fn every_call_that_has_to_be_looked_at_stands_in_the_file() {
-    let header = fs::read_to_string(cc::root().join("include/dimkhoros.h")).unwrap();
-    let declarations = header.split("\nDIMKHOROS_CHECKED\n").skip(1);
-    let name =
-        |text: &str| text.split('(').next().unwrap().split(' ').next_back().unwrap().to_string();
-    let checked: BTreeSet<String> = declarations.map(name).collect();
-    assert_eq!(wrong_lines().1, checked);
+    for (header, file) in HEADERS {
+        let header = fs::read_to_string(cc::root().join("include").join(header)).unwrap();
+        let declarations = header.split("\nDIMKHOROS_CHECKED\n").skip(1);
+        let name = |text: &str| {
+            text.split('(').next().unwrap().split(' ').next_back().unwrap().to_string()
+        };
+        let checked: BTreeSet<String> = declarations.map(name).collect();
+        assert_eq!(wrong_lines(file).1, checked);
+    }
 }
 
 #[test]
-fn the_header_is_free_of_warnings_and_wrong_uses_are_warned_of() {
-    let (wrong, _) = wrong_lines();
+fn the_headers_are_free_of_warnings_and_wrong_uses_are_warned_of() {
     let dialects = dialects();
     for oldest in ["c99", "c++11"] {
         let tried = dialects.iter().any(|dialect| dialect.standard == oldest);
         assert!(tried, "no compiler knows {oldest}");
     }
-    for dialect in dialects {
-        let mut clean = dialect.command("clean");
+    for (dialect, (_, file)) in dialects.iter().flat_map(|dialect| HEADERS.map(|it| (dialect, it)))
+    {
+        let mut clean = dialect.command("clean", file);
         clean.args(cc::STRICT);
         if dialect.language == "c++" {
             clean.arg("-Wold-style-cast");
         }
         cc::succeed(&mut clean);
         // No option asks for these warnings.
-        assert_eq!(warned_lines(&dialect), wrong, "{} {}", dialect.compiler, dialect.standard);
+        let (wrong, _) = wrong_lines(file);
+        let warned = warned_lines(dialect, file);
+        assert_eq!(warned, wrong, "{file} {} {}", dialect.compiler, dialect.standard);
     }
 }

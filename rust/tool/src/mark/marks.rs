@@ -1,7 +1,10 @@
 //! The mark of a folder, and the tally of marks.
 
-use super::folder::Folder;
+use crate::course::Course;
 use crate::files;
+use crate::folder::Folder;
+use crate::judged::Judged;
+use crate::mark::notes::{self, Note};
 use crate::notation::counted;
 use dimkhoros::Refusal;
 use std::ffi::OsStr;
@@ -10,12 +13,17 @@ use std::fmt;
 /// A folder and what is said of it.
 pub struct Mark {
     /// The folder's name, in one line.
-    pub folder: String,
-    said: Said,
+    pub name: String,
+    /// The folder, if it can be read.
+    pub folder: Option<Folder>,
+    /// What is said of it.
+    pub said: Said,
+    /// Notes, which change nothing of that.
+    pub notes: Vec<Note>,
 }
 
 /// What is said of a folder.
-enum Said {
+pub enum Said {
     /// Its rounds are judged.
     Judged(Judged),
     /// A file is refused: which one it is as the marker calls it, the refusal's number, and what is wrong.
@@ -24,32 +32,24 @@ enum Said {
     Unread(String),
 }
 
-/// The rounds of a folder, counted by what is said of them.
-struct Judged {
-    passed: bool,
-    accepted: usize,
-    rejected: usize,
-    refused: usize,
-    level: u8,
-    challenges: u32,
-}
-
-/// The names of a mark's fields.
-pub const FIELDS: [&str; 9] =
-    ["folder", "result", "refusal", "rounds", "accepted", "rejected", "refused", "level", "why"];
-
 impl Mark {
-    /// Marks a folder.
-    pub fn of(name: &OsStr) -> Mark {
-        let said = match Folder::read(name) {
-            Ok(folder) => Said::of(&folder),
-            Err(failure) => Said::Unread(failure.to_string()),
-        };
-        Mark { folder: files::one_line(name), said }
+    /// Marks a folder by the course's sheet and level, and by the folder's own if the course has none.
+    pub fn of(name: &OsStr, course: &Course) -> Mark {
+        let (name, read) = (files::one_line(name), Folder::read(name, course));
+        match read {
+            Ok(folder) => {
+                let (said, notes) = (Said::of(&folder), notes::of(&folder));
+                Mark { name, folder: Some(folder), said, notes }
+            }
+            Err(failure) => {
+                let said = Said::Unread(failure.to_string());
+                Mark { name, folder: None, said, notes: Vec::new() }
+            }
+        }
     }
 
     /// The result in a word: `pass`, `fail`, the file that is refused, or `unread`.
-    fn word(&self) -> &str {
+    pub fn word(&self) -> &str {
         match &self.said {
             Said::Judged(judged) if judged.passed => "pass",
             Said::Judged(_) => "fail",
@@ -74,81 +74,22 @@ impl Mark {
         }
     }
 
-    /// The fields, in the order of their names. Those of rounds are empty where no rounds are judged.
-    pub fn fields(&self) -> [String; 9] {
-        let number = match self.said {
-            Said::Refused(_, number, _) => number.to_string(),
-            _ => String::new(),
-        };
-        let [rounds, accepted, rejected, refused, level] = match &self.said {
-            Said::Judged(judged) => judged.numbers().map(|number| number.to_string()),
-            _ => Default::default(),
-        };
-        let (folder, result) = (self.folder.clone(), self.word().to_string());
-        [folder, result, number, rounds, accepted, rejected, refused, level, self.why()]
+    /// The notes in a few words.
+    pub fn noted(&self) -> String {
+        self.notes.iter().map(|note| note.brief.as_str()).collect::<Vec<&str>>().join("; ")
     }
 }
 
 impl Said {
-    /// What the marker's text says of a folder.
+    /// What the marker says of a folder.
     fn of(folder: &Folder) -> Said {
-        let text = folder.text();
-        let mut lines = text.lines();
-        let first = lines.next().unwrap_or_default();
-        let (word, number) = first.split_once(' ').unwrap_or((first, ""));
-        if word != "rounds" {
-            let number = number.parse().unwrap_or(0);
-            let why = Refusal::from_number(number).map(|refusal| folder.fault(refusal));
-            return Said::Refused(word.to_string(), number, why.unwrap_or_default());
+        match folder.judged() {
+            Ok(judged) => Said::Judged(judged),
+            Err((file, number)) => {
+                let why = Refusal::from_number(number).map(|refusal| folder.fault(refusal));
+                Said::Refused(file, number, why.unwrap_or_default())
+            }
         }
-        let count = |what: &str| {
-            let said = lines.clone().filter_map(|line| line.split(' ').nth(1));
-            said.filter(|word| *word == what).count()
-        };
-        Said::Judged(Judged {
-            passed: lines.clone().last() == Some("pass"),
-            accepted: count("accepted"),
-            rejected: count("rejected"),
-            refused: count("refused"),
-            level: folder.level(),
-            challenges: folder.challenges(),
-        })
-    }
-}
-
-impl Judged {
-    /// How many rounds there are.
-    fn rounds(&self) -> usize {
-        self.accepted + self.rejected + self.refused
-    }
-
-    /// The counts, and the level.
-    fn numbers(&self) -> [usize; 5] {
-        [self.rounds(), self.accepted, self.rejected, self.refused, usize::from(self.level)]
-    }
-}
-
-/// The counts, and why the rounds fail where all of them are accepted.
-impl fmt::Display for Judged {
-    fn fmt(&self, f: &mut fmt::Formatter<'_>) -> fmt::Result {
-        let Judged { level, challenges, .. } = self;
-        f.write_str(&counted(self.rounds(), "round"))?;
-        if self.passed {
-            return Ok(());
-        }
-        if self.accepted == self.rounds() {
-            let accepted = match self.accepted {
-                0 => ",",
-                1 => ", accepted, but",
-                _ => ", all accepted, but",
-            };
-            return write!(f, "{accepted} too few for level {level} with K = {challenges}");
-        }
-        let counts =
-            [(self.accepted, "accepted"), (self.rejected, "rejected"), (self.refused, "refused")];
-        let there = counts.iter().filter(|(count, _)| *count != 0);
-        let there: Vec<String> = there.map(|(count, what)| format!("{count} {what}")).collect();
-        write!(f, ": {}", there.join(", "))
     }
 }
 

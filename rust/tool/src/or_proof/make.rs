@@ -49,12 +49,9 @@ pub fn run(words: Vec<OsString>, out: &mut dyn Write) -> Outcome {
 
 /// The side whose witness the words have. None of the letters may be there that go with the other side's.
 fn known(words: &Words) -> Outcome<Side> {
-    let known = match (words.all("x0").is_empty(), words.all("x1").is_empty()) {
-        (false, true) => Side::First,
-        (true, false) => Side::Second,
-        _ => {
-            return Err(Failure::words("either x0= or x1= has to be there: the witness of a side"));
-        }
+    let known = match words.either(["x0", "x1"], "Peggy knows the witness of one side")? {
+        "x0" => Side::First,
+        _ => Side::Second,
     };
     let (own, other) = (known.number(), known.other().number());
     let wrong = [format!("k{other}"), format!("c{own}"), format!("r{own}")];

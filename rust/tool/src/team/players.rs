@@ -25,14 +25,11 @@ pub struct Players {
 /// Fails where words stand together that do not belong together, or where one is missing that another needs.
 pub fn check(words: &Words) -> Outcome {
     let there = |letter: &str| !words.all(letter).is_empty();
-    let (own, strangers, needs): (_, &[&str], &[[&str; 2]]) = match (there("z"), there("x")) {
-        (true, false) => ("z", &["k"], &[["c", "t"], ["r", "t"], ["r", "c"], ["c", "r"]]),
-        (false, true) => ("x", &["t", "r"], &[["c", "k"]]),
-        _ => {
-            return Err(Failure::words(
-                "either z= or x= has to be there for each player: an image, or a part of the witness",
-            ));
-        }
+    let what = "an image for each player, or a part of the witness for each";
+    let own = words.either(["z", "x"], what)?;
+    let (strangers, needs): (&[&str], &[[&str; 2]]) = match own {
+        "z" => (&["k"], &[["c", "t"], ["r", "t"], ["r", "c"], ["c", "r"]]),
+        _ => (&["t", "r"], &[["c", "k"]]),
     };
     words.without(strangers, &format!("beside {own}="))?;
     if let Some([letter, needed]) =

@@ -12,4 +12,5 @@ mod markup;
 mod material;
 mod random;
 mod readme;
+mod reasons;
 mod transcripts;

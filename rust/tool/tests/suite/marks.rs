@@ -14,7 +14,7 @@ const FOLDERS: usize = 300;
 const FILES: [&str; 3] = ["sheet.bin", "rounds.bin", "level.bin"];
 
 /// Makes a folder, in which some files are damaged and some are missing, and gives the library's text on it.
-fn folder(path: &Path, case: usize) -> String {
+pub fn folder(path: &Path, case: usize) -> String {
     let random = &mut Random::of_case(3, case);
     let of = Material::any(random);
     fs::create_dir(path).unwrap();
@@ -32,10 +32,19 @@ fn folder(path: &Path, case: usize) -> String {
     mark(&sheet, &rounds, &level, &mut [0; LONGEST_TEXT]).to_string()
 }
 
-/// How many rounds of the marker's text are said to be something.
-fn count(text: &str, what: &str) -> usize {
+/// The numbers of the rounds of the marker's text that are said to be something.
+pub fn numbers(text: &str, what: &str) -> Vec<String> {
     let said = |line: &&str| line.split(' ').nth(1) == Some(what);
-    text.lines().skip(1).filter(said).count()
+    let number = |line: &str| line.split(' ').next().unwrap().to_string();
+    text.lines().skip(1).filter(said).map(number).collect()
+}
+
+/// What is said of the rounds that are not accepted, such as `rejected 2 7; refused 5`.
+fn not_accepted(text: &str) -> String {
+    let said = ["rejected", "refused"].map(|what| (what, numbers(text, what)));
+    let said = said.iter().filter(|(_, numbers)| !numbers.is_empty());
+    let said: Vec<String> = said.map(|(what, of)| format!("{what} {}", of.join(" "))).collect();
+    said.join("; ")
 }
 
 /// The start of the line on a folder with this text, its spaces left out.
@@ -45,26 +54,21 @@ fn line(name: &str, text: &str) -> String {
         return format!("{name} {first} ");
     };
     let plural = if rounds == "1" { "" } else { "s" };
-    let counts = ["accepted", "rejected", "refused"].map(|what| (count(text, what), what));
-    let counts = counts.iter().filter(|(count, _)| *count > 0);
-    let counts: Vec<String> = counts.map(|(count, what)| format!("{count} {what}")).collect();
-    let all = count(text, "accepted").to_string() == rounds;
-    let why = match (last, all) {
-        ("pass", _) => String::new(),
-        (_, false) => format!(": {}", counts.join(", ")),
-        (_, true) => ",".to_string(),
-    };
-    format!("{name} {last} {rounds} round{plural}{why}")
+    match (last, not_accepted(text)) {
+        ("pass", _) => format!("{name} pass {rounds} round{plural}"),
+        (_, bad) if bad.is_empty() => format!("{name} fail too few rounds for level "),
+        (_, bad) => format!("{name} fail {bad}"),
+    }
 }
 
 /// The first fields of a line of comma-separated values on a folder with this text.
 fn fields(name: &str, text: &str) -> String {
     let (first, last) = (text.lines().next().unwrap(), text.lines().last().unwrap());
     let Some(rounds) = first.strip_prefix("rounds ") else {
-        return format!("{name},{},,,,,,", first.replace(' ', ","));
+        return format!("{name},{},,,,,", first.replace(' ', ","));
     };
     let [accepted, rejected, refused] =
-        ["accepted", "rejected", "refused"].map(|what| count(text, what));
+        ["accepted", "rejected", "refused"].map(|what| numbers(text, what).len());
     format!("{name},{last},,{rounds},{accepted},{rejected},{refused},")
 }
 
@@ -79,8 +83,8 @@ fn every_folder_is_marked_as_the_library_says() {
     let names: Vec<String> = (0..FOLDERS).map(|case| format!("student{case}")).collect();
     let texts: Vec<String> =
         (0..FOLDERS).map(|case| folder(&desk.folder.join(&names[case]), case)).collect();
-    let printed = desk.print(&format!("dimkhoros mark {}", names.join(" ")));
-    let separated = desk.print(&format!("dimkhoros mark --csv {}", names.join(" ")));
+    let printed = desk.print(&format!("dimkhoros mark {} 2> out.txt", names.join(" ")));
+    let separated = desk.print(&format!("dimkhoros mark --csv {} 2> out.txt", names.join(" ")));
     let mut separated = separated.lines();
     assert!(separated.next().unwrap().starts_with("folder,result,"));
     for ((name, text), (printed, separated)) in
@@ -95,4 +99,31 @@ fn every_folder_is_marked_as_the_library_says() {
     assert!(passed > 20 && failed > 20 && refused > 20, "{passed}, {failed} and {refused}");
     let summary = format!("{FOLDERS} folders: {passed} passed, {failed} failed, {refused} refused");
     assert_eq!(printed.lines().skip(FOLDERS).collect::<Vec<&str>>(), ["", summary.as_str()]);
+}
+
+/// With a course's sheet and level every folder is marked as the library marks its rounds by these, whatever else it has.
+#[test]
+fn every_folder_is_marked_by_the_course() {
+    let desk = Desk::new("course");
+    let of = Material::any(&mut Random::of_case(4, 0));
+    fs::write(desk.folder.join("sheet.bin"), &of.sheet).unwrap();
+    let names: Vec<String> = (0..FOLDERS).map(|case| format!("student{case}")).collect();
+    let text = |(case, name): (usize, &String)| {
+        let path = desk.folder.join(name);
+        folder(&path, case);
+        let random = &mut Random::of_case(5, case);
+        if random.once_in(2) {
+            fs::write(path.join("rounds.bin"), handled(&of.rounds, random)).unwrap();
+        }
+        let rounds = fs::read(path.join("rounds.bin")).unwrap_or_default();
+        mark(&of.sheet, &rounds, &[3], &mut [0; LONGEST_TEXT]).to_string()
+    };
+    let texts: Vec<String> = names.iter().enumerate().map(text).collect();
+    let words = format!("--sheet sheet.bin --level 3 {} 2> out.txt", names.join(" "));
+    let printed = desk.print(&format!("dimkhoros mark --csv {words}"));
+    for ((name, text), printed) in names.iter().zip(&texts).zip(printed.lines().skip(1)) {
+        assert!(printed.starts_with(&fields(name, text)), "{printed}\nis said of\n{text}");
+    }
+    let passed = texts.iter().filter(|text| text.ends_with("pass\n")).count();
+    assert!(passed > 20 && passed < FOLDERS - 20, "{passed} pass");
 }

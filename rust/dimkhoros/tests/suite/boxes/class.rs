@@ -38,24 +38,27 @@ pub enum Until {
     Answers(usize),
 }
 
-/// Lines that are not to be answered, T standing for the commitment that Peggy has just sent.
-pub const WRONG_LINES: [&str; 16] = [
+/// Lines that are not to be answered, T standing for the commitment that Peggy has just sent. A clumsy class asks the challenge 1,
+/// so that an answer to one of these is told from an answer to that.
+pub const WRONG_LINES: [&str; 18] = [
     "",
     "challenge",
     "challenge T",
-    "challenge 1 T",
-    "challenge T 1 2",
-    "challenge  T 1",
-    "challenge T 1 ",
-    "challenge T +1",
-    "challenge T -1",
-    "challenge T 0x1",
-    "challenge T 00000000001",
+    "challenge 2 T",
+    "challenge T 2 2",
+    "challenge  T 2",
+    "challenge T 2 ",
+    "challenge T +2",
+    "challenge T -2",
+    "challenge T 0x2",
+    "challenge T 00000000002",
     "challenge T 4294967296",
     "challenge T 65536",
-    "Challenge T 1",
-    "response T 1 1",
-    "ready 1",
+    "challenge T 2\0",
+    "challenge T 2\0 2",
+    "Challenge T 2",
+    "response T 2 2",
+    "ready 2",
 ];
 
 /// How a class plays.
@@ -160,7 +163,7 @@ impl Class<'_> {
         for line in WRONG_LINES {
             self.tell(&line.replace('T', &named));
         }
-        self.tell(&format!("challenge {named} {}1", "0".repeat(1000)));
+        self.tell(&format!("challenge {named} {}2", "0".repeat(1000)));
     }
 
     /// Hears a line and says what there is to say to it.
@@ -211,7 +214,7 @@ impl Class<'_> {
     fn look_at_files(&mut self) {
         for file in ["session.bin", "session.new"] {
             let bytes = fs::read(self.folder.join(file)).unwrap_or_default();
-            let Ok(session) = Prover::from_stored(&bytes) else { continue };
+            let Ok(session) = Prover::from_stored_with_nonce(&bytes) else { continue };
             let parts = session.into_parts();
             if parts.phase == ProverPhase::Committed {
                 let (commitment, response) = (parts.commitment, parts.nonce);
