@@ -2,7 +2,7 @@
 
 use std::collections::BTreeMap;
 
-use crate::specs::{Place, files_in, root, text_of};
+use crate::specs::{Place, crates, files_in, root, text_of};
 
 /// A function with a contract: its name, and the words of the contract that the source imports, each with the file that it
 /// comes from.
@@ -11,9 +11,9 @@ pub struct Contract {
     pub named: BTreeMap<String, Place>,
 }
 
-/// The exports of crate dimkhoros.
+/// The functions that other languages can call, of all crates.
 pub fn exports() -> Vec<Contract> {
-    contracts_in("dimkhoros", "\n#[no_mangle]\n")
+    crates().iter().flat_map(|name| contracts_in(name, "\n#[no_mangle]\n")).collect()
 }
 
 /// The public functions of a crate.

@@ -5,11 +5,8 @@ use std::collections::BTreeSet;
 use believed::calls::{Call, ours};
 use believed::contracts::{Contract, exports, public};
 use believed::page::{self, BEGIN, END};
-use believed::specs::{Specs, root, text_of};
-
-/// The export whose contract names a call's definition in a form of its own, and that call.
-const IN_A_FORM: [(&str, &str, &str); 1] =
-    [("dimkhoros_entries", "flatUnlessRefused", "loadEntries")];
+use believed::reach::{meant, words};
+use believed::specs::{Definition, Place, Specs, root, text_of};
 
 /// The call that no export hands out: its part is a slice of the caller's file, of which `locateRound` tells the place.
 const NOT_EXPORTED: [&str; 1] = ["partOfRound"];
@@ -17,9 +14,14 @@ const NOT_EXPORTED: [&str; 1] = ["partOfRound"];
 /// The export that is no call of 01 or 02.
 const NO_CALL: [&str; 1] = ["dimkhoros_version"];
 
+/// The page of the theorems.
+fn theorems() -> String {
+    text_of(&root().join("docs/THEOREMS.md"))
+}
+
 #[test]
 fn the_page_has_the_list_that_the_sources_give() {
-    let text = text_of(&root().join("docs/THEOREMS.md"));
+    let text = theorems();
     let listed = text
         .split_once(BEGIN)
         .and_then(|(_, rest)| rest.split_once(END))
@@ -32,24 +34,50 @@ fn the_page_has_the_list_that_the_sources_give() {
     );
 }
 
+/// The definitions that the demands reach.
+fn reached(specs: &Specs) -> Vec<&Definition> {
+    let sections = page::sections(specs);
+    sections.iter().flat_map(|section| &section.added).map(|at| &specs.definitions[*at]).collect()
+}
+
+/// Whether a name of a file is the definition of a call.
+fn is_call(calls: &[Call], place: &Place, name: &str) -> bool {
+    calls.iter().any(|call| call.definition == name && call.defined == *place)
+}
+
 #[test]
 fn the_demands_reach_no_definition_of_a_call() {
     let specs = Specs::read();
     let calls = ours(&specs);
-    for at in page::sections(&specs).iter().flat_map(|section| &section.added) {
-        let reached = &specs.definitions[*at];
-        let defined =
-            calls.iter().find(|call| call.name == reached.name && call.defined == reached.place);
-        assert!(defined.is_none(), "the demands reach the definition of {}", reached.name);
+    for word in reached(&specs) {
+        let (place, name) = (&word.place, &word.name);
+        assert!(!is_call(&calls, place, name), "the demands reach the definition of {name}");
+        for (given, import) in specs.imports.get(place).into_iter().flatten() {
+            let imported = is_call(&calls, &import.place, &import.name);
+            assert!(!imported, "the demands reach {name}, whose file imports the call {given}");
+        }
+    }
+}
+
+/// The file of the rules by which a call's definition tests what it is given.
+fn rules() -> Place {
+    ("rules".to_string(), "Rule".to_string())
+}
+
+#[test]
+fn the_demands_reach_no_rule_of_a_call() {
+    for word in reached(&Specs::read()) {
+        assert!(word.place != rules(), "the demands reach {}", word.name);
     }
 }
 
 #[test]
 fn each_export_is_one_call_and_each_call_is_exported() {
-    let calls = ours(&Specs::read());
+    let specs = Specs::read();
+    let calls = ours(&specs);
     let mut met = BTreeSet::new();
     for export in exports().iter().filter(|export| !NO_CALL.contains(&export.name.as_str())) {
-        let named = calls_named(export, &calls);
+        let named = calls_named(&specs, export, &calls);
         assert_eq!(named.len(), 1, "{} is the call {named:?}", export.name);
         assert!(met.insert(named[0].clone()), "{} is exported twice", named[0]);
     }
@@ -58,30 +86,57 @@ fn each_export_is_one_call_and_each_call_is_exported() {
     assert_eq!(left, NOT_EXPORTED);
 }
 
-/// The calls whose definitions an export's contract names, from the very file that `ours` takes them from.
-fn calls_named(export: &Contract, calls: &[Call]) -> Vec<String> {
-    if let Some((_, form, call)) = IN_A_FORM.iter().find(|(name, _, _)| *name == export.name) {
-        assert!(export.named.contains_key(*form), "{} names {form}", export.name);
-        return vec![call.to_string()];
+/// The calls whose definitions an export's contract names, itself or in a form that it names.
+fn calls_named(specs: &Specs, export: &Contract, calls: &[Call]) -> Vec<String> {
+    let mut found = BTreeSet::new();
+    for (word, place) in &export.named {
+        let named = specs.find(place, word).expect("what a contract names is defined");
+        let inside = named.lines.iter().flat_map(|line| words(line));
+        let parts = inside.filter_map(|part| meant(specs, place, part));
+        let meanings: Vec<&Definition> = match is_call(calls, place, word) {
+            true => vec![named],
+            false => parts.map(|at| &specs.definitions[at]).collect(),
+        };
+        let defined =
+            meanings.iter().filter(|meaning| is_call(calls, &meaning.place, &meaning.name));
+        found.extend(defined.map(|call| call.name.clone()));
     }
-    let same =
-        |call: &&Call| export.named.get(&call.name).is_some_and(|place| *place == call.defined);
-    calls.iter().filter(same).map(|call| call.name.clone()).collect()
+    found.into_iter().collect()
+}
+
+#[test]
+fn what_an_export_names_beside_its_call_is_said_by_crosses() {
+    let specs = Specs::read();
+    let calls = ours(&specs);
+    let mut said = BTreeSet::new();
+    for record in page::crossing(&specs).iter().map(|at| &specs.definitions[*at]) {
+        let inside = record.lines.iter().flat_map(|line| words(line));
+        said.extend(inside.filter_map(|word| meant(&specs, &record.place, word)));
+    }
+    for export in exports() {
+        for (word, place) in export.named.iter().filter(|(w, p)| !is_call(&calls, p, w)) {
+            let form = specs.definitions.iter().position(|d| d.place == *place && d.name == *word);
+            let known = form.is_some_and(|at| said.contains(&at));
+            assert!(known, "{} names {word}, of which `Crosses` says nothing", export.name);
+        }
+    }
 }
 
 #[test]
 fn each_field_of_a_call_stands_for_the_definition_of_its_name() {
     let specs = Specs::read();
     let calls = ours(&specs);
-    assert!(calls.len() >= 35, "the records of calls have {} fields", calls.len());
     for call in &calls {
+        assert_eq!(call.definition, call.name, "a field stands for the definition of its name");
         assert!(
-            specs.find(&call.defined, &call.name).is_some(),
+            specs.find(&call.defined, &call.definition).is_some(),
             "{} is defined in {:?}",
             call.name,
             call.defined
         );
     }
+    let told = format!("one field for each public call, {} in all", calls.len());
+    assert!(theorems().contains(&told), "docs/THEOREMS.md says \"{told}\"");
 }
 
 /// The functions over whole files that the programs call, with the crates that have them.
@@ -98,7 +153,7 @@ fn the_programs_functions_name_calls_alone() {
             .expect("the program's function is there");
         assert!(!function.named.is_empty(), "{name} names a call");
         for (word, place) in &function.named {
-            let is_call = calls.iter().any(|call| call.name == *word && call.defined == *place);
+            let is_call = is_call(&calls, place, word);
             assert!(is_call, "the contract of {name} names {word}, which is no call");
         }
     }
