@@ -5,7 +5,7 @@ use std::collections::BTreeSet;
 use believed::calls::{Call, ours};
 use believed::contracts::{Contract, exports, public};
 use believed::page::{self, BEGIN, END};
-use believed::reach::{meant, words};
+use believed::reach::{meant, reach, words};
 use believed::specs::{Definition, Place, Specs, root, text_of};
 
 /// The call that no export hands out: its part is a slice of the caller's file, of which `locateRound` tells the place.
@@ -102,6 +102,22 @@ fn calls_named(specs: &Specs, export: &Contract, calls: &[Call]) -> Vec<String> 
         found.extend(defined.map(|call| call.name.clone()));
     }
     found.into_iter().collect()
+}
+
+#[test]
+fn same_has_an_equation_for_each_call() {
+    let specs = Specs::read();
+    let place = ("demands".to_string(), "Same".to_string());
+    let record = specs.find(&place, "Same").expect("the record Same is there");
+    let mut parts = Vec::new();
+    reach(&specs, &place, &record.lines, &mut BTreeSet::new(), &mut parts);
+    let lines = parts.iter().flat_map(|at| &specs.definitions[*at].lines);
+    let taken: Vec<&str> = lines.flat_map(|line| line.split_whitespace()).collect();
+    for call in ours(&specs) {
+        let field = format!(".{}", call.name);
+        let sides = taken.iter().filter(|word| **word == field).count();
+        assert_eq!(sides, 2, "`Same` has an equation of what {} answers in both codes", call.name);
+    }
 }
 
 #[test]
