@@ -22,7 +22,8 @@ Says why a student's rounds fail. The first line is the one that `./run reason F
 file and the file's round 0. Then comes the same in words: which value at which byte breaks which rule, or both sides of each
 row of round 0. Then it is said whether the whole file passes. If it fails, all other rounds that are rejected or refused are
 named, with the row or the number, and how many rounds the level asks for if there are too few. With ROUND, the first line and
-the words are on the round of this number. The exit status is 0 whatever is said, and 1 if a file cannot be read.
+the words are on the round of this number. The exit status is 0 whatever is said, and 1 if the sheet or the round file cannot be
+read.
 
     FOLDER         a folder with the sheet in sheet.bin, the round file in rounds.bin and the level in level.bin
     ROUND          the number of a round, from 0
