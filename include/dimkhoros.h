@@ -30,8 +30,8 @@
  * What a call takes. Any bytes and any numbers: every call ends in an answer, and it is proved to be the one that the call's
  * definition gives (docs/promises/exports.md lists the definitions). The caller owes four things. A pointer with a length
  * behind it points to that many bytes or numbers (where the length is 0 it is not used and may be NULL). A pointer written
- * with the size of an array points to that much, and one to a session or a round to one. What a call writes to
- * shares no byte with anything else that the same call is given. And nobody else changes these bytes during the call.
+ * with the size of an array points to that much, one to a session or a round to one, and a store to a function. What a call
+ * writes to shares no byte with anything else that the same call is given. And nobody else changes these bytes during the call.
  *
  * Sheets. A sheet describes a homomorphism, its table, with a statement, and comes as bytes. Each call that takes one tests
  * it from the start and refuses a bad one with 2 to 11. m is the modulus, q the order and e the exponent, K the challenge
