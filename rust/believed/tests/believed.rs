@@ -3,7 +3,7 @@
 use std::collections::BTreeSet;
 
 use believed::calls::{Call, ours};
-use believed::contracts::{Contract, exports, public};
+use believed::contracts::{Contract, exports, of_programs};
 use believed::page::{self, BEGIN, END};
 use believed::specs::{Specs, root, text_of};
 
@@ -69,6 +69,58 @@ fn calls_named(export: &Contract, calls: &[Call]) -> Vec<String> {
     calls.iter().filter(same).map(|call| call.name.clone()).collect()
 }
 
+/// The name behind which an export's parameters stand in its contract: its call's, or that of the call's own form.
+fn meant_by(export: &Contract, calls: &[Call]) -> String {
+    match IN_A_FORM.iter().find(|(name, _, _)| *name == export.name) {
+        Some((_, form, _)) => form.to_string(),
+        None => calls_named(export, calls).remove(0),
+    }
+}
+
+#[test]
+fn each_export_hands_its_parameters_to_its_call_in_their_order() {
+    let calls = ours(&Specs::read());
+    for export in exports().iter().filter(|export| !NO_CALL.contains(&export.name.as_str())) {
+        let call = meant_by(export, &calls);
+        let brought: Vec<&str> =
+            export.parameters.iter().map(String::as_str).filter(|name| *name != "text").collect();
+        let handed = export.handed(&call);
+        assert!(!handed.is_empty(), "a clause of {} names {call}", export.name);
+        for given in handed {
+            assert_eq!(given, brought, "{} hands its parameters to {call}", export.name);
+        }
+    }
+}
+
+#[test]
+fn each_contract_of_an_export_says_what_is_answered_and_what_stands_in_a_lent_array() {
+    for export in exports() {
+        let says = |begin: &str| export.ensured.iter().any(|clause| clause.contains(begin));
+        assert!(says("λ r. ⌜ r ≡"), "{} says what it answers", export.name);
+        for array in &export.lent {
+            let after = format!("⌜ now ({array} .exit)");
+            assert!(says(&after), "{} says what stands in {array} after it", export.name);
+        }
+    }
+}
+
+#[test]
+fn each_contract_of_an_export_names_its_call_and_forms_that_crosses_speaks_of() {
+    let specs = Specs::read();
+    let calls = ours(&specs);
+    let said = page::said_to_cross(&specs);
+    for export in exports().iter().filter(|export| !NO_CALL.contains(&export.name.as_str())) {
+        for (word, place) in &export.named {
+            let is_call = calls.iter().any(|call| call.name == *word && call.defined == *place);
+            let is_form = said.iter().any(|&at| {
+                let form = &specs.definitions[at];
+                form.name == *word && form.place == *place
+            });
+            assert!(is_call || is_form, "{} names {word}, of which nothing is said", export.name);
+        }
+    }
+}
+
 #[test]
 fn each_field_of_a_call_stands_for_the_definition_of_its_name() {
     let specs = Specs::read();
@@ -84,22 +136,14 @@ fn each_field_of_a_call_stands_for_the_definition_of_its_name() {
     }
 }
 
-/// The functions over whole files that the programs call, with the crates that have them.
-const OF_PROGRAMS: [(&str, &str); 2] = [("report", "mark_files"), ("diagnosis", "reason_files")];
-
 #[test]
 fn the_programs_functions_name_calls_alone() {
     let calls = ours(&Specs::read());
-    for (crate_name, name) in OF_PROGRAMS {
-        let functions = public(crate_name);
-        let function = functions
-            .iter()
-            .find(|function| function.name == name)
-            .expect("the program's function is there");
-        assert!(!function.named.is_empty(), "{name} names a call");
+    for (_, function) in of_programs() {
+        assert!(!function.named.is_empty(), "{} names a call", function.name);
         for (word, place) in &function.named {
             let is_call = calls.iter().any(|call| call.name == *word && call.defined == *place);
-            assert!(is_call, "the contract of {name} names {word}, which is no call");
+            assert!(is_call, "the contract of {} names {word}, which is no call", function.name);
         }
     }
 }
