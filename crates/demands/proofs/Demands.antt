@@ -105,6 +105,7 @@ evidence = record {
   team-corners = every-disjunct .5;
   reason-page = reason-page;
   or-page = worked-examples .2;
+  session-page = worked-examples .3;
   team-page = team-page;
   rows-page = rows-page;
 }

@@ -10,6 +10,7 @@ use Rattle.examples.specs.PatternCorners.{PatternCorners}
 use Rattle.examples.specs.ReasonPage.{ReasonPage}
 use Rattle.examples.specs.RoundCorners.{RoundCorners}
 use Rattle.examples.specs.RowsPage.{RowsPage}
+use Rattle.examples.specs.SessionPage.{SessionPage}
 use Rattle.examples.specs.SheetCorners.{SheetCorners}
 use Rattle.examples.specs.TeamCorners.{TeamCorners}
 use Rattle.examples.specs.TeamPage.{TeamPage}
@@ -30,6 +31,8 @@ pub record Evidence : Type 0 where
   pub reason-page : ReasonPage
   -- a worked pair of sheets for the OR proof
   pub or-page : OrPage
+  -- worked sessions, with all that is held after each call
+  pub session-page : SessionPage
   -- worked teams
   pub team-page : TeamPage
   -- worked rows that differ

@@ -106,6 +106,7 @@ unfolding extractOr extractOrAfter extractOrRules extractedOf extractedOr extrac
     simulateAfter simulateRules simulated flatten
 every-disjunct = (
   record {
+    passing = refl;
     loading7 = (refl, refl);
     loading8 = (refl, refl);
     loading10 = (refl, refl);

@@ -1,10 +1,11 @@
--- 01's calculator pages, the marker's example, a worked pair of sheets for the OR proof, worked teams, worked rows that differ, the
--- reason's lines, and the corners of each part of each refusal's condition.
+-- 01's calculator pages, the marker's example, a worked pair of sheets for the OR proof, worked sessions, worked teams, worked rows
+-- that differ, the reason's lines, and the corners of each part of each refusal's condition.
 pub mod Sheets
 pub mod Pages
 pub mod MarkerExample
 pub mod Corners
 pub mod OrPage
+pub mod SessionPage
 pub mod TeamPage
 pub mod RowsPage
 pub mod TwoRows

@@ -5,12 +5,13 @@ use Prim.Native.Nat.{ℕ}
 use mathlib.Core.Path.{_≡_}
 use mathlib.Core.List.{List, [], _∷_, _++_, map}
 use lib.ListN.{length, replicate}
+use lib.Seq.{sets}
 use Rattle.types.specs.declared.ProverPhase.the-variants.{Committed}
 use Rattle.types.specs.declared.VerifierPhase.the-variants.{Holding, Asked}
 use Rattle.formats.specs.Append.{append}
 use Rattle.formats.specs.Convert.{convert}
 use Rattle.formats.specs.Encode.{encode}
-use Rattle.formats.specs.Load.{load, loadEntries}
+use Rattle.formats.specs.Load.{load, loadEntries, loadRefusal}
 use Rattle.formats.specs.RoundCalls.{checkRound, countRounds, fetchRound, partOfRound}
 use Rattle.formats.specs.SameCommitment.{sameCommitment}
 use Rattle.formats.specs.Sheet.{headerOf, instanceOf}
@@ -85,6 +86,11 @@ badSheets =
     changed schnorrSheet 23 5 ∷ changed schnorrSheet 27 5 ∷ []
 
 pub record SheetCorners : Type 0 where
+  -- the loader takes what no condition names: an even modulus and the largest, an even ℓ and the largest, and a K that is no prime
+  pub passing : map loadRefusal
+      (smallSheet 8 2 2 3 5 ∷ sets (smallSheet 0 2 2 1 1) 6 (255 ∷ 255 ∷ 255 ∷ 255 ∷ []) ∷
+      sets (smallSheet 23 0 2 1 1) 10 (255 ∷ 255 ∷ 255 ∷ 255 ∷ []) ∷ smallSheet 23 11 4 2 13 ∷ [])
+      ≡ replicate 4 0
   -- the loader: rows and columns that are equal and out of bounds in kind 2; K 0, a divisor 2, and a divisor in kind 2; each entry of two
   -- rows and three columns; each value of two statements
   pub loading7 : SheetCorner 7 (twoRoots ∷ []) (onesSheet 2 0 0 0 ∷ onesSheet 2 9 9 9 ∷ [])

@@ -3,10 +3,14 @@
 use std::collections::BTreeSet;
 
 use believed::calls::{Call, ours};
-use believed::contracts::{Contract, exports, public};
+use believed::contracts::{Contract, exports, of_programs};
 use believed::page::{self, BEGIN, END};
-use believed::reach::{meant, reach, words};
+use believed::reach::reach;
 use believed::specs::{Definition, Place, Specs, root, text_of};
+
+/// The export whose contract names a call's definition in a form of its own, and that call.
+const IN_A_FORM: [(&str, &str, &str); 1] =
+    [("dimkhoros_entries", "flatUnlessRefused", "loadEntries")];
 
 /// The call that no export hands out: its part is a slice of the caller's file, of which `locateRound` tells the place.
 const NOT_EXPORTED: [&str; 1] = ["partOfRound"];
@@ -73,11 +77,10 @@ fn the_demands_reach_no_rule_of_a_call() {
 
 #[test]
 fn each_export_is_one_call_and_each_call_is_exported() {
-    let specs = Specs::read();
-    let calls = ours(&specs);
+    let calls = ours(&Specs::read());
     let mut met = BTreeSet::new();
     for export in exports().iter().filter(|export| !NO_CALL.contains(&export.name.as_str())) {
-        let named = calls_named(&specs, export, &calls);
+        let named = calls_named(export, &calls);
         assert_eq!(named.len(), 1, "{} is the call {named:?}", export.name);
         assert!(met.insert(named[0].clone()), "{} is exported twice", named[0]);
     }
@@ -86,22 +89,49 @@ fn each_export_is_one_call_and_each_call_is_exported() {
     assert_eq!(left, NOT_EXPORTED);
 }
 
-/// The calls whose definitions an export's contract names, itself or in a form that it names.
-fn calls_named(specs: &Specs, export: &Contract, calls: &[Call]) -> Vec<String> {
-    let mut found = BTreeSet::new();
-    for (word, place) in &export.named {
-        let named = specs.find(place, word).expect("what a contract names is defined");
-        let inside = named.lines.iter().flat_map(|line| words(line));
-        let parts = inside.filter_map(|part| meant(specs, place, part));
-        let meanings: Vec<&Definition> = match is_call(calls, place, word) {
-            true => vec![named],
-            false => parts.map(|at| &specs.definitions[at]).collect(),
-        };
-        let defined =
-            meanings.iter().filter(|meaning| is_call(calls, &meaning.place, &meaning.name));
-        found.extend(defined.map(|call| call.name.clone()));
+/// The calls whose definitions an export's contract names, from the very file that `ours` takes them from.
+fn calls_named(export: &Contract, calls: &[Call]) -> Vec<String> {
+    if let Some((_, form, call)) = IN_A_FORM.iter().find(|(name, _, _)| *name == export.name) {
+        assert!(export.named.contains_key(*form), "{} names {form}", export.name);
+        return vec![call.to_string()];
     }
-    found.into_iter().collect()
+    let named = export.named.iter().filter(|(word, place)| is_call(calls, place, word));
+    named.map(|(word, _)| word.clone()).collect()
+}
+
+/// The name behind which an export's parameters stand in its contract: its call's, or that of the call's own form.
+fn meant_by(export: &Contract, calls: &[Call]) -> String {
+    match IN_A_FORM.iter().find(|(name, _, _)| *name == export.name) {
+        Some((_, form, _)) => form.to_string(),
+        None => calls_named(export, calls).remove(0),
+    }
+}
+
+#[test]
+fn each_export_hands_its_parameters_to_its_call_in_their_order() {
+    let calls = ours(&Specs::read());
+    for export in exports().iter().filter(|export| !NO_CALL.contains(&export.name.as_str())) {
+        let call = meant_by(export, &calls);
+        let brought: Vec<&str> =
+            export.parameters.iter().map(String::as_str).filter(|name| *name != "text").collect();
+        let handed = export.handed(&call);
+        assert!(!handed.is_empty(), "a clause of {} names {call}", export.name);
+        for given in handed {
+            assert_eq!(given, brought, "{} hands its parameters to {call}", export.name);
+        }
+    }
+}
+
+#[test]
+fn each_contract_of_an_export_says_what_is_answered_and_what_stands_in_a_lent_array() {
+    for export in exports() {
+        let says = |begin: &str| export.ensured.iter().any(|clause| clause.contains(begin));
+        assert!(says("λ r. ⌜ r ≡"), "{} says what it answers", export.name);
+        for array in &export.lent {
+            let after = format!("⌜ now ({array} .exit)");
+            assert!(says(&after), "{} says what stands in {array} after it", export.name);
+        }
+    }
 }
 
 #[test]
@@ -124,11 +154,7 @@ fn same_has_an_equation_for_each_call() {
 fn what_an_export_names_beside_its_call_is_said_by_crosses() {
     let specs = Specs::read();
     let calls = ours(&specs);
-    let mut said = BTreeSet::new();
-    for record in page::crossing(&specs).iter().map(|at| &specs.definitions[*at]) {
-        let inside = record.lines.iter().flat_map(|line| words(line));
-        said.extend(inside.filter_map(|word| meant(&specs, &record.place, word)));
-    }
+    let said = page::said_to_cross(&specs);
     for export in exports() {
         for (word, place) in export.named.iter().filter(|(w, p)| !is_call(&calls, p, w)) {
             let form = specs.definitions.iter().position(|d| d.place == *place && d.name == *word);
@@ -155,18 +181,11 @@ fn each_field_of_a_call_stands_for_the_definition_of_its_name() {
     assert!(theorems().contains(&told), "docs/THEOREMS.md says \"{told}\"");
 }
 
-/// The functions over whole files that the programs call, with the crates that have them.
-const OF_PROGRAMS: [(&str, &str); 2] = [("report", "mark_files"), ("diagnosis", "reason_files")];
-
 #[test]
 fn the_programs_functions_name_calls_alone() {
     let calls = ours(&Specs::read());
-    for (crate_name, name) in OF_PROGRAMS {
-        let functions = public(crate_name);
-        let function = functions
-            .iter()
-            .find(|function| function.name == name)
-            .expect("the program's function is there");
+    for (_, function) in of_programs() {
+        let name = &function.name;
         assert!(!function.named.is_empty(), "{name} names a call");
         for (word, place) in &function.named {
             let is_call = is_call(&calls, place, word);
