@@ -1,0 +1,2 @@
+-- A watch for used nonces.
+pub mod Watch
