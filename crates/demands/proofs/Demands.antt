@@ -32,6 +32,9 @@ use Rattle.runs.proofs.RunRefusals.{mark-refusals, run-refusals}
 use Rattle.runs.proofs.RunsWhere.{rounds-run}
 use Rattle.runs.proofs.Sessions.{sessions}
 use Rattle.sigma.proofs.Answer.{verdict-outcomes}
+use Rattle.watches.proofs.RunsWhere.{watch-runs}
+use Rattle.watches.proofs.WatchRefusals.{watch-refusals}
+use Rattle.watches.proofs.WatchesNonces.{watch-works}
 use Rattle.demands.specs.Calls.{Calls}
 use Rattle.demands.specs.Demands.{Demands}
 use Rattle.demands.specs.Evidence.{Evidence}
@@ -57,6 +60,7 @@ holds = record {
     words = words-refusals;
     team = team-refusals;
     sixteen-bits = convert-refusals;
+    watch = watch-refusals;
   };
   runs-where = record {
     files = files-run;
@@ -64,6 +68,7 @@ holds = record {
     patterns = makers-run;
     one-of-two = either-runs;
     team = team-runs;
+    watch = watch-runs;
   };
   main-protocol = main-protocol;
   protocol = protocol;
@@ -82,6 +87,7 @@ holds = record {
     sixteen-bits = converts;
     loses-nothing = loses-nothing;
     rows = all-rows;
+    watch = watch-works;
   };
   patterns = patterns-mean;
   arithmetic = arithmetic;

@@ -73,7 +73,7 @@ fn calls_named(export: &Contract, calls: &[Call]) -> Vec<String> {
 fn each_field_of_a_call_stands_for_the_definition_of_its_name() {
     let specs = Specs::read();
     let calls = ours(&specs);
-    assert!(calls.len() >= 35, "the records of calls have {} fields", calls.len());
+    assert!(calls.len() >= 37, "the records of calls have {} fields", calls.len());
     for call in &calls {
         assert!(
             specs.find(&call.defined, &call.name).is_some(),
