@@ -10,6 +10,8 @@ use Rattle.examples.proofs.Pages.{worked-examples}
 use Rattle.examples.proofs.ReasonPage.{reason-page}
 use Rattle.examples.proofs.RowsPage.{rows-page}
 use Rattle.examples.proofs.TeamPage.{team-page}
+use Rattle.examples.proofs.WatchCorners.{watch-corners}
+use Rattle.examples.proofs.WatchPage.{watch-page}
 use Rattle.formats.specs.Load.{load}
 use Rattle.formats.proofs.ByteLayout.{layout}
 use Rattle.formats.proofs.Converts.{convert-refusals, converts}
@@ -109,8 +111,10 @@ evidence = record {
   round-corners = every-disjunct .3;
   or-corners = every-disjunct .4;
   team-corners = every-disjunct .5;
+  watch-corners = watch-corners;
   reason-page = reason-page;
   or-page = worked-examples .2;
   team-page = team-page;
   rows-page = rows-page;
+  watch-page = watch-page;
 }
