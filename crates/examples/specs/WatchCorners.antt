@@ -24,6 +24,10 @@ heardOn sheet w round = outcome (watchRound sheet w round .verdict) .number
 unfoldable pub heardBoth : Watch → List ℕ
 heardBoth w = heardOn schnorrSheet w (smallRound 9 1 1) ∷ heardOn schnorrSheet w (smallRound 9 1 2) ∷ []
 
+-- page A's sheet with K 10, by which these rounds are judged alike
+unfoldable pub tenChallenges : List ℕ
+tenChallenges = changed schnorrSheet 17 10
+
 -- a watch that holds these bytes, so many, and page A's (9, 3, 4)
 unfoldable pub held : List ℕ → ℕ → Watch
 held bytes long = byHand bytes long (smallRound 9 3 4 ∷ []) 1
@@ -59,13 +63,12 @@ unfoldable pub saying : List Round → List ℕ
 saying rounds = hearing schnorrSheet (holding rounds) (smallRound 9 1 1 ∷ [])
 
 pub record WatchCorners : Type 0 where
-  -- the bytes that are held: each of them, one more and one fewer, and none; a sheet that differs in K, and judges the round alike
+  -- the bytes that are held: each of them, one more and one fewer, none and 309; a sheet that differs in K alone
   pub bytes21 :
-      Corner 21 (heardBoth (held schnorrSheet 28) ++ heardOn (changed schnorrSheet 17 10) (held (changed schnorrSheet 17 10) 28) (smallRound 9 1 1) ∷ [])
+      Corner 21 (heardBoth (held schnorrSheet 28) ++ heardOn tenChallenges (held tenChallenges 28) (smallRound 9 1 1) ∷ [])
       (flatten (map (λ bytes. heardBoth (held bytes 28)) (spoilt schnorrSheet 7)) ++ heardBoth (held (schnorrSheet ++ 0 ∷ []) 29) ++
       heardBoth (held schnorrSheet 29) ++ heardBoth (held schnorrSheet 27) ++ heardBoth (held schnorrSheet 0) ++
-      heardBoth (held schnorrSheet 309) ++
-      heardOn (changed schnorrSheet 17 10) (held schnorrSheet 28) (smallRound 9 1 1) ∷ [])
+      heardBoth (held schnorrSheet 309) ++ heardOn tenChallenges (held schnorrSheet 28) (smallRound 9 1 1) ∷ [])
   -- the count
   pub count21 : Corner 21 (heardBoth (counting 0) ++ heardBoth (counting 63)) (heardBoth (counting 64) ++ heardBoth (counting 65))
   -- the named round: its challenge is K, its slot is q or more, where the two sides agree, or they do not; the nearest alone counts,

@@ -16,6 +16,7 @@ use Rattle.sigma.specs.Answer.{isAccepted}
 use Rattle.sigma.proofs.Tests.{says-accepted}
 use Rattle.watches.specs.Watch.{noting, watchAfter, watchRound, watchVerdict}
 use Rattle.watches.specs.declared.Watch.{Watch}
+use Rattle.watches.specs.declared.Watched.{Watched}
 
 module _ (sheet : List ℕ) (w : Watch) (round : Round) where
   -- the verdict on the round
@@ -25,14 +26,12 @@ module _ (sheet : List ℕ) (w : Watch) (round : Round) where
   -- it is the verdict that is answered
   pub told-verdict : watchRound sheet w round .verdict ≡ toldVerdict
   unfolding watchRound watchAfter noting isAccepted
-  told-verdict = told toldVerdict
+  told-verdict = told toldVerdict _ refl
     where
-      told : (v : Verdict)
-          → (cond (isAccepted v) (noting (instanceOf sheet) w round) (record { watch = w; witness = zeros8; back = 0; verdict = v })) .verdict
-          ≡ v
-      told Accepted = refl
-      told (Rejected mask) = refl
-      told (Refused number) = refl
+      told : (v : Verdict) (other : Watched) → other .verdict ≡ v → (cond (isAccepted v) (noting (instanceOf sheet) w round) other) .verdict ≡ v
+      told Accepted other e = refl
+      told (Rejected mask) other e = e
+      told (Refused number) other e = e
 
   -- an accepted round is noted
   pub told-accepted : toldVerdict ≡ Accepted → watchRound sheet w round ≡ noting (instanceOf sheet) w round
