@@ -8,4 +8,5 @@ pub mod Judged
 pub mod WatchAnswers
 pub mod WatchesNonces
 pub mod RunsWhere
+pub mod Corollaries
 pub mod Only

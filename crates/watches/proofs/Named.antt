@@ -42,7 +42,7 @@ counted-none k n = elim (decLt k n) [
 -- ---- the search
 
 -- the test for the same commitment and another challenge
-says-reuses : (h : Header) (round other : Round)
+pub says-reuses : (h : Header) (round other : Round)
     → Says (reuses h round other) (Agree (h .rows) (other .commitment) (round .commitment) × (other .challenge ≢ round .challenge))
 unfolding reuses
 says-reuses h round other =

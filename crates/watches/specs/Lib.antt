@@ -6,5 +6,6 @@ pub mod Heard
 pub mod Refusals
 pub mod WatchesNonces
 pub mod RunsWhere
+pub mod Corollaries
 pub mod Same
 pub mod Ours
