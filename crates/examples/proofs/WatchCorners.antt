@@ -8,7 +8,7 @@ use Rattle.examples.specs.Corners.{changed}
 use Rattle.examples.specs.Pages.{array, smallRound}
 use Rattle.examples.specs.Sheets.{fourBytes, schnorrSheet, sheetBytes, smallSheet}
 use Rattle.examples.specs.TwoRows.{exponents, first, raised, roots, roundWith, second, spoilt, table, twoRoots}
-use Rattle.examples.specs.WatchCorners.{WatchCorners, counting, forgedOn, heardBoth, heardOn, held, naming, namingOn, saying, tenChallenges, unfit, unforged}
+use Rattle.examples.specs.WatchCorners.{WatchCorners, counting, forgedOn, heardBoth, heardOn, held, namedBeyond, naming, namingOn, saying, tenChallenges, unfit, unforged}
 use Rattle.examples.specs.WatchPage.{byHand, hearing, holding, kept, said}
 use Rattle.formats.specs.Load.{badLength, badStart, loadRules, shapeRules}
 use Rattle.formats.specs.Sheet.{entriesOf, entryCount, headerOf, instanceOf, sheetLength, sheetMark, statementOf, versionOf, zeros64}
@@ -37,7 +37,7 @@ use Rattle.watches.specs.Window.{rememberedAt}
 
 pub watch-corners : WatchCorners
 unfolding numberAt ascii changed array smallRound fourBytes schnorrSheet sheetBytes smallSheet exponents first raised
-    roots roundWith second spoilt table twoRoots counting forgedOn heardBoth heardOn held naming namingOn saying
+    roots roundWith second spoilt table twoRoots counting forgedOn heardBoth heardOn held namedBeyond naming namingOn saying
     tenChallenges unfit
     unforged byHand hearing holding kept said badLength badStart loadRules shapeRules entriesOf entryCount headerOf
     instanceOf sheetLength sheetMark statementOf versionOf zeros64 selected eightByEight itemsAt pad8 places tabulate

@@ -4,7 +4,7 @@
 use Prim.Native.Nat.{ℕ}
 use mathlib.Core.Path.{_≡_}
 use mathlib.Core.List.{List, [], _∷_, _++_, flatten, map}
-use lib.ListN.{length, replicate}
+use lib.ListN.{length, replicate, take}
 use Rattle.types.specs.declared.Round.{Round}
 use Rattle.sigma.specs.Answer.{outcome}
 use Rattle.sigma.specs.Reads.{roundOf}
@@ -58,6 +58,12 @@ unfoldable pub forgedOn : Case → List ℕ
 forgedOn p =
     map (λ r. namingOn p (roundWith (p .commitment) 3 r)) (p .wrong ++ raised (p .response) (p .period))
 
+-- what is said of a case's second round, with other values in the places that are not read, by one that remembers the first
+unfoldable pub namedBeyond : Case → List ℕ
+namedBeyond p =
+    hearing (p .sheet) (byHand (p .sheet) (length (p .sheet)) (first p ∷ []) 1)
+    (roundOf (take 8 (p .commitment ++ replicate 8 98)) 1 (take 8 (p .response′ ++ replicate 8 98)) ∷ [])
+
 -- what is said of (9, 1, 1)
 unfoldable pub saying : List Round → List ℕ
 saying rounds = hearing schnorrSheet (holding rounds) (smallRound 9 1 1 ∷ [])
@@ -98,8 +104,8 @@ pub record WatchCorners : Type 0 where
   -- rounds at the count and beyond, bytes behind the length, and places beyond s and n are not read
   pub unread :
       hearing schnorrSheet (byHand schnorrSheet 28 [] 0) (smallRound 9 1 1 ∷ []) ++
-      hearing schnorrSheet (held schnorrSheet 28) (roundOf (9 ∷ replicate 7 98) 1 (1 ∷ replicate 7 98) ∷ [])
-      ≡ 0 ∷ 1 ∷ 0 ∷ 0 ∷ 0 ∷ 1 ∷ 1 ∷ 7 ∷ []
+      namedBeyond exponents ++ namedBeyond roots
+      ≡ 0 ∷ 1 ∷ 0 ∷ 0 ∷ 0 ∷ 1 ∷ 1 ∷ 7 ∷ 1 ∷ 2 ∷ 0 ∷ 1 ∷ 1 ∷ 2 ∷ 3 ∷ []
   -- they stay as they are: the older rounds move on with all their places, those beyond the count too
   pub moved : watchRound schnorrSheet (held schnorrSheet 28) (smallRound 9 1 1) .watch
       ≡ record {
