@@ -21,6 +21,7 @@ use Rattle.runs.specs.Prover.{commit, newProver, respond}
 use Rattle.runs.specs.Verifier.{newVerifier, takeChallenge, takeCommitment, takeResponse}
 use Rattle.sigma.specs.Answer.{outcome}
 use Rattle.sigma.specs.Instance.{Instance}
+use Rattle.watches.specs.Watch.{openWatch, watchRound}
 use Rattle.examples.specs.Corners.{
   Corner,
   SheetCorner,
@@ -38,6 +39,7 @@ use Rattle.examples.specs.Pages.{array, smallRound}
 use Rattle.examples.specs.Sheets.{schnorrSheet, smallSheet}
 use Rattle.examples.specs.TeamPage.{teamNumbers}
 use Rattle.examples.specs.TwoRows.{reworded, twoRoots}
+use Rattle.examples.specs.WatchPage.{newWatch}
 
 -- ---- the second writer
 
@@ -71,6 +73,8 @@ callsOn sheet =
     convert sheet exampleFile (replicate 47 0) .answer .refusal ∷
     sameCommitment sheet exampleFile 0 1 .refusal ∷
     markRefusal sheet exampleFile (7 ∷ []) ∷
+    openWatch sheet .refusal ∷
+    outcome (watchRound sheet (newWatch schnorrSheet) (smallRound 9 3 4) .verdict) .number ∷
     teamNumbers sheet 2 (8 ∷ 16 ∷ []) (9 ∷ 1 ∷ []) (4 ∷ 0 ∷ [])
 
 -- and of those that take two, for a sheet on either side
