@@ -108,7 +108,7 @@ module _ (runs : RunCalls) (watches : WatchCalls) where
     -- a round that comes with the sheet's bytes gets the verdict of the call that judges rounds
     pub verdicts : (calls : List WatchCall) (round : Round)
         → watchRound sheet (afterHearing watches calls (openWatch sheet .watch)) round .verdict ≡ judgeRound sheet round
-    -- one that comes with other bytes gets its refusal if it has one, and else 21
+    -- one that is refused, with any bytes, gets its refusal, and one that is not, with other bytes, 21
     pub others-refused : (calls : List WatchCall) (bytes : List ℕ) (round : Round) → 0 < outcome (judgeRound bytes round) .number
         → watchRound bytes (afterHearing watches calls (openWatch sheet .watch)) round .verdict ≡ judgeRound bytes round
     pub others : (calls : List WatchCall) (bytes : List ℕ) (round : Round) → bytes ≢ sheet
