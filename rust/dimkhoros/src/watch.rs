@@ -77,7 +77,7 @@ impl Watch {
     /// # Ok::<(), Refusal>(())
     /// ```
     pub fn hear(&mut self, instance: &Instance, round: &Round) -> Result<Heard, Refusal> {
-        let answer = sys::watch_round(instance.bytes(), self.parts, round);
+        let answer = sys::watch_round(instance.bytes(), &self.parts, round);
         let verdict = verdict(&answer.verdict)?;
         self.parts = answer.watch;
         let reuse = Reuse { back: answer.back as usize, witness: answer.witness };

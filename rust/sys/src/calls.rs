@@ -227,9 +227,9 @@ pub fn watch_open(sheet: &[u8]) -> Opened {
 
 /// Gives a watch a round, and answers the verdict on it and, for an accepted one, the nearest reuse that the watch remembers.
 #[inline]
-pub fn watch_round(sheet: &[u8], watch: Watch, round: &Round) -> WatchAnswer {
+pub fn watch_round(sheet: &[u8], watch: &Watch, round: &Round) -> WatchAnswer {
     // SAFETY: the slice is given by its pointer and length.
-    unsafe { dimkhoros_watch_round(sheet.as_ptr(), sheet.len(), watch, *round) }
+    unsafe { dimkhoros_watch_round(sheet.as_ptr(), sheet.len(), *watch, *round) }
 }
 
 /// Writes the marker's text on a sheet, a round file and a level file to the start of `text`, and answers its length.

@@ -330,12 +330,12 @@ fn watches(text: &mut String) {
     for sheet in [&wide[..], &roots, &wide[..LONGEST_SHEET - 1]] {
         text.push_str(&opened_lines(watch_open(sheet)));
     }
-    let answer = watch_round(&wide, watch, &honest_round(1, RESPONSE));
+    let answer = watch_round(&wide, &watch, &honest_round(1, RESPONSE));
     text.push_str(&(heard_line(answer) + &watch_lines(&answer.watch)));
-    text.push_str(&heard_line(watch_round(&wide, answer.watch, &honest_round(0, NONCE))));
+    text.push_str(&heard_line(watch_round(&wide, &answer.watch, &honest_round(0, NONCE))));
     for challenge in [2, 5] {
         let round = honest_round(challenge, RESPONSE);
-        text.push_str(&heard_line(watch_round(&wide, watch, &round)));
+        text.push_str(&heard_line(watch_round(&wide, &watch, &round)));
     }
     let mut odd = [watch; 5];
     odd[0].count += 1;
@@ -344,7 +344,7 @@ fn watches(text: &mut String) {
     odd[3].sheet[307] += 1;
     odd[4].rounds[62].response[7] += 1;
     for odd in odd {
-        let answer = watch_round(&wide, odd, &honest_round(1, RESPONSE));
+        let answer = watch_round(&wide, &odd, &honest_round(1, RESPONSE));
         let same = if answer.watch == odd { "the same watch" } else { "another watch" };
         text.push_str(&(heard_line(answer) + same + "\n"));
     }
@@ -436,7 +436,7 @@ fn empty_slices(text: &mut String) {
     );
     let opened = watch_open(&[]);
     text.push_str(&opened_lines(opened));
-    text.push_str(&heard_line(watch_round(&[], opened.watch, &rising_round(1))));
+    text.push_str(&heard_line(watch_round(&[], &opened.watch, &rising_round(1))));
 }
 
 const EXPECTED: &str = include_str!("../echo.txt");
