@@ -29,6 +29,7 @@ from dimkhoros import (
     Values,
     Verdict,
     Verifier,
+    Watch,
     mark,
     reason,
 )
@@ -178,6 +179,7 @@ class Taken(unittest.TestCase):
                 lambda: Pair(page_a(), value),
                 lambda: Pair(value, page_a()),
                 lambda: Team(value, [[8], [16]]),
+                lambda: Watch.open(value),
                 lambda: RoundFile.open(value, b"RND\0\1\0\0"),
                 lambda: RoundWriter.start(value),
             ]:
@@ -409,6 +411,7 @@ class AnyBytes(unittest.TestCase):
             self.tried(lambda: page.judge(first))
             self.tried(lambda: page.simulate(first.challenge, first.response))
             self.tried(lambda: page.extract(first, second))
+            self.tried(lambda: Watch.open(page).hear(first))
             self.tried(lambda: Team(page, [first.commitment, second.commitment]).join_responses([first.response] * 2))
             self.tried(lambda: Prover().commit(page, first.response)[0].respond(page, first.challenge, second.response))
             self.tried(lambda: Verifier().take_commitment(page, first.commitment).take_challenge(page, first.challenge))
