@@ -712,7 +712,8 @@ DimkhorosComputed dimkhoros_team_response(const uint8_t *sheet, size_t sheet_len
  * remembered round with the same commitment and the same challenge gives nothing away, and is not named. Rounds that are rejected
  * or refused are not remembered, and do not count.
  *
- * A round is given by its values. So versions of files play no part: what dimkhoros_read answers can be given to a watch.
+ * A round is given by its values. So versions of files play no part: what dimkhoros_read answers can be given to a watch. A watch
+ * has no stored form: after a restart, open a new one and give it the last 63 accepted rounds, and it remembers the same.
  */
 
 /*
@@ -727,9 +728,10 @@ static inline uint32_t dimkhoros_open_watch(const uint8_t *sheet, size_t sheet_l
  * witness that the two give away. An accepted round is then the newest that `watch` remembers, with zeros beyond its s and n
  * values, and of 63 older ones the oldest is forgotten. A rejected round leaves `watch` as it is.
  *
- * Refuses 2 to 11 and 14 to 16, by the sheet that is handed in, and then 21: if the watch was opened on other bytes, of which one
- * differs or which are more or fewer; if it counts more than 63 rounds; or if the round is accepted and the one that it would name
- * is not. A refused call leaves `watch` as it is, and its answer has the number in `verdict.refusal` and 0 in every other field.
+ * Refuses 2 to 11 and 14 to 16, by the sheet that is handed in, and then 21: if that sheet has other bytes than the one that the
+ * watch was opened on, or more or fewer; if the watch counts more than 63 rounds; or if the round is accepted and the one that it
+ * would name is not. A refused call leaves `watch` as it is, and its answer has the number in `verdict.refusal` and 0 in every
+ * other field.
  */
 DIMKHOROS_CHECKED
 static inline DimkhorosHeard dimkhoros_hear(const uint8_t *sheet, size_t sheet_length, DimkhorosWatch *watch,
