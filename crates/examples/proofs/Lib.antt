@@ -4,3 +4,4 @@ pub mod TeamPage
 pub mod RowsPage
 pub mod ReasonPage
 pub mod Corners
+pub mod AnswerPage

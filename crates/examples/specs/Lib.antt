@@ -1,5 +1,5 @@
 -- 01's calculator pages, the marker's example, a worked pair of sheets for the OR proof, worked sessions, worked teams, worked rows
--- that differ, the reason's lines, and the corners of each part of each refusal's condition.
+-- that differ, the reason's lines, whole answers of the calls, and the corners of each part of each refusal's condition.
 pub mod Sheets
 pub mod Pages
 pub mod MarkerExample
@@ -16,3 +16,4 @@ pub mod PatternCorners
 pub mod FileCorners
 pub mod OrCorners
 pub mod TeamCorners
+pub mod AnswerPage
