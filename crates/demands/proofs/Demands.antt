@@ -5,6 +5,7 @@ use Rattle.rules.specs.Order.{refusalOrder}
 use Rattle.disjunctions.proofs.OneOfTwo.{or-proof}
 use Rattle.disjunctions.proofs.OrRefusals.{or-refusals}
 use Rattle.disjunctions.proofs.RunsWhere.{either-runs}
+use Rattle.examples.proofs.AnswerPage.{answer-page}
 use Rattle.examples.proofs.Corners.{every-disjunct}
 use Rattle.examples.proofs.Pages.{worked-examples}
 use Rattle.examples.proofs.ReasonPage.{reason-page}
@@ -114,6 +115,7 @@ evidence = record {
   watch-corners = watch-corners;
   reason-page = reason-page;
   or-page = worked-examples .2;
+  answer-page = answer-page;
   session-page = worked-examples .3;
   team-page = team-page;
   rows-page = rows-page;

@@ -1,6 +1,7 @@
 -- Worked pages and corners, computed with the calls as they are defined (01, "Calculator pages"): evidence for a reader, and nothing
 -- that has to be believed.
 -- Assumes nothing.
+use Rattle.examples.specs.AnswerPage.{AnswerPage}
 use Rattle.examples.specs.Corners.{EveryCorner}
 use Rattle.examples.specs.FileCorners.{FileCorners}
 use Rattle.examples.specs.OrCorners.{OrCorners}
@@ -34,7 +35,8 @@ pub record Evidence : Type 0 where
   pub reason-page : ReasonPage
   -- a worked pair of sheets for the OR proof
   pub or-page : OrPage
-  -- worked sessions, with all that is held after each call
+  -- the whole answer to each call, carried out and refused: on sheets, files and rounds, and on sessions with all that is held
+  pub answer-page : AnswerPage
   pub session-page : SessionPage
   -- worked teams
   pub team-page : TeamPage

@@ -6,3 +6,4 @@ pub mod WatchPage
 pub mod ReasonPage
 pub mod Corners
 pub mod WatchCorners
+pub mod AnswerPage

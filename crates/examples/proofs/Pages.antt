@@ -274,7 +274,8 @@ use Rattle.examples.specs.OrPage.{
   fewerChallenges,
   OrPage,
 }
-use Rattle.examples.specs.SessionPage.{first8, orHolds, peggyHolds, vicHolds, SessionPage}
+use Rattle.examples.specs.SessionPage.{orHolds, peggyHolds, vicHolds, SessionPage}
+use Rattle.examples.specs.TwoRows.{eight}
 use Rattle.examples.specs.Pages.{array, smallRound, run, bothWays, judging, repeated, reasonOn, EveryPage}
 use Rattle.examples.specs.Sheets.{
   fourBytes,
@@ -329,7 +330,7 @@ unfolding euclid gcd residue quotient power bezoutRight bezoutLeft inverse produ
     respondOrAfter dropOrRules commitOr respondOr dropOr otherChallenge firstRound secondRound readOr logarithmSheet
     smallOr judgingOr orRun bothWaysOr orJudging orExtracting orPeggy knowsFirst orCommitting orResponding orNumbers
     fewerChallenges unknownVersion emptyRules wideChallenge otherVersion wideRecord converted convertRules convertAfter
-    convert roundsOf fileIn storing starting converting narrowFile first8 peggyHolds vicHolds orHolds
+    convert roundsOf fileIn storing starting converting narrowFile eight peggyHolds vicHolds orHolds
 worked-examples = (
   record {
     A = refl;
@@ -421,5 +422,14 @@ worked-examples = (
     or-dropped = refl;
     or-committed-second = refl;
     or-answered-second = refl;
+    commit-refused = refl;
+    respond-refused = refl;
+    drop-refused = refl;
+    commitment-refused = refl;
+    challenge-refused = refl;
+    response-refused = refl;
+    or-commit-refused = refl;
+    or-respond-refused = refl;
+    or-drop-refused = refl;
   },
 )

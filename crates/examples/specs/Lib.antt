@@ -1,5 +1,5 @@
 -- 01's calculator pages, the marker's example, a worked pair of sheets for the OR proof, worked sessions, worked teams, worked rows
--- that differ, a worked watch, the reason's lines, and the corners of each part of each refusal's condition.
+-- that differ, a worked watch, the reason's lines, whole answers of the calls, and the corners of each part of each refusal's condition.
 pub mod Sheets
 pub mod Pages
 pub mod MarkerExample
@@ -18,3 +18,4 @@ pub mod FileCorners
 pub mod OrCorners
 pub mod TeamCorners
 pub mod WatchCorners
+pub mod AnswerPage

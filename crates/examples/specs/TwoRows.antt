@@ -3,7 +3,7 @@
 -- Assumes nothing.
 use Prim.Native.Nat.{ℕ, _+_}
 use mathlib.Core.List.{List, [], _∷_, _++_, flatten, map}
-use lib.ListN.{getD, length}
+use lib.ListN.{getD, length, replicate, take}
 use lib.Seq.{sets}
 use Rattle.types.specs.declared.Round.{Round}
 use Rattle.lists.specs.Places.{tabulate}
@@ -12,6 +12,10 @@ use Rattle.examples.specs.Pages.{array}
 use Rattle.examples.specs.Sheets.{fourBytes, sheetBytes}
 
 -- ---- lists
+
+-- values in eight places, zeros after them
+unfoldable pub eight : List ℕ → List ℕ
+eight values = take 8 (values ++ replicate 8 0)
 
 -- the lists that have another value in one place, for each place
 unfoldable pub spoilt : List ℕ → ℕ → List (List ℕ)
