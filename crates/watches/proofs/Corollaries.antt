@@ -4,10 +4,10 @@ use Prim.Native.Nat.{ℕ, zero, suc, _<_, min}
 use mathlib.Core.Path.{_≡_, refl, sym, ap, _∙_}
 use mathlib.Core.Logic.{_≢_}
 use mathlib.Core.Bool.{Bool, true, false, not, _&&_}
-use mathlib.Core.List.{List, []}
+use mathlib.Core.List.{List, [], _∷_}
 use native.Mathlib.Omega.{arith}
 use borrow.Author.Tests.{ltb-true}
-use lib.Seq.{getD-take}
+use lib.ListN.{getD}
 use Rattle.types.specs.declared.Computed.{Computed}
 use Rattle.types.specs.declared.Header.{Header}
 use Rattle.types.specs.declared.Round.{Round}
@@ -21,19 +21,22 @@ use Rattle.rules.proofs.Says.{says-elim, says-iff, says-same}
 use Rattle.formats.specs.Sheet.{instanceOf}
 use Rattle.sigma.specs.Answer.{isAccepted}
 use Rattle.sigma.specs.Extractor.{extractLoaded}
-use Rattle.sigma.specs.Reads.{Agree, SameRound}
+use Rattle.sigma.specs.Reads.{Agree, SameRound, paddedRound}
 use Rattle.sigma.proofs.Tests.{says-accepted}
 use Rattle.sigma.proofs.Unread.{extractAfter-same, judge-same, same-commitment, same-response, same-round-of-padded}
 use Rattle.sigma.proofs.Unread.{same-round-sym, same-round-trans}
 use Rattle.watches.specs.Corollaries.{SameWatch, WatchCorollaries}
 use Rattle.watches.specs.Ours.{watchCalls}
-use Rattle.watches.specs.Watch.{isNamed, isWatched, namedRound, nearest, noting, remembering, reuses, unfitWatch, watchRound}
+use Rattle.watches.specs.Watch.{isNamed, isWatched, namedRound, nearest, noting, reuses, unfitWatch, watchRound}
 use Rattle.watches.specs.Watch.{watchRules, watchVerdict}
-use Rattle.watches.specs.Window.{noRound, rememberedAt}
+use Rattle.watches.specs.WatchesNonces.{Remembers}
+use Rattle.watches.specs.Window.{noRound, rememberedAt, window}
 use Rattle.watches.specs.declared.Watch.{Watch}
 use Rattle.watches.proofs.Bytes.{says-watched}
-use Rattle.watches.proofs.Call.{told-accepted, told-other, toldVerdict}
+use Rattle.watches.proofs.Call.{told-accepted, told-other, told-verdict, toldVerdict}
 use Rattle.watches.proofs.Named.{says-reuses}
+use Rattle.watches.proofs.WatchAnswers.{watch-answers}
+use Rattle.watches.proofs.Window.{next-at, window-at}
 
 -- a second test counts only where the first passes
 and-same : (a b c : Bool) → (a ≡ true → b ≡ c) → (a && b) ≡ (a && c)
@@ -109,26 +112,6 @@ module _ (sheet : List ℕ) (w w′ : Watch) (round round′ : Round) (same : Sa
           rw (e, sym named-same ∙ e) (ap (λ (c : Computed). c .values) (extractAfter-same [] (instanceOf sheet) alike (round-same e)))
       go false e = rw (e, sym named-same ∙ e)
 
-  -- and what is remembered of it
-  next-same : SameWatch sheet (remembering (instanceOf sheet .header) round w) (remembering (instanceOf sheet .header) round′ w′)
-  unfolding remembering rememberedAt
-  next-same = record {
-    long = same .long;
-    bytes = same .bytes;
-    count = ap (λ (n : ℕ). min 63 (suc n)) (same .count);
-    rounds = each;
-  }
-    where
-      each : (i : ℕ) → i < min 63 (suc (w .count))
-          → SameRound (instanceOf sheet .header) (rememberedAt (remembering (instanceOf sheet .header) round w) i)
-          (rememberedAt (remembering (instanceOf sheet .header) round′ w′) i)
-      each zero inside =
-          let h = instanceOf sheet .header in
-          same-round-trans (same-round-of-padded h round) (same-round-trans alike (same-round-sym (same-round-of-padded h round′)))
-      each (suc i) inside =
-          rw (getD-take 62 (w .rounds) i noRound (omega arith), getD-take 62 (w′ .rounds) i noRound (omega arith))
-          (same .rounds i (omega arith))
-
   -- what both are told
   module _ (accepted : toldVerdict sheet w round ≡ Accepted) where
     told : watchRound sheet w round ≡ noting (instanceOf sheet) w round
@@ -146,11 +129,39 @@ module _ (sheet : List ℕ) (w w′ : Watch) (round round′ : Round) (same : Sa
       (λ e. rw (told e, told′ e) (refl, noted-back, noted-witness))
       (λ n. rw (told-other sheet w round n, told-other sheet w′ round′ (λ e. n (verdict-same ∙ e))) (verdict-same, refl, refl))
 
+  -- ---- the watch that is handed back
+
+  module _ (next next′ : Watch) (more : Remembers sheet round w next) (more′ : Remembers sheet round′ w′ next′) where
+    -- a round of those that are remembered with one more
+    each-same : (i : ℕ) → i < suc (w .count)
+        → SameRound (instanceOf sheet .header) (getD (paddedRound (instanceOf sheet .header) round ∷ window w) i noRound)
+        (getD (paddedRound (instanceOf sheet .header) round′ ∷ window w′) i noRound)
+    each-same zero inside =
+        let h = instanceOf sheet .header in
+        same-round-trans (same-round-of-padded h round) (same-round-trans alike (same-round-sym (same-round-of-padded h round′)))
+    each-same (suc i) inside =
+        let here : i < w′ .count = omega (arith, same .count) in
+        rw (window-at w i (omega arith), window-at w′ i here) (same .rounds i (omega arith))
+
+    next-same : SameWatch sheet next next′
+    next-same = record {
+      long = more .long ∙ same .long ∙ sym (more′ .long);
+      bytes = rw (more .long, more .bytes, more′ .bytes) (same .bytes);
+      count = more .count ∙ ap (λ (n : ℕ). min 63 (suc n)) (same .count) ∙ sym (more′ .count);
+      rounds = λ i inside.
+          let few : i < 63 = omega (arith, more .count) in
+          let here : i < suc (w .count) = omega (arith, more .count) in
+          rw (next-at sheet round w next more i few here, next-at sheet round′ w′ next′ more′ i few (omega (arith, same .count)))
+          (each-same i here);
+    }
+
   watch-same : SameWatch sheet (watchRound sheet w round .watch) (watchRound sheet w′ round′ .watch)
-  unfolding noting
   watch-same =
       says-elim (says-accepted (toldVerdict sheet w round))
-      (λ e. rw (told e, told′ e) next-same)
+      (λ e.
+      let accepted = told-verdict sheet w round ∙ e in
+      let accepted′ = told-verdict sheet w′ round′ ∙ sym verdict-same ∙ e in
+      next-same _ _ (watch-answers .accepted sheet w round accepted .0) (watch-answers .accepted sheet w′ round′ accepted′ .0))
       (λ n. rw (told-other sheet w round n, told-other sheet w′ round′ (λ e. n (verdict-same ∙ e))) same)
 
 pub watch-corollaries : WatchCorollaries watchCalls

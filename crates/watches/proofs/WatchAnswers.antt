@@ -39,7 +39,7 @@ opened sheet e = rw e (unlessRefused-zero (freshWatch sheet) (freshWatch []))
 module _ (sheet : List ℕ) (w : Watch) (round : Round) where
   -- ---- what is noted of an accepted round
 
-  -- it stands b rounds behind the nearest that it names
+  -- by how many back the nearest stands
   noted-back : (b : ℕ) → (noting (instanceOf sheet) w round .back ≡ suc b) ↔ Nearest sheet (window w) round b
   unfolding noting isNamed
   noted-back b = Iff·trans (counted-at (nearest (instanceOf sheet .header) w round) (w .count) b) (nearest-is sheet w round b)

@@ -27,7 +27,7 @@ module _ (w : Watch) where
 
 module _ (sheet : List ℕ) (round : Round) (w next : Watch) (more : Remembers sheet round w next) where
   -- what stands at a place after one round more: the round itself, or one of those before it
-  next-at : (i : ℕ) → i < 63 → i < suc (w .count)
+  pub next-at : (i : ℕ) → i < 63 → i < suc (w .count)
       → rememberedAt next i ≡ getD (paddedRound (instanceOf sheet .header) round ∷ window w) i noRound
   unfolding rememberedAt
   next-at i few inside =
