@@ -11,3 +11,4 @@ mod sheets; // sheets.rt: the calls on sheets
 mod team; // team.rt: the calls of a team's combiner
 mod verifying; // verifying.rt: the calls on Vic's session
 mod version; // version.rt: the library's version
+mod watching; // watching.rt: the calls on a watch for used nonces

@@ -50,6 +50,13 @@ file-short {h} {f} a b r =
     let most : recordLength (challengeWidth f) h ≤ 68 = omega (arith, width-small f) in
     omega (arith, r .exact, mul-le-mul (r .few) most)
 
+-- a sheet that loads has at most 308 bytes
+pub loads-short : (s : List ℕ) → loadRefusal s ≡ 0 → length s ≤ 308
+loads-short s e =
+    let l = loads s .0 e in
+    let (rows, columns) = loads-few s l in
+    omega (arith, l .exact, sheet-short (headerOf s) rows columns)
+
 -- a number is 0 or more
 zero-or-more : (n : ℕ) → (n ≡ 0) ⊎ (0 < n)
 zero-or-more zero = inl refl
@@ -140,11 +147,7 @@ module _ (n : ℕ) (enough : 309 ≤ n) (s : List ℕ) where
 
   -- it is the same sheet where it loads
   pub loads-cut : loadRefusal s ≡ 0 → take n s ≡ s
-  loads-cut e =
-      let l = loads s .0 e in
-      let (rows, columns) = loads-few s l in
-      let few = sheet-short (headerOf s) rows columns in
-      take-all n s (omega (arith, l .exact))
+  loads-cut e = take-all n s (omega (arith, loads-short s e))
 
   -- so loading answers the same
   pub load-cut : load (take n s) ≡ load s

@@ -46,19 +46,25 @@ module _ {A : Type 0} {start : List A} {n : ℕ} {f : ℕ → A} {l : List A} {i
         let none = drop-of-length-le start {i = n} (omega arith) in
         filled-end ∙ ap (λ (ys : List A). tabulate n f ++ ys) none ∙ append-nil (tabulate n f)
 
--- what is left of eight copies of d behind n places
-eight-left : {A : Type 0} (d : A) (n : ℕ) → n ≤ 8 → drop n (replicate 8 d) ≡ replicate (8 - n) d
-eight-left d n few =
-    let e : 8 ≡ n + (8 - n) = omega arith in
-    ap (λ (k : ℕ). drop n (replicate k d)) e ∙ ap (drop n) (sym (replicate-append-replicate n (8 - n) d))
-    ∙ drop-at (replicate n d) (replicate (8 - n) d) n (length-replicate n d)
+-- what is left of m copies of d behind n places
+copies-left : {A : Type 0} (d : A) (m n : ℕ) → n ≤ m → drop n (replicate m d) ≡ replicate (m - n) d
+copies-left d m n few =
+    let e : m ≡ n + (m - n) = omega arith in
+    ap (λ (k : ℕ). drop n (replicate k d)) e ∙ ap (drop n) (sym (replicate-append-replicate n (m - n) d))
+    ∙ drop-at (replicate n d) (replicate (m - n) d) n (length-replicate n d)
+
+-- where the places were m copies of d
+pub filled-copies : {A : Type 0} (d : A) (m n : ℕ) {f : ℕ → A} {l : List A} {i : ℕ} → Filled (replicate m d) n f l i → n ≤ i
+    → l ≡ tabulate n f ++ replicate (m - n) d
+filled-copies d m n {f} filled past =
+    filled-end filled past ∙
+    ap (λ (ys : List _). tabulate n f ++ ys) (copies-left d m n (omega (arith, filled .room, length-replicate m d)))
 
 module _ {A : Type 0} {d : A} {n : ℕ} {l : List A} {i : ℕ} where
-  -- where the places were eight copies of d
+  -- where they were eight
   pub filled-eight : {f : ℕ → A} → Filled (replicate 8 d) n f l i → n ≤ i → l ≡ pad8 d (tabulate n f)
   unfolding pad8
-  filled-eight {f} filled past =
-      rw (length-tabulate n f) (filled-end filled past ∙ ap (λ (ys : List A). tabulate n f ++ ys) (eight-left d n (filled .room)))
+  filled-eight {f} filled past = rw (length-tabulate n f) (filled-copies d 8 n filled past)
 
   -- and the values are items at a stride
   pub filled-items : (f : ℕ → A) (at step : ℕ) → Filled (replicate 8 d) n (λ j. f (at + step * j)) l i → n ≤ i

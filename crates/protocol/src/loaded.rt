@@ -1,7 +1,8 @@
-// The tests of a round, and simulating a commitment, on loaded values (01, "A round"; refusals 14 to 16).
+// Judging a round and simulating a commitment on loaded values (01, "A round"; refusals 14 to 16).
 use image::image;
 use image::refused;
 use image::row_image;
+use image::verdict;
 use modular::mul_mod;
 use modular::some_non_coordinate;
 use modular::some_non_element;
@@ -10,12 +11,14 @@ use negatives::negative_power;
 use powers::side_by_side;
 use types::Computed;
 use types::Header;
+use types::Round;
+use types::Verdict;
 ghost use mathlib.Core.Path.{_≡_};
 ghost use mathlib.Core.List.{List};
 ghost use Prim.Native.Nat.{ℕ, _≤_, _<_};
 ghost use Rattle.lists.specs.Places.{pad8, places};
 ghost use Rattle.rules.specs.Rule.{lowest};
-ghost use Rattle.sigma.specs.Judge.{judgeRules};
+ghost use Rattle.sigma.specs.Judge.{judgeRules, judgeLoaded};
 ghost use Rattle.sigma.specs.Simulator.{simulated, simulateLoaded};
 ghost use Rattle.sigma.specs.Valid.{Valid};
 ghost use Rattle.sigma.specs.Instance.{instanceWith};
@@ -40,6 +43,21 @@ pub fn round_refusal(h: Header, commitment: [u32; 8], challenge: u32, response: 
         return 16;
     }
     0
+}
+
+// The verdict on a round: accepted, rejected with all rows whose two sides differ, or refused with 14 to 16. `judge` and the marker
+// take these steps themselves, since a verdict that is handed on once more makes a round of one row a fifth slower.
+pub fn judge_loaded(h: Header, entries: [[u32; 8]; 8], statement: [u32; 8], round: Round) -> Verdict
+    requires { ⌜ Valid (instanceWith h entries statement) ⌝ }
+    ensures { λ answer. ⌜ answer ≡ judgeLoaded (instanceWith h entries statement) round ⌝ }
+{
+    let t = round.commitment;
+    let r = round.response;
+    let refusal = round_refusal(h, t, round.challenge, r);
+    if refusal != 0 {
+        return Verdict::Refused(refusal);
+    }
+    verdict(h, entries, statement, t, round.challenge, r)
 }
 
 // The simulated commitment for challenge c and response r: the image of r times the statement by -c, a value for each row,

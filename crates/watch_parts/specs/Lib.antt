@@ -1,0 +1,2 @@
+-- A watch of its parts.
+pub mod Parts
