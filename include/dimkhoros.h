@@ -30,8 +30,8 @@
  * What a call takes. Any bytes and any numbers: every call ends in an answer, and it is proved to be the one that the call's
  * definition gives (docs/promises/exports.md lists the definitions). The caller owes four things. A pointer with a length
  * behind it points to that many bytes or numbers (where the length is 0 it is not used and may be NULL). A pointer written
- * with the size of an array points to that much, and one to a session or a round to one. What a call writes to
- * shares no byte with anything else that the same call is given. And nobody else changes these bytes during the call.
+ * with the size of an array points to that much, one to a session or a round to one, and a store to a function. What a call
+ * writes to shares no byte with anything else that the same call is given. And nobody else changes these bytes during the call.
  *
  * Sheets. A sheet describes a homomorphism, its table, with a statement, and comes as bytes. Each call that takes one tests
  * it from the start and refuses a bad one with 2 to 11. m is the modulus, q the order and e the exponent, K the challenge
@@ -45,8 +45,8 @@
  *
  * Refusals. A call answers a number, or a struct with a field `refusal`: 0, or the number of what was refused. Where several
  * apply it is the earliest in the order 23, 24, 1 to 9, 27, 10, 11, 26, 12, 25, 13 to 16, 28, 17 to 22. A refused call changes
- * no session, array or buffer, and has 0 in every other field of its answer. Compilers warn of a call whose answer is thrown
- * away.
+ * no session, watch, array or buffer, and has 0 in every other field of its answer. Compilers warn of a call whose answer is
+ * thrown away.
  *
  * Random numbers are the caller's: nonces, challenges and simulated responses are handed in. A nonce has to be drawn at
  * random from all coordinates for each session, or the responses give the witness away.
@@ -81,6 +81,7 @@ extern "C" {
 #define DIMKHOROS_ENTRIES 64            /* numbers in a table: row i, column j, both from 0, stands at 8 * i + j */
 #define DIMKHOROS_MOST_PLAYERS 8        /* players of the largest team */
 #define DIMKHOROS_PARTS 64              /* numbers that a team brings: value i of player p, both from 0, stands at 8 * p + i */
+#define DIMKHOROS_MOST_REMEMBERED 63    /* accepted rounds that the fullest watch remembers */
 #define DIMKHOROS_LONGEST_SHEET 308     /* bytes of the longest sheet */
 #define DIMKHOROS_SHIPPED_PATTERNS 34   /* bytes of the pattern file that dimkhoros_patterns writes */
 #define DIMKHOROS_MOST_PATTERNS 32      /* patterns in the fullest pattern file */
@@ -156,7 +157,8 @@ extern "C" {
     REFUSAL(18, COMMITMENTS_DIFFER, "the two rounds have different commitments")                                  \
     REFUSAL(19, CHALLENGES_EQUAL, "the two rounds have the same challenge")                                       \
     REFUSAL(20, ROUND_REJECTED, "one of the two rounds, or both, would be rejected")                              \
-    REFUSAL(21, SESSION, "the session's state does not allow the call, or what it holds does not fit this sheet") \
+    REFUSAL(21, SESSION, "the session's state does not allow the call, or what the session or watch holds does"   \
+                         " not fit this sheet")                                                                   \
     REFUSAL(22, BUFFER, "the buffer is too short for the result")                                                 \
     REFUSAL(23, PATTERN_FILE, "the bytes are no pattern file: the mark, version, count, rows, columns, number of" \
                               " values or length is wrong")                                                       \
@@ -336,6 +338,30 @@ typedef struct {
     uint32_t challenge;
     uint32_t phase;
 } DimkhorosVerifierSession;
+
+/*
+ * A watch for used nonces: the bytes of the sheet that it was opened on, and the last accepted rounds that it was given. It is a
+ * value: two copies of a watch go on apart, and neither knows the rounds that the other is given.
+ *
+ * It may hold anything: dimkhoros_hear says what it refuses with 21. What stands in `rounds` from `count` on, in `sheet` from
+ * `length` on, and in a round beyond its s and n values, is not read.
+ */
+typedef struct {
+    DimkhorosRound rounds[DIMKHOROS_MOST_REMEMBERED]; /* the remembered rounds, the newest first */
+    uint8_t sheet[DIMKHOROS_LONGEST_SHEET];           /* the sheet */
+    uint32_t length;                                  /* how many bytes the sheet has */
+    uint32_t count;                                   /* how many rounds are remembered */
+} DimkhorosWatch;
+
+/*
+ * What a watch says of a round. The round is accepted only where `verdict.accepted` is 1: a refused round has 0 there too. Of a
+ * round that is not accepted `back` is 0.
+ */
+typedef struct {
+    uint32_t witness[DIMKHOROS_PLACES]; /* what this round and the named one give away, zeros if none is named */
+    uint32_t back;                      /* how many accepted rounds back the named one stands, 1 to 63, or 0 for none */
+    DimkhorosJudgement verdict;
+} DimkhorosHeard;
 
 /* --- Sheets --- */
 
@@ -668,6 +694,49 @@ DimkhorosComputed dimkhoros_team_response(const uint8_t *sheet, size_t sheet_len
                                           const uint32_t images[DIMKHOROS_PARTS],
                                           const uint32_t responses[DIMKHOROS_PARTS]);
 
+/* --- A watch for used nonces --- */
+
+/*
+ * A lab whose boxes run all term wants to hear of a nonce that was used twice. It opens a watch on the sheet and gives it every
+ * round, in order:
+ *
+ *     DimkhorosWatch watch;
+ *     uint32_t refusal = dimkhoros_open_watch(sheet, sheet_length, &watch);
+ *     .. if it is 0, for every round ..
+ *     DimkhorosHeard heard = dimkhoros_hear(sheet, sheet_length, &watch, round);
+ *     .. if heard.back is not 0: the nonce was used before, and heard.witness is the witness ..
+ *
+ * The watch remembers the last 63 accepted rounds. For each accepted round it names the nearest remembered one with the same
+ * commitment and another challenge, by how many accepted rounds back that one stands: 1 is the accepted round just before. It
+ * names none exactly if it remembers no such round. So two uses that are more than 63 accepted rounds apart are not seen. A
+ * remembered round with the same commitment and the same challenge gives nothing away, and is not named. Rounds that are rejected
+ * or refused are not remembered, and do not count.
+ *
+ * A round is given by its values. So versions of files play no part: what dimkhoros_read answers can be given to a watch. A watch
+ * has no stored form: after a restart, open a new one and give it the last 63 accepted rounds, and it remembers the same.
+ */
+
+/*
+ * Opens a watch on a sheet: sets `watch` to one that remembers nothing, and answers 0. Refuses 2 to 11: the number is answered,
+ * and `watch` keeps what it holds.
+ */
+DIMKHOROS_CHECKED
+static inline uint32_t dimkhoros_open_watch(const uint8_t *sheet, size_t sheet_length, DimkhorosWatch *watch);
+
+/*
+ * Gives a watch a round. Answers the verdict that dimkhoros_judge answers and, for an accepted round, the named one with the
+ * witness that the two give away. An accepted round is then the newest that `watch` remembers, with zeros beyond its s and n
+ * values, and of 63 older ones the oldest is forgotten. A rejected round leaves `watch` as it is.
+ *
+ * Refuses 2 to 11 and 14 to 16, by the sheet that is handed in, and then 21: if that sheet has other bytes than the one that the
+ * watch was opened on, or more or fewer; if the watch counts more than 63 rounds; or if the round is accepted and the one that it
+ * would name is not. A refused call leaves `watch` as it is, and its answer has the number in `verdict.refusal` and 0 in every
+ * other field.
+ */
+DIMKHOROS_CHECKED
+static inline DimkhorosHeard dimkhoros_hear(const uint8_t *sheet, size_t sheet_length, DimkhorosWatch *watch,
+                                            DimkhorosRound round);
+
 /* --- Round files --- */
 
 /*
@@ -779,6 +848,8 @@ uint32_t dimkhoros_version(void);
  * is an old copy, and whoever answers another challenge from it gives the witness away, of which no compiler warns. At most
  * one challenge is answered where each call is given the session that the last one handed back. The calls above see to that:
  * they are these calls, with the session put back in its place.
+ *
+ * A watch is handed in and back in the same way. An old copy of it gives nothing away, but does not know the newest round.
  */
 
 /* What a call on Peggy's session answers. */
@@ -808,6 +879,20 @@ typedef struct {
     uint32_t challenge0;                /* c0 beside the responses, 0 beside the commitments */
     uint32_t refusal;
 } DimkhorosOrAnswer;
+
+/* What opening a watch answers. A refused one has a watch of no bytes, which fits no sheet. */
+typedef struct {
+    DimkhorosWatch watch;
+    uint32_t refusal;
+} DimkhorosOpened;
+
+/* What a watch answers to a round: the watch to go on with, which is the same if the round is not accepted, and what it says. */
+typedef struct {
+    DimkhorosWatch watch;
+    uint32_t witness[DIMKHOROS_PLACES];
+    uint32_t back;
+    DimkhorosJudgement verdict;
+} DimkhorosWatchAnswer;
 
 /* The pure form of dimkhoros_commit. */
 DIMKHOROS_CHECKED
@@ -858,7 +943,16 @@ DimkhorosOrAnswer dimkhoros_or_prover_respond(const uint8_t *first, size_t first
 DIMKHOROS_CHECKED
 DimkhorosOrAnswer dimkhoros_or_prover_drop(DimkhorosOrSession session);
 
-/* --- How the calls on sessions come from the pure form --- */
+/* The pure form of dimkhoros_open_watch. */
+DIMKHOROS_CHECKED
+DimkhorosOpened dimkhoros_watch_open(const uint8_t *sheet, size_t sheet_length);
+
+/* The pure form of dimkhoros_hear. A watch has 4,600 bytes, which the call takes and answers by value. */
+DIMKHOROS_CHECKED
+DimkhorosWatchAnswer dimkhoros_watch_round(const uint8_t *sheet, size_t sheet_length, DimkhorosWatch watch,
+                                           DimkhorosRound round);
+
+/* --- How the calls on sessions and watches come from the pure form --- */
 
 /* Puts eight numbers into eight places. */
 static inline void dimkhoros_places_copy(uint32_t to[DIMKHOROS_PLACES], const uint32_t from[DIMKHOROS_PLACES]) {
@@ -994,6 +1088,25 @@ static inline uint32_t dimkhoros_or_drop(DimkhorosOrSession *session) {
     DimkhorosOrAnswer answer = dimkhoros_or_prover_drop(*session);
     *session = answer.session;
     return answer.refusal;
+}
+
+static inline uint32_t dimkhoros_open_watch(const uint8_t *sheet, size_t sheet_length, DimkhorosWatch *watch) {
+    const DimkhorosOpened opened = dimkhoros_watch_open(sheet, sheet_length);
+    if (opened.refusal == 0) {
+        *watch = opened.watch;
+    }
+    return opened.refusal;
+}
+
+static inline DimkhorosHeard dimkhoros_hear(const uint8_t *sheet, size_t sheet_length, DimkhorosWatch *watch,
+                                            DimkhorosRound round) {
+    const DimkhorosWatchAnswer answer = dimkhoros_watch_round(sheet, sheet_length, *watch, round);
+    DimkhorosHeard heard;
+    *watch = answer.watch;
+    dimkhoros_places_copy(heard.witness, answer.witness);
+    heard.back = answer.back;
+    heard.verdict = answer.verdict;
+    return heard;
 }
 
 /* --- How sessions are stored --- */

@@ -123,7 +123,8 @@ static inline int dimkhoros_box_is(const DimkhorosLine *line, const char *word, 
 
 /*
  * Sends a word and two runs of numbers, of at most 16 in all, as one line in one write, so that no part of a line ever goes over
- * alone. Answers 0, or the error's number, as in errno. The word has at most 30 letters.
+ * alone. Answers 0, or the error's number, as in errno. The word has at most 30 letters. If nobody reads the wire any more, the
+ * system ends the program (SIGPIPE); in one that ignores this signal, EPIPE is answered.
  */
 DIMKHOROS_CHECKED
 static inline int dimkhoros_box_send(int wire, const char *word, const uint32_t *first, size_t first_count,

@@ -1,7 +1,8 @@
 /*
- * The extractor, the simulator and the OR proof, for a lecture. Two rounds on one nonce give the witness away, so nobody can make
- * such rounds without knowing it; rounds can be simulated without the witness, so a round tells Vic nothing about it; and Peggy,
- * who knows a witness of one of two sheets, simulates the other, so a round does not tell which of the two she knows.
+ * The extractor, a watch, the simulator and the OR proof, for a lecture. Two rounds on one nonce give the witness away, so that
+ * nobody can make such rounds without knowing it; a watch that is given the rounds of a term tells of such a nonce; rounds can be
+ * simulated without the witness, so a round tells Vic nothing about it; and Peggy, who knows a witness of one of two sheets,
+ * simulates the other, so a round does not tell which of the two she knows.
  */
 #include "common.h"
 #include <string.h>
@@ -46,6 +47,29 @@ static void show_extractor(const uint8_t *sheet, size_t length) {
     DimkhorosComputed extracted = dimkhoros_extract(sheet, length, first, second);
     expect(extracted.refusal);
     printf("the two rounds give the witness away: x = %u\n", extracted.values[0]);
+}
+
+/* The rounds of a term. The second is rejected. The nonce of the first comes again with the same challenge, then with another. */
+static const DimkhorosRound term[] = {
+    {{9}, 3, {4}}, {{3}, 3, {0}}, {{9}, 3, {4}}, {{4}, 9, {10}}, {{9}, 1, {1}}, {{3}, 4, {3}},
+};
+
+/* A watch is given the rounds one by one, and tells of a nonce that is used again. */
+static void show_watch(const uint8_t *sheet, size_t length) {
+    printf("\nA watch. It is given the rounds of a term one by one, and remembers the last %d accepted ones.\n",
+           DIMKHOROS_MOST_REMEMBERED);
+    DimkhorosWatch watch;
+    expect(dimkhoros_open_watch(sheet, length, &watch));
+    for (size_t i = 0; i < sizeof term / sizeof term[0]; i++) {
+        DimkhorosHeard heard = dimkhoros_hear(sheet, length, &watch, term[i]);
+        expect(heard.verdict.refusal);
+        printf("t = %u, c = %u, r = %2u, %s", term[i].commitment[0], term[i].challenge, term[i].response[0],
+               heard.verdict.accepted ? "accepted" : "rejected in row 0");
+        if (heard.back != 0) {
+            printf("; the nonce was used %u accepted rounds back: x = %u", heard.back, heard.witness[0]);
+        }
+        printf("\n");
+    }
 }
 
 /* For one challenge, the rounds that anybody can simulate are those that Peggy can make. */
@@ -146,6 +170,7 @@ int main(void) {
     uint8_t sheet[DIMKHOROS_LONGEST_SHEET];
     size_t length = page_a(sheet);
     show_extractor(sheet, length);
+    show_watch(sheet, length);
     show_simulator(sheet, length, 3);
     Pair pair = paired(sheet, length);
     show_or_proof(&pair);

@@ -19,6 +19,7 @@ from .rounds import OrRound, OrVerdict, OrWitness, Round, Side, Verdict
 from .session import NotStored, SessionSpent
 from .team import Team
 from .verifier import Verifier, VerifierPhase
+from .watch import Heard, Reuse, Watch
 
 __all__ = [
     "EXPONENT",
@@ -26,6 +27,7 @@ __all__ = [
     "Damaged",
     "Found",
     "Header",
+    "Heard",
     "Instance",
     "Layout",
     "NotStored",
@@ -39,6 +41,7 @@ __all__ = [
     "Prover",
     "ProverPhase",
     "Refusal",
+    "Reuse",
     "Round",
     "RoundFile",
     "RoundWriter",
@@ -49,6 +52,7 @@ __all__ = [
     "Verdict",
     "Verifier",
     "VerifierPhase",
+    "Watch",
     "__version__",
     "mark",
     "reason",

@@ -36,6 +36,8 @@ EXPORTS = {
     "or_extract": (c.OrExtracted, [*Given, *Given, c.OrRound, c.OrRound]),
     "team_commitment": (c.Computed, [*Given, U32, Numbers, Numbers]),
     "team_response": (c.Computed, [*Given, U32, Numbers, Numbers]),
+    "watch_open": (c.Opened, [*Given]),
+    "watch_round": (c.WatchAnswer, [*Given, c.Watch, c.Round]),
     "mark": (Size, [*Given, *Given, *Given, Bytes]),
     "reason": (Size, [*Given, *Given, Bytes]),
     "prover_new": (c.ProverSession, []),

@@ -53,7 +53,7 @@ def listed(values: Iterable[_Value], name: str) -> tuple[_Value, ...]:
             return tuple(values)
     except TypeError:
         pass
-    raise TypeError(f"{name} has to be a list of values")
+    raise TypeError(f"a list of values is needed for {name}")
 
 
 def numbers(values: Iterable[int], name: str) -> tuple[int, ...]:
@@ -65,9 +65,13 @@ def exactly(count: int, values: Iterable[int], name: str) -> tuple[int, ...]:
     """The values as a tuple, if there are so many and each is a number of 32 bits."""
     found = numbers(values, name)
     if len(found) != count:
-        words = "1 value" if count == 1 else f"{count} values"
-        raise ValueError(f"{name} has to have {words} on this sheet, and has {len(found)}")
+        raise ValueError(f"{name} has to have {counted(count, 'value')} on this sheet, and has {len(found)}")
     return found
+
+
+def counted(count: int, what: str) -> str:
+    """A count in words, such as `2 values`."""
+    return f"{count} {what}" if count == 1 else f"{count} {what}s"
 
 
 def places(values: tuple[int, ...]) -> ctypes.Array:
@@ -109,6 +113,12 @@ def data(value: bytes | bytearray | memoryview, name: str) -> bytes:
 def given(value: bytes) -> tuple[bytes, int]:
     """Bytes as the library takes them, with their length."""
     return value, len(value)
+
+
+def function(value: object, name: str) -> None:
+    """Raises an error where the value cannot be called."""
+    if not callable(value):
+        raise TypeError(f"{name} has to be a function")
 
 
 def of_kind(kind: type, value: object, name: str) -> None:

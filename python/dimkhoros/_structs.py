@@ -2,7 +2,7 @@
 
 import ctypes
 
-from ._sizes import ENTRIES, PARTS, PLACES
+from ._sizes import ENTRIES, LONGEST_SHEET, MOST_REMEMBERED, PARTS, PLACES
 
 U32 = ctypes.c_uint32
 Size = ctypes.c_size_t
@@ -156,3 +156,26 @@ class OrAnswer(ctypes.Structure):
         ("challenge0", U32),
         ("refusal", U32),
     ]
+
+
+class Watch(ctypes.Structure):
+    """A watch for used nonces."""
+
+    _fields_ = [
+        ("rounds", Round * MOST_REMEMBERED),
+        ("sheet", ctypes.c_uint8 * LONGEST_SHEET),
+        ("length", U32),
+        ("count", U32),
+    ]
+
+
+class Opened(ctypes.Structure):
+    """What opening a watch answers."""
+
+    _fields_ = [("watch", Watch), ("refusal", U32)]
+
+
+class WatchAnswer(ctypes.Structure):
+    """What a watch answers to a round."""
+
+    _fields_ = [("watch", Watch), ("witness", Places), ("back", U32), ("verdict", Judgement)]

@@ -7,7 +7,7 @@ from dataclasses import astuple, dataclass, fields, replace
 
 from . import _structs
 from ._library import buffer, calls
-from ._numbers import data, exactly, given, listed, number, numbers, of_kind, places, rows, several
+from ._numbers import counted, data, exactly, given, listed, number, numbers, of_kind, places, rows, several
 from ._sizes import EXPONENT, LONGEST_SHEET, PLACES
 from .patterns import Patterns
 from .refusals import check
@@ -43,6 +43,7 @@ class Values:
 
     def __post_init__(self) -> None:
         """Lists become tuples."""
+        of_kind(Header, self.header, "the header")
         table = tuple(numbers(row, "a row of the table") for row in listed(self.entries, "the table"))
         object.__setattr__(self, "entries", table)
         object.__setattr__(self, "statement", numbers(self.statement, "the statement"))
@@ -193,8 +194,9 @@ def _table(values: Values) -> _structs.Entries:
     header = values.header
     expected = header.rows if header.kind == EXPONENT else 0
     if header.kind == EXPONENT and len(values.entries) != expected:
-        words = "1 row" if expected == 1 else f"{expected} rows"
-        raise ValueError(f"the table has to have {words} on this sheet, and has {len(values.entries)}")
+        raise ValueError(
+            f"the table has to have {counted(expected, 'row')} on this sheet, and has {len(values.entries)}"
+        )
     table = _structs.Entries()
     for row in range(expected):
         entries = exactly(header.columns, values.entries[row], f"row {row} of the table")

@@ -6,7 +6,7 @@ from collections.abc import Callable, Iterable
 
 from . import _structs
 from ._library import calls
-from ._numbers import exactly, held, number, numbers, places
+from ._numbers import exactly, function, held, number, numbers, places
 from ._stored import Damaged
 from .pair import Pair, sheets
 from .prover import ProverPhase, ProverSession, store_or_raise
@@ -58,6 +58,7 @@ class OrProver(ProverSession):
     ) -> tuple[OrProver, OrRound]:
         """Responds as `respond` does, and hands the round out only after `store` has succeeded, as
         `Prover.respond_after` does."""
+        function(store, "the store")
         session, round = self.respond(pair, challenge, witness)
         store_or_raise(session, store)
         return session, round

@@ -8,7 +8,7 @@ from typing import TypeVar
 
 from . import _sizes, _structs
 from ._library import calls
-from ._numbers import exactly, held, number, places
+from ._numbers import exactly, function, held, number, places
 from ._stored import Damaged
 from .instance import Instance, sheet_of
 from .session import NotStored, Session
@@ -122,6 +122,7 @@ class Prover(ProverSession):
         that was stored before, and to return only once it would be found again after the box is switched off. Where
         it raises an error, `NotStored` is raised and the response is gone. Where the call is refused, `store` is not
         called."""
+        function(store, "the store")
         session, response = self.respond(instance, challenge, witness)
         store_or_raise(session, store)
         return session, response

@@ -25,7 +25,7 @@ SENTENCES = {
     18: "the two rounds have different commitments",
     19: "the two rounds have the same challenge",
     20: "one of the two rounds, or both, would be rejected",
-    21: "the session's state does not allow the call, or what it holds does not fit this sheet",
+    21: "the session's state does not allow the call, or what the session or watch holds does not fit this sheet",
     22: "the buffer is too short for the result",
     23: "the bytes are no pattern file: the mark, version, count, rows, columns, number of values or length is wrong",
     24: "a pattern has a digit above its number of values, or a value that no digit names",

@@ -6,7 +6,7 @@ from collections.abc import Iterator
 from typing import overload
 
 from ._library import buffer, calls
-from ._numbers import data, given, number, of_kind, size, whole
+from ._numbers import counted, data, given, number, of_kind, size, whole
 from ._sizes import LONGEST_FILE
 from .instance import Instance
 from .refusals import check
@@ -69,7 +69,7 @@ class RoundFile:
             return tuple(map(self.read, range(self._count)[number]))
         place = whole(number, "the number of a round")
         if not -self._count <= place < self._count:
-            raise IndexError(f"the file has {self._count} rounds, and none of this number")
+            raise IndexError(f"the file has {counted(self._count, 'round')}, and none of this number")
         return self.read(place % self._count)
 
     def part(self, number: int) -> slice:

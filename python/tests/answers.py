@@ -1,5 +1,6 @@
 """The answers of the module's calls, in the words of docs/vectors.txt."""
 
+import itertools
 import struct
 import zlib
 
@@ -13,12 +14,15 @@ from dimkhoros import (
     Patterns,
     Prover,
     Refusal,
+    Reuse,
     Round,
     RoundFile,
     RoundWriter,
     Team,
     Values,
     Verifier,
+    Watch,
+    _structs,
     mark,
     reason,
 )
@@ -80,8 +84,7 @@ def shown_session(session):
     shown, rest = {}, values
     for name, count in fields:
         places, rest = rest[:count], rest[count:]
-        last = max([1] + [place + 1 for place, value in enumerate(places) if value])
-        shown[name] = listed(places[:last])
+        shown[name] = shortest(places)
     order = OR_ORDER if isinstance(session, OrProver) else shown
     return " ".join([f"phase={phases[rest[0]]}"] + [f"{name}={shown[name]}" for name in order])
 
@@ -95,6 +98,43 @@ def stepped(session, call):
         if session.to_stored() != before:
             raise AssertionError("a refused call changed the session") from None
         raise
+
+
+def shortest(places):
+    """A list of numbers without the zeros at its end, but for the first number."""
+    last = max([1] + [place + 1 for place, value in enumerate(places) if value])
+    return listed(places[:last])
+
+
+def found_watch(sheet, inputs):
+    """The watch that a line describes: it holds this sheet and its length where the line does not say otherwise."""
+    held = _structs.Watch(count=inputs.number("count"))
+    held.length = inputs.number("length") if inputs.has("length") else len(sheet)
+    kept = inputs.bytes("held") if inputs.has("held") else sheet
+    held.sheet[: len(kept)] = list(kept)
+    for place, (t, c, r) in enumerate(inputs.rounds("rounds")):
+        held.rounds[place].challenge = c
+        held.rounds[place].commitment[: len(t)] = t
+        held.rounds[place].response[: len(r)] = r
+    return held
+
+
+def shown_memory(held):
+    """How many rounds a watch counts, and its rounds up to the last that is not zeros. Equal ones that follow each
+    other are one with their number."""
+    shown = [f"{shortest(found.commitment)}:{found.challenge}:{shortest(found.response)}" for found in held.rounds]
+    while shown and shown[-1] == "0:0:0":
+        shown.pop()
+    runs = [(text, len(list(run))) for text, run in itertools.groupby(shown)]
+    rounds = "/".join(text if count == 1 else f"{text}*{count}" for text, count in runs)
+    return f"count={held.count} rounds={rounds or '-'}"
+
+
+def shown_bytes(held):
+    """The bytes that a watch holds, up to the last that is not 0 and at least as many as its length says."""
+    kept = bytes(held.sheet)
+    shown = kept[: max(len(kept.rstrip(b"\0")), held.length)]
+    return f"held={shown.hex() or '-'}"
 
 
 def or_round(inputs, behind):
@@ -271,6 +311,30 @@ class Answers:
         later = {10: ["refused 27"], 11: ["refused 27"], 28: ["refused 14", "refused 16"]}
         if self.expected in later.get(number, []):
             raise NoCall("the sheet or the team is refused before the call is made")
+
+    def watch_open(self, inputs):
+        """A watch that is opened."""
+        held = Watch.open(self.sheet)._held
+        return f"{shown_memory(held)} length={held.length} {shown_bytes(held)}"
+
+    def watch_round(self, inputs):
+        """What a watch says of a round, and the watch without what it holds of the sheet. A call that is refused leaves
+        the watch as it was."""
+        sheet = self.sheet
+        watch = Watch._of(sheet, found_watch(sheet.bytes, inputs))
+        before = bytes(watch._held)
+        try:
+            heard = watch.hear(self.round(inputs, ""))
+        except Refusal:
+            if bytes(watch._held) != before:
+                raise AssertionError("a refused call changed the watch") from None
+            raise
+        held, none = watch._held, Reuse(0, (0,) * sheet.header.columns)
+        reuse = heard.reuse or none
+        words = [self.verdict(heard.verdict), f"back={reuse.back} x={listed(reuse.witness)}", shown_memory(held)]
+        words += [f"length={held.length}"] if held.length != len(sheet.bytes) else []
+        words += [shown_bytes(held)] if bytes(held.sheet) != sheet.bytes.ljust(308, b"\0") else []
+        return " ".join(words)
 
     def mark(self, inputs):
         """The marker's text."""

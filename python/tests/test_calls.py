@@ -29,6 +29,7 @@ from dimkhoros import (
     Values,
     Verdict,
     Verifier,
+    Watch,
     mark,
     reason,
 )
@@ -145,15 +146,18 @@ class Taken(unittest.TestCase):
 
     def test_a_list_has_an_order_and_no_truth_values(self):
         """A set has no order, so a nonce of two values could be held either way round. `True` is no 1."""
-        for nonce in [{5}, {5: 7}, [True], True, None, 5]:
-            with self.assertRaisesRegex(TypeError, "the nonce has to be a (list of values|whole number)"):
+        for nonce in [{5}, {5: 7}, True, None, 5]:
+            with self.assertRaisesRegex(TypeError, "^a list of values is needed for the nonce$"):
                 Prover().commit(page_a(), nonce)
+        with self.assertRaisesRegex(TypeError, "^a value of the nonce has to be a whole number$"):
+            Prover().commit(page_a(), [True])
+        with self.assertRaisesRegex(TypeError, "^a list of values is needed for the images$"):
+            Team(page_a(), {(8,), (16,)})
         for call in [
             lambda: Prover().commit(page_d(), {7, 8}),
             lambda: Round({9}, 3, [4]),
             lambda: Round([9], True, [4]),
             lambda: Verifier().take_challenge(page_a(), True),
-            lambda: Team(page_a(), {(8,), (16,)}),
             lambda: Team(page_a(), [[8], [16]]).join_responses({(1,), (2,)}),
             lambda: Values(page_a().header, {(2,)}, [13]),
             lambda: Header(True, 23, 11, 11, 1, 1),
@@ -167,7 +171,7 @@ class Taken(unittest.TestCase):
             self.assertEqual(Prover().commit(page_a(), nonce)[1], (9,))
 
     def test_what_is_no_sheet(self):
-        """In a sentence, wherever a sheet is asked for. So are pairs, patterns and values."""
+        """In a sentence, wherever a sheet is asked for. So are pairs, patterns, values and headers."""
         for value in [None, page_a().bytes, 5]:
             for call in [
                 lambda: Prover().commit(value, [5]),
@@ -178,6 +182,7 @@ class Taken(unittest.TestCase):
                 lambda: Pair(page_a(), value),
                 lambda: Pair(value, page_a()),
                 lambda: Team(value, [[8], [16]]),
+                lambda: Watch.open(value),
                 lambda: RoundFile.open(value, b"RND\0\1\0\0"),
                 lambda: RoundWriter.start(value),
             ]:
@@ -188,6 +193,7 @@ class Taken(unittest.TestCase):
                 lambda: OrProver().respond(value, 3, [7]),
                 lambda: Instance.from_pattern(value, 1, modulus=23, order=11, challenges=11, statement=[13]),
                 lambda: Instance.encode(value),
+                lambda: Values(value, [[2]], [13]),
             ]:
                 with self.assertRaisesRegex(TypeError, "has to be of the type"):
                     call()
@@ -330,8 +336,12 @@ class Rounds(unittest.TestCase):
         for number in [3, -4, 2**64, -(2**64)]:
             with self.assertRaisesRegex(IndexError, "^the file has 3 rounds, and none of this number$"):
                 file[number]
+        writer = RoundWriter.start(page_a())
         with self.assertRaisesRegex(IndexError, "^the file has 0 rounds, and none of this number$"):
-            RoundWriter.start(page_a()).file[0]
+            writer.file[0]
+        writer.append(rounds[0])
+        with self.assertRaisesRegex(IndexError, "^the file has 1 round, and none of this number$"):
+            writer.file[1]
         for number in [True, "0", 0.0, None]:
             with self.assertRaisesRegex(TypeError, "^the number of a round has to be a whole number$"):
                 file[number]
@@ -409,6 +419,7 @@ class AnyBytes(unittest.TestCase):
             self.tried(lambda: page.judge(first))
             self.tried(lambda: page.simulate(first.challenge, first.response))
             self.tried(lambda: page.extract(first, second))
+            self.tried(lambda: Watch.open(page).hear(first))
             self.tried(lambda: Team(page, [first.commitment, second.commitment]).join_responses([first.response] * 2))
             self.tried(lambda: Prover().commit(page, first.response)[0].respond(page, first.challenge, second.response))
             self.tried(lambda: Verifier().take_commitment(page, first.commitment).take_challenge(page, first.challenge))

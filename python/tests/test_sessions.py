@@ -306,6 +306,17 @@ class Storing(unittest.TestCase):
         self.assertEqual(caught.exception.session.phase, ProverPhase.ANSWERED)
         self.assertRaises(SessionSpent, peggy.respond, page_a(), 3, [7])
 
+    def test_what_is_no_store_spends_nothing(self):
+        """A store is a function, and whoever has none can still answer."""
+        peggy, (pair, either) = committed(), or_committed()
+        for store in [None, "session.bin", []]:
+            with self.assertRaisesRegex(TypeError, "^the store has to be a function$"):
+                peggy.respond_after(page_a(), 3, [7], store)
+            with self.assertRaisesRegex(TypeError, "^the store has to be a function$"):
+                either.respond_after(pair, 4, [1, 2], store)
+        self.assertEqual(peggy.respond(page_a(), 3, [7])[1], (4,))
+        self.assertTrue(pair.judge(either.respond(pair, 4, [1, 2])[1]))
+
     @staticmethod
     def full(_):
         """A store that fails."""

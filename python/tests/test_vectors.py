@@ -26,8 +26,8 @@ def answer(given, name, words, expected):
 
 
 def spread(expected):
-    """An answer with the bytes of its buffer written out."""
-    return re.sub(r"buffer=(\S+)", lambda found: f"buffer={bytes_of(found[1]).hex()}", expected)
+    """An answer with the bytes of its buffer, or of a watch's sheet, written out."""
+    return re.sub(r"(buffer|held)=([^\s-]+)", lambda found: f"{found[1]}={bytes_of(found[2]).hex()}", expected)
 
 
 def compared(wanted=None):

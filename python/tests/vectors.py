@@ -36,6 +36,10 @@ class Inputs:
         """A value as it stands on the line."""
         return self.left.pop(name)
 
+    def has(self, name):
+        """Whether there is an input of this name that is not taken yet."""
+        return name in self.left
+
     def number(self, name):
         """A number."""
         return int(self.text(name))
@@ -48,6 +52,15 @@ class Inputs:
         """Lists of numbers with a slash between them; the empty list alone is no list."""
         text = self.text(name)
         return [] if text == "-" else [numbers_of(row) for row in text.split("/")]
+
+    def rounds(self, name):
+        """The rounds of a watch, t:c:r each, with a slash between them; one may stand so many times."""
+        text, found = self.text(name), []
+        for piece in text.split("/") if text != "-" else []:
+            words, _, count = piece.partition("*")
+            t, c, r = words.split(":")
+            found += [(numbers_of(t), int(c), numbers_of(r))] * int(count or 1)
+        return found
 
     def bytes(self, name):
         """Bytes."""

@@ -6,6 +6,7 @@ use Rattle.patterns.proofs.Corollaries.{maker-corollaries}
 use Rattle.products.proofs.TeamAnswers.{team-corollaries}
 use Rattle.reasons.proofs.ReasonsTrue.{reason-corollaries}
 use Rattle.runs.proofs.Corollaries.{run-corollaries}
+use Rattle.watches.proofs.Corollaries.{watch-corollaries}
 use Rattle.demands.specs.Corollaries.{Corollaries}
 use Rattle.demands.specs.Ours.{ours}
 use Rattle.demands.proofs.MarksFiles.{marker-corollaries}
@@ -19,4 +20,5 @@ corollaries = record {
   patterns = maker-corollaries;
   one-of-two = or-corollaries;
   team = team-corollaries;
+  watch = watch-corollaries;
 }

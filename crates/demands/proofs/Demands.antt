@@ -10,6 +10,8 @@ use Rattle.examples.proofs.Pages.{worked-examples}
 use Rattle.examples.proofs.ReasonPage.{reason-page}
 use Rattle.examples.proofs.RowsPage.{rows-page}
 use Rattle.examples.proofs.TeamPage.{team-page}
+use Rattle.examples.proofs.WatchCorners.{watch-corners}
+use Rattle.examples.proofs.WatchPage.{watch-page}
 use Rattle.formats.specs.Load.{load}
 use Rattle.formats.proofs.ByteLayout.{layout}
 use Rattle.formats.proofs.Converts.{convert-refusals, converts}
@@ -32,6 +34,9 @@ use Rattle.runs.proofs.RunRefusals.{mark-refusals, run-refusals}
 use Rattle.runs.proofs.RunsWhere.{rounds-run}
 use Rattle.runs.proofs.Sessions.{sessions}
 use Rattle.sigma.proofs.Answer.{verdict-outcomes}
+use Rattle.watches.proofs.RunsWhere.{watch-runs}
+use Rattle.watches.proofs.WatchRefusals.{watch-refusals}
+use Rattle.watches.proofs.WatchesNonces.{watch-works}
 use Rattle.demands.specs.Calls.{Calls}
 use Rattle.demands.specs.Demands.{Demands}
 use Rattle.demands.specs.Evidence.{Evidence}
@@ -57,6 +62,7 @@ holds = record {
     words = words-refusals;
     team = team-refusals;
     sixteen-bits = convert-refusals;
+    watch = watch-refusals;
   };
   runs-where = record {
     files = files-run;
@@ -64,6 +70,7 @@ holds = record {
     patterns = makers-run;
     one-of-two = either-runs;
     team = team-runs;
+    watch = watch-runs;
   };
   main-protocol = main-protocol;
   protocol = protocol;
@@ -82,6 +89,7 @@ holds = record {
     sixteen-bits = converts;
     loses-nothing = loses-nothing;
     rows = all-rows;
+    watch = watch-works;
   };
   patterns = patterns-mean;
   arithmetic = arithmetic;
@@ -103,8 +111,11 @@ evidence = record {
   round-corners = every-disjunct .3;
   or-corners = every-disjunct .4;
   team-corners = every-disjunct .5;
+  watch-corners = watch-corners;
   reason-page = reason-page;
   or-page = worked-examples .2;
+  session-page = worked-examples .3;
   team-page = team-page;
   rows-page = rows-page;
+  watch-page = watch-page;
 }

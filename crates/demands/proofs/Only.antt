@@ -8,6 +8,7 @@ use Rattle.products.proofs.Only.{only-team}
 use Rattle.reasons.proofs.Only.{only-reasons}
 use Rattle.runs.proofs.Only.{only-runs}
 use Rattle.runs.proofs.RunDemands.{RunDemands}
+use Rattle.watches.proofs.Only.{only-watches}
 use Rattle.demands.specs.Calls.{Calls}
 use Rattle.demands.specs.Demands.{Demands}
 use Rattle.demands.specs.Same.{Same}
@@ -58,4 +59,5 @@ only code code′ d d′ =
       either = only-either (either-demands code d) (either-demands code′ d′) runs;
       team = only-team (code .team) (code′ .team) (d .refusals .team) (d′ .refusals .team) (d .cards .team .answers)
           (d′ .cards .team .answers);
+      watches = only-watches (d .refusals .watch) (d′ .refusals .watch) (d .cards .watch .answers) (d′ .cards .watch .answers) runs;
     }

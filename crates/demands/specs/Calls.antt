@@ -1,4 +1,4 @@
--- The public calls of 01 and of 02's cards 1 to 8, those of each topic together: what any code has to give. No call's definition is
+-- The public calls of 01 and of 02's cards 1 to 9, those of each topic together: what any code has to give. No call's definition is
 -- named.
 -- Assumes nothing.
 use Rattle.disjunctions.specs.OrCalls.{OrCalls}
@@ -8,6 +8,7 @@ use Rattle.products.specs.TeamCalls.{TeamCalls}
 use Rattle.reasons.specs.ReasonCalls.{ReasonCalls}
 use Rattle.runs.specs.MarkerCalls.{MarkerCalls}
 use Rattle.runs.specs.RunCalls.{RunCalls}
+use Rattle.watches.specs.WatchCalls.{WatchCalls}
 
 pub record Calls : Type 0 where
   -- sheets and round files
@@ -24,3 +25,5 @@ pub record Calls : Type 0 where
   pub either : OrCalls
   -- card 6: the team's combiner
   pub team : TeamCalls
+  -- card 9: a watch for used nonces
+  pub watches : WatchCalls

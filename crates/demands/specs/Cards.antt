@@ -9,6 +9,7 @@ use Rattle.patterns.specs.PatternCalls.{PatternCalls}
 use Rattle.products.specs.TeamWorks.{TeamWorks}
 use Rattle.reasons.specs.ReasonsTrue.{ReasonsTrue}
 use Rattle.runs.specs.ReadsAlike.{LosesNothing}
+use Rattle.watches.specs.WatchesNonces.{WatchWorks}
 use Rattle.demands.specs.AllRows.{AllRows}
 use Rattle.demands.specs.Calls.{Calls}
 
@@ -35,3 +36,7 @@ pub record Cards (code : Calls) : Type 0 where
   -- 8: a verdict that rejects carries exactly the rows whose two sides differ, in a session or out of one, and on both sides of the OR
   -- proof
   pub rows : AllRows (code .files) (code .runs) (code .either)
+  -- 9: over any calls a watch remembers the last 63 accepted rounds that came with its sheet's bytes; of an accepted round it names the
+  -- nearest of them with the same commitment and another challenge, with the witness that the extractor gives for the two, and none
+  -- exactly if there is no such round
+  pub watch : WatchWorks (code .files) (code .runs) (code .watches)

@@ -18,6 +18,7 @@ use Rattle.runs.specs.Corollaries.{RunCorollaries}
 use Rattle.runs.specs.MarkerCalls.{MarkerCalls, verdictOn}
 use Rattle.runs.specs.RunCalls.{RunCalls}
 use Rattle.sigma.specs.Meaning.{FailsExactly, FailsFirst}
+use Rattle.watches.specs.Corollaries.{WatchCorollaries}
 use Rattle.demands.specs.Calls.{Calls}
 use Rattle.demands.specs.MarksFiles.{printed, rowsLine}
 
@@ -50,3 +51,4 @@ pub record Corollaries (code : Calls) : Type 0 where
   pub patterns : MakerCorollaries
   pub one-of-two : OrCorollaries (code .files) (code .either)
   pub team : TeamCorollaries (code .team)
+  pub watch : WatchCorollaries (code .watches)

@@ -10,9 +10,12 @@ use Rattle.examples.specs.PatternCorners.{PatternCorners}
 use Rattle.examples.specs.ReasonPage.{ReasonPage}
 use Rattle.examples.specs.RoundCorners.{RoundCorners}
 use Rattle.examples.specs.RowsPage.{RowsPage}
+use Rattle.examples.specs.SessionPage.{SessionPage}
 use Rattle.examples.specs.SheetCorners.{SheetCorners}
 use Rattle.examples.specs.TeamCorners.{TeamCorners}
 use Rattle.examples.specs.TeamPage.{TeamPage}
+use Rattle.examples.specs.WatchCorners.{WatchCorners}
+use Rattle.examples.specs.WatchPage.{WatchPage}
 
 pub record Evidence : Type 0 where
   -- 01's starred pages, and texts of the marker and the reason byte by byte
@@ -26,11 +29,16 @@ pub record Evidence : Type 0 where
   pub round-corners : RoundCorners
   pub or-corners : OrCorners
   pub team-corners : TeamCorners
+  pub watch-corners : WatchCorners
   -- the reason's whole line for every number and each of its causes
   pub reason-page : ReasonPage
   -- a worked pair of sheets for the OR proof
   pub or-page : OrPage
+  -- worked sessions, with all that is held after each call
+  pub session-page : SessionPage
   -- worked teams
   pub team-page : TeamPage
   -- worked rows that differ
   pub rows-page : RowsPage
+  -- a worked watch
+  pub watch-page : WatchPage

@@ -7,6 +7,7 @@ use Rattle.products.specs.Ours.{teamCalls}
 use Rattle.reasons.specs.Ours.{reasonCalls}
 use Rattle.runs.specs.Marker.{markerCalls}
 use Rattle.runs.specs.Ours.{runCalls}
+use Rattle.watches.specs.Ours.{watchCalls}
 use Rattle.demands.specs.Calls.{Calls}
 
 abbrev pub ours : Calls
@@ -18,4 +19,5 @@ ours = record {
   makers = makerCalls;
   either = orCalls;
   team = teamCalls;
+  watches = watchCalls;
 }

@@ -12,6 +12,7 @@ use Rattle.formats.specs.WordsCompare.{WordsRefusals}
 use Rattle.patterns.specs.PatternCalls.{PatternRefusals}
 use Rattle.products.specs.TeamWorks.{TeamRefusals}
 use Rattle.runs.specs.RunRefusals.{MarkRefusals, RunRefusals}
+use Rattle.watches.specs.WatchesNonces.{WatchRefusals}
 use Rattle.demands.specs.Calls.{Calls}
 
 pub record Refusals (code : Calls) : Type 0 where
@@ -36,3 +37,5 @@ pub record Refusals (code : Calls) : Type 0 where
   pub team : TeamRefusals (code .team)
   -- card 7: converting a round file
   pub sixteen-bits : ConvertRefusals (code .files)
+  -- card 9: opening a watch and giving it a round
+  pub watch : WatchRefusals (code .watches)

@@ -6,6 +6,7 @@ use Rattle.formats.specs.RunsWhere.{FilesRun}
 use Rattle.patterns.specs.RunsWhere.{MakersRun}
 use Rattle.products.specs.RunsWhere.{TeamRuns}
 use Rattle.runs.specs.RunsWhere.{RoundsRun}
+use Rattle.watches.specs.RunsWhere.{WatchRuns}
 use Rattle.demands.specs.Calls.{Calls}
 
 pub record RunsWhere (code : Calls) : Type 0 where
@@ -19,3 +20,5 @@ pub record RunsWhere (code : Calls) : Type 0 where
   pub one-of-two : EitherRuns (code .files) (code .runs) (code .either)
   -- card 6: the combiner's calls
   pub team : TeamRuns (code .files) (code .team)
+  -- card 9: opening a watch and giving it a round
+  pub watch : WatchRuns (code .files) (code .runs) (code .watches)

@@ -9,6 +9,7 @@ use Rattle.patterns.specs.Same.{SameMakers}
 use Rattle.products.specs.Same.{SameTeam}
 use Rattle.reasons.specs.Same.{SameReasons}
 use Rattle.runs.specs.Same.{SameRuns}
+use Rattle.watches.specs.Same.{SameWatches}
 use Rattle.demands.specs.Calls.{Calls}
 
 pub record Same (code code′ : Calls) : Type 0 where
@@ -19,3 +20,4 @@ pub record Same (code code′ : Calls) : Type 0 where
   pub makers : SameMakers (code .makers) (code′ .makers)
   pub either : SameEither (code .either) (code′ .either)
   pub team : SameTeam (code .team) (code′ .team)
+  pub watches : SameWatches (code .watches) (code′ .watches)

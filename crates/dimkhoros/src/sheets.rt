@@ -4,7 +4,7 @@ use types::Loaded;
 use types::Written;
 ghost use mathlib.Core.Path.{_≡_};
 ghost use Rattle.formats.specs.Encode.{encode};
-ghost use Rattle.formats.specs.Load.{load, loadRefusal};
+ghost use Rattle.formats.specs.Load.{load};
 ghost use Rattle.patterns.specs.Maker.{makeFrom};
 ghost use Rattle.patterns.specs.Table.{writeShipped};
 ghost use Rattle.tables.specs.Flat.{flatInstance, flatUnlessRefused};
@@ -21,7 +21,7 @@ pub extern "C" fn dimkhoros_load(sheet: &[u8]) -> Loaded
 // and entries keeps its numbers.
 #[no_mangle]
 pub extern "C" fn dimkhoros_entries(sheet: &[u8], entries: &mut [u32; 64]) -> u32
-    ensures answer { λ r. ⌜ r ≡ loadRefusal (now (sheet .entry)) ⌝ }
+    ensures answer { λ r. ⌜ r ≡ load (now (sheet .entry)) .refusal ⌝ }
     ensures numbers { λ _. ⌜ now (entries .exit) ≡ flatUnlessRefused (now (sheet .entry)) (now (entries .entry)) ⌝ }
 {
     tables::store_entries(sheet, entries)

@@ -20,6 +20,7 @@ use Rattle.examples.specs.SheetCorners.{badSheets, callsOn, writing, She
 use Rattle.examples.specs.Sheets.{fourBytes, schnorrSheet, sheetBytes, smallSheet}
 use Rattle.examples.specs.TeamCorners.{bothPlayers, commitments, images, onOther, responses, withCommitments, withImages, withResponses, TeamCorners}
 use Rattle.examples.specs.TeamPage.{brought, each, joining, multiplying, pairBytes, teamNumbers}
+use Rattle.examples.specs.WatchPage.{newWatch}
 use Rattle.examples.specs.TwoRows.{exponents, first, narrow, raised, reworded, roots, roundWith, second, spoilt, table, twoRoots, wide}
 use Rattle.formats.specs.Append.{append, appendAfter, appendRules, appended, badInUse, wideChallenge}
 use Rattle.formats.specs.Convert.{convert, convertAfter, convertRules, converted, otherVersion, wideRecord}
@@ -57,12 +58,15 @@ use Rattle.sigma.specs.Admission.{badCount, badEntries, badKind, badModulus, ba
 use Rattle.sigma.specs.Answer.{computed, eightPlaces, isAccepted, judged, outcome, rowsOf}
 use Rattle.sigma.specs.Comparison.{compareSides, differ, differences, firstDifference}
 use Rattle.sigma.specs.Element.{isCoordinate, isElement, someNonCoordinate, someNonElement}
-use Rattle.sigma.specs.Extractor.{extractAfter, extractRules, extracted, formula, slotFormula}
+use Rattle.sigma.specs.Extractor.{extractAfter, extractLoaded, extractRules, extracted, formula, slotFormula}
 use Rattle.sigma.specs.Image.{image, rowImage}
 use Rattle.sigma.specs.Instance.{entry, isExponent, statementAt}
-use Rattle.sigma.specs.Judge.{judgeAfter, judgeRules}
+use Rattle.sigma.specs.Judge.{judgeAfter, judgeLoaded, judgeRules}
+use Rattle.sigma.specs.Reads.{paddedRound}
 use Rattle.sigma.specs.Round.{badChallenge, badCommitment, badCoordinates, badWitness, expectedImage, response, responseCoordinate, verdict}
 use Rattle.sigma.specs.Simulator.{simulateAfter, simulateRules, simulated}
+use Rattle.watches.specs.Watch.{freshWatch, isNamed, isWatched, namedRound, nearest, noting, openWatch, remembering, reuses, unfitWatch, watchAfter, watchRound, watchRules, watchVerdict, zeroRound}
+use Rattle.watches.specs.Window.{rememberedAt}
 use mathlib.Core.List.{flatten}
 
 pub every-disjunct : SheetCorners × PatternCorners × FileCorners × RoundCorners × OrCorners × TeamCorners
@@ -103,9 +107,12 @@ unfolding extractOr extractOrAfter extractOrRules extractedOf extractedOr extrac
     compareSides differ differences firstDifference isCoordinate isElement someNonCoordinate someNonElement
     extractAfter extractRules extracted formula slotFormula image rowImage entry isExponent statementAt judgeAfter
     judgeRules badChallenge badCommitment badCoordinates badWitness expectedImage response responseCoordinate verdict
-    simulateAfter simulateRules simulated flatten
+    simulateAfter simulateRules simulated extractLoaded judgeLoaded paddedRound freshWatch isNamed isWatched namedRound
+    nearest noting openWatch remembering reuses unfitWatch watchAfter watchRound watchRules watchVerdict zeroRound
+    rememberedAt newWatch flatten
 every-disjunct = (
   record {
+    passing = refl;
     loading7 = (refl, refl);
     loading8 = (refl, refl);
     loading10 = (refl, refl);

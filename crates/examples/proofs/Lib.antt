@@ -2,5 +2,7 @@
 pub mod Pages
 pub mod TeamPage
 pub mod RowsPage
+pub mod WatchPage
 pub mod ReasonPage
 pub mod Corners
+pub mod WatchCorners

@@ -274,6 +274,7 @@ use Rattle.examples.specs.OrPage.{
   fewerChallenges,
   OrPage,
 }
+use Rattle.examples.specs.SessionPage.{first8, orHolds, peggyHolds, vicHolds, SessionPage}
 use Rattle.examples.specs.Pages.{array, smallRound, run, bothWays, judging, repeated, reasonOn, EveryPage}
 use Rattle.examples.specs.Sheets.{
   fourBytes,
@@ -296,7 +297,7 @@ above-count number values statement high =
     ∙ stop 1 _ (says-asked shippedBytes number _ _ .complete (inl high))
 
 -- the three tables hold
-pub worked-examples : EveryPage × EveryCorner × OrPage
+pub worked-examples : EveryPage × EveryCorner × OrPage × SessionPage
 unfolding euclid gcd residue quotient power bezoutRight bezoutLeft inverse product find any itemsAt tabulate places pad8
     zeros8 eightByEight unlessRefused lowest numberAt bytesOf bytesOfEach ascii digits decimal firstDivisor badKind
     badModulus badOrder badSize badCount badEntries badStatement headerRules elementRules outcome isAccepted judged
@@ -328,7 +329,7 @@ unfolding euclid gcd residue quotient power bezoutRight bezoutLeft inverse produ
     respondOrAfter dropOrRules commitOr respondOr dropOr otherChallenge firstRound secondRound readOr logarithmSheet
     smallOr judgingOr orRun bothWaysOr orJudging orExtracting orPeggy knowsFirst orCommitting orResponding orNumbers
     fewerChallenges unknownVersion emptyRules wideChallenge otherVersion wideRecord converted convertRules convertAfter
-    convert roundsOf fileIn storing starting converting narrowFile
+    convert roundsOf fileIn storing starting converting narrowFile first8 peggyHolds vicHolds orHolds
 worked-examples = (
   record {
     A = refl;
@@ -405,5 +406,20 @@ worked-examples = (
     refusal19 = (refl, refl);
     refusal20 = (refl, refl);
     refusal21 = (refl, refl);
+  },
+  record {
+    committed = refl;
+    answered = refl;
+    dropped-new = refl;
+    dropped = refl;
+    holding = refl;
+    asked = refl;
+    judged = refl;
+    rejected = refl;
+    or-committed = refl;
+    or-answered = refl;
+    or-dropped = refl;
+    or-committed-second = refl;
+    or-answered-second = refl;
   },
 )

@@ -1,12 +1,14 @@
--- 01's calculator pages, the marker's example, a worked pair of sheets for the OR proof, worked teams, worked rows that differ, the
--- reason's lines, and the corners of each part of each refusal's condition.
+-- 01's calculator pages, the marker's example, a worked pair of sheets for the OR proof, worked sessions, worked teams, worked rows
+-- that differ, a worked watch, the reason's lines, and the corners of each part of each refusal's condition.
 pub mod Sheets
 pub mod Pages
 pub mod MarkerExample
 pub mod Corners
 pub mod OrPage
+pub mod SessionPage
 pub mod TeamPage
 pub mod RowsPage
+pub mod WatchPage
 pub mod TwoRows
 pub mod ReasonPage
 pub mod RoundCorners
@@ -15,3 +17,4 @@ pub mod PatternCorners
 pub mod FileCorners
 pub mod OrCorners
 pub mod TeamCorners
+pub mod WatchCorners

@@ -169,12 +169,14 @@ pub record OrCorners : Type 0 where
   pub refusal26 :
       Corner 26 (orNumbers logarithmSheet rootBytes)
       (orNumbers (changed logarithmSheet 17 4) rootBytes ++ orNumbers logarithmSheet fewerChallenges)
-  -- each row of both commitments, of either round
+  -- each row of both commitments, of either round; also if a slot of the other side's response is wrong
   pub refusal14 :
       Corner 14 (onOr honestOr)
       (flatten
       (map (λ t. onOr (commitmentsOr t (33 ∷ 32 ∷ []))) (spoilt (3 ∷ 4 ∷ []) 5) ++
-      map (λ t. onOr (commitmentsOr (3 ∷ 4 ∷ []) t)) (spoilt (33 ∷ 32 ∷ []) 14)))
+      map (λ t. onOr (commitmentsOr (3 ∷ 4 ∷ []) t)) (spoilt (33 ∷ 32 ∷ []) 14)) ++
+      onOr (orWith (3 ∷ 4 ∷ []) (33 ∷ 14 ∷ []) 1 3 (15 ∷ 4 ∷ 9 ∷ []) (24 ∷ 19 ∷ [])) ++
+      onOr (orWith (3 ∷ 5 ∷ []) (33 ∷ 32 ∷ []) 1 3 (4 ∷ 4 ∷ 9 ∷ []) (59 ∷ 19 ∷ [])))
   -- c and c0 of either round, and what Peggy brings for either side; 6 is 1 mod K
   pub refusal15 :
       Corner 15 (eitherSide cleanOr) (onOr (challengesOr 6 3) ++ onOr (challengesOr 1 8) ++ eitherSide highOr)

@@ -5,12 +5,13 @@ use Prim.Native.Nat.{ℕ}
 use mathlib.Core.Path.{_≡_}
 use mathlib.Core.List.{List, [], _∷_, _++_, map}
 use lib.ListN.{length, replicate}
+use lib.Seq.{sets}
 use Rattle.types.specs.declared.ProverPhase.the-variants.{Committed}
 use Rattle.types.specs.declared.VerifierPhase.the-variants.{Holding, Asked}
 use Rattle.formats.specs.Append.{append}
 use Rattle.formats.specs.Convert.{convert}
 use Rattle.formats.specs.Encode.{encode}
-use Rattle.formats.specs.Load.{load, loadEntries}
+use Rattle.formats.specs.Load.{load, loadEntries, loadRefusal}
 use Rattle.formats.specs.RoundCalls.{checkRound, countRounds, fetchRound, partOfRound}
 use Rattle.formats.specs.SameCommitment.{sameCommitment}
 use Rattle.formats.specs.Sheet.{headerOf, instanceOf}
@@ -20,6 +21,7 @@ use Rattle.runs.specs.Prover.{commit, newProver, respond}
 use Rattle.runs.specs.Verifier.{newVerifier, takeChallenge, takeCommitment, takeResponse}
 use Rattle.sigma.specs.Answer.{outcome}
 use Rattle.sigma.specs.Instance.{Instance}
+use Rattle.watches.specs.Watch.{openWatch, watchRound}
 use Rattle.examples.specs.Corners.{
   Corner,
   SheetCorner,
@@ -37,6 +39,7 @@ use Rattle.examples.specs.Pages.{array, smallRound}
 use Rattle.examples.specs.Sheets.{schnorrSheet, smallSheet}
 use Rattle.examples.specs.TeamPage.{teamNumbers}
 use Rattle.examples.specs.TwoRows.{reworded, twoRoots}
+use Rattle.examples.specs.WatchPage.{newWatch}
 
 -- ---- the second writer
 
@@ -70,6 +73,8 @@ callsOn sheet =
     convert sheet exampleFile (replicate 47 0) .answer .refusal ∷
     sameCommitment sheet exampleFile 0 1 .refusal ∷
     markRefusal sheet exampleFile (7 ∷ []) ∷
+    openWatch sheet .refusal ∷
+    outcome (watchRound sheet (newWatch schnorrSheet) (smallRound 9 3 4) .verdict) .number ∷
     teamNumbers sheet 2 (8 ∷ 16 ∷ []) (9 ∷ 1 ∷ []) (4 ∷ 0 ∷ [])
 
 -- and of those that take two, for a sheet on either side
@@ -85,6 +90,11 @@ badSheets =
     changed schnorrSheet 23 5 ∷ changed schnorrSheet 27 5 ∷ []
 
 pub record SheetCorners : Type 0 where
+  -- the loader takes what no condition names: an even modulus and the largest, an even ℓ and the largest, and a K that is no prime
+  pub passing : map loadRefusal
+      (smallSheet 8 2 2 3 5 ∷ sets (smallSheet 0 2 2 1 1) 6 (255 ∷ 255 ∷ 255 ∷ 255 ∷ []) ∷
+      sets (smallSheet 23 0 2 1 1) 10 (255 ∷ 255 ∷ 255 ∷ 255 ∷ []) ∷ smallSheet 23 11 4 2 13 ∷ [])
+      ≡ replicate 4 0
   -- the loader: rows and columns that are equal and out of bounds in kind 2; K 0, a divisor 2, and a divisor in kind 2; each entry of two
   -- rows and three columns; each value of two statements
   pub loading7 : SheetCorner 7 (twoRoots ∷ []) (onesSheet 2 0 0 0 ∷ onesSheet 2 9 9 9 ∷ [])

@@ -44,13 +44,16 @@ onOther sheet =
     bothPlayers sheet (4 ∷ 2 ∷ []) (18 ∷ 3 ∷ []) (2 ∷ 16 ∷ []) (13 ∷ 6 ∷ []) (0 ∷ 4 ∷ 4 ∷ []) (4 ∷ 0 ∷ 5 ∷ [])
 
 pub record TeamCorners : Type 0 where
-  -- each player's image, each row of it: no group element by its order, and by its size
+  -- each player's image, each row of it: no group element by its order, and by its size; also if another player's commitment or response
+  -- is wrong
   pub refusal11 :
       Corner 11 (teamNumbers schnorrSheet 8 images commitments responses ++ onOther table)
       (flatten (map (λ bad. teamNumbers schnorrSheet 8 bad commitments responses) (spoilt images 5 ++ raised images 23)) ++
       flatten (map (λ bad. withImages bad (18 ∷ 3 ∷ [])) (spoilt (4 ∷ 2 ∷ []) 5)) ++
       flatten (map (λ bad. withImages (4 ∷ 2 ∷ []) bad) (spoilt (18 ∷ 3 ∷ []) 5)) ++
-      flatten (map onOther (reworded table 5 (44 ∷ 48 ∷ []))))
+      flatten (map onOther (reworded table 5 (44 ∷ 48 ∷ []))) ++
+      teamNumbers schnorrSheet 2 (8 ∷ 5 ∷ []) (5 ∷ 1 ∷ []) (11 ∷ 0 ∷ []) ++
+      teamNumbers schnorrSheet 2 (5 ∷ 16 ∷ []) (9 ∷ 5 ∷ []) (4 ∷ 11 ∷ []))
   -- each entry of the sheet
   pub refusal10 : Corner 10 [] (flatten (map onOther (reworded table 5 (20 ∷ 24 ∷ 28 ∷ 32 ∷ 36 ∷ 40 ∷ []))))
   -- each player's commitment, each row of it

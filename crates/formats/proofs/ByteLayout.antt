@@ -28,13 +28,12 @@ use Rattle.formats.specs.ByteLayout.{
   FileLayout,
   HighByteFirst,
   Layout,
-  LoadedLayout,
   RootLayout,
   RoundAt,
   SheetLayout,
   WordsAt,
 }
-use Rattle.formats.specs.Load.{load, loadRefusal}
+use Rattle.formats.specs.Load.{load}
 use Rattle.formats.specs.Meaning.{recordSize}
 use Rattle.formats.specs.Ours.{fileCalls}
 use Rattle.formats.specs.RoundCalls.{countRounds}
@@ -52,15 +51,13 @@ use Rattle.formats.specs.Sheet.{
   entryCount,
   headerOf,
   instanceOf,
-  sheetLength,
-  sheetMark,
   statementOf,
   versionOf,
   zeros64,
 }
 use Rattle.formats.proofs.Entries.{entryCount-exponent, entryCount-root}
 use Rattle.formats.proofs.Files.{check-runs, count-given, count-runs, fetch-given, width-known, width-only}
-use Rattle.formats.proofs.Loads.{loaded-given, loads, loads-few}
+use Rattle.formats.proofs.Loads.{loaded-given, loads-few}
 use Rattle.formats.proofs.Part.{part-given, place-given}
 
 -- ---- arrays of eight places
@@ -139,20 +136,6 @@ module _ (s : List ℕ) where
     root = root-layout;
   }
 
-  -- a sheet that loads
-  loaded-layout : loadRefusal s ≡ 0 → LoadedLayout fileCalls s
-  unfolding versionOf sheetMark sheetLength ascii
-  loaded-layout e =
-      let l = loads s .0 e in
-      let h = headerOf s in
-      record {
-        mark = l .mark;
-        version = l .version;
-        exponent = λ k. l .exact ∙ ap (λ (n : ℕ). 20 + 4 * n + 4 * h .rows) (entryCount-exponent h k);
-        root = λ k. l .exact ∙ ap (λ (n : ℕ). 20 + 4 * n + 4 * h .rows) (entryCount-root h k);
-        values = loaded-given s e;
-      }
-
 -- ---- round files
 
 -- a round that is read from index `at` on
@@ -207,7 +190,7 @@ unfolding load challengeWidth fileVersion
 layout = record {
   numbers = high-byte-first;
   sheets = sheet-layout;
-  loading = loaded-layout;
+  loading = loaded-given;
   widths = λ f width known. width-only known;
   files = file-layout;
 }

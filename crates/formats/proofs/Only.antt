@@ -85,7 +85,7 @@ module _ (code code′ : FileCalls) (d : FileDemands code) (d′ : FileDemands c
   -- the values of a sheet that loads, and so both calls that load it
   values-same : (sheet : List ℕ) → code .load sheet .refusal ≡ 0 → code′ .load sheet .refusal ≡ 0
       → loaded code sheet ≡ loaded code′ sheet
-  values-same sheet e e′ = d .layout .loading sheet e .values ∙ sym (d′ .layout .loading sheet e′ .values)
+  values-same sheet e e′ = d .layout .loading sheet e ∙ sym (d′ .layout .loading sheet e′)
 
   load-same : (sheet : List ℕ) → code .load sheet ≡ code′ .load sheet
   load-same sheet =

@@ -1,22 +1,19 @@
 -- Exactly when the calls on sheets and round files are not refused, in other words than the conditions: it holds of the definitions.
 -- Assumes nothing.
-use Prim.Native.Nat.{ℕ, _+_, _^_, _<_, _≤_, _∣_}
+use Prim.Native.Nat.{ℕ, _+_, _*_, _^_, _<_, _≤_}
 use mathlib.Core.Path.{_≡_, refl, sym, ap, subst, _∙_}
 use mathlib.Core.Logic.{_↔_, _⊎_, inl, inr, ⊎-elim}
-use mathlib.Core.List.{List, [], _∷_}
+use mathlib.Core.List.{List}
 use native.Mathlib.Omega.{arith}
 use lib.ListN.{length, take}
 use Rattle.types.specs.declared.Counted.{Counted}
 use Rattle.types.specs.declared.Round.{Round}
 use Rattle.encoding.specs.Bytes.{AllBytes, numberAt}
+use Rattle.encoding.specs.Text.{ascii}
 use Rattle.encoding.proofs.Bytes.{numberAt-take}
 use Rattle.lists.proofs.Member.{member-at}
-use Rattle.rules.specs.Condition.{Condition, _if_, Applies, Given}
-use Rattle.rules.specs.Refuses.{conditionNumbers}
 use Rattle.rules.proofs.Determined.{below-or-not, either}
-use Rattle.rules.proofs.Explains.{applies-fact}
-use Rattle.sigma.specs.Instance.{Instance}
-use Rattle.sigma.specs.Refusals.{Refusal8}
+use Rattle.sigma.specs.Instance.{Instance, statementAt}
 use Rattle.sigma.specs.Valid.{Valid}
 use Rattle.formats.specs.Append.{append, emptyFile}
 use Rattle.formats.specs.Convert.{convert, otherVersion}
@@ -26,17 +23,17 @@ use Rattle.formats.specs.Load.{load, loadRefusal}
 use Rattle.formats.specs.Meaning.{HasWidth, InUse, IsVersion, readInstance, recordSize}
 use Rattle.formats.specs.Ours.{appendEach, fileCalls, loaded, roundsRead}
 use Rattle.formats.specs.Outcome.{Puts}
-use Rattle.formats.specs.Refusals.{loadConditions}
 use Rattle.formats.specs.RoundCalls.{checkRound, countRounds, fetchAfter, fetchRound, noRound}
-use Rattle.formats.specs.RoundFile.{challengeWidth, countField, fileVersion, recordLength, widthInUse, widthOf}
+use Rattle.formats.specs.RoundFile.{challengeWidth, fileVersion, recordLength, widthInUse, widthOf}
 use Rattle.formats.specs.Rounds.{roundsOf}
-use Rattle.formats.specs.RunsWhere.{FilesRun}
-use Rattle.formats.specs.Sheet.{headerOf, instanceOf, versionOf}
+use Rattle.formats.specs.RunsWhere.{FilesRun, IsSheet}
+use Rattle.formats.specs.Sheet.{entryCount, headerOf, instanceOf, sheetLength, sheetMark, versionOf}
 use Rattle.formats.proofs.AppendedEach.{written-counted, written-fits}
 use Rattle.formats.proofs.Appending.{Narrow, append-runs, in-use-long, width-narrow}
 use Rattle.formats.proofs.ConvertCalls.{convert-runs}
 use Rattle.formats.proofs.Converting.{narrow-records, other-known, other-version}
 use Rattle.formats.proofs.Converts.{other-only}
+use Rattle.formats.proofs.Entries.{entryCount-exponent, entryCount-root}
 use Rattle.formats.proofs.FileRefusals.{file-refusals}
 use Rattle.formats.proofs.Files.{check-runs, count-given, count-runs, rounds-read, width-known, width-only}
 use Rattle.formats.proofs.FilesByCalls.{rewritten}
@@ -44,62 +41,65 @@ use Rattle.formats.proofs.Loads.{loaded-given, loads, loads-valid}
 use Rattle.formats.proofs.RoundFileRoundTrip.{append-each}
 use Rattle.formats.proofs.Rounds.{each-round, length-roundsOf, round-of}
 use Rattle.formats.proofs.SameCommitment.{same-runs}
-use Rattle.formats.proofs.SheetRoundTrip.{encode-loads, load-encodes}
-use Rattle.formats.proofs.SheetWritten.{sheet-mark, sheet-version}
+use Rattle.formats.proofs.SheetRoundTrip.{encode-loads}
 use Rattle.formats.proofs.Unread.{read-same, valid-same}
-use Rattle.formats.proofs.Writing.{empty-runs, encode-puts, encode-runs, length-sheetOf, puts-front}
+use Rattle.formats.proofs.Writing.{empty-runs, encode-runs, length-sheetOf, puts-front}
 
 -- ---- sheets
 
--- a sheet loads exactly if its values are written as the sheet
-loads-written : (s : List ℕ) → AllBytes s → (loadRefusal s ≡ 0) ↔ Puts s s (encode (instanceOf s) s)
-unfolding instanceOf
-loads-written s b = (
-  λ e. subst (λ (i : Instance). Puts s s (encode i s)) (loaded-given s e) (load-encodes s b e s (omega arith)),
-  λ p.
-      let i = instanceOf s in
-      let same : sheetOf i ≡ s = sym (puts-front (encode-puts i s (p .number))) ∙ puts-front p in
-      loads s .1 (record {
-        mark = ap (λ (l : List ℕ). take 3 l) (sym same) ∙ sheet-mark i;
-        version = ap versionOf (sym same) ∙ sheet-version i;
-        valid = encode-runs i s .0 (p .number) .0;
-        exact = ap length (sym same) ∙ length-sheetOf i;
-      }),
-)
-
--- a number above 0 that conditions give is that of one that holds
-given-applies : (conditions : List Condition) (n : ℕ) → Given conditions n → 0 < n → Applies conditions n
-given-applies [] n none some = absurd (omega arith)
-given-applies ((m if P) ∷ conditions) n (inl here) some = inl here
-given-applies ((m if P) ∷ conditions) n (inr later) some = inr (given-applies conditions n (later .1) some)
-
--- a sheet that is refused with 8 has its condition
-refused-8 : (s : List ℕ) → loadRefusal s ≡ 8 → Refusal8 (headerOf s)
-unfolding conditionNumbers load
-refused-8 s e =
-    applies-fact (loadConditions s) 8 (omega arith)
-    (given-applies (loadConditions s) 8 (subst (Given (loadConditions s)) e (file-refusals .loading s .given)) (omega arith))
-
--- K is from 2 to 65,536 and at most every divisor of ℓ from 2 on
-abbrev CountFits : List ℕ → Type 0
-CountFits s =
-    (2 ≤ numberAt 4 s 14) × (numberAt 4 s 14 ≤ 65536) × ((d : ℕ) → 2 ≤ d → d ∣ numberAt 4 s 10 → numberAt 4 s 14 ≤ d)
-
-eight-exactly : (s : List ℕ) → (loadRefusal s ≡ 0) ⊎ (loadRefusal s ≡ 8) → (loadRefusal s ≡ 0) ↔ CountFits s
-unfolding headerOf instanceOf
-eight-exactly s number = (
-  λ e.
-      let v = loads-valid s e .table in (
-        v .some-challenges,
-        v .few-challenges,
-        λ d two divides. below-or-not d (numberAt 4 s 14) (λ less. absurd (v .no-divisor d two less divides)) (λ most. most),
-      ),
-  λ (two, few, most).
-      ⊎-elim (λ e. e)
-      (λ e.
-      absurd (⊎-elim (λ low. omega arith)
-      (⊎-elim (λ high. omega arith) (λ (d, some, less, divides). omega (arith, most d some divides))) (refused-8 s e))) number,
-)
+-- any bytes load exactly if they are a sheet
+sheet-exactly : (s : List ℕ) → (loadRefusal s ≡ 0) ↔ IsSheet s
+unfolding headerOf instanceOf versionOf sheetMark sheetLength ascii statementAt
+sheet-exactly s =
+    let h = headerOf s in
+    let sized : (n : ℕ) → entryCount h ≡ n → sheetLength h ≡ 20 + 4 * n + 4 * h .rows = λ n. ap (λ (k : ℕ). 20 + 4 * k + 4 * h .rows) in (
+      λ e.
+          let l = loads s .0 e in
+          let t = l .valid .table in
+          record {
+            mark = l .mark;
+            version = l .version;
+            modulus = t .modulus;
+            order = t .order;
+            challenges = (
+              t .some-challenges,
+              t .few-challenges,
+              λ d two divides. below-or-not d (h .challenges) (λ less. absurd (t .no-divisor d two less divides)) (λ most. most),
+            );
+            rows = (t .some-row, t .few-rows);
+            columns = (t .some-column, t .few-columns);
+            kind =
+                ⊎-elim (λ one. inl (one, l .exact ∙ sized _ (entryCount-exponent h one)))
+                (λ two. inr (two, t .square two, l .exact ∙ sized 0 (entryCount-root h (λ (one : h .kind ≡ 1). omega arith)))) (t .kind);
+            entries = t .entries;
+            statement = l .valid .statement;
+          },
+      λ i.
+          loads s .1 (record {
+            mark = i .mark;
+            version = i .version;
+            valid = record {
+              table = record {
+                kind = ⊎-elim (λ one. inl (one .0)) (λ two. inr (two .0)) (i .kind);
+                modulus = i .modulus;
+                order = i .order;
+                some-row = i .rows .0;
+                few-rows = i .rows .1;
+                some-column = i .columns .0;
+                few-columns = i .columns .1;
+                square = λ two. ⊎-elim (λ one. absurd (omega (arith, one .0))) (λ both. both .1) (i .kind);
+                some-challenges = i .challenges .0;
+                few-challenges = i .challenges .1;
+                no-divisor = λ d two less divides. omega (arith, i .challenges .2 d two divides);
+                entries = i .entries;
+              };
+              statement = i .statement;
+            };
+            exact =
+                ⊎-elim (λ one. one .1 ∙ sym (sized _ (entryCount-exponent h (one .0))))
+                (λ two. two .2 ∙ sym (sized 0 (entryCount-root h (λ (one : h .kind ≡ 1). omega (arith, two .0))))) (i .kind);
+          }),
+    )
 
 -- values are written exactly if their sheet loads as them and fits
 encodes-loaded : (i : Instance) (buffer : List ℕ) → i .header .modulus < 2 ^ 32 → i .header .order < 2 ^ 32
@@ -232,8 +232,7 @@ converts-written s f buffer =
 pub files-run : FilesRun fileCalls
 unfolding load fetchRound fetchAfter checkRound fileVersion
 files-run = record {
-  loads = loads-written;
-  eight = eight-exactly;
+  loads = sheet-exactly;
   encodes = encodes-loaded;
   counts = counts-written;
   checks = checks-below;

@@ -65,15 +65,6 @@ pub record RoundAt (width : ℕ) (h : Header) (file : List ℕ) (at : ℕ) (roun
 module _ (code : FileCalls) where
   open FileCalls code using (load, countRounds, partOfRound, locateRound, fetchRound)
 
-  -- a sheet that loads: its mark and length, and the loader gives these values
-  pub record LoadedLayout (sheet : List ℕ) : Type 0 where
-    pub mark : take 3 sheet ≡ 0x48 ∷ 0x4F ∷ 0x4D ∷ []
-    pub version : numberAt 2 sheet 3 ≡ 1
-    pub exponent : headerOf sheet .kind ≡ 1
-        → length sheet ≡ 20 + 4 * (headerOf sheet .rows * headerOf sheet .columns) + 4 * headerOf sheet .rows
-    pub root : headerOf sheet .kind ≢ 1 → length sheet ≡ 20 + 4 * headerOf sheet .rows
-    pub values : loaded code sheet ≡ instanceOf sheet
-
   -- a round file that reads for a sheet, and whose challenges have so many bytes
   pub record FileLayout (width : ℕ) (sheet file : List ℕ) : Type 0 where
     pub mark : take 3 file ≡ 0x52 ∷ 0x4E ∷ 0x44 ∷ []
@@ -94,7 +85,8 @@ module _ (code : FileCalls) where
   pub record Layout : Type 0 where
     pub numbers : HighByteFirst
     pub sheets : (sheet : List ℕ) → SheetLayout sheet
-    pub loading : (sheet : List ℕ) → load sheet .refusal ≡ 0 → LoadedLayout sheet
+    -- the loader gives the values of a sheet that loads
+    pub loading : (sheet : List ℕ) → load sheet .refusal ≡ 0 → loaded code sheet ≡ instanceOf sheet
     -- the width of a file's challenges is that of its version
     pub widths : (file : List ℕ) (width : ℕ) → HasWidth (numberAt 2 file 3) width → challengeWidth file ≡ width
     pub files : (sheet file : List ℕ) → countRounds sheet file .refusal ≡ 0 → FileLayout (challengeWidth file) sheet file

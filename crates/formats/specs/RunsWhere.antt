@@ -1,14 +1,16 @@
--- Exactly when the calls on sheets and round files are not refused, in other words than the conditions: by what the other calls of
--- the same code answer.
+-- Exactly when the calls on sheets and round files are not refused, in other words than the conditions: loading by the sheet's bytes,
+-- and the others by what the calls of the same code answer.
 -- Assumes nothing.
-use Prim.Native.Nat.{ℕ, _+_, _^_, _<_, _≤_, _∣_}
+use Prim.Native.Nat.{ℕ, _+_, _*_, _^_, _<_, _≤_, _∣_}
 use mathlib.Core.Path.{_≡_}
 use mathlib.Core.Logic.{_↔_, _⊎_}
-use mathlib.Core.List.{List}
+use mathlib.Core.List.{List, [], _∷_}
 use lib.ListN.{length, take}
 use Rattle.types.specs.declared.Round.{Round}
 use Rattle.encoding.specs.Bytes.{AllBytes, numberAt}
-use Rattle.sigma.specs.Instance.{Instance}
+use Rattle.sigma.specs.Element.{Element}
+use Rattle.sigma.specs.Instance.{Instance, entry, tableOf}
+use Rattle.sigma.specs.Meaning.{Elements}
 use Rattle.formats.specs.Converts.{OneAndOther}
 use Rattle.formats.specs.Encode.{sheetOf}
 use Rattle.formats.specs.FileCalls.{FileCalls, loaded}
@@ -17,15 +19,30 @@ use Rattle.formats.specs.Outcome.{Puts}
 use Rattle.formats.specs.Rounds.{appendEach, roundsRead}
 use Rattle.formats.specs.Sheet.{headerOf, instanceOf}
 
+-- a sheet as 01 has it, by its bytes
+pub record IsSheet (s : List ℕ) : Type 0 where
+  pub mark : take 3 s ≡ 0x48 ∷ 0x4F ∷ 0x4D ∷ []
+  pub version : numberAt 2 s 3 ≡ 1
+  pub modulus : 3 ≤ numberAt 4 s 6
+  pub order : 2 ≤ numberAt 4 s 10
+  -- K is from 2 to 65,536 and at most every divisor of ℓ from 2 on
+  pub challenges : (2 ≤ numberAt 4 s 14) × (numberAt 4 s 14 ≤ 65536) × ((d : ℕ) → 2 ≤ d → d ∣ numberAt 4 s 10 → numberAt 4 s 14 ≤ d)
+  pub rows : (1 ≤ numberAt 1 s 18) × (numberAt 1 s 18 ≤ 8)
+  pub columns : (1 ≤ numberAt 1 s 19) × (numberAt 1 s 19 ≤ 8)
+  -- kind 1 with its length, or kind 2 with as many columns as rows and its length
+  pub kind : ((numberAt 1 s 5 ≡ 1) × (length s ≡ 20 + 4 * (numberAt 1 s 18 * numberAt 1 s 19) + 4 * numberAt 1 s 18))
+      ⊎ ((numberAt 1 s 5 ≡ 2) × (numberAt 1 s 18 ≡ numberAt 1 s 19) × (length s ≡ 20 + 4 * numberAt 1 s 18))
+  -- the entries, which kind 1 alone has, and the statement are group elements
+  pub entries : numberAt 1 s 5 ≡ 1 → (i j : ℕ) → i < numberAt 1 s 18 → j < numberAt 1 s 19
+      → Element (headerOf s) (entry (tableOf (instanceOf s)) i j)
+  pub statement : Elements (instanceOf s) (instanceOf s .statement)
+
 module _ (code : FileCalls) where
   open FileCalls code using (load, encode, countRounds, checkRound, fetchRound, emptyFile, append, sameCommitment, convert)
 
   pub record FilesRun : Type 0 where
-    -- a sheet of bytes loads exactly if the second writer writes it back from the values that stand in it
-    pub loads : (s : List ℕ) → AllBytes s → (load s .refusal ≡ 0) ↔ Puts s s (encode (instanceOf s) s)
-    -- 8 is for a K outside 2 to 65,536 or above a divisor of ℓ from 2 on: a sheet with no other fault loads exactly if K is neither
-    pub eight : (s : List ℕ) → (load s .refusal ≡ 0) ⊎ (load s .refusal ≡ 8) → (load s .refusal ≡ 0)
-        ↔ ((2 ≤ numberAt 4 s 14) × (numberAt 4 s 14 ≤ 65536) × ((d : ℕ) → 2 ≤ d → d ∣ numberAt 4 s 10 → numberAt 4 s 14 ≤ d))
+    -- any bytes load exactly if they are a sheet
+    pub loads : (s : List ℕ) → (load s .refusal ≡ 0) ↔ IsSheet s
     -- values of 32 bits are written exactly if their sheet loads as what is read of them and is not longer than the buffer
     pub encodes : (inst : Instance) (buffer : List ℕ) → inst .header .modulus < 2 ^ 32 → inst .header .order < 2 ^ 32
         → (encode inst buffer .answer .refusal ≡ 0) ↔ ((load (sheetOf inst) .refusal ≡ 0)

@@ -2,6 +2,7 @@
 -- Assumes nothing.
 use Prim.Native.Nat.{ℕ, zero, suc, _+_, _-_, _*_, _≤_, _<_}
 use mathlib.Core.Path.{_≡_, refl, sym, ap, ap₂, _∙_}
+use mathlib.Core.Logic.{_↔_}
 use mathlib.Core.List.{List, [], _∷_, _++_}
 use native.Mathlib.Nat.{zero-add, suc-add, mul-suc, mul-zero}
 use native.Mathlib.Numerals.{add-one}
@@ -159,6 +160,16 @@ places-pad8 n xs = places-agree n (pad8 0 xs) xs (λ j b. getD-pad8 0 xs j)
 pub places-whole : (n : ℕ) (xs : List ℕ) → length xs ≡ n → places n xs ≡ xs
 places-whole n xs e =
     ext-getD 0 (places n xs) xs (length-places n xs ∙ sym e) (λ j b. getD-places n xs j (omega (arith, length-places n xs)))
+
+-- so an array's first n places are a list exactly if that has n numbers and they agree
+pub places-is : (n : ℕ) (xs ys : List ℕ)
+    → (places n xs ≡ ys) ↔ ((n ≡ length ys) × ((j : ℕ) → j < length ys → getD xs j 0 ≡ getD ys j 0))
+places-is n xs ys = (
+  λ e.
+      let long : n ≡ length ys = sym (length-places n xs) ∙ ap length e in
+      (long, λ j b. sym (getD-places n xs j (omega arith)) ∙ ap (λ (l : List ℕ). getD l j 0) e),
+  λ (long, same). ap (λ (k : ℕ). places k xs) long ∙ places-agree (length ys) xs ys same ∙ places-whole (length ys) ys refl,
+)
 
 -- each of eight zeros is 0, and so is what lies beyond
 pub getD-zeros8 : (j : ℕ) → getD zeros8 j 0 ≡ 0

@@ -70,6 +70,20 @@ pub none-join : (xs ys : List Condition) → NoneHold xs → NoneHold ys → Non
 none-join [] ys p q = q
 none-join ((n if holds) ∷ xs) ys p q = (p .0, none-join xs ys (p .1) q)
 
+-- where none of the first holds, the others give the number
+given-later : (xs ys : List Condition) (n : ℕ) → NoneHold xs → Given (xs ++ ys) n → Given ys n
+given-later [] ys n none given = given
+given-later ((m if holds) ∷ xs) ys n none (inl p) = absurd (none .0 (p .0))
+given-later ((m if holds) ∷ xs) ys n none (inr p) = given-later xs ys n (none .1) (p .1)
+
+-- where the first give a number above 0, that is the number
+given-earlier : (xs ys : List Condition) (m n : ℕ) → Given xs m → 0 < m → Given (xs ++ ys) n → n ≡ m
+given-earlier [] ys m n given some more = absurd (omega arith)
+given-earlier ((k if holds) ∷ xs) ys m n (inl p) some (inl q) = q .1 ∙ sym (p .1)
+given-earlier ((k if holds) ∷ xs) ys m n (inl p) some (inr q) = absurd (q .0 (p .0))
+given-earlier ((k if holds) ∷ xs) ys m n (inr p) some (inl q) = absurd (p .0 (q .0))
+given-earlier ((k if holds) ∷ xs) ys m n (inr p) some (inr q) = given-earlier xs ys m n (p .1) some (q .1)
+
 -- of the conditions of two inputs that are tested alike
 pub none-either : (xs ys : List Condition) → NoneHold (eitherConditions xs ys) → NoneHold xs × NoneHold ys
 none-either [] ys none = (tt, none)
@@ -96,3 +110,14 @@ module _ {numbers : List ℕ} {conditions : List Condition} {n n′ : ℕ} {Left
   refused-or-not refused answered =
       either n (λ e. answered e (sym same-number ∙ e) (none-hold e))
       (λ some. refused same-number (d .left some) (d′ .left (subst (λ (k : ℕ). 0 < k) same-number some)))
+
+-- a call that asks its own conditions behind those of another call
+module _ {numbers numbers′ : List ℕ} {xs : List Condition} (ys : List Condition) {m n : ℕ} {Left Left′ : Type 0}
+    (d : Refuses numbers xs m Left) (d′ : Refuses numbers′ (xs ++ ys) n Left′) where
+  -- it is refused as the other is where the other is
+  pub refused-alike : 0 < m → n ≡ m
+  refused-alike some = given-earlier xs ys m n (d .given) some (d′ .given)
+
+  -- else its own conditions give the number
+  pub refused-own : m ≡ 0 → Given ys n
+  refused-own none = given-later xs ys n (none-hold d d none) (d′ .given)

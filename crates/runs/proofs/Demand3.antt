@@ -1,11 +1,13 @@
 -- Demand 3 on bytes: for every sheet that loads, the extractor gives a witness, and the simulated rounds, and the honest
 -- rounds of every witness, are exactly the accepted rounds with one challenge, each met once.
 -- Assumes nothing.
-use Prim.Native.Nat.{ℕ}
-use mathlib.Core.Path.{_≡_, refl, ap, _∙_}
+use Prim.Native.Nat.{ℕ, _<_}
+use mathlib.Core.Path.{_≡_, refl, sym, ap, _∙_}
 use mathlib.Core.Logic.{Iff·trans, Iff·symm}
 use mathlib.Core.List.{List, map}
-use lib.ListN.{length}
+use native.Mathlib.Omega.{arith}
+use lib.ListN.{getD, length}
+use lib.Seq.{ext-getD}
 use Rattle.types.specs.declared.Computed.{Computed}
 use Rattle.types.specs.declared.Header.{Header}
 use Rattle.types.specs.declared.Round.{Round}
@@ -20,7 +22,7 @@ use Rattle.sigma.specs.Instance.{Instance, tableOf}
 use Rattle.sigma.specs.Knowledge.{AcceptedRound, Choice, Witness, honestOn, simulatedOn}
 use Rattle.sigma.specs.Knowledge.{MeetsEachOnce, AcceptedPair, Extraction}
 use Rattle.sigma.specs.Listed.{allChoices, ListsAccepted}
-use Rattle.sigma.specs.Reads.{roundOf, SameRound, paddedRound}
+use Rattle.sigma.specs.Reads.{Agree, roundOf, SameRound, paddedRound}
 use Rattle.sigma.specs.Round.{response}
 use Rattle.sigma.specs.Simulator.{simulated}
 use Rattle.sigma.specs.Valid.{Valid}
@@ -39,6 +41,7 @@ use Rattle.runs.specs.Ours.{Accepts, honestRound, runCalls, simulatedRou
 use Rattle.runs.specs.Prover.{newProver, commit, respond}
 use Rattle.runs.proofs.JointRun.{JointSteps, jointSteps, joint-steps}
 use Rattle.runs.proofs.Loaded.{accepts-loaded, simulate-loaded, extract-loaded}
+use Rattle.runs.proofs.Protocol.{sheet-accepted}
 
 -- ---- rounds in eight places
 
@@ -201,3 +204,21 @@ module _ (sheet : List ℕ) (loaded : loadRefusal sheet ≡ 0) where
     same-list = λ c below x w round.
         Iff·trans (sheet-honest-list c below x w .members round) (Iff·symm (sheet-simulated-list c below .members round));
   }
+
+  -- of an accepted round c and r determine t: it is the simulated one
+  pub one-commitment : (t t′ : List ℕ) (c : ℕ) (r : List ℕ) → Accepts sheet (roundOf t c r) → Accepts sheet (roundOf t′ c r)
+      → Agree (instanceOf sheet .header .rows) t t′
+  unfolding simulatedRound
+  one-commitment t t′ c r e e′ =
+      let n = instanceOf sheet .header .columns in
+      let below : Below sheet c = sheet-accepted sheet loaded (roundOf t c r) .0 e .0 .challenge in
+      let (x, slots, same) = sheet-simulated-rounds c below .met (roundOf t c r) refl e in
+      let (y, slots′, same′) = sheet-simulated-rounds c below .met (roundOf t′ c r) refl e′ in
+      let long : length x ≡ n = each-length _ _ x slots in
+      let long′ : length y ≡ n = each-length _ _ y slots′ in
+      let one : x ≡ y = ext-getD 0 x y (long ∙ sym long′) (λ j inside.
+      let here : j < n = omega (arith, inside, long) in
+      sym (getD-pad8 0 x j) ∙ same .response j here ∙ sym (same′ .response j here) ∙ getD-pad8 0 y j) in
+      λ i inside.
+      sym (same .commitment i inside)
+      ∙ ap (λ (z : List ℕ). getD (simulatedRound sheet c z .commitment) i 0) one ∙ same′ .commitment i inside

@@ -66,6 +66,11 @@ judged-number zero v u = ap (λ (w : Verdict). outcome w .number) (judged-zero v
     given (Refused k) f = absurd (f k refl)
 judged-number (suc n) v u = rw (judged-positive (suc n) v (omega arith))
 
+-- a verdict whose outcome has a number is that refusal
+pub judged-kept : (n : ℕ) (v : Verdict) → ((k : ℕ) → v ≢ Refused k) → 0 < outcome (judged n v) .number
+    → judged n v ≡ Refused (outcome (judged n v) .number)
+judged-kept n v u some = rw (judged-number n v u) (judged-positive n v (rw (judged-number n v u) at some))
+
 -- a verdict whose outcome has the number 0 is accepted or rejected
 pub judged-decided : (n : ℕ) (v : Verdict) → ((k : ℕ) → v ≢ Refused k) → outcome (judged n v) .number ≡ 0
     → (judged n v ≡ Accepted) ⊎ ((mask : ℕ) × (judged n v ≡ Rejected mask))

@@ -1,14 +1,11 @@
 -- Demand 1 of the calls on rounds and sessions, and of the marker: each, for any bytes and any numbers, ends in a result or in one
 -- of its refusals, whose conditions are fixed, and a refused call changes no session.
 -- Assumes nothing.
-use Prim.Native.Nat.{ℕ, _<_}
+use Prim.Native.Nat.{ℕ}
 use mathlib.Core.Path.{_≡_, refl, ap, subst}
-use mathlib.Core.Logic.{_≢_}
 use mathlib.Core.List.{[], _∷_, _++_}
 use Rattle.types.specs.declared.Prover.{Prover}
 use Rattle.types.specs.declared.ProverStep.{ProverStep}
-use Rattle.types.specs.declared.Verdict.{Verdict}
-use Rattle.types.specs.declared.Verdict.the-variants.{Refused}
 use Rattle.types.specs.declared.VerifierStep.{VerifierStep}
 use Rattle.lists.specs.Places.{zeros8}
 use Rattle.rules.specs.Refuses.{conditionNumbers}
@@ -18,11 +15,11 @@ use Rattle.rules.proofs.Refuses.{refuses-given, refuses-tested}
 use Rattle.formats.specs.Load.{loadRules}
 use Rattle.formats.specs.Refusals.{RefusesOn, loadConditions}
 use Rattle.formats.specs.Sheet.{headerOf, instanceOf}
-use Rattle.sigma.specs.Answer.{computed, eightPlaces, judged, outcome}
+use Rattle.sigma.specs.Answer.{computed, eightPlaces}
 use Rattle.sigma.specs.Extractor.{extractAfter}
 use Rattle.sigma.specs.Judge.{judgeAfter}
 use Rattle.sigma.specs.Simulator.{simulateAfter}
-use Rattle.sigma.proofs.Answer.{judged-positive, unlessRefused-positive}
+use Rattle.sigma.proofs.Answer.{unlessRefused-positive}
 use Rattle.sigma.proofs.Verdict.{verdict-not-refused}
 use Rattle.runs.specs.Calls.{judgeRound, simulateCommitment, extractWitness}
 use Rattle.runs.specs.Level.{markConditions}
@@ -34,14 +31,9 @@ use Rattle.runs.specs.Verifier.{takeCommitment, takeChallenge, takeRespo
 use Rattle.runs.proofs.MarkerRefusal.{mark-tests, one-line}
 use Rattle.runs.proofs.Numbers.{judge-number, simulate-number, extract-number, commit-number, respond-number, drop-number}
 use Rattle.runs.proofs.Numbers.{takeCommitment-number, takeChallenge-number, takeResponse-number}
-use Rattle.runs.proofs.Outcome.{judged-number}
+use Rattle.runs.proofs.Outcome.{judged-kept}
 use Rattle.runs.proofs.ProverSteps.{commitAfter-kept, respondAfter-kept, drop-kept}
 use Rattle.runs.proofs.VerifierSteps.{takeCommitmentAfter-kept, takeChallengeAfter-kept, takeResponseAfter-kept}
-
--- a verdict whose outcome has a number is that refusal
-judged-kept : (n : ℕ) (v : Verdict) → ((k : ℕ) → v ≢ Refused k) → 0 < outcome (judged n v) .number
-    → judged n v ≡ Refused (outcome (judged n v) .number)
-judged-kept n v u some = rw (judged-number n v u) (judged-positive n v (rw (judged-number n v u) at some))
 
 -- a step of Peggy that only answers a number hands back the session
 step-kept : (step : ProverStep) (p : Prover) (n : ℕ) → step ≡ record { refusal = n; session = p; values = zeros8 }

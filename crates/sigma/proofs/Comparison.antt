@@ -9,6 +9,7 @@ use mathlib.Core.List.{List}
 use native.Mathlib.Omega.{arith}
 use lib.Dec.{eqb}
 use lib.ListN.{getD}
+use borrow.Author.Tests.{not-true}
 use Rattle.types.specs.declared.Verdict.the-variants.{Accepted, Rejected, Refused}
 use Rattle.numbers.specs.Bits.{bit}
 use Rattle.numbers.specs.Search.{any}
@@ -37,6 +38,13 @@ pub differ-false : (n : ℕ) (xs ys : List ℕ) → (differ n xs ys ≡ false) �
 unfolding differ firstDifference any
 differ-false n xs ys =
     all-pass n (λ r. eqb (getD xs r 0) (getD ys r 0)) (λ r. getD xs r 0 ≡ getD ys r 0) (λ r. says-equal (getD xs r 0) (getD ys r 0))
+
+-- so the opposite of the test says that they agree
+pub says-agree : (n : ℕ) (xs ys : List ℕ) → Says (not (differ n xs ys)) (Agree n xs ys)
+says-agree n xs ys = record {
+  sound = λ e. differ-false n xs ys .0 (not-true _ e);
+  complete = λ a. ap not (differ-false n xs ys .1 a);
+}
 
 -- all rows before the first differing row agree
 pub first-difference-before : (n : ℕ) (xs ys : List ℕ) → Agree (firstDifference n xs ys) xs ys

@@ -7,18 +7,22 @@ use mathlib.Core.Logic.{_≢_}
 use native.Mathlib.Omega.{arith}
 use Rattle.types.specs.declared.Loaded.{Loaded}
 use Rattle.sigma.proofs.Answer.{unlessRefused-zero, unlessRefused-positive}
-use Rattle.formats.specs.Load.{load, loadEntries, loadRefusal}
+use Rattle.formats.specs.Load.{load, loadEntries}
 use Rattle.formats.specs.Sheet.{entriesOf, instanceOf}
 use Rattle.formats.proofs.Loads.{entries-given}
-use Rattle.instance.proofs.Answers.{answer-number, answer-header}
+use Rattle.instance.proofs.Answers.{answer-header}
 use Rattle.tables.specs.Flat.{flat, flatUnlessRefused}
+
+-- the number is that of loading
+pub entries-number : (s : List ℕ) {loaded : Loaded} → loaded ≡ load s → loaded .refusal ≡ load s .refusal
+entries-number s is-load = ap (λ (l : Loaded). l .refusal) is-load
 
 module _ (s : List ℕ) {loaded : Loaded} (is-load : loaded ≡ load s) (before : List ℕ) where
   -- a refused sheet leaves the numbers
   pub entries-kept : loaded .refusal ≢ 0 → before ≡ flatUnlessRefused s before
   unfolding flatUnlessRefused
   entries-kept refused =
-      sym (unlessRefused-positive (flat (loadEntries s)) before (loadRefusal s) (omega (arith, answer-number s loaded is-load)))
+      sym (unlessRefused-positive (flat (loadEntries s)) before (load s .refusal) (omega (arith, entries-number s is-load)))
 
   -- one that loads puts its entries there
   pub entries-put : loaded .refusal ≡ 0 → {entries : List (List ℕ)} → entries ≡ entriesOf s (loaded .header)
@@ -27,4 +31,4 @@ module _ (s : List ℕ) {loaded : Loaded} (is-load : loaded ≡ load s) (before 
   entries-put passed read is-flat =
       let (loads, header) = answer-header s loaded is-load passed in
       is-flat ∙ ap flat (read ∙ ap (entriesOf s) header ∙ sym (entries-given s loads))
-      ∙ sym (rw (loads, unlessRefused-zero (flat (loadEntries s)) before))
+      ∙ sym (rw (sym (entries-number s is-load) ∙ passed, unlessRefused-zero (flat (loadEntries s)) before))

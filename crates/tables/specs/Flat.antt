@@ -6,7 +6,7 @@ use lib.ListN.{getD}
 use Rattle.types.specs.declared.Header.{Header}
 use Rattle.lists.specs.Places.{tabulate}
 use Rattle.rules.specs.Answer.{unlessRefused}
-use Rattle.formats.specs.Load.{loadEntries, loadRefusal}
+use Rattle.formats.specs.Load.{load, loadEntries}
 use Rattle.sigma.specs.Instance.{Instance, instanceWith}
 
 -- the number in row k / 8 and column k % 8
@@ -36,4 +36,4 @@ flatInstance h entries statement = instanceWith h (square entries) statement
 -- what stands in a caller's 64 numbers when a sheet's entries were asked for: the entries, or what stood there where the sheet
 -- is refused
 unfoldable pub flatUnlessRefused : List ℕ → List ℕ → List ℕ
-flatUnlessRefused sheet before = unlessRefused (loadRefusal sheet) (flat (loadEntries sheet)) before
+flatUnlessRefused sheet before = unlessRefused (load sheet .refusal) (flat (loadEntries sheet)) before

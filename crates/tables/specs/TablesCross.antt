@@ -5,7 +5,7 @@ use mathlib.Core.Path.{_≡_}
 use mathlib.Core.List.{List, []}
 use lib.ListN.{getD}
 use Rattle.types.specs.declared.Header.{Header}
-use Rattle.formats.specs.Load.{loadEntries, loadRefusal}
+use Rattle.formats.specs.Load.{load, loadEntries}
 use Rattle.tables.specs.Flat.{flatInstance, flatUnlessRefused, square}
 
 pub record TablesCross : Type 0 where
@@ -14,6 +14,6 @@ pub record TablesCross : Type 0 where
   -- the values of a sheet: its entries so, and its header and statement as they are
   pub sheet-in : (h : Header) (xs z : List ℕ) → flatInstance h xs z ≡ record { header = h; entries = square xs; statement = z }
   -- entries that are handed out, or what stood there if the sheet is refused
-  pub entries-out : (sheet before : List ℕ) (i j : ℕ) → loadRefusal sheet ≡ 0 → i < 8 → j < 8
+  pub entries-out : (sheet before : List ℕ) (i j : ℕ) → load sheet .refusal ≡ 0 → i < 8 → j < 8
       → getD (flatUnlessRefused sheet before) (8 * i + j) 0 ≡ getD (getD (loadEntries sheet) i []) j 0
-  pub kept : (sheet before : List ℕ) → 0 < loadRefusal sheet → flatUnlessRefused sheet before ≡ before
+  pub kept : (sheet before : List ℕ) → 0 < load sheet .refusal → flatUnlessRefused sheet before ≡ before

@@ -3,7 +3,7 @@ use instance::load;
 use instance::loaded_entries;
 ghost use Prim.Native.Nat.{_<_};
 ghost use mathlib.Core.Path.{_≡_};
-ghost use Rattle.formats.specs.Load.{loadRefusal};
+ghost use Rattle.formats.specs.Load.{load};
 ghost use Rattle.tables.specs.Flat.{flat, flatUnlessRefused, squareRow, square};
 
 // The 64 numbers of eight rows of eight, row by row.
@@ -22,7 +22,7 @@ fn flat(rows: [[u32; 8]; 8]) -> [u32; 64]
 // Puts a sheet's entries into numbers, row by row, and answers 0. The number of a sheet that is refused, 2 to 11, is the answer,
 // and numbers keeps what it holds.
 pub fn store_entries(sheet: &[u8], numbers: &mut [u32; 64]) -> u32
-    ensures answer { λ r. ⌜ r ≡ loadRefusal (now (sheet .entry)) ⌝ }
+    ensures answer { λ r. ⌜ r ≡ load (now (sheet .entry)) .refusal ⌝ }
     ensures numbers { λ _. ⌜ now (numbers .exit) ≡ flatUnlessRefused (now (sheet .entry)) (now (numbers .entry)) ⌝ }
 {
     let loaded = load(sheet);

@@ -29,8 +29,8 @@ use Rattle.sigma.proofs.Positive.{judge-positive}
 use Rattle.sigma.proofs.Tests.{says-accepted}
 use Rattle.sigma.proofs.Verdict.{verdict-not-refused}
 use Rattle.runs.proofs.Outcome.{judged-number}
-use Rattle.watches.specs.Watch.{isNamed, isWatched, namedRound, nearest, noting, rememberedAt, unfitWatch, watchAfter, watchRules}
-use Rattle.watches.specs.Watch.{watchVerdict}
+use Rattle.watches.specs.Watch.{isNamed, isWatched, namedRound, nearest, noting, unfitWatch, watchAfter, watchRules, watchVerdict}
+use Rattle.watches.specs.Window.{rememberedAt}
 use Rattle.watches.specs.declared.Watch.{Watch}
 use Rattle.watch.specs.Told.{toldOf}
 

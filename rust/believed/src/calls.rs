@@ -1,26 +1,29 @@
-//! The calls that `Demands` speaks of, and the definitions that stand for them: the fields of the records `..Calls`, and the
-//! values of these records.
+//! The calls that `Demands` speaks of, and the definitions that stand for them: the fields of `ours`.
 
 use crate::specs::{Definition, Place, Specs};
 
-/// A call: the name of its field, and the file of the definition that stands for it.
+/// A call: the name of its field, and the name and the file of the definition that stands for it.
 pub struct Call {
     pub name: String,
+    pub definition: String,
     pub defined: Place,
 }
 
-/// The calls of all crates, each with the definition that the crate's own value of the record has.
+/// The calls of `ours`, of which `holds` says that they meet the demands: the fields of the records that it joins.
 pub fn ours(specs: &Specs) -> Vec<Call> {
-    let is_record = |d: &&Definition| {
-        d.name.ends_with("Calls") && d.name != "Calls" && d.lines[0].contains("pub record")
-    };
-    let values =
-        specs.definitions.iter().filter(is_record).filter_map(|record| value_of(specs, record));
-    values.flat_map(|value| calls_of(specs, value)).collect()
+    let place = ("demands".to_string(), "Ours".to_string());
+    let joined = specs.find(&place, "ours").expect("the calls are joined");
+    let records = fields_of(specs, joined);
+    records.iter().flat_map(|record| fields_of(specs, value_of(specs, record))).collect()
+}
+
+/// The value of a record of calls that a field stands for.
+fn value_of<'a>(specs: &'a Specs, field: &Call) -> &'a Definition {
+    specs.find(&field.defined, &field.definition).expect("a record of calls has a value")
 }
 
 /// The fields of a record's value.
-fn calls_of(specs: &Specs, value: &Definition) -> Vec<Call> {
+fn fields_of(specs: &Specs, value: &Definition) -> Vec<Call> {
     let text = value.lines.join(" ");
     let fields = text
         .split_once("record {")
@@ -28,24 +31,15 @@ fn calls_of(specs: &Specs, value: &Definition) -> Vec<Call> {
         .expect("a value has fields")
         .0;
     let pairs = fields.split(';').filter_map(|field| field.trim().split_once(" = "));
-    pairs
-        .map(|(name, meant)| Call {
-            name: name.to_string(),
-            defined: place_of(specs, value, meant),
-        })
-        .collect()
+    pairs.map(|(name, meant)| field_of(specs, value, name, meant)).collect()
 }
 
-/// The value of a record of calls in its own crate.
-fn value_of<'a>(specs: &'a Specs, record: &Definition) -> Option<&'a Definition> {
-    let end = format!(": {}", record.name);
-    specs.definitions.iter().find(|d| d.place.0 == record.place.0 && d.lines[0].ends_with(&end))
-}
-
-/// The file that a definition stands in, by its name in the value's file.
-fn place_of(specs: &Specs, value: &Definition, name: &str) -> Place {
-    match specs.imports.get(&value.place).and_then(|imports| imports.get(name)) {
-        Some(import) => import.place.clone(),
-        None => value.place.clone(),
-    }
+/// A field of a value, and what stands for it by its name in the value's file.
+fn field_of(specs: &Specs, value: &Definition, name: &str, meant: &str) -> Call {
+    let imported = specs.imports.get(&value.place).and_then(|imports| imports.get(meant));
+    let (definition, defined) = match imported {
+        Some(import) => (import.name.clone(), import.place.clone()),
+        None => (meant.to_string(), value.place.clone()),
+    };
+    Call { name: name.to_string(), definition, defined }
 }

@@ -2,23 +2,48 @@
 
 use std::collections::BTreeMap;
 
-use crate::specs::{Place, files_in, root, text_of};
+use crate::reach::words;
+use crate::specs::{Place, crates, files_in, root, text_of};
 
-/// A function with a contract: its name, and the words of the contract that the source imports, each with the file that it
-/// comes from.
+/// The functions over whole files that the programs call, with the crates that have them.
+const OF_PROGRAMS: [(&str, &str); 2] = [("report", "mark_files"), ("diagnosis", "reason_files")];
+
+/// A function with a contract: its name, its parameters and those of them that are lent to be changed, what the contract ensures,
+/// clause by clause, how many lines the contract has, and its words that the source imports, each with the file that it comes from.
 pub struct Contract {
     pub name: String,
+    pub parameters: Vec<String>,
+    pub lent: Vec<String>,
+    pub ensured: Vec<String>,
+    pub lines: usize,
     pub named: BTreeMap<String, Place>,
 }
 
-/// The exports of crate dimkhoros.
-pub fn exports() -> Vec<Contract> {
-    contracts_in("dimkhoros", "\n#[no_mangle]\n")
+impl Contract {
+    /// The parameters that the clauses hand to a definition, for each clause that names it: those that stand after its name.
+    pub fn handed(&self, definition: &str) -> Vec<Vec<&str>> {
+        let is_parameter = |word: &&str| self.parameters.iter().any(|parameter| parameter == word);
+        let after = |clause| words(clause).skip_while(|word| *word != definition).skip(1);
+        let naming =
+            self.ensured.iter().filter(|clause| words(clause).any(|word| word == definition));
+        naming.map(|clause| after(clause).filter(is_parameter).collect()).collect()
+    }
 }
 
-/// The public functions of a crate.
-pub fn public(crate_name: &str) -> Vec<Contract> {
-    contracts_in(crate_name, "\npub fn ")
+/// The functions that other languages can call, of all crates.
+pub fn exports() -> Vec<Contract> {
+    crates().iter().flat_map(|name| contracts_in(name, "\n#[no_mangle]\n")).collect()
+}
+
+/// The functions over whole files that the programs call, each with its crate.
+pub fn of_programs() -> Vec<(&'static str, Contract)> {
+    let found = OF_PROGRAMS.into_iter().map(|(crate_name, name)| {
+        let mut public = contracts_in(crate_name, "\npub fn ").into_iter();
+        (crate_name, public.find(|function| function.name == name))
+    });
+    found
+        .map(|(name, function)| (name, function.expect("the program's function is there")))
+        .collect()
 }
 
 /// The functions of a crate's sources that begin with a mark.
@@ -40,9 +65,24 @@ fn contract_of(function: &str, imports: &BTreeMap<String, Place>) -> Contract {
     let name = begin.rsplit(' ').next().expect("a function has a name");
     let clauses =
         head.find("\n    requires").or(head.find("\n    ensures")).map_or("", |at| &head[at..]);
-    let words = clauses.split(|c: char| c.is_whitespace() || "(){}.,;[]⌜⌝".contains(c));
-    let named = words.filter_map(|word| Some((word.to_string(), imports.get(word)?.clone())));
-    Contract { name: name.to_string(), named: named.collect() }
+    let parts = clauses.split(|c: char| c.is_whitespace() || "(){}.,;[]⌜⌝".contains(c));
+    let named = parts.filter_map(|word| Some((word.to_string(), imports.get(word)?.clone())));
+    Contract {
+        name: name.to_string(),
+        parameters: parameters_of(&head[begin.len()..], ""),
+        lent: parameters_of(&head[begin.len()..], "&mut "),
+        ensured: clauses.split("\n    ensures").skip(1).map(str::to_string).collect(),
+        lines: clauses.lines().filter(|line| !line.trim().is_empty()).count(),
+        named: named.collect(),
+    }
+}
+
+/// The names of the parameters in a head's brackets whose types begin so.
+fn parameters_of(brackets: &str, begin: &str) -> Vec<String> {
+    let list = brackets[1..].split(')').next().expect("a head has brackets");
+    let pairs = list.split(',').filter_map(|part| part.split_once(": "));
+    let such = pairs.filter(|(_, kind)| kind.starts_with(begin));
+    such.map(|(name, _)| name.trim().to_string()).collect()
 }
 
 /// What a source imports for its contracts from the crates' definitions.

@@ -3,6 +3,7 @@
 use std::collections::BTreeSet;
 use std::fmt::Write;
 
+use crate::contracts::of_programs;
 use crate::reach::{meant, reach, words};
 use crate::specs::{Definition, Place, Specs};
 
@@ -102,6 +103,14 @@ pub fn crossing(specs: &Specs) -> Vec<usize> {
     found
 }
 
+/// What the record of the forms and those that it is made of speak of: each form among them.
+pub fn said_to_cross(specs: &Specs) -> BTreeSet<usize> {
+    let records = crossing(specs).into_iter().map(|at| &specs.definitions[at]);
+    let named = records
+        .flat_map(|d| d.lines.iter().flat_map(|line| words(line)).map(|word| (&d.place, word)));
+    named.filter_map(|(place, word)| meant(specs, place, word)).collect()
+}
+
 /// Whether a definition is a record, a struct or an enum.
 fn is_type(definition: &Definition) -> bool {
     ["pub record", "pub struct", "pub enum"]
@@ -118,13 +127,16 @@ pub fn list(specs: &Specs) -> String {
     let record =
         specs.find(&demands(), "Demands").expect("the record Demands is there").lines.len();
     let forms: Vec<usize> = crossing(specs).into_iter().filter(|at| !all.contains(at)).collect();
+    let programs = of_programs();
+    let contracts: usize = programs.iter().map(|(_, function)| function.lines).sum();
     let mut text = format!(
-        "`Demands` reaches {} lines in {} definitions, and `Crosses` has {} lines in {}, without blank lines, comments and \
-         imports.\n\n",
+        "`Demands` reaches {} lines in {} definitions, `Crosses` has {} lines in {}, and the contracts of the programs' functions have \
+         {}, without blank lines, comments and imports.\n\n",
         lines(&all) + record,
         all.len() + 1,
         lines(&forms),
-        forms.len()
+        forms.len(),
+        contracts
     );
     text += "| field | lines | what it adds, below `crates/` |\n|---|---|---|\n";
     for section in &sections {
@@ -134,6 +146,11 @@ pub fn list(specs: &Specs) -> String {
     }
     writeln!(text, "| `Crosses` | {} | {} |", lines(&forms), by_file(specs, &forms))
         .expect("text grows");
+    let named: Vec<String> = programs
+        .iter()
+        .map(|(crate_name, function)| format!("{crate_name}/src: `{}`", function.name))
+        .collect();
+    writeln!(text, "| the programs | {contracts} | {} |", named.join("; ")).expect("text grows");
     text
 }
 

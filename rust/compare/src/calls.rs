@@ -23,6 +23,8 @@ pub enum Call {
     OrExtract,
     TeamCommitment,
     TeamResponse,
+    WatchOpen,
+    WatchRound,
     ProverNew,
     ProverCommit,
     ProverRespond,
@@ -81,6 +83,8 @@ const CALLS: &[Entry] = &[
     entry(Call::OrExtract, "or_extract", true, &[26, 14, 15, 16, 18, 19, 20]),
     entry(Call::TeamCommitment, "team_commitment", true, &[27, 14, 28]),
     entry(Call::TeamResponse, "team_response", true, &[27, 16, 28]),
+    entry(Call::WatchOpen, "watch_open", true, &[]),
+    entry(Call::WatchRound, "watch_round", true, &[14, 15, 16, 21]),
     entry(Call::ProverNew, "prover_new", false, &[]),
     entry(Call::ProverCommit, "prover_commit", true, &[16, 21]),
     entry(Call::ProverRespond, "prover_respond", true, &[15, 16, 17, 21]),
@@ -168,7 +172,9 @@ impl Call {
     /// How many sides the call answers a verdict on.
     pub fn sides(self) -> usize {
         match self {
-            Call::Judge | Call::VerifierResponse | Call::Mark | Call::Reason => 1,
+            Call::Judge | Call::WatchRound | Call::VerifierResponse | Call::Mark | Call::Reason => {
+                1
+            }
             Call::OrJudge => 2,
             _ => 0,
         }

@@ -8,6 +8,7 @@ mod sessions;
 mod sheets;
 mod teams;
 mod texts;
+mod watches;
 mod writers;
 
 use std::fmt;
@@ -24,6 +25,7 @@ pub use sessions::{SessionCase, Step};
 pub use sheets::SheetCase;
 pub use teams::TeamCase;
 pub use texts::{TextCall, TextCase};
+pub use watches::{Start, WatchCase, WatchStep};
 pub use writers::{WriterCase, Writing};
 
 /// A case. As text it has the name of its call and every input.

@@ -15,8 +15,10 @@ mod rounds;
 mod rows;
 mod sheets;
 mod teams;
+mod unfit_watches;
 mod verifier;
 mod versions;
+mod watches;
 mod writers;
 
 pub use extracting::extract;
@@ -37,6 +39,7 @@ pub use teams::product;
 pub use teams::{team_commitment, team_response};
 pub use verifier::{verifier_challenge, verifier_commitment, verifier_new, verifier_response};
 pub use versions::convert;
+pub use watches::{watch_open, watch_round};
 pub use writers::{append, empty, encode};
 
 #[cfg(test)]

@@ -4,6 +4,7 @@ mod or_proof;
 mod sessions;
 mod teams;
 mod values;
+mod watches;
 
 use judge::pattern_file;
 
@@ -21,6 +22,7 @@ pub use or_proof::{
     or_extract, or_judge, or_prover_commit, or_prover_drop, or_prover_new, or_prover_respond,
 };
 pub use teams::{team_commitment, team_response};
+pub use watches::{watch_open, watch_round};
 
 pub fn load(sheet: &[u8]) -> Loaded {
     loaded(judge::load(sheet))

@@ -4,11 +4,11 @@ use crate::faults::{self, Fault};
 use crate::{judged, proved};
 
 pub use dimkhoros_sys::{
-    phases, Compared, Computed, Counted, Fetched, Header, Judgement, Loaded, OrAnswer, OrExtracted,
-    OrJudgement, OrRound, OrSession, Part, Parts, Places, ProverAnswer, ProverSession, Round,
-    VerifierAnswer, VerifierJudgement, VerifierSession, Written, LONGEST_FILE, LONGEST_FILE_2,
-    LONGEST_REASON, LONGEST_SHEET, LONGEST_TEXT, MOST_PLAYERS, MOST_ROUNDS, PARTS, PLACES,
-    SHIPPED_PATTERNS,
+    phases, Compared, Computed, Counted, Fetched, Header, Judgement, Loaded, Opened, OrAnswer,
+    OrExtracted, OrJudgement, OrRound, OrSession, Part, Parts, Places, ProverAnswer, ProverSession,
+    Round, VerifierAnswer, VerifierJudgement, VerifierSession, Watch, WatchAnswer, Written,
+    LONGEST_FILE, LONGEST_FILE_2, LONGEST_REASON, LONGEST_SHEET, LONGEST_TEXT, MOST_PLAYERS,
+    MOST_REMEMBERED, MOST_ROUNDS, PARTS, PLACES, SHIPPED_PATTERNS,
 };
 
 /// The numbers that the sheet maker takes. The pattern number 0 is that of root
@@ -92,6 +92,9 @@ calls! {
 
     team_commitment(sheet: &[u8], count: u32, images: &Parts, commitments: &Parts) -> Computed;
     team_response(sheet: &[u8], count: u32, images: &Parts, responses: &Parts) -> Computed;
+
+    watch_open(sheet: &[u8]) -> Opened;
+    watch_round(sheet: &[u8], watch: &Watch, round: &Round) -> WatchAnswer;
 
     prover_new() -> ProverSession;
     prover_commit(sheet: &[u8], session: ProverSession, nonce: &Places) -> ProverAnswer;

@@ -5,9 +5,10 @@
 //! Both libraries get it, and every field of the answers and every byte of a
 //! lent buffer must be the same. The first difference is printed and ends the
 //! run. Last page K, files at every level and all masks of rows are run in both,
-//! and demand 3 and cards 4 and 6 are tried on small sheets. Exit status: 0 no
-//! difference, 1 a difference, something met too seldom or a program that is
-//! missing, 2 wrong words or a place to which nothing can be written.
+//! demand 3 and cards 4 and 6 are tried on small sheets, and card 9 in long runs.
+//! Exit status: 0 no difference, 1 a difference, something met too seldom or a
+//! program that is missing, 2 wrong words or a place to which nothing can be
+//! written.
 
 #![forbid(unsafe_code)]
 
@@ -42,6 +43,7 @@ mod sheets;
 mod stored;
 mod tally;
 mod vectors;
+mod watching;
 mod whole_rounds;
 
 use std::io;
@@ -116,5 +118,6 @@ fn stages(options: &Options) -> Result<(), String> {
     println!("{}", demand_three::check(options.other)?);
     println!("{}", one_of_two::check(options.other)?);
     println!("{}", whole_rounds::check(options.other)?);
+    println!("{}", watching::check(options.other)?);
     Ok(())
 }

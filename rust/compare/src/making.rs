@@ -20,6 +20,8 @@ mod runs;
 mod sheets;
 mod teams;
 mod verifier;
+mod watch_runs;
+mod watches;
 
 use std::iter::repeat_n;
 
@@ -29,17 +31,18 @@ use crate::random::Random;
 pub use levels::{needed, HIGHEST};
 pub use marking::{mark_case, mark_file};
 pub use reasons::reason_case;
+pub use watch_runs::of_rounds as watched_rounds;
 
 /// Makes a case of one call or of a run.
 type Maker = fn(&mut Random) -> Box<dyn Case>;
 
 /// How often each maker is asked, among the sum of these.
-const SHARES: [(Maker, usize); 33] = [
+const SHARES: [(Maker, usize); 36] = [
     (sheets::load, 3),
     (sheets::entries, 2),
     (sheets::encode, 4),
     (patterns::patterns, 1),
-    (patterns::from_pattern, 3),
+    (patterns::from_pattern, 4),
     (files::count, 2),
     (files::check, 2),
     (files::part, 2),
@@ -55,6 +58,9 @@ const SHARES: [(Maker, usize); 33] = [
     (or_rounds::extract, 6),
     (teams::commitment, 5),
     (teams::response, 5),
+    (watches::open, 2),
+    (watches::round, 6),
+    (watch_runs::run, 1),
     (prover::commit, 3),
     (prover::respond, 7),
     (prover::give_up, 1),

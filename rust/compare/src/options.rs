@@ -9,7 +9,7 @@ use crate::library::Library;
 pub const SEED: u64 = 1;
 
 /// How many cases a run has that names no count.
-pub const COUNT: u64 = 350_000;
+pub const COUNT: u64 = 375_000;
 
 /// What a run is to do.
 #[derive(Debug, PartialEq, Eq)]

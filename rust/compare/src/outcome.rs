@@ -2,9 +2,9 @@
 
 use crate::calls::Call;
 use crate::library::{
-    Compared, Computed, Counted, Fetched, Judgement, Loaded, OrAnswer, OrExtracted, OrJudgement,
-    OrSession, Part, ProverAnswer, ProverSession, VerifierAnswer, VerifierJudgement,
-    VerifierSession, Written,
+    Compared, Computed, Counted, Fetched, Judgement, Loaded, Opened, OrAnswer, OrExtracted,
+    OrJudgement, OrSession, Part, ProverAnswer, ProverSession, VerifierAnswer, VerifierJudgement,
+    VerifierSession, WatchAnswer, Written,
 };
 
 /// What a call answers.
@@ -26,6 +26,8 @@ pub enum Answer {
     Computed(Computed),
     OrJudged(OrJudgement),
     OrExtracted(OrExtracted),
+    Opened(Box<Opened>),
+    Watched(Box<WatchAnswer>),
     ProverNew(ProverSession),
     Prover(ProverAnswer),
     VerifierNew(VerifierSession),
@@ -71,6 +73,8 @@ impl Answer {
             Answer::Computed(computed) => computed.refusal,
             Answer::OrJudged(judgement) => judgement.refusal,
             Answer::OrExtracted(extracted) => extracted.refusal,
+            Answer::Opened(opened) => opened.refusal,
+            Answer::Watched(answer) => answer.verdict.refusal,
             Answer::Prover(answer) => answer.refusal,
             Answer::Verifier(answer) => answer.refusal,
             Answer::VerifierJudged(answer) => answer.verdict.refusal,
@@ -89,6 +93,7 @@ impl Answer {
         let (accepted, rows) = match self {
             Answer::Judged(verdict) => (verdict.accepted, [verdict.rows, 0]),
             Answer::VerifierJudged(answer) => (answer.verdict.accepted, [answer.verdict.rows, 0]),
+            Answer::Watched(answer) => (answer.verdict.accepted, [answer.verdict.rows, 0]),
             Answer::OrJudged(verdict) => (verdict.accepted, [verdict.rows0, verdict.rows1]),
             Answer::Told { text, .. } => return text.lines().filter_map(verdict_in).collect(),
             _ => return Vec::new(),

@@ -4,7 +4,9 @@
 use std::fmt::{self, Write};
 
 use crate::lent::Lent;
-use crate::outcome::Outcome;
+use crate::outcome::{Answer, Outcome};
+
+pub use crate::vectors::watch;
 
 /// Bytes in hex.
 pub fn hex(bytes: &[u8]) -> String {
@@ -27,10 +29,23 @@ impl fmt::Display for Lent {
     }
 }
 
+/// An answer with its fields. A watch is in the words of the vectors.
+fn shown(answer: &Answer) -> String {
+    match answer {
+        Answer::Opened(opened) => format!("refusal: {} {}", opened.refusal, watch(&opened.watch)),
+        Answer::Watched(answer) => {
+            let (verdict, back, witness) = (answer.verdict, answer.back, answer.witness);
+            let watch = watch(&answer.watch);
+            format!("{verdict:?} back: {back} witness: {witness:?} {watch}")
+        }
+        _ => format!("{answer:?}"),
+    }
+}
+
 impl fmt::Display for Outcome {
     fn fmt(&self, out: &mut fmt::Formatter) -> fmt::Result {
         for (call, answer) in &self.answers {
-            write!(out, "\n    {}: {answer:?}", call.name())?;
+            write!(out, "\n    {}: {}", call.name(), shown(answer))?;
         }
         if !self.memory.is_empty() {
             write!(out, "\n    memory {}", hex(&self.memory))?;

@@ -5,7 +5,7 @@ use std::fmt;
 
 use crate::calls::{Call, CALL_COUNT, LAST, ORDER};
 use crate::cases::Case;
-use crate::outcome::{Outcome, Verdict};
+use crate::outcome::{Answer, Outcome, Verdict};
 use crate::shapes::{Seen, Shapes};
 
 /// What is counted of a side: each of eight rows that it is rejected in, and in how
@@ -16,11 +16,15 @@ const OF_SIDE: usize = 2 * 8;
 /// which sides are rejected: the first alone, the second alone, and both.
 const VERDICTS: usize = 1 + 2 * OF_SIDE + 3;
 
-/// A count for each call with each number and with each verdict, and for each
-/// shape.
+/// What is counted of a watch that is given an accepted round: which round it names.
+const NAMED: [&str; 4] = ["none", "1 back", "2 to 62 back", "63 back"];
+
+/// A count for each call with each number and with each verdict, for each round that
+/// a watch names, and for each shape.
 pub struct Tally {
     numbers: [[u64; LAST as usize + 1]; CALL_COUNT],
     verdicts: [[u64; VERDICTS]; CALL_COUNT],
+    named: [u64; NAMED.len()],
     shapes: Shapes,
 }
 
@@ -29,6 +33,7 @@ impl Default for Tally {
         Tally {
             numbers: [[0; LAST as usize + 1]; CALL_COUNT],
             verdicts: [[0; VERDICTS]; CALL_COUNT],
+            named: [0; NAMED.len()],
             shapes: Shapes::default(),
         }
     }
@@ -86,6 +91,16 @@ fn name(place: usize, sides: usize) -> String {
     }
 }
 
+/// The place of what is counted if a watch names the round so many back.
+fn named(back: u32) -> usize {
+    match back {
+        0 => 0,
+        1 => 1,
+        2..=62 => 2,
+        _ => 3,
+    }
+}
+
 impl Tally {
     /// Counts the calls of a case with this outcome in the judge.
     pub fn add(&mut self, case: &dyn Case, judged: &Outcome) {
@@ -106,7 +121,18 @@ impl Tally {
             for place in answer.verdicts().into_iter().flat_map(places) {
                 self.verdicts[*call as usize][place] += 1;
             }
+            if let Answer::Watched(answer) = answer {
+                self.named[named(answer.back)] += u64::from(answer.verdict.accepted);
+            }
         }
+    }
+
+    /// Each thing that is counted beside numbers and verdicts, with the columns in which
+    /// it is, and the counts.
+    fn rows(&self) -> Vec<(&'static str, Vec<(&'static str, u64)>)> {
+        let named = NAMED.into_iter().zip(self.named);
+        let watch = ("a watch names", named.collect());
+        [watch].into_iter().chain(self.shapes.rows()).collect()
     }
 
     fn met(&self, call: Call, number: u32) -> u64 {
@@ -146,7 +172,7 @@ impl Tally {
                 few.map(|(verdict, met)| format!("{name} gave {verdict} only {met} times")),
             );
         }
-        for (shape, columns) in self.shapes.rows() {
+        for (shape, columns) in self.rows() {
             let few = columns.into_iter().filter(|(_, met)| *met < fewest);
             lacks.extend(few.map(|(column, met)| format!("{shape}: {column} only {met} times")));
         }
@@ -155,7 +181,8 @@ impl Tally {
 }
 
 /// A table with a line for each call and a column for each number, which has a
-/// dot where the call cannot give the number. Then the verdicts and the shapes.
+/// dot where the call cannot give the number. Then the verdicts, the rounds that a
+/// watch names, and the shapes.
 impl fmt::Display for Tally {
     fn fmt(&self, out: &mut fmt::Formatter) -> fmt::Result {
         write!(out, "{:<20}", "number")?;
@@ -181,7 +208,7 @@ impl fmt::Display for Tally {
                 write!(out, "  {verdict} {met}")?;
             }
         }
-        for (shape, columns) in self.shapes.rows() {
+        for (shape, columns) in self.rows() {
             write!(out, "\n{shape:<36}")?;
             for (column, met) in columns {
                 write!(out, "  {column} {met}")?;

@@ -10,6 +10,7 @@ mod bytes;
 mod inputs;
 mod or_answers;
 mod team_answers;
+mod watch_answers;
 
 use std::fs;
 use std::io;
@@ -18,6 +19,8 @@ use std::path::Path;
 use crate::calls::Call;
 use crate::library::Library;
 use inputs::Inputs;
+
+pub use watch_answers::watch;
 
 /// What a line is to a reader.
 pub enum Line<'a> {

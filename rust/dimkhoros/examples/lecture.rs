@@ -1,13 +1,14 @@
-//! The extractor, the simulator and the OR proof, for a lecture. Two rounds on one nonce give the witness away, so nobody can
-//! make such rounds without knowing it; rounds can be simulated without the witness, so a round tells Vic nothing about it; and
-//! Peggy, who knows a witness of one of two sheets, simulates the other, so a round does not tell which of the two she knows.
+//! The extractor, a watch, the simulator and the OR proof, for a lecture. Two rounds on one nonce give the witness away, so that
+//! nobody can make such rounds without knowing it; a watch that is given the rounds of a term tells of such a nonce; rounds can be
+//! simulated without the witness, so a round tells Vic nothing about it; and Peggy, who knows a witness of one of two sheets,
+//! simulates the other, so a round does not tell which of the two she knows.
 
 mod common;
 
 use common::page_a;
 use dimkhoros::{
-    Instance, OrProver, OrProverParts, OrRound, Pair, Pattern, Patterns, Places, Plan, Prover,
-    ProverParts, Refusal, Round, Side, places,
+    Instance, MOST_REMEMBERED, OrProver, OrProverParts, OrRound, Pair, Pattern, Patterns, Places,
+    Plan, Prover, ProverParts, Refusal, Round, Side, Watch, places,
 };
 
 const WITNESS: Places = [7, 0, 0, 0, 0, 0, 0, 0];
@@ -45,6 +46,29 @@ fn show_extractor(instance: &Instance) -> Result<(), Refusal> {
     let second = answer_from_copy(instance, &parts, 1)?;
     let witness = instance.extract(&first, &second)?;
     println!("the two rounds give the witness away: x = {}", witness[0]);
+    Ok(())
+}
+
+/// The rounds of a term, as t, c and r. The second is rejected. The nonce of the first comes again with the same challenge, then
+/// with another.
+const TERM: [[u32; 3]; 6] = [[9, 3, 4], [3, 3, 0], [9, 3, 4], [4, 9, 10], [9, 1, 1], [3, 4, 3]];
+
+/// A watch is given the rounds one by one, and tells of a nonce that is used again.
+fn show_watch(instance: &Instance) -> Result<(), Refusal> {
+    println!(
+        "\nA watch. It is given the rounds of a term one by one, and remembers the last {MOST_REMEMBERED} accepted ones."
+    );
+    let mut watch = Watch::open(instance);
+    for [t, c, r] in TERM {
+        let round = Round { commitment: places([t]), challenge: c, response: places([r]) };
+        let heard = watch.hear(instance, &round)?;
+        print!("t = {t}, c = {c}, r = {r:2}, {}", heard.verdict);
+        if let Some(reuse) = heard.reuse {
+            let (back, x) = (reuse.back, reuse.witness[0]);
+            print!("; the nonce was used {back} accepted rounds back: x = {x}");
+        }
+        println!();
+    }
     Ok(())
 }
 
@@ -159,6 +183,7 @@ fn show_or_proof(pair: &Pair) -> Result<(), Refusal> {
 fn main() -> Result<(), Refusal> {
     let instance = page_a()?;
     show_extractor(&instance)?;
+    show_watch(&instance)?;
     show_simulator(&instance, 3)?;
     let roots = roots()?;
     show_or_proof(&Pair::new(&instance, &roots)?)

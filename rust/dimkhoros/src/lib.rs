@@ -23,6 +23,7 @@ mod stored;
 mod team;
 mod verdict;
 mod verifier;
+mod watch;
 
 /// The pieces in Rust of the page for course authors, which are run as tests.
 #[cfg(doctest)]
@@ -31,8 +32,8 @@ mod authors {}
 
 pub use dimkhoros_sys::{
     EMPTY_FILE, EXPONENT, Header, LONGEST_FILE, LONGEST_FILE_2, LONGEST_PATTERNS, LONGEST_REASON,
-    LONGEST_SHEET, LONGEST_TEXT, MOST_PATTERNS, MOST_PLAYERS, MOST_ROUNDS, OrRound, PLACES, Places,
-    ROOT, Round, SHIPPED_PATTERNS, version,
+    LONGEST_SHEET, LONGEST_TEXT, MOST_PATTERNS, MOST_PLAYERS, MOST_REMEMBERED, MOST_ROUNDS,
+    OrRound, PLACES, Places, ROOT, Round, SHIPPED_PATTERNS, Watch as WatchParts, version,
 };
 pub use found::Found;
 pub use instance::{Instance, Values};
@@ -53,3 +54,4 @@ pub use stored::{Damaged, STORED_OR_PROVER, STORED_PROVER, STORED_VERIFIER};
 pub use team::Team;
 pub use verdict::Verdict;
 pub use verifier::{Verifier, VerifierParts, VerifierPhase};
+pub use watch::{Heard, Reuse, Watch};

@@ -60,7 +60,7 @@ refusals! {
     18, CommitmentsDiffer, "the two rounds have different commitments";
     19, ChallengesEqual, "the two rounds have the same challenge";
     20, RoundRejected, "one of the two rounds, or both, would be rejected";
-    21, Session, "the session's state does not allow the call, or what it holds does not fit this sheet";
+    21, Session, "the session's state does not allow the call, or what the session or watch holds does not fit this sheet";
     22, Buffer, "the buffer is too short for the result";
     23, PatternFile, "the bytes are no pattern file: the mark, version, count, rows, columns, number of values or length is wrong";
     24, PatternDigits, "a pattern has a digit above its number of values, or a value that no digit names";

@@ -11,9 +11,9 @@
 use crate::exports::*;
 use crate::{
     Compared, Computed, Counted, ENTRIES, Fetched, Header, Judgement, LONGEST_REASON, LONGEST_TEXT,
-    Loaded, OrAnswer, OrExtracted, OrJudgement, OrRound, OrSession, Part, Parts, Places,
-    ProverAnswer, ProverSession, Round, VerifierAnswer, VerifierJudgement, VerifierSession,
-    Written,
+    Loaded, Opened, OrAnswer, OrExtracted, OrJudgement, OrRound, OrSession, Part, Parts, Places,
+    ProverAnswer, ProverSession, Round, VerifierAnswer, VerifierJudgement, VerifierSession, Watch,
+    WatchAnswer, Written,
 };
 
 /// The version of the archive that is linked, 10000 * major + 100 * minor + patch.
@@ -216,6 +216,20 @@ pub fn team_response(sheet: &[u8], count: u32, images: &Parts, responses: &Parts
     // SAFETY: the slice is given by its pointer and length; `images` and `responses` have 64 numbers each. `count` may be any
     // number.
     unsafe { dimkhoros_team_response(pointer, length, count, images.as_ptr(), responses.as_ptr()) }
+}
+
+/// Opens a watch on a sheet.
+#[inline]
+pub fn watch_open(sheet: &[u8]) -> Opened {
+    // SAFETY: the slice is given by its pointer and length.
+    unsafe { dimkhoros_watch_open(sheet.as_ptr(), sheet.len()) }
+}
+
+/// Gives a watch a round, and answers the verdict on it and, for an accepted one, the nearest reuse that the watch remembers.
+#[inline]
+pub fn watch_round(sheet: &[u8], watch: &Watch, round: &Round) -> WatchAnswer {
+    // SAFETY: the slice is given by its pointer and length.
+    unsafe { dimkhoros_watch_round(sheet.as_ptr(), sheet.len(), *watch, *round) }
 }
 
 /// Writes the marker's text on a sheet, a round file and a level file to the start of `text`, and answers its length.

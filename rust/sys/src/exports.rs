@@ -1,9 +1,9 @@
 //! The exports of the archive, as include/dimkhoros.h declares them.
 
 use crate::{
-    Compared, Computed, Counted, Fetched, Header, Judgement, Loaded, OrAnswer, OrExtracted,
+    Compared, Computed, Counted, Fetched, Header, Judgement, Loaded, Opened, OrAnswer, OrExtracted,
     OrJudgement, OrRound, OrSession, Part, ProverAnswer, ProverSession, Round, VerifierAnswer,
-    VerifierJudgement, VerifierSession, Written,
+    VerifierJudgement, VerifierSession, Watch, WatchAnswer, Written,
 };
 
 unsafe extern "C" {
@@ -146,6 +146,15 @@ unsafe extern "C" {
         images: *const u32,
         responses: *const u32,
     ) -> Computed;
+
+    pub fn dimkhoros_watch_open(sheet: *const u8, sheet_length: usize) -> Opened;
+
+    pub fn dimkhoros_watch_round(
+        sheet: *const u8,
+        sheet_length: usize,
+        watch: Watch,
+        round: Round,
+    ) -> WatchAnswer;
 
     pub fn dimkhoros_mark(
         sheet: *const u8,

@@ -56,6 +56,14 @@ pub const PARTS: usize = 64;
 /// ```
 pub type Parts = [u32; PARTS];
 
+/// How many accepted rounds the fullest watch remembers.
+///
+/// ```
+/// # use dimkhoros_sys::MOST_REMEMBERED;
+/// assert_eq!(MOST_REMEMBERED, 63);
+/// ```
+pub const MOST_REMEMBERED: usize = 63;
+
 /// How many bytes the longest sheet has.
 ///
 /// ```

@@ -1,7 +1,7 @@
 //! The structs that cross, with the layout of C. A refusal is 0 where nothing is refused; beside any other number stand zeros,
-//! or the session as it was given.
+//! or the session or watch as it was given.
 
-use crate::Places;
+use crate::{LONGEST_SHEET, MOST_REMEMBERED, Places};
 
 /// The fixed fields of a sheet.
 ///
@@ -283,4 +283,45 @@ pub struct OrAnswer {
     pub challenge0: u32,
     /// The refusal.
     pub refusal: u32,
+}
+
+/// A watch for used nonces: the bytes of the sheet that it was opened on, and the last accepted rounds that it was given.
+///
+/// It is a value: two copies of a watch go on apart, and neither knows the rounds that the other is given. It may hold
+/// anything: one that does not fit the sheet of a call is refused with 21.
+#[derive(Clone, Copy, Debug, PartialEq, Eq, Hash)]
+#[repr(C)]
+pub struct Watch {
+    /// The remembered rounds, the newest first. Those from `count` on are not read.
+    pub rounds: [Round; MOST_REMEMBERED],
+    /// The sheet. Its bytes from `length` on are not read.
+    pub sheet: [u8; LONGEST_SHEET],
+    /// How many bytes the sheet has.
+    pub length: u32,
+    /// How many rounds are remembered.
+    pub count: u32,
+}
+
+/// What opening a watch answers. A refused one has a watch of no bytes, which fits no sheet.
+#[derive(Clone, Copy, Debug, PartialEq, Eq, Hash)]
+#[repr(C)]
+pub struct Opened {
+    /// The watch.
+    pub watch: Watch,
+    /// The refusal.
+    pub refusal: u32,
+}
+
+/// What a watch answers to a round.
+#[derive(Clone, Copy, Debug, PartialEq, Eq, Hash)]
+#[repr(C)]
+pub struct WatchAnswer {
+    /// The watch to go on with.
+    pub watch: Watch,
+    /// The witness that the round and the named one give away, zeros if none is named.
+    pub witness: Places,
+    /// How many accepted rounds back the named one stands, 1 to 63, or 0 for none.
+    pub back: u32,
+    /// The verdict.
+    pub verdict: Judgement,
 }

@@ -3,7 +3,6 @@
 use crate::allowed;
 use crate::failure::Failure;
 use crate::sheets::{column_count, row_count};
-use crate::small;
 use dimkhoros::{Instance, PLACES, Places, Refusal, Round};
 
 /// Values under a letter, and the refusal that they may be refused with.
@@ -61,7 +60,7 @@ impl<'a> Brought<'a> {
             Refusal::Challenge => {
                 self.sheet.simulate(*value, &[1; PLACES]) == Err(Refusal::Challenge)
             }
-            Refusal::Coordinate => small::image(self.sheet, &[*value; PLACES]).is_none(),
+            Refusal::Coordinate => self.sheet.image(&[*value; PLACES]).is_err(),
             _ => self.sheet.with_statement(&[*value; PLACES]).is_err(),
         };
         self.values.iter().copied().find(refused)

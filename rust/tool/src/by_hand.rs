@@ -6,7 +6,6 @@ mod arithmetic;
 pub use arithmetic::{CALCULATOR, Euclid, Line, Power, euclid, inverse, power, product, rest};
 
 use crate::sheets::{column_count, row_count};
-use crate::small;
 use dimkhoros::{EXPONENT, Instance, PLACES, Places, Round};
 
 /// Both sides of a row of a round, [r] and t · z^c.
@@ -26,7 +25,7 @@ pub struct Sides {
 
 /// Both sides of each row of a round: none where its response is not in the domain.
 pub fn sides(sheet: &Instance, round: &Round) -> Option<Vec<Sides>> {
-    let image = small::image(sheet, &round.response)?;
+    let image = sheet.image(&round.response).ok()?;
     let values = sheet.values();
     let modulus = values.header.modulus;
     let row = |row: usize| {

@@ -2,7 +2,7 @@
 
 use crate::failure::{Failure, Outcome};
 use crate::words::{Grammar, Words};
-use crate::{notation, sheets, small};
+use crate::{notation, sheets};
 use dimkhoros::{Instance, Places, Refusal};
 use std::ffi::OsString;
 use std::io::Write;
@@ -52,7 +52,7 @@ pub fn is_witness(sheet: &Instance, x: &Places, statement: &str) -> String {
 pub fn no_witness(sheet: &Instance, letter: &str, x: &Places) -> Failure {
     let witness = notation::by_column(sheet, x);
     let bare = notation::bare(&witness);
-    let image = small::image(sheet, x).unwrap_or_default();
+    let image = sheet.image(x).unwrap_or_default();
     let [image, statement] =
         [&image, &sheet.values().statement].map(|values| notation::by_row(sheet, values));
     let found =

@@ -3,7 +3,7 @@
 use crate::failure::Outcome;
 use crate::{
     check, extract, grid, lecture, make, mark, or_proof, patterns, reason, rounds, show, simulate,
-    team,
+    team, watch,
 };
 use std::ffi::OsString;
 use std::io::Write;
@@ -108,7 +108,7 @@ const CLASS: [Command; 7] = [
 ];
 
 /// The commands of a marker.
-const MARKERS: [Command; 2] = [
+const MARKERS: [Command; 3] = [
     Command {
         name: "mark",
         summary: "mark students' folders by the course's sheet and level",
@@ -120,6 +120,12 @@ const MARKERS: [Command; 2] = [
         summary: "say why a student's rounds fail",
         help: reason::HELP,
         run: reason::run,
+    },
+    Command {
+        name: "watch",
+        summary: "find nonces that were used twice in the round files of a term",
+        help: watch::HELP,
+        run: watch::run,
     },
 ];
 

@@ -2,7 +2,6 @@
 
 use crate::notation;
 use crate::sheets::row_count;
-use crate::small;
 use crate::table::{self, Set};
 use dimkhoros::{
     Instance, LONGEST_FILE, LONGEST_REASON, Places, Refusal, Round, RoundWriter, reason,
@@ -44,7 +43,7 @@ fn rows(sheet: &Instance, round: &Round, side: usize) -> Result<Vec<Vec<String>>
 /// The values of both sides of a round, by row. The right ones that differ are those of the library's line on the round.
 fn values(sheet: &Instance, round: &Round) -> Result<(Places, Places), Refusal> {
     let verdict = sheet.judge(round)?;
-    let left = small::image(sheet, &round.response).ok_or(Refusal::Coordinate)?;
+    let left = sheet.image(&round.response)?;
     let mut right = left;
     if verdict.is_accepted() {
         return Ok((left, right));

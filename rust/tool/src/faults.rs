@@ -43,6 +43,16 @@ pub enum Found {
     },
 }
 
+impl Fault {
+    /// The same fault, with this length if it is by the length.
+    pub fn of_length(mut self, length: usize) -> Fault {
+        if let Found::Length { found, .. } = &mut self.found {
+            *found = length;
+        }
+        self
+    }
+}
+
 impl fmt::Display for Fault {
     fn fmt(&self, f: &mut fmt::Formatter<'_>) -> fmt::Result {
         let Fault { refusal, found } = self;

@@ -43,6 +43,12 @@ pub fn too_long(bytes: &[u8]) -> Option<String> {
     (bytes.len() as u64 > MOST).then(|| format!("has more than {MOST} bytes"))
 }
 
+/// How many bytes a file has, all of them.
+pub fn length(path: &Path) -> Outcome<usize> {
+    let found = fs::metadata(path).map_err(|error| failure(path, "read", &error))?;
+    Ok(usize::try_from(found.len()).unwrap_or(usize::MAX))
+}
+
 /// All bytes up to one more than the most.
 fn read_all(file: impl Read) -> io::Result<Vec<u8>> {
     let mut bytes = Vec::new();

@@ -23,12 +23,15 @@ pub struct Folder {
     pub rounds: Option<Vec<u8>>,
     /// The level file: the course's, or else the folder's own.
     pub level: Option<Vec<u8>>,
+    /// Why the folder's own level cannot be read, if it is there and counts.
+    pub unread_level: Option<String>,
     /// The names of the folder's own files that are not the course's.
     pub others: Vec<&'static str>,
 }
 
 impl Folder {
-    /// Reads a folder's three files. What the course has stands in the place of the folder's own, whatever that is.
+    /// Reads a folder's three files, of which the level may be one that cannot be read. What the course has stands in the place of
+    /// the folder's own, whatever that is.
     pub fn read(name: &OsStr, course: &Course) -> Outcome<Folder> {
         let folder = Path::new(name);
         let place = entered(folder)?;
@@ -44,15 +47,27 @@ impl Folder {
         };
         let sheet = file("sheet.bin", course.sheet.as_deref())?;
         let rounds = file("rounds.bin", None)?;
-        let level = file("level.bin", course.level.as_ref().map(std::slice::from_ref))?;
-        Ok(Folder { place, sheet, rounds, level, others })
+        let level = file("level.bin", course.level.as_ref().map(std::slice::from_ref));
+        let (level, unread_level) = match level {
+            Ok(level) => (level, None),
+            Err(failure) => (None, Some(failure.to_string())),
+        };
+        Ok(Folder { place, sheet, rounds, level, unread_level, others })
+    }
+
+    /// The folder, if its level can be read too.
+    pub fn with_level(self) -> Outcome<Folder> {
+        match &self.unread_level {
+            Some(why) => Err(Failure::failed(why)),
+            None => Ok(self),
+        }
     }
 
     /// What is marked and has no folder: these bytes of a sheet and of a round file, and the course's level.
     pub fn of_files(sheet: Vec<u8>, rounds: Vec<u8>, course: &Course) -> Folder {
         let (sheet, rounds) = (Some(sheet), Some(rounds));
         let level = course.level.map(|level| vec![level]);
-        Folder { place: [0; 2], sheet, rounds, level, others: Vec::new() }
+        Folder { place: [0; 2], sheet, rounds, level, unread_level: None, others: Vec::new() }
     }
 
     /// That files of its own are not the course's, a sentence each without its full stop, which begins with whose they are.

@@ -36,6 +36,7 @@ mod small;
 mod steps;
 mod table;
 mod team;
+mod watch;
 mod words;
 
 use command::Command;

@@ -22,7 +22,8 @@ Says why a student's rounds fail. The first line is the one that `./run reason F
 file and the file's round 0. Then comes the same in words: which value at which byte breaks which rule, or both sides of each
 row of round 0. Then it is said whether the whole file passes. If it fails, all other rounds that are rejected or refused are
 named, with the row or the number, and how many rounds the level asks for if there are too few. With ROUND, the first line and
-the words are on the round of this number. The exit status is 0 whatever is said, and 1 if a file cannot be read.
+the words are on the round of this number. The exit status is 0 whatever is said, and 1 if the sheet or the round file cannot be
+read.
 
     FOLDER         a folder with the sheet in sheet.bin, the round file in rounds.bin and the level in level.bin
     ROUND          the number of a round, from 0
@@ -87,6 +88,8 @@ struct Asked {
     folder: Folder,
     /// The names of the sheet and of the round file.
     names: [String; 2],
+    /// How many bytes the two have. Of one with very many not all are read.
+    lengths: [usize; 2],
     /// The number of a round, if one is asked for.
     round: Option<usize>,
     /// How the files were named.
@@ -120,12 +123,12 @@ impl Asked {
         let names = [sheet, files::name(&path.join("rounds.bin"))];
         let folder = Folder::read(path.as_os_str(), course)?;
         let [sheet, rounds, _] = folder.bytes();
-        for (bytes, name) in [sheet, rounds].iter().zip(&names) {
-            if let Some(why) = files::too_long(bytes) {
-                return Err(Failure::failed(format!("{name} {why}")));
-            }
-        }
-        Ok(Asked { folder, names, round, by: By::Folder })
+        let whole = |bytes: &[u8], name| match files::too_long(bytes) {
+            Some(_) => files::length(&path.join(name)),
+            None => Ok(bytes.len()),
+        };
+        let lengths = [whole(sheet, "sheet.bin")?, whole(rounds, "rounds.bin")?];
+        Ok(Asked { folder, names, lengths, round, by: By::Folder })
     }
 
     /// What is asked of a sheet and a round file.
@@ -139,8 +142,10 @@ impl Asked {
         }
         let round = words.plain().get(2).map(|_| words.round_number(2)).transpose()?;
         let names = [files::name(&sheet), files::name(&rounds)];
-        let folder = Folder::of_files(files::read(&sheet)?, files::read(&rounds)?, course);
-        Ok(Asked { folder, names, round, by: By::Names })
+        let [sheet, rounds] = [files::read(&sheet)?, files::read(&rounds)?];
+        let lengths = [sheet.len(), rounds.len()];
+        let folder = Folder::of_files(sheet, rounds, course);
+        Ok(Asked { folder, names, lengths, round, by: By::Names })
     }
 
     /// The line, the same in words, and what holds of the whole file.
@@ -165,18 +170,20 @@ impl Asked {
         reason(sheet, rounds, &mut [0; LONGEST_REASON]).to_string()
     }
 
-    /// The line and the words on one of the two files, which is refused by this fault.
+    /// The line and the words on one of the two files, which is refused by this fault. A length that they tell is that of the
+    /// whole file: no value after the bytes that are read is told, since a file that has so many is wrong before or by its length.
     fn refused(&self, place: usize, fault: Option<Fault>) -> String {
-        let file = [&self.folder.sheet, &self.folder.rounds][place];
-        let name = &self.names[place];
-        let words = match (fault, file) {
+        let (file, name) = ([&self.folder.sheet, &self.folder.rounds][place], &self.names[place]);
+        let (read, whole) = (self.folder.bytes()[place].len(), self.lengths[place]);
+        let line = self.line().replace(&format!(" length {read}\n"), &format!(" length {whole}\n"));
+        let words = match (fault.map(|fault| fault.of_length(whole)), file) {
             (None, _) => String::new(),
             (Some(Fault { refusal, .. }), None) => {
                 format!("{}There is no {name}.\n", rule(refusal))
             }
             (Some(fault), _) => broken(&fault, name, &faults::sheet_header(self.folder.bytes()[0])),
         };
-        format!("{}\n{words}", self.line())
+        format!("{line}\n{words}")
     }
 
     /// The line and the words on the round that is asked for, or on round 0.

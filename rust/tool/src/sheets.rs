@@ -4,7 +4,7 @@ use crate::brought::{self, Brought};
 use crate::failure::{Failure, Outcome};
 use crate::notation::counted;
 use crate::words::{Value, Words};
-use crate::{allowed, faults, files, small};
+use crate::{allowed, faults, files};
 use dimkhoros::{
     Header, Instance, PLACES, Places, Prover, ROOT, Refusal, Round, RoundFile, Values,
 };
@@ -99,8 +99,7 @@ pub fn by_column(sheet: &Instance, value: &Value) -> Outcome<Places> {
 /// The image of coordinates that are called by a letter, or refusal 16.
 pub fn image(sheet: &Instance, letter: &str, coordinates: &Places) -> Outcome<Places> {
     let brought = || [Brought::coordinates(sheet, letter, coordinates)];
-    let image = small::image(sheet, coordinates);
-    image.ok_or_else(|| brought::refused(Refusal::Coordinate, &brought()))
+    sheet.image(coordinates).map_err(|refusal| brought::refused(refusal, &brought()))
 }
 
 /// Exactly so many numbers, in places.

@@ -1,7 +1,7 @@
 //! All coordinates and elements of a sheet, where they are few.
 
 use crate::sheets::column_count;
-use dimkhoros::{EXPONENT, Header, Instance, PLACES, Places, Prover, Values};
+use dimkhoros::{EXPONENT, Header, Instance, PLACES, Places, Values};
 
 /// The most values that are tried one by one.
 pub const MOST: u32 = 4096;
@@ -50,11 +50,6 @@ pub fn domain(sheet: &Instance, most: usize) -> Option<Vec<Places>> {
     Some((0..count).map(choice).collect())
 }
 
-/// The image of coordinates, which is the commitment that Peggy makes for them as a nonce: none where they are no coordinates.
-pub fn image(sheet: &Instance, coordinates: &Places) -> Option<Places> {
-    Prover::new().commit(sheet, coordinates).ok().map(|(_, image)| image)
-}
-
 /// The sheet with the challenge count 2. It has the same elements, coordinates and images, and its bytes are tested faster, which
 /// counts where many values are tried.
 pub fn light(sheet: &Instance) -> Instance {
@@ -68,6 +63,6 @@ pub fn witnesses(sheet: &Instance, most: usize) -> Option<Vec<Places>> {
     let statement = sheet.values().statement;
     let mut all = domain(sheet, most)?;
     let light = light(sheet);
-    all.retain(|coordinates| image(&light, coordinates) == Some(statement));
+    all.retain(|coordinates| light.image(coordinates) == Ok(statement));
     Some(all)
 }

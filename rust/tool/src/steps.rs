@@ -4,8 +4,8 @@ mod numbers;
 
 use crate::by_hand::{Column, Euclid, Line, Power, Sides, Steps, row_powers};
 use crate::notation::{self, coordinate};
+use crate::sheets;
 use crate::table::{self, Set};
-use crate::{sheets, small};
 use dimkhoros::{EXPONENT, Instance, Places};
 use numbers::{by_squaring, power_text, powers_text, product, shows_squares, signed};
 
@@ -181,7 +181,7 @@ fn is_witness(sheet: &Instance, witness: &Places) -> String {
 /// The image of a witness, row by row. The numbers of rows are left out where there is one.
 fn image(sheet: &Instance, witness: &Places) -> String {
     let modulus = sheet.values().header.modulus;
-    let image = small::image(sheet, witness).unwrap_or_default();
+    let image = sheet.image(witness).unwrap_or_default();
     let count = sheets::row_count(sheet);
     let powers: Vec<Vec<Power>> = (0..count).map(|row| row_powers(sheet, row, witness)).collect();
     let line = |(row, (powers, image)): (usize, (&Vec<Power>, u32))| {

@@ -57,7 +57,8 @@ pub fn rows(mask: u32) -> Vec<String> {
     rows.map(|row| row.to_string()).collect()
 }
 
-fn verdict(judgement: Judgement) -> String {
+/// A verdict in words.
+pub fn verdict(judgement: Judgement) -> String {
     let mut words = rows(judgement.rows);
     words.insert(
         0,
@@ -119,6 +120,8 @@ impl Given {
             }
             Call::OrJudge | Call::OrExtract => self.or_round(library, call, inputs),
             Call::TeamCommitment | Call::TeamResponse => self.team(library, call, inputs),
+            Call::WatchOpen => Ok(self.watch_open(library)),
+            Call::WatchRound => self.watch_round(library, inputs),
             Call::OrProverNew => Ok(or_answers::session(&library.or_prover_new())),
             Call::OrProverCommit | Call::OrProverRespond | Call::OrProverDrop => {
                 self.or_prover_step(library, call, inputs)

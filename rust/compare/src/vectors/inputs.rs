@@ -1,11 +1,15 @@
 //! The inputs on a line of the vectors: words NAME=VALUE, each of which is to
 //! be taken once.
 
+use std::iter::repeat_n;
 use std::str::FromStr;
 
 use super::bytes;
 use crate::library::phases::{prover, verifier};
-use crate::library::{Header, OrRound, OrSession, Places, ProverSession, Round, VerifierSession};
+use crate::library::{
+    Header, OrRound, OrSession, Places, ProverSession, Round, VerifierSession, Watch,
+    LONGEST_SHEET, MOST_REMEMBERED,
+};
 
 /// What stands in places that no call may read.
 pub const UNREAD: u32 = 99;
@@ -56,12 +60,16 @@ impl<'a> Inputs<'a> {
     }
 
     pub fn number<T: FromStr>(&mut self, name: &str) -> Result<T, String> {
-        let value = self.value(name)?;
-        value.parse().map_err(|_| format!("{value} is no number"))
+        number(self.value(name)?)
     }
 
     pub fn bytes(&mut self, name: &str) -> Result<Vec<u8>, String> {
         bytes::read(self.value(name)?)
+    }
+
+    /// Whether there is an input of this name that is not taken yet.
+    fn has(&self, name: &str) -> bool {
+        self.0.iter().any(|(found, _)| *found == name)
     }
 
     pub fn list(&mut self, name: &str) -> Result<Vec<u32>, String> {
@@ -163,6 +171,53 @@ impl<'a> Inputs<'a> {
             challenge: self.number("challenge")?,
         })
     }
+
+    /// A watch, which holds this sheet and its length if the line does not say
+    /// otherwise.
+    pub fn watch(&mut self, sheet: &[u8]) -> Result<Watch, String> {
+        let mut watch = Watch {
+            rounds: [Round::default(); MOST_REMEMBERED],
+            sheet: [0; LONGEST_SHEET],
+            length: sheet.len() as u32,
+            count: self.number("count")?,
+        };
+        if self.has("length") {
+            watch.length = self.number("length")?;
+        }
+        let held = match self.has("held") {
+            true => self.bytes("held")?,
+            false => sheet.to_vec(),
+        };
+        fill(&mut watch.sheet, &held)?;
+        fill(&mut watch.rounds, &rounds(self.value("rounds")?)?)?;
+        Ok(watch)
+    }
+}
+
+/// The rounds that a watch remembers: t:c:r, with a slash between them. So many times
+/// the same is one with its count, and `-` is none.
+fn rounds(text: &str) -> Result<Vec<Round>, String> {
+    let mut rounds = Vec::new();
+    for piece in text.split('/').filter(|_| text != "-") {
+        let (round, count) = piece.split_once('*').unwrap_or((piece, "1"));
+        let parts: Vec<&str> = round.split(':').collect();
+        let [t, c, r] = parts[..] else {
+            return Err(format!("{piece} is no round"));
+        };
+        let mut round = Round {
+            challenge: number(c)?,
+            ..Round::default()
+        };
+        fill(&mut round.commitment, &numbers(t)?)?;
+        fill(&mut round.response, &numbers(r)?)?;
+        let count = number::<usize>(count)?.min(MOST_REMEMBERED + 1);
+        rounds.extend(repeat_n(round, count));
+    }
+    Ok(rounds)
+}
+
+fn number<T: FromStr>(word: &str) -> Result<T, String> {
+    word.parse().map_err(|_| format!("{word} is no number"))
 }
 
 /// A list of numbers, in which `-` is none.
@@ -170,12 +225,11 @@ fn numbers(text: &str) -> Result<Vec<u32>, String> {
     if text == "-" {
         return Ok(Vec::new());
     }
-    let number = |word: &str| word.parse().map_err(|_| format!("{word} is no number"));
     text.split(',').map(number).collect()
 }
 
 /// Puts a list at the start of some places.
-fn fill(places: &mut [u32], list: &[u32]) -> Result<(), String> {
+fn fill<T: Copy>(places: &mut [T], list: &[T]) -> Result<(), String> {
     let start = places.get_mut(..list.len());
     start.ok_or("a list is too long")?.copy_from_slice(list);
     Ok(())

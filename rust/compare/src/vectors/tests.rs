@@ -116,6 +116,19 @@ fn a_line_that_cannot_be_read_is_named() {
         ("judge t=9 c=3 r=4 k=5 ->", "k is no input of this call"),
         ("judge t=nine c=3 r=4 ->", "nine is no number"),
         ("sheet 4", "4 is no bytes"),
+        ("watch_round count=0 t=9 c=3 r=4 ->", "rounds is missing"),
+        (
+            "watch_round count=1 rounds=9:3 t=9 c=3 r=4 ->",
+            "9:3 is no round",
+        ),
+        (
+            "watch_round count=1 rounds=9:3:4*64 t=9 c=3 r=4 ->",
+            "a list is too long",
+        ),
+        (
+            "watch_round count=0 rounds=- held=00*309 t=9 c=3 r=4 ->",
+            "a list is too long",
+        ),
     ] {
         let text = format!("# A comment.\n{line}\n");
         assert_eq!(remade(&text, Judge), Err(format!("line 2: {error}")));

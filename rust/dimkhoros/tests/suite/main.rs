@@ -32,4 +32,5 @@ mod stored;
 mod storing;
 mod teams;
 mod tree;
+mod watches;
 mod words;

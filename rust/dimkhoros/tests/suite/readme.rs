@@ -102,7 +102,7 @@ fn the_pieces_in_c_run() {
     let round = Round { commitment: sent(lines[0]), challenge: 3, response: sent(lines[1]) };
     assert_eq!(page_a().judge(&round), Ok(Verdict::Accepted));
     let expected = [
-        "21 the session's state does not allow the call, or what it holds does not fit this sheet",
+        "21 the session's state does not allow the call, or what the session or watch holds does not fit this sheet",
         "the last challenge was answered",
         "accepted",
     ];

@@ -38,6 +38,13 @@ fn marked(stdout: &str) -> Ended {
     Ended { status: Some(0), stdout: stdout.to_string(), stderr: String::new() }
 }
 
+/// What a run comes to that prints these lines of the program `reason`, of which one at least is `accepted`.
+fn accepted(stdout: &str) -> Ended {
+    let stderr = "run: `accepted` is on round 0 alone; ./run FOLDER says whether the whole file passes, \
+                  and `dimkhoros reason FOLDER` why not\n";
+    Ended { stderr: stderr.to_string(), ..marked(stdout) }
+}
+
 /// What a run comes to that prints nothing and says this line.
 fn failed(status: i32, line: &str) -> Ended {
     Ended { status: Some(status), stdout: String::new(), stderr: format!("run: {line}\n") }
@@ -102,15 +109,31 @@ fn help_is_printed_and_marks_nothing() {
 #[test]
 fn behind_the_word_reason_each_folder_gets_its_line() {
     let home = laid_out("reason");
-    assert_eq!(home.run(&["reason"]), marked("accepted\n"));
-    assert_eq!(home.run(&["reason", "--", "crates/marker/data"]), marked("accepted\n"));
+    assert_eq!(home.run(&["reason"]), accepted("accepted\n"));
+    assert_eq!(home.run(&["reason", "--", "crates/marker/data"]), accepted("accepted\n"));
     assert_eq!(home.run(&["reason", "no files"]), marked("refused 2 length 0\n"));
     let several = "no files:\nrefused 2 length 0\ncrates/marker/data:\naccepted\n";
-    assert_eq!(home.run(&["reason", "no files", "crates/marker/data"]), marked(several));
+    assert_eq!(home.run(&["reason", "no files", "crates/marker/data"]), accepted(several));
     let missing = failed(1, "there is no folder nobody that can be entered");
     assert_eq!(home.run(&["reason", "nobody"]), missing);
     assert_eq!(home.run(&["reason", ""]), failed(2, "a folder's name is empty"));
     assert_eq!(home.run(&["reason", "--help"]), home.run(&["--help"]));
+}
+
+/// The example's round 0 is accepted and its file fails, so the line is not said alone. It is said once of all folders, and of no
+/// folder that is only marked.
+#[test]
+fn accepted_is_said_to_be_on_round_0() {
+    let home = laid_out("round-0");
+    let example = "crates/marker/data";
+    assert!(home.run(&[example]).stdout.ends_with("\nfail\n"));
+    let twice = format!("{example}:\naccepted\n").repeat(2);
+    assert_eq!(home.run(&["reason", example, example]), accepted(&twice));
+    assert_eq!(home.run(&[example]), marked(EXAMPLE));
+    let Ended { status, stdout, stderr } = home.run(&["reason", example, "nobody"]);
+    assert_eq!((status, stdout), (Some(1), format!("{example}:\naccepted\n")));
+    let missing = failed(1, "there is no folder nobody that can be entered").stderr;
+    assert_eq!(stderr, missing + &accepted("").stderr);
 }
 
 /// The word is one only where it stands first.
@@ -135,7 +158,7 @@ fn a_folder_without_a_level_is_not_marked_by_rounds() {
     fs::remove_file(home.0.join("crates/marker/data/level.bin")).unwrap();
     home.date("crates/marker/data", false);
     assert_eq!(home.run(&[]), marked("level 25\n"));
-    assert_eq!(home.run(&["reason"]), marked("accepted\n"));
+    assert_eq!(home.run(&["reason"]), accepted("accepted\n"));
 }
 
 /// The README's script is told a pass by the last line. With K = 11 one round passes at the level 3.
@@ -334,7 +357,7 @@ fn an_old_program_reason_is_built_for_itself() {
         "{}",
         built.stderr
     );
-    assert_eq!(home.run(&["reason"]), marked("accepted\n"));
+    assert_eq!(home.run(&["reason"]), accepted("accepted\n"));
     assert_eq!(home.text("asked"), "check reason\n");
 }
 

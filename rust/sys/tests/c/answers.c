@@ -20,6 +20,7 @@ size_t look(const uint8_t *sheet, size_t length, uint8_t *bytes, uint32_t *eight
     DimkhorosVerifierSession vic = {{0}, 0, DIMKHOROS_VERIFIER_WAITING};
     DimkhorosOrRound two = {{9}, {33}, {4}, {6}, 3, 2};
     DimkhorosOrSession either = {{0}, {0}, {0}, {0}, 0, 0, DIMKHOROS_PROVER_NEW};
+    DimkhorosWatch watch = {{{{0}, 0, {0}}}, {0}, 0, 0};
 
     LOOK(dimkhoros_load(sheet, length), .refusal);
     LOOK(dimkhoros_entries(sheet, length, table), );
@@ -58,6 +59,9 @@ size_t look(const uint8_t *sheet, size_t length, uint8_t *bytes, uint32_t *eight
     LOOK(dimkhoros_team_commitment(sheet, length, 2, table, table), .refusal);
     LOOK(dimkhoros_team_response(sheet, length, 2, table, table), .refusal);
 
+    LOOK(dimkhoros_open_watch(sheet, length, &watch), );
+    LOOK(dimkhoros_hear(sheet, length, &watch, round), .back);
+
     LOOK(dimkhoros_count(sheet, length, bytes, length), .refusal);
     LOOK(dimkhoros_check(sheet, length, bytes, length, 0), );
     LOOK(dimkhoros_part(sheet, length, bytes, length, 0), .length);
@@ -78,6 +82,8 @@ size_t look(const uint8_t *sheet, size_t length, uint8_t *bytes, uint32_t *eight
     LOOK(dimkhoros_or_prover_commit(sheet, length, sheet, length, either, 0, eight, 3, eight), .refusal);
     LOOK(dimkhoros_or_prover_respond(sheet, length, sheet, length, either, 3, eight), .refusal);
     LOOK(dimkhoros_or_prover_drop(either), .refusal);
+    LOOK(dimkhoros_watch_open(sheet, length), .refusal);
+    LOOK(dimkhoros_watch_round(sheet, length, watch, round), .verdict.refusal);
 
     /* The calls whose answer need not be looked at. */
     dimkhoros_prover_store(&peggy, bytes);

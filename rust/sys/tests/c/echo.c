@@ -56,12 +56,18 @@ static void print_part(DimkhorosPart a) {
     printf("Part { offset: %zu, length: %zu }\n", a.offset, a.length);
 }
 
+static void print_round(const DimkhorosRound *a) {
+    printf("Round { commitment: ");
+    print_places(a->commitment);
+    printf(", challenge: %u, response: ", a->challenge);
+    print_places(a->response);
+    printf(" }");
+}
+
 static void print_fetched(DimkhorosFetched a) {
-    printf("Fetched { round: Round { commitment: ");
-    print_places(a.round.commitment);
-    printf(", challenge: %u, response: ", a.round.challenge);
-    print_places(a.round.response);
-    printf(" }, refusal: %u }\n", a.refusal);
+    printf("Fetched { round: ");
+    print_round(&a.round);
+    printf(", refusal: %u }\n", a.refusal);
 }
 
 static void print_computed(DimkhorosComputed a) {
@@ -149,6 +155,32 @@ static void print_or_answer(DimkhorosOrAnswer a) {
     printf(", values1: ");
     print_places(a.values1);
     printf(", challenge0: %u, refusal: %u }\n", a.challenge0, a.refusal);
+}
+
+/* A watch: of rounds that are the same and follow each other the first, with how many they are; and the sheet's bytes. */
+static void print_watch(const DimkhorosWatch *a) {
+    printf("length: %u, count: %u\n", a->length, a->count);
+    for (size_t i = 0, next; i < DIMKHOROS_MOST_REMEMBERED; i = next) {
+        for (next = i; next < DIMKHOROS_MOST_REMEMBERED && memcmp(&a->rounds[next], &a->rounds[i], sizeof a->rounds[i]) == 0;) {
+            next++;
+        }
+        printf("%zu of ", next - i);
+        print_round(&a->rounds[i]);
+        printf("\n");
+    }
+    print_bytes(a->sheet, sizeof a->sheet);
+}
+
+static void print_opened(DimkhorosOpened a) {
+    print_watch(&a.watch);
+    printf("refusal: %u\n", a.refusal);
+}
+
+static void print_heard(DimkhorosWatchAnswer a) {
+    printf("witness: ");
+    print_places(a.witness);
+    printf(", back: %u, verdict: ", a.back);
+    print_judgement(a.verdict);
 }
 
 /* --- What is called --- */
@@ -428,6 +460,41 @@ static void teams(void) {
     print_computed(dimkhoros_team_response(wide, sizeof wide, 2, commitments, commitments));
 }
 
+/* A watch of the wide sheet that remembers 63 rounds: 62 that differ, and the oldest, which is accepted. */
+static DimkhorosWatch full_watch(void) {
+    DimkhorosWatch watch = dimkhoros_watch_open(wide, sizeof wide).watch;
+    for (uint32_t i = 0; i < 62; i++) {
+        watch.rounds[i] = rising_round(100 * i);
+    }
+    watch.rounds[62] = honest_round(0, nonce);
+    watch.count = 63;
+    return watch;
+}
+
+static void watches(void) {
+    print_opened(dimkhoros_watch_open(wide, sizeof wide));
+    print_opened(dimkhoros_watch_open(roots, sizeof roots));
+    print_opened(dimkhoros_watch_open(wide, sizeof wide - 1));
+    DimkhorosWatch watch = full_watch();
+    DimkhorosWatchAnswer answer = dimkhoros_watch_round(wide, sizeof wide, watch, honest_round(1, response));
+    print_heard(answer);
+    print_watch(&answer.watch);
+    print_heard(dimkhoros_watch_round(wide, sizeof wide, answer.watch, honest_round(0, nonce)));
+    print_heard(dimkhoros_watch_round(wide, sizeof wide, watch, honest_round(2, response)));
+    print_heard(dimkhoros_watch_round(wide, sizeof wide, watch, honest_round(5, response)));
+    for (int i = 0; i < 5; i++) {
+        DimkhorosWatch odd = watch;
+        odd.count += i == 0;
+        odd.length += i == 1;
+        odd.sheet[0] = (uint8_t)(odd.sheet[0] + (i == 2));
+        odd.sheet[307] = (uint8_t)(odd.sheet[307] + (i == 3));
+        odd.rounds[62].response[7] += i == 4;
+        answer = dimkhoros_watch_round(wide, sizeof wide, odd, honest_round(1, response));
+        print_heard(answer);
+        printf("%s\n", memcmp(&answer.watch, &odd, sizeof odd) == 0 ? "the same watch" : "another watch");
+    }
+}
+
 /* The length of the marker's text on three files, the text, and two bytes behind it, which stay. */
 static void print_mark(const uint8_t *sheet, size_t sheet_length, const uint8_t *file, size_t file_length,
                        const uint8_t *level, size_t level_length) {
@@ -519,6 +586,8 @@ static void empty_slices(void) {
     }
     print_computed(dimkhoros_team_commitment(NULL, 0, 2, entries, entries));
     print_computed(dimkhoros_team_response(NULL, 0, 2, entries, entries));
+    print_opened(dimkhoros_watch_open(NULL, 0));
+    print_heard(dimkhoros_watch_round(NULL, 0, dimkhoros_watch_open(NULL, 0).watch, rising_round(1)));
 }
 
 int main(void) {
@@ -530,6 +599,7 @@ int main(void) {
     or_rounds();
     or_provers();
     teams();
+    watches();
     marks();
     reasons();
     empty_slices();

@@ -99,9 +99,26 @@ static void print_or_proof(void) {
     FIELD(DimkhorosOrAnswer, refusal);
 }
 
+static void print_watches(void) {
+    STRUCT(DimkhorosWatch);
+    FIELD(DimkhorosWatch, rounds);
+    FIELD(DimkhorosWatch, sheet);
+    FIELD(DimkhorosWatch, length);
+    FIELD(DimkhorosWatch, count);
+    STRUCT(DimkhorosOpened);
+    FIELD(DimkhorosOpened, watch);
+    FIELD(DimkhorosOpened, refusal);
+    STRUCT(DimkhorosWatchAnswer);
+    FIELD(DimkhorosWatchAnswer, watch);
+    FIELD(DimkhorosWatchAnswer, witness);
+    FIELD(DimkhorosWatchAnswer, back);
+    FIELD(DimkhorosWatchAnswer, verdict);
+}
+
 int main(void) {
     print_sheets_and_rounds();
     print_answers_and_sessions();
     print_or_proof();
+    print_watches();
     return 0;
 }

@@ -297,6 +297,59 @@ fn teams(text: &mut String) {
     );
 }
 
+/// A watch: of rounds that are the same and follow each other the first, with how many they are; and the sheet's bytes.
+fn watch_lines(watch: &Watch) -> String {
+    let mut text = format!("length: {}, count: {}\n", watch.length, watch.count);
+    for run in watch.rounds.chunk_by(|round, next| round == next) {
+        writeln!(text, "{} of {:?}", run.len(), run[0]).unwrap();
+    }
+    writeln!(text, "{:?}", watch.sheet).unwrap();
+    text
+}
+
+fn opened_lines(opened: Opened) -> String {
+    format!("{}refusal: {}\n", watch_lines(&opened.watch), opened.refusal)
+}
+
+fn heard_line(answer: WatchAnswer) -> String {
+    let WatchAnswer { witness, back, verdict, .. } = answer;
+    format!("witness: {witness:?}, back: {back}, verdict: {verdict:?}\n")
+}
+
+/// A watch of the wide sheet that remembers 63 rounds: 62 that differ, and the oldest, which is accepted.
+fn full_watch() -> Watch {
+    let mut watch = watch_open(&wide()).watch;
+    watch.rounds = core::array::from_fn(|i| rising_round(100 * i as u32));
+    watch.rounds[62] = honest_round(0, NONCE);
+    watch.count = 63;
+    watch
+}
+
+fn watches(text: &mut String) {
+    let (wide, roots, watch) = (wide(), roots(), full_watch());
+    for sheet in [&wide[..], &roots, &wide[..LONGEST_SHEET - 1]] {
+        text.push_str(&opened_lines(watch_open(sheet)));
+    }
+    let answer = watch_round(&wide, &watch, &honest_round(1, RESPONSE));
+    text.push_str(&(heard_line(answer) + &watch_lines(&answer.watch)));
+    text.push_str(&heard_line(watch_round(&wide, &answer.watch, &honest_round(0, NONCE))));
+    for challenge in [2, 5] {
+        let round = honest_round(challenge, RESPONSE);
+        text.push_str(&heard_line(watch_round(&wide, &watch, &round)));
+    }
+    let mut odd = [watch; 5];
+    odd[0].count += 1;
+    odd[1].length += 1;
+    odd[2].sheet[0] += 1;
+    odd[3].sheet[307] += 1;
+    odd[4].rounds[62].response[7] += 1;
+    for odd in odd {
+        let answer = watch_round(&wide, &odd, &honest_round(1, RESPONSE));
+        let same = if answer.watch == odd { "the same watch" } else { "another watch" };
+        text.push_str(&(heard_line(answer) + same + "\n"));
+    }
+}
+
 /// The length of the marker's text on three files, the text, and two bytes behind it, which stay.
 fn mark_over(sheet: &[u8], file: &[u8], level: &[u8]) -> String {
     let mut text = [238; LONGEST_TEXT];
@@ -381,6 +434,9 @@ fn empty_slices(text: &mut String) {
         team_commitment(&[], 2, &[1; PARTS], &[1; PARTS]),
         team_response(&[], 2, &[1; PARTS], &[1; PARTS]),
     );
+    let opened = watch_open(&[]);
+    text.push_str(&opened_lines(opened));
+    text.push_str(&heard_line(watch_round(&[], &opened.watch, &rising_round(1))));
 }
 
 const EXPECTED: &str = include_str!("../echo.txt");
@@ -396,6 +452,7 @@ fn fields_cross_from_rust() {
     or_rounds(&mut text);
     or_provers(&mut text);
     teams(&mut text);
+    watches(&mut text);
     marks(&mut text);
     reasons(&mut text);
     empty_slices(&mut text);

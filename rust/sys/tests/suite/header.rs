@@ -9,11 +9,12 @@ use std::fmt::Write;
 use std::fs;
 
 /// The constants of this crate, under their names in C and in the order of the C program.
-const CONSTANTS: [(&str, usize); 24] = [
+const CONSTANTS: [(&str, usize); 25] = [
     ("PLACES", PLACES),
     ("ENTRIES", ENTRIES),
     ("MOST_PLAYERS", MOST_PLAYERS),
     ("PARTS", PARTS),
+    ("MOST_REMEMBERED", MOST_REMEMBERED),
     ("LONGEST_SHEET", LONGEST_SHEET),
     ("SHIPPED_PATTERNS", SHIPPED_PATTERNS),
     ("MOST_PATTERNS", MOST_PATTERNS),

@@ -5,6 +5,7 @@
 
 use crate::cc;
 
+use dimkhoros_sys::MOST_REMEMBERED;
 use std::fs;
 
 #[test]
@@ -24,17 +25,39 @@ fn calls_in_place_of_the_or_proof_are_the_pure_ones() {
 }
 
 #[test]
+fn calls_in_place_of_a_watch_are_the_pure_ones() {
+    let backs: Vec<String> = (0..=MOST_REMEMBERED).map(|back| back.to_string()).collect();
+    let expected = format!(
+        "open_watch 0 2\nhear 0 2 14 15 16 21 accepted rejected\nback {}\n",
+        backs.join(" ")
+    );
+    assert_eq!(cc::run("watch_in_place.c"), expected);
+}
+
+#[test]
 fn a_verdict_that_is_kept_over_rounds_is_never_an_old_one() {
     let expected = "right: accepted 0\ntoo large: not accepted 16\nright: accepted 0\nwrong: not accepted 0\n\
                     right: accepted 0\nnothing was asked: not accepted 21\nright: accepted 0\nno sheet: not accepted 2\n";
     assert_eq!(cc::run("careless.c"), expected);
 }
 
-/// A verdict that is answered by value is a whole one, whatever stood in the variable before.
+#[test]
+fn what_a_watch_said_is_never_kept_over_rounds() {
+    let expected = "first: accepted, no reuse 0\nsecond: accepted, 1 back, x = 7 0\nwrong: not accepted, no reuse 0\n\
+                    first: accepted, 1 back, x = 7 0\ntoo large: not accepted, no reuse 16\n\
+                    second: accepted, 1 back, x = 7 0\nno sheet: not accepted, no reuse 2\n\
+                    first: accepted, 1 back, x = 7 0\nother sheet: not accepted, no reuse 21\n\
+                    a count of 64: not accepted, no reuse 21\n";
+    assert_eq!(cc::run("careless_watch.c"), expected);
+}
+
+/// A verdict that is answered by value is a whole one, whatever stood in the variable before. So is what a watch says.
 #[test]
 fn no_call_gives_a_verdict_by_its_address() {
     let header = fs::read_to_string(cc::root().join("include/dimkhoros.h")).unwrap();
     let text: String = header.split_whitespace().collect();
     assert!(text.contains("staticinlineDimkhorosJudgementdimkhoros_take_response("));
+    assert!(text.contains("staticinlineDimkhorosHearddimkhoros_hear("));
     assert!(!text.contains("Judgement*"), "a pointer to a verdict");
+    assert!(!text.contains("Heard*"), "a pointer to what a watch says");
 }

@@ -52,5 +52,8 @@ fn every_struct_is_laid_out_as_in_c() {
         OrSession { nonce, response, commitment0, commitment1, challenge, side, phase }
     );
     describe!(text, OrAnswer { session, values0, values1, challenge0, refusal });
+    describe!(text, Watch { rounds, sheet, length, count });
+    describe!(text, Opened { watch, refusal });
+    describe!(text, WatchAnswer { watch, witness, back, verdict });
     assert_eq!(text, cc::run("layout.c"));
 }

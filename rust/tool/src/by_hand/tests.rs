@@ -68,7 +68,7 @@ pub fn honest(kind: u32, random: &mut Random) -> (Instance, Round, Round) {
     let table = sheet(kind, random);
     let domain = small::coordinates(&table).unwrap();
     let (witness, nonce) = (random.places(&domain), random.places(&domain));
-    let sheet = table.with_statement(&small::image(&table, &witness).unwrap()).unwrap();
+    let sheet = table.with_statement(&table.image(&witness).unwrap()).unwrap();
     let challenges = sheet.values().header.challenges;
     let c = random.below(challenges);
     let other = (c + 1 + random.below(challenges - 1)) % challenges;
@@ -147,7 +147,7 @@ fn the_steps_go_on_with_the_largest_numbers() {
     let values = Values { header, statement: places([1]), ..Values::default() };
     let table = Instance::encode(&values).unwrap();
     let witness = places([4_294_967_294]);
-    let sheet = table.with_statement(&small::image(&table, &witness).unwrap()).unwrap();
+    let sheet = table.with_statement(&table.image(&witness).unwrap()).unwrap();
     for challenge in [1, 32_768, 65_535] {
         let commitment = sheet.simulate(0, &places([4_294_967_293])).unwrap();
         let first = Round { commitment, challenge: 0, response: places([4_294_967_293]) };

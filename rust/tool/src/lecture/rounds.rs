@@ -2,7 +2,6 @@
 
 use crate::failure::{Failure, Outcome};
 use crate::sheets::{column_count, honest};
-use crate::small;
 use dimkhoros::{EXPONENT, Instance, PLACES, Places, Refusal, Round, Verdict, Verifier};
 
 /// The simulator's round for a challenge and a response.
@@ -128,7 +127,7 @@ impl Lists {
 
 /// The coordinates of a sheet that are good to look at: these values where they are coordinates, in turn.
 fn pleasing(sheet: &Instance, values: &[u32]) -> Places {
-    let is_coordinate = |value: &&u32| small::image(sheet, &[**value; PLACES]).is_some();
+    let is_coordinate = |value: &&u32| sheet.image(&[**value; PLACES]).is_ok();
     let good: Vec<u32> = values.iter().filter(is_coordinate).copied().collect();
     in_columns(sheet, |column| good.get(column % good.len().max(1)).copied().unwrap_or(0))
 }
@@ -155,7 +154,7 @@ pub fn spread(sheet: &Instance, count: u32) -> Vec<Places> {
     let all = if header.kind == EXPONENT { header.order } else { header.modulus };
     let near = |value: u32| {
         let coordinates = (value..all).take(512);
-        let mut good = coordinates.filter(|value| small::image(sheet, &[*value; PLACES]).is_some());
+        let mut good = coordinates.filter(|value| sheet.image(&[*value; PLACES]).is_ok());
         good.next().unwrap_or(1)
     };
     let step = (all / (count + 1)).max(1);

@@ -35,7 +35,8 @@ pub enum Said {
 impl Mark {
     /// Marks a folder by the course's sheet and level, and by the folder's own if the course has none.
     pub fn of(name: &OsStr, course: &Course) -> Mark {
-        let (name, read) = (files::one_line(name), Folder::read(name, course));
+        let read = Folder::read(name, course).and_then(Folder::with_level);
+        let name = files::one_line(name);
         match read {
             Ok(folder) => {
                 let (said, notes) = (Said::of(&folder), notes::of(&folder));

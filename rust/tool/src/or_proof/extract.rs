@@ -4,7 +4,7 @@ use super::rounds;
 use crate::failure::{Failure, Outcome};
 use crate::table::{self, Set};
 use crate::words::Words;
-use crate::{brought, check, notation, small};
+use crate::{brought, check, notation};
 use dimkhoros::{OrRound, OrWitness, Pair, Refusal, Side};
 use std::ffi::OsString;
 use std::io::Write;
@@ -90,7 +90,7 @@ fn explained(
     let (c, d) = (first.challenge, second.challenge);
     let [first, second] = [first, second].map(|round| notation::round(sheet, &round));
     let x = notation::by_column(sheet, &witness.values);
-    if small::image(sheet, &witness.values) != Some(sheet.values().statement) {
+    if sheet.image(&witness.values) != Ok(sheet.values().statement) {
         return Err(check::no_witness(sheet, "x", &witness.values));
     }
     let checked = check::is_witness(sheet, &witness.values, &format!("the statement of {side}"));

@@ -42,7 +42,7 @@ fn said_marked(judged: &Judged) -> String {
     format!("The whole file fails{bad}.{}", few.unwrap_or_default())
 }
 
-/// What is said of a file that is not marked, since its level is refused or was not told.
+/// What is said of a file that is not marked, since its level is refused, cannot be read or was not told.
 fn said_unmarked(asked: &Asked, judged: &Judged) -> String {
     let (rounds, challenges) = (judged.rounds(), judged.challenges);
     let on_rounds = match (not_accepted(judged), rounds) {
@@ -50,15 +50,16 @@ fn said_unmarked(asked: &Asked, judged: &Judged) -> String {
         (None, 0) => "The whole file fails at every level: it has no rounds.".to_string(),
         (None, _) => format!("In the whole file {}.", accepted(rounds)),
     };
-    let on_level = match asked.by {
-        By::Folder => {
+    let on_level = match (&asked.folder.unread_level, &asked.by) {
+        (Some(why), _) => format!(" It is not marked: {why}."),
+        (_, By::Folder) => {
             format!(" The marker answers `level 25`: {}.", asked.folder.fault(Refusal::Level))
         }
-        By::Names if judged.accepted == rounds && rounds > 0 => {
+        (_, By::Names) if judged.accepted == rounds && rounds > 0 => {
             let level = levels::reached(challenges, rounds);
             format!(" With K = {challenges} that is enough for a level up to {level}.")
         }
-        By::Names => String::new(),
+        (_, By::Names) => String::new(),
     };
     on_rounds + &on_level
 }

@@ -62,15 +62,16 @@ fn reading() -> impl Iterator<Item = (&'static str, String)> {
     FILES.iter().flat_map(|(file, _)| lines_with(file).into_iter().map(|line| (*file, line)))
 }
 
+/// What is printed is the same as of a file that is called as standard input is.
 #[test]
 fn every_file_can_be_standard_input() {
     let desk = desk("standard input");
     for (name, line) in reading() {
         let line = with(&line, "-o OUT", "-o -");
-        let printed = desk.print(&line);
+        desk.print(&format!("cp {name} 'standard input'"));
+        let printed = desk.print(&with(&line, name, "'standard input'"));
         let piped = desk.print(&format!("{} < {name}", with(&line, name, "-")));
-        let named = |text: &str| text.replace("standard input", name);
-        assert_eq!(named(&piped), named(&printed), "{line}");
+        assert_eq!(piped, printed, "{line}");
     }
 }
 

@@ -2,7 +2,9 @@
 //! the first one.
 
 use crate::desk::Desk;
+use crate::generator::Random;
 use crate::marks::{folder, numbers};
+use crate::material::Material;
 use dimkhoros::{Instance, LONGEST_REASON, RoundFile, reason};
 use std::fs;
 use std::path::Path;
@@ -46,6 +48,29 @@ fn every_folder_has_the_librarys_line_and_what_holds_of_the_whole() {
         failed_after_accepted += usize::from(failed);
     }
     assert!(failed_after_accepted > 10, "{failed_after_accepted} fail with round 0 accepted");
+}
+
+/// Of a file with very many bytes the tool does not read all, and its line is the library's on all of them.
+#[test]
+fn a_long_file_has_the_line_on_all_its_bytes() {
+    let desk = Desk::new("long reasons");
+    let of = Material::any(&mut Random::of_case(6, 0));
+    desk.print("mkdir long");
+    let path = desk.folder.join("long");
+    let mut lengths = 0;
+    for (name, good) in [("rounds.bin", &of.rounds), ("sheet.bin", &of.sheet)] {
+        for (start, rest) in [(good.len(), 1 << 20), (good.len(), 3_000_000), (4, 1 << 20)] {
+            fs::write(path.join("sheet.bin"), &of.sheet).unwrap();
+            fs::write(path.join("rounds.bin"), &of.rounds).unwrap();
+            fs::write(path.join(name), [&good[..start], &vec![0; rest]].concat()).unwrap();
+            let (sheet, rounds) = (bytes(&path, "sheet.bin"), bytes(&path, "rounds.bin"));
+            let line = reason(&sheet, &rounds, &mut [0; LONGEST_REASON]).to_string();
+            let printed = desk.print("dimkhoros reason long");
+            assert!(printed.starts_with(&format!("{line}\n")), "{printed}\nin place of\n{line}");
+            lengths += usize::from(line.contains(" length "));
+        }
+    }
+    assert_eq!(lengths, 4);
 }
 
 /// The file with a round put first, and how many bytes a round has.

@@ -3,8 +3,8 @@
 -- Assumes nothing.
 use mathlib.Core.Path.{sym, _∙_}
 use borrow.Author.Needs.{needs}
-use Rattle.instance.proofs.Answers.{answer-number, answer-header}
-use Rattle.tables.proofs.Entries.{entries-kept, entries-put}
+use Rattle.instance.proofs.Answers.{answer-header}
+use Rattle.tables.proofs.Entries.{entries-kept, entries-number, entries-put}
 use Rattle.tables.proofs.table.store_entries.Statement.{statement}
 use Rattle.tables.proofs.table.store_entries.Tie as tie
 
@@ -14,7 +14,7 @@ load-requires c κs = search needs
 returns : tie.Need-returns
 returns c =
     let is-load = c .before .load .ensures in
-    (answer-number _ _ is-load, entries-kept _ is-load _ (c .if1 .taken))
+    (entries-number _ is-load, entries-kept _ is-load _ (c .if1 .taken))
 
 loaded-entries-requires : tie.Need-loaded-entries-requires
 loaded-entries-requires c κs =
@@ -28,7 +28,7 @@ returns-2 : tie.Need-returns-2
 returns-2 c =
     let passed = c .before .before .before in
     let is-load = passed .before .load .ensures in (
-      sym (passed .if1 .left) ∙ answer-number _ _ is-load,
+      sym (passed .if1 .left) ∙ entries-number _ is-load,
       entries-put _ is-load _ (passed .if1 .left) (c .before .loaded-entries .ensures) (c .flat .ensures),
     )
 

@@ -4,7 +4,7 @@ use mathlib.Core.Path.{_∙_}
 use native.Mathlib.Omega.{arith}
 use borrow.Author.Needs.{needs}
 use Rattle.extractor.proofs.Extracting.{not-accepted}
-use Rattle.watches.specs.Watch.{rememberedAt}
+use Rattle.watches.specs.Window.{rememberedAt}
 use Rattle.watch.proofs.Hearing.{none-told, forged-told, named-told}
 use Rattle.watch.proofs.loaded.named.Statement.{statement}
 use Rattle.watch.proofs.loaded.named.Tie as tie

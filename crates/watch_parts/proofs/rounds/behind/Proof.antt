@@ -4,7 +4,7 @@ use Prim.Native.Nat.{_+_, _-_}
 use native.Mathlib.Omega.{arith}
 use lib.ListN.{getD}
 use Rattle.lists.proofs.Filling.{Filled, filled-turn}
-use Rattle.watches.specs.Watch.{noRound}
+use Rattle.watches.specs.Window.{noRound}
 use Rattle.watch_parts.proofs.Moving.{moved, behind-start, behind-at, behind-end}
 use Rattle.watch_parts.proofs.rounds.behind.Statement.{statement}
 use Rattle.watch_parts.proofs.rounds.behind.Tie as tie

@@ -6,7 +6,8 @@ use native.Mathlib.Omega.{arith}
 use lib.ListN.{getD}
 use Rattle.numbers.specs.Search.{find}
 use Rattle.numbers.proofs.Search.{find-to-start, find-to-end, find-to-here, find-to-on}
-use Rattle.watches.specs.Watch.{noRound, reuses, rememberedAt, nearest}
+use Rattle.watches.specs.Watch.{reuses, nearest}
+use Rattle.watches.specs.Window.{noRound, rememberedAt}
 use Rattle.watch_parts.proofs.rounds.nearest.Statement.{statement}
 use Rattle.watch_parts.proofs.rounds.nearest.Tie as tie
 
