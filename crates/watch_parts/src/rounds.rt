@@ -18,7 +18,8 @@ fn reuses(h: Header, round: Round, other: Round) -> bool
 {
     let t = other.commitment;
     let u = round.commitment;
-    if differ(t, u, h.rows as usize) {
+    let rows = h.rows as usize;
+    if differ(t, u, rows) {
         return false;
     }
     other.challenge != round.challenge
