@@ -1,10 +1,10 @@
 //! A plain judge for proofs of a preimage under a group homomorphism.
 //!
 //! Every call takes any bytes and any numbers. It ends in a result or in one
-//! refusal, a number from 1 to 28. The earliest that applies is given, in the
-//! order 23, 24, then 1 to 9, then 27, 10, 11, 26, 12, 25, then 13 to 16, then
-//! 28 and then 17 to 22. A refused call changes neither a lent buffer nor a
-//! session nor a watch.
+//! refusal, a number from 1 to 30. The earliest that applies is given, in the
+//! order 23, 24, then 1 to 9, then 27, 29, 30, 10, 11, 26, 12, 25, then 13 to
+//! 16, then 28 and then 17 to 22. A refused call changes neither a lent buffer
+//! nor a session nor a watch.
 //!
 //! Each sheet is handed in as bytes and is tested on every call.
 
@@ -13,6 +13,8 @@
 
 mod arithmetic;
 mod bytes;
+// A module of its own name: its `make` stands beside 01's maker.
+pub mod linear;
 mod marker;
 // A module of its own name: its calls stand beside 01's calls on one sheet.
 pub mod or_proof;

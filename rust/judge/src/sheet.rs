@@ -83,7 +83,7 @@ impl Sheet {
     }
 
     /// Tests 4 to 8, in order.
-    fn test_header(&self) -> Result<(), u32> {
+    pub(crate) fn test_header(&self) -> Result<(), u32> {
         if self.kind != 1 && self.kind != 2 {
             return Err(4);
         }
