@@ -2,7 +2,7 @@
 -- Assumes nothing.
 use mathlib.Core.Path.{_≡_, sym, _∙_, ap, ap₂}
 use Prim.Native.Nat.{ℕ, zero, suc, _-_, _*_, _/_, _%_, _^_, _≤_}
-use native.Mathlib.Nat.{mul-zero, mul-suc, mul-one, one-mul, mul-mul-mul-comm, pow-zero, pow-suc, pow-succ', mod-add-div}
+use native.Mathlib.Nat.{mul-zero, mul-suc, mul-one, one-mul, mul-comm, mul-mul-mul-comm, pow-zero, pow-suc, pow-succ', mod-add-div}
 use native.Mathlib.Omega.{arith}
 use lib.Pow.{pow-add}
 use Rattle.numbers.specs.Congruence.{Cong}
@@ -23,6 +23,10 @@ pub pow-mul : (a i j : ℕ) → a ^ (i * j) ≡ (a ^ i) ^ j
 pow-mul a i zero = ap (λ (x : ℕ). a ^ x) (mul-zero i) ∙ pow-zero a ∙ sym (pow-zero (a ^ i))
 pow-mul a i (suc j) =
     ap (λ (x : ℕ). a ^ x) (mul-suc i j) ∙ pow-add a (i * j) i ∙ ap (λ (x : ℕ). x * a ^ i) (pow-mul a i j) ∙ sym (pow-suc (a ^ i) j)
+
+-- a power of a power, the exponents exchanged
+pub pow-swap : (a i j : ℕ) → (a ^ i) ^ j ≡ (a ^ j) ^ i
+pow-swap a i j = sym (pow-mul a i j) ∙ ap (λ (k : ℕ). a ^ k) (mul-comm i j) ∙ pow-mul a j i
 
 -- a power of a product is the product of the powers
 pub mul-pow : (a b n : ℕ) → (a * b) ^ n ≡ a ^ n * b ^ n

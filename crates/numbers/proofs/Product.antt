@@ -2,8 +2,9 @@
 -- Assumes nothing.
 use mathlib.Core.Path.{_≡_, refl, _∙_, ap, ap₂}
 use Prim.Native.Nat.{ℕ, zero, suc, _+_, _*_, _^_, _<_}
-use native.Mathlib.Nat.{mul-one, mul-mul-mul-comm}
+use native.Mathlib.Nat.{mul-one, mul-mul-mul-comm, pow-zero}
 use native.Mathlib.Omega.{arith}
+use lib.Pow.{pow-add}
 use Rattle.numbers.specs.Congruence.{Cong}
 use Rattle.numbers.specs.Product.{product, sum}
 use Rattle.numbers.proofs.Congruence.{cong-refl, cong-mul}
@@ -67,3 +68,16 @@ pub product-one : (n : ℕ) → product n (λ j. 1) ≡ 1
 unfolding product
 product-one zero = refl
 product-one (suc n) = mul-one (product n (λ j. 1)) ∙ product-one n
+
+-- a power by a sum is the product of the powers
+pub pow-sum : (a n : ℕ) (f : ℕ → ℕ) → a ^ sum n f ≡ product n (λ j. a ^ f j)
+unfolding sum product
+pow-sum a zero f = pow-zero a
+pow-sum a (suc n) f = pow-add a (sum n f) (f n) ∙ ap (λ (p : ℕ). p * a ^ f n) (pow-sum a n f)
+
+-- a product over two indices can be taken in either order
+pub product-swap : (n k : ℕ) (f : ℕ → ℕ → ℕ) → product n (λ j. product k (λ g. f j g)) ≡ product k (λ g. product n (λ j. f j g))
+unfolding product
+product-swap n zero f = product-one n
+product-swap n (suc k) f =
+    product-mul n (λ j. product k (λ g. f j g)) (λ j. f j k) ∙ ap (λ (p : ℕ). p * product n (λ j. f j k)) (product-swap n k f)

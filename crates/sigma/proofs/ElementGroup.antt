@@ -14,12 +14,14 @@ use Rattle.numbers.specs.Congruence.{Cong}
 use Rattle.numbers.specs.Gcd.{gcd}
 use Rattle.numbers.specs.Integer.{power}
 use Rattle.numbers.specs.Inverse.{inverse, Inverses}
+use Rattle.numbers.specs.Product.{product}
 use Rattle.numbers.proofs.Congruence.{cong-sym, _then_, cong-refl, cong-of-equal, cong-mod, cong-one, cong-mul, cong-pow}
 use Rattle.numbers.proofs.Congruence.{mod-is-one, mod-mul-left, mod-mul-right}
 use Rattle.numbers.proofs.Exponent.{power-pos, power-neg}
 use Rattle.numbers.proofs.Gcd.{gcd-one, gcd-comm, gcd-zero}
 use Rattle.numbers.proofs.Inverse.{inverses-sym, inverses-pow, inverses-coprime, inverse-inverts, inverse-below, coprime-mul}
-use Rattle.numbers.proofs.Powers.{one-pow, mul-pow, order-inverses}
+use Rattle.numbers.proofs.Powers.{one-pow, mul-pow, order-inverses, pow-swap}
+use Rattle.numbers.proofs.Product.{product-cong, product-one, product-pow}
 use Rattle.sigma.specs.Element.{Element}
 use Rattle.sigma.proofs.ByKind.{by-kind}
 
@@ -84,6 +86,20 @@ module _ (h : Header) (big : 1 < h .modulus) (some : 0 < h .order) where
       element-from (v * w % m) (mod-lt _ (omega arith)) (coprime-mul m v w (element-coprime v x) (element-coprime w y)) (λ e.
       cong-pow (cong-mod m (v * w)) (h .order) then cong-of-equal m (mul-pow v w (h .order))
       then cong-mul (element-order v x e) (element-order w y e))
+
+  -- in kind 1 a product of powers of group elements is one
+  pub element-powers : h .kind ≡ 1 → (n : ℕ) (v k : ℕ → ℕ) → ((j : ℕ) → j < n → Element h (v j))
+      → Element h (product n (λ j. v j ^ k j) % h .modulus)
+  element-powers e n v k each =
+      let m = h .modulus in
+      let q = h .order in
+      let term : ℕ → ℕ = λ j. v j ^ k j in
+      let one : (j : ℕ) → j < n → Cong m (term j ^ q) 1 = λ j b.
+      cong-of-equal m (pow-swap (v j) (k j) q) then cong-pow (element-order (v j) (each j b) e) (k j)
+      then cong-of-equal m (one-pow (k j)) in
+      element-by-order e _ (mod-lt _ (omega arith))
+      (cong-pow (cong-mod m (product n term)) q then cong-of-equal m (product-pow n term q)
+      then product-cong m n _ (λ j. 1) one then cong-of-equal m (product-one n))
 
   -- the inverse of a group element is one
   pub element-inverse : (v : ℕ) → Element h v → Element h (inverse (h .modulus) v)

@@ -4,7 +4,7 @@ use Prim.Native.Nat.{ℕ, _+_, _*_, _%_, _^_, _<_}
 use mathlib.Core.Path.{_≡_, sym, ap, ap₂, _∙_}
 use mathlib.Core.Logic.{_≢_}
 use mathlib.Core.List.{List}
-use native.Mathlib.Nat.{mul-comm, mod-lt}
+use native.Mathlib.Nat.{mod-lt}
 use native.Mathlib.Omega.{arith}
 use lib.IntN.{pos}
 use lib.ListN.{getD}
@@ -17,10 +17,10 @@ use Rattle.groups.specs.Homomorphism.{Homomorphism as GroupHomomorphism}
 use Rattle.groups.specs.Vector.{NumberGroup, vectorGroup, same-slots, value-of-product}
 use Rattle.numbers.specs.Congruence.{Cong}
 use Rattle.numbers.specs.Product.{product}
-use Rattle.numbers.proofs.Congruence.{_then_, cong-of-equal, cong-mod, cong-one, cong-pow, mod-mul-both, mod-pow}
+use Rattle.numbers.proofs.Congruence.{_then_, cong-of-equal, mod-mul-both, mod-pow}
 use Rattle.numbers.proofs.Exponent.{power-pos, power-coprime}
-use Rattle.numbers.proofs.Powers.{pow-mul, mul-pow, one-pow, cong-pow-mod}
-use Rattle.numbers.proofs.Product.{product-cong, product-mul, product-pow, product-one}
+use Rattle.numbers.proofs.Powers.{mul-pow, cong-pow-mod}
+use Rattle.numbers.proofs.Product.{product-cong, product-mul}
 use Rattle.sigma.specs.Instance.{Table, entry}
 use Rattle.sigma.specs.Domain.{Domain, Codomain}
 use Rattle.sigma.specs.Element.{Element, Coordinate, combine}
@@ -28,7 +28,7 @@ use Rattle.sigma.specs.Image.{rowImage, image}
 use Rattle.sigma.specs.Valid.{ValidTable}
 use Rattle.sigma.proofs.ByKind.{by-kind, combine-exponent, combine-root, rowImage-exponent, rowImage-root}
 use Rattle.sigma.proofs.CoordinateGroup.{coordinateGroup}
-use Rattle.sigma.proofs.ElementGroup.{element-by-order, element-by-gcd, elementGroup}
+use Rattle.sigma.proofs.ElementGroup.{element-by-gcd, element-powers, elementGroup}
 use Rattle.sigma.proofs.Valid.{valid-modulus, valid-order, valid-kind, valid-coprime}
 use Rattle.sigma.proofs.Values.{length-image, image-at}
 
@@ -36,10 +36,6 @@ use Rattle.sigma.proofs.Values.{length-image, image-at}
 abbrev pub elementsFrom : (table : Table) (t : List ℕ)
     → ((i : ℕ) → i < table .header .rows → Element (table .header) (getD t i 0)) → Codomain table
 elementsFrom table t each = (places (table .header .rows) t, each-places _ _ t each)
-
--- a power of a power, the exponents exchanged
-pow-swap : (a i j : ℕ) → (a ^ i) ^ j ≡ (a ^ j) ^ i
-pow-swap a i j = sym (pow-mul a i j) ∙ ap (λ (k : ℕ). a ^ k) (mul-comm i j) ∙ pow-mul a j i
 
 module _ {table : Table} (v : ValidTable table) where
   -- the group of one coordinate
@@ -56,18 +52,9 @@ module _ {table : Table} (v : ValidTable table) (e : table .header .kind ≡ 1) 
   -- a row of an image is a group element
   exponent-row-in : (x : List ℕ) → Element (table .header) (rowImage table x i)
   exponent-row-in x =
-      let m = table .header .modulus in
-      let q = table .header .order in
-      let n = table .header .columns in
-      let term : ℕ → ℕ = λ j. entry table i j ^ getD x j 0 in
-      let each : (j : ℕ) → j < n → Cong m (term j ^ q) 1 = λ j b.
-      cong-of-equal m (pow-swap (entry table i j) (getD x j 0) q)
-      then cong-pow (cong-one m _ (v .entries e i j h b .ordered e)) (getD x j 0)
-      then cong-of-equal m (one-pow (getD x j 0)) in
       rw (rowImage-exponent table e x i)
-      (element-by-order (table .header) (valid-modulus v) (valid-order v) e _ (mod-lt _ (omega arith))
-      (cong-pow (cong-mod m (product n term)) q then cong-of-equal m (product-pow n term q)
-      then product-cong m n _ (λ j. 1) each then cong-of-equal m (product-one n)))
+      (element-powers (table .header) (valid-modulus v) (valid-order v) e (table .header .columns) (entry table i) (λ j. getD x j 0)
+      (λ j b. v .entries e i j h b))
 
   -- a row of the image of a combination is the product of the rows
   exponent-row-combine : (x y z : List ℕ)
