@@ -6,7 +6,6 @@ use mathlib.Core.Bool.{Bool, not, _||_}
 use mathlib.Core.List.{List, [], _∷_}
 use lib.Dec.{eqb, leb, ltb}
 use lib.ListN.{getD, length}
-use Rattle.types.specs.declared.Header.{Header}
 use Rattle.lists.specs.Places.{eightByEight, pad8}
 use Rattle.numbers.specs.Product.{product}
 use Rattle.numbers.specs.Search.{any}

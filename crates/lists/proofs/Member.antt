@@ -2,7 +2,7 @@
 -- Assumes nothing.
 use Prim.Native.Nat.{ℕ, zero, suc, _<_}
 use mathlib.Core.Path.{_≡_, refl, sym, ap, subst}
-use mathlib.Core.Logic.{_⊎_, inl, inr, ⊎-elim}
+use mathlib.Core.Logic.{_⊎_, _↔_, inl, inr, ⊎-elim}
 use mathlib.Core.List.{List, [], _∷_, _++_, map, flatMap}
 use native.Mathlib.Omega.{arith}
 use lib.ListN.{length, getD}
@@ -20,6 +20,14 @@ module _ {A : Type 0} where
   member-place d x [] m = absurd m
   member-place d x (y ∷ xs) (inl p) = (0, omega arith, p)
   member-place d x (y ∷ xs) (inr m) = let (j, h, e) = member-place d x xs m in (suc j, omega arith, e)
+
+  -- what holds at every place of a list holds of every member, and the other way round
+  pub each-member : (d : A) (P : A → Type 0) (xs : List A)
+      → ((k : ℕ) → k < length xs → P (getD xs k d)) ↔ ((x : A) → Member x xs → P x)
+  each-member d P xs = (
+    λ each x m. let (k, inside, e) = member-place d x xs m in subst P (sym e) (each k inside),
+    λ every k inside. every (getD xs k d) (member-at d xs k inside),
+  )
 
   -- a member of the first list is a member of the joined list
   pub member-left : (x : A) (xs ys : List A) → Member x xs → Member x (xs ++ ys)
