@@ -1,10 +1,9 @@
-// The entries that a pattern's digits stand for over the public values (01, "The patterns"), and slices as arrays of eight.
+// The entries that a pattern's digits stand for over the public values (01, "The patterns").
 use fields::read_u8;
 use pattern_file::sizes_at;
 ghost use Prim.Native.Nat.{_≤_, _<_};
 ghost use mathlib.Core.Path.{_≡_};
 ghost use lib.ListN.{length};
-ghost use Rattle.lists.specs.Places.{pad8};
 ghost use Rattle.patterns.specs.Pattern.{entryOf, patternEntries};
 ghost use Rattle.patterns.specs.PatternFile.{patternFrom};
 ghost use Rattle.maker.specs.Rows.{Stands, patternRow};
@@ -50,16 +49,4 @@ pub fn entries_of(file: &[u8], at: usize, values: &[u32]) -> [[u32; 8]; 8]
         entries[i] = row_of(file, at, columns, values, i);
     }
     entries
-}
-
-// The numbers of a slice of at most eight, with 0 in the places beyond them.
-pub fn eight_of(numbers: &[u32]) -> [u32; 8]
-    requires { ⌜ length (now numbers) ≤ 8 ⌝ }
-    ensures { λ r. ⌜ r ≡ pad8 0 (now (numbers .entry)) ⌝ }
-{
-    let mut eight = [0u32; 8];
-    for i in 0..numbers.len() {
-        eight[i] = numbers[i];
-    }
-    eight
 }

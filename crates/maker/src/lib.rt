@@ -2,7 +2,6 @@
 // it; a refused call changes no byte.
 mod entries; // entries.rt: the entries that a pattern's digits stand for
 
-use crate::entries::eight_of;
 use crate::entries::entries_of;
 use fields::read_u8;
 use pattern_file::file_refusal;
@@ -10,6 +9,7 @@ use pattern_file::sizes_at;
 use pattern_file::start_of;
 use types::Header;
 use types::Written;
+use writer::eight_of;
 use writer::encode;
 use writer::refused;
 ghost use Prim.Native.Nat.{ℕ, _≤_};

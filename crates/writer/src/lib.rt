@@ -1,11 +1,13 @@
 // The second writer of sheets: it writes the sheet of any values, as the loader gives them, at the start of the lent buffer and
 // changes no byte after it; a refused call changes no byte.
 mod sheet; // sheet.rt: the bytes of a sheet
+mod slices; // slices.rt: slices as arrays of eight
 
 use crate::sheet::write_sheet;
 use instance::element_refusal;
 use instance::header_refusal;
 use instance::sheet_length;
+pub use slices::eight_of;
 use types::Header;
 use types::Written;
 ghost use mathlib.Core.Path.{_≡_};

@@ -1,4 +1,4 @@
--- `maker::entries::eight_of` meets its contract. The invariant: the first i places hold the first i numbers, and those beyond hold 0.
+-- `writer::slices::eight_of` meets its contract. The invariant: the first i places hold the first i numbers, and those beyond hold 0.
 -- The measure: how many numbers are left.
 -- Assumes nothing.
 use Prim.Native.Nat.{_-_}
@@ -8,8 +8,8 @@ use lib.ListN.{length, getD}
 use Rattle.lists.specs.Places.{places, pad8}
 use Rattle.lists.proofs.Filling.{Filled, filled-start, filled-turn, filled-eight}
 use Rattle.lists.proofs.Places.{places-whole}
-use Rattle.maker.proofs.entries.eight_of.Statement.{statement}
-use Rattle.maker.proofs.entries.eight_of.Tie as tie
+use Rattle.writer.proofs.slices.eight_of.Statement.{statement}
+use Rattle.writer.proofs.slices.eight_of.Tie as tie
 
 abbrev Inv-loop : tie.InvT-loop
 Inv-loop numbers eight₀ i₀ i-end eight i = Filled eight₀ (length numbers) (λ j. getD numbers j 0) eight i
