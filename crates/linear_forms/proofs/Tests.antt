@@ -42,10 +42,10 @@ module _ (p : LinearPlan) where
   unfolding badCounts
   says-29 =
       simp or-assoc
-      (says-or (says-less (length (p .generators)) 1)
-      (says-or (says-less 8 (length (p .generators)))
+      (says-or (says-less (length (p .generators)) _)
+      (says-or (says-less _ (length (p .generators)))
       (says-or (says-not (says-equal (length (p .coefficients)) (p .rows * length (p .generators) * p .columns)))
-      (says-not (says-equal (length (p .statement)) (p .rows))))))
+      (says-not (says-equal (length (p .statement)) _)))))
 
   -- 30: some coefficient is q or more
   pub says-30 : Says (badCoefficient p) (Refusal30 p)
