@@ -47,7 +47,7 @@ pub record Usable (p : LinearPlan) : Type 0 where
 
 module _ (p : LinearPlan) where
   -- not 29: the counts are right
-  counts-pass : (badCounts p ≡ false)
+  pub counts-pass : (badCounts p ≡ false)
       ↔ ((1 ≤ length (p .generators)) × (length (p .generators) ≤ 8)
       × (length (p .coefficients) ≡ p .rows * length (p .generators) * p .columns) × (length (p .statement) ≡ p .rows))
   counts-pass =
@@ -66,7 +66,7 @@ module _ (p : LinearPlan) where
       )
 
   -- not 30: every coefficient is below q
-  below-passes : (badCoefficient p ≡ false) ↔ ((k : ℕ) → k < length (p .coefficients) → getD (p .coefficients) k 0 < p .order)
+  pub below-passes : (badCoefficient p ≡ false) ↔ ((k : ℕ) → k < length (p .coefficients) → getD (p .coefficients) k 0 < p .order)
   below-passes =
       let fails = says-false (says-30 p) in (
         λ e k inside. let none : ¬ (p .order ≤ getD (p .coefficients) k 0) = λ l. fails .0 e (k, inside, l) in omega arith,
@@ -74,13 +74,13 @@ module _ (p : LinearPlan) where
       )
 
   -- not 10: every generator is a group element
-  generators-pass : (someNonElement (linearHeader p) (length (p .generators)) (p .generators) ≡ false)
+  pub generators-pass : (someNonElement (linearHeader p) (length (p .generators)) (p .generators) ≡ false)
       ↔ ((g : ℕ) → g < length (p .generators) → Element (linearHeader p) (getD (p .generators) g 0))
   unfolding someNonElement
   generators-pass = all-pass _ _ _ (λ g. says-element (linearHeader p) (getD (p .generators) g 0))
 
   -- then the entries are group elements
-  linear-element : 3 ≤ p .modulus → 2 ≤ p .order
+  pub linear-element : 3 ≤ p .modulus → 2 ≤ p .order
       → ((g : ℕ) → g < length (p .generators) → Element (linearHeader p) (getD (p .generators) g 0))
       → (i j : ℕ) → Element (linearHeader p) (linearEntry p i j)
   unfolding linearEntry
