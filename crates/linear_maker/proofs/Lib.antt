@@ -1,0 +1,4 @@
+-- Laws of the linear maker.
+pub mod PlanTests
+pub mod EntryProduct
+pub mod Answers

@@ -1,0 +1,2 @@
+-- Definitions of the linear maker's inner functions.
+pub mod Plan
