@@ -1,19 +1,21 @@
 -- The tests of a plan, test by test: the number that its counts, its coefficients and its generators give, and what holds where they
 -- give none.
 -- Assumes nothing.
-use Prim.Native.Nat.{ℕ, _*_, _≤_, _<_}
+use Prim.Native.Nat.{ℕ, _+_, _*_, _≤_, _<_}
 use mathlib.Core.Path.{_≡_, sym, _∙_}
-use mathlib.Core.Bool.{true, false, not}
+use mathlib.Core.Bool.{Bool, true, false, not}
 use mathlib.Core.List.{List, []}
 use mathlib.Core.Logic.{inl, inr}
 use native.Mathlib.Nat.{mul-le-mul}
 use native.Mathlib.Omega.{arith}
-use lib.Dec.{eqb}
-use lib.ListN.{length}
-use borrow.Author.Tests.{eq-eqb, le-ltb}
+use lib.Dec.{eqb, leb}
+use lib.ListN.{getD, length}
+use borrow.Author.Tests.{eq-eqb, le-leb, le-ltb, lt-leb}
 use Rattle.types.specs.declared.Header.{Header}
 use Rattle.lists.specs.Places.{pad8}
 use Rattle.lists.proofs.Places.{getD-pad8}
+use Rattle.numbers.specs.Search.{any}
+use Rattle.numbers.proofs.Search.{any-end, any-here, any-on}
 use Rattle.rules.specs.Rule.{lowest}
 use Rattle.rules.proofs.Lowest.{clear-lowest, lowest-clear, pass, stop}
 use Rattle.rules.proofs.Says.{says-equal, says-false}
@@ -60,6 +62,30 @@ module _ (p : LinearPlan) where
         says-stable (says-equal _ _) (λ other. none (inr (inr (inl other)))),
         says-stable (says-equal _ _) (λ other. none (inr (inr (inr other)))),
       )
+
+-- ---- the coefficients
+
+module _ (h : Header) (coefficients : List ℕ) where
+  -- coefficient k is q or more
+  pub isLarge : ℕ → Bool
+  isLarge k = leb (h .order) (getD coefficients k 0)
+
+  module _ (k : ℕ) where
+    -- such a coefficient is met
+    pub coefficient-large : k < length coefficients → h .order ≤ getD coefficients k 0 → true ≡ badCoefficient (planOf h [] coefficients [])
+    unfolding isLarge badCoefficient
+    coefficient-large inside large = any-here isLarge k _ inside (le-leb _ _ large)
+
+    -- a coefficient more that is below q
+    pub coefficient-small : any k isLarge ≡ false → getD coefficients k 0 < h .order → any (k + 1) isLarge ≡ false
+    unfolding isLarge
+    coefficient-small before small = any-on isLarge k before (lt-leb _ _ small)
+
+    -- after the last there was none
+    pub coefficients-small : k ≤ length coefficients → length coefficients ≤ k → any k isLarge ≡ false
+        → false ≡ badCoefficient (planOf h [] coefficients [])
+    unfolding isLarge badCoefficient
+    coefficients-small within past none = any-end isLarge k _ within past none
 
 -- ---- the numbers
 

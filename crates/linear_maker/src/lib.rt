@@ -17,7 +17,7 @@ ghost use Rattle.linear_forms.specs.Linear.{makeLinear};
 // The maker of sheets from linear forms: writes the sheet of kind 1 whose entry (i, j) is the product over the generators of
 // generator^coefficient mod m, and answers its length, or the number that it is refused with, 5, 6, 7, 8, 29, 30, 10, 11 or 22.
 // The coefficients stand by row, then generator, then column. A generator is tested whether or not a coefficient uses it. After
-// 10 it is the second writer after its tests of the fixed fields: entries of group elements are group elements.
+// that the second writer goes on; its own 10 cannot apply, since products of powers of group elements are group elements.
 pub fn make(
     modulus: u32,
     order: u32,

@@ -13,7 +13,7 @@ use Rattle.linear_maker.proofs.entries.entry_of.Tie as tie
 
 abbrev Inv-loop : tie.InvT-loop
 Inv-loop h generators coefficients i j columns count entry₀ g₀ entry g =
-    (g ≤ length generators) × (entry ≡ entrySoFar (planOf h generators coefficients []) i j g)
+    (entry ≡ entrySoFar (planOf h generators coefficients []) i j g) × (g ≤ length generators)
 
 abbrev μ-loop : tie.MeasureT-loop
 μ-loop h generators coefficients i j columns count entry₀ g₀ entry g = length generators - g
@@ -31,7 +31,7 @@ cast-columns : tie.Need-cast-columns Inv-loop μ-loop
 cast-columns c = omega arith
 
 loop-holds : tie.Need-loop-holds Inv-loop μ-loop
-loop-holds c = (omega arith, entry-start _ _ _ (c .before .before .before .pre .0 .modulus))
+loop-holds c = (entry-start _ _ _ (c .before .before .before .pre .0 .modulus), omega arith)
 
 mul-coefficient : tie.Need-mul-coefficient Inv-loop μ-loop
 mul-coefficient c = omega (arith, inside c)
@@ -74,10 +74,10 @@ unfolding coefficient
 loop-again c =
     let powered = c .before in
     let at-loop = powered .before .before .before .before in
-    (omega arith, entry-turn _ _ _ _ (at-loop .loop .inv .1) (powered .pow-mod .ensures .0) (c .mul-mod .ensures .0))
+    (entry-turn _ _ _ _ (at-loop .loop .inv .0) (powered .pow-mod .ensures .0) (c .mul-mod .ensures .0), omega arith)
 
 returns : tie.Need-returns Inv-loop μ-loop
-returns c = entry-end _ _ _ (omega arith) (c .before .loop .inv .1)
+returns c = entry-end _ _ _ (omega arith) (c .before .loop .inv .0)
 
 pub entry-of-spec : {M : Type 1} → statement M
 entry-of-spec =

@@ -4,17 +4,15 @@ use Prim.Native.Nat.{_-_, _≤_}
 use mathlib.Core.Path.{_≡_}
 use mathlib.Core.Bool.{false}
 use native.Mathlib.Omega.{arith}
-use lib.Dec.{leb}
-use lib.ListN.{getD, length}
-use borrow.Author.Tests.{le-leb, lt-leb}
+use lib.ListN.{length}
 use Rattle.numbers.specs.Search.{any}
-use Rattle.numbers.proofs.Search.{any-end, any-here, any-on, any-start}
-use Rattle.linear_forms.specs.Linear.{badCoefficient}
+use Rattle.numbers.proofs.Search.{any-start}
+use Rattle.linear_maker.proofs.PlanTests.{coefficient-large, coefficient-small, coefficients-small, isLarge}
 use Rattle.linear_maker.proofs.tests.bad_coefficient.Statement.{statement}
 use Rattle.linear_maker.proofs.tests.bad_coefficient.Tie as tie
 
 abbrev Inv-loop : tie.InvT-loop
-Inv-loop h coefficients k₀ k = (k ≤ length coefficients) × (any k (λ l. leb (h .order) (getD coefficients l 0)) ≡ false)
+Inv-loop h coefficients k₀ k = (k ≤ length coefficients) × (any k (isLarge h coefficients) ≡ false)
 
 abbrev μ-loop : tie.MeasureT-loop
 μ-loop h coefficients k₀ k = length coefficients - k
@@ -29,8 +27,9 @@ shared-slice-read-if1 : tie.Need-shared-slice-read-if1 Inv-loop μ-loop
 shared-slice-read-if1 c = omega arith
 
 returns : tie.Need-returns Inv-loop μ-loop
-unfolding badCoefficient
-returns c = any-here _ _ _ (omega arith) (le-leb _ _ (c .if1 .taken))
+returns c =
+    let tested = c .before .before .before in
+    coefficient-large (tested .before .before .args .h) _ _ (tested .loop-test .taken) (omega arith)
 
 add-k : tie.Need-add-k Inv-loop μ-loop
 add-k c = omega arith
@@ -39,11 +38,10 @@ loop-less : tie.Need-loop-less Inv-loop μ-loop
 loop-less c = omega arith
 
 loop-again : tie.Need-loop-again Inv-loop μ-loop
-loop-again c = (omega arith, any-on _ _ (c .before .before .before .before .loop .inv .1) (lt-leb _ _ (c .if1 .left)))
+loop-again c = (omega arith, coefficient-small _ _ _ (c .before .before .before .before .loop .inv .1) (omega arith))
 
 returns-2 : tie.Need-returns-2 Inv-loop μ-loop
-unfolding badCoefficient
-returns-2 c = any-end _ _ _ (c .before .loop .inv .0) (c .loop-test .left) (c .before .loop .inv .1)
+returns-2 c = coefficients-small _ _ _ (c .before .loop .inv .0) (c .loop-test .left) (c .before .loop .inv .1)
 
 pub bad-coefficient-spec : {M : Type 1} → statement M
 bad-coefficient-spec =

@@ -42,7 +42,7 @@ eight-of-requires c κs = counts-right _ (counts (c .before .before)) .0
 some-non-element-requires : tie.Need-some-non-element-requires
 some-non-element-requires c κs =
     let counted = c .before .before .before in
-    (header-passes _ (counted .before .before .before .before .before .pre) .0, counts-right _ (counts counted) .0)
+    (header-passes _ (counted .before .before .before .before .before .pre) .0, omega (arith, counts-right _ (counts counted) .0))
 
 returns-3 : tie.Need-returns-3
 returns-3 c =
