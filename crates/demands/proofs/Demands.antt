@@ -8,6 +8,7 @@ use Rattle.disjunctions.proofs.RunsWhere.{either-runs}
 use Rattle.examples.proofs.AnswerPage.{answer-page}
 use Rattle.examples.proofs.Corners.{every-disjunct}
 use Rattle.examples.proofs.Pages.{worked-examples}
+use Rattle.examples.proofs.ProductsPage.{products-page}
 use Rattle.examples.proofs.ReasonPage.{reason-page}
 use Rattle.examples.proofs.RowsPage.{rows-page}
 use Rattle.examples.proofs.TeamPage.{team-page}
@@ -23,6 +24,7 @@ use Rattle.formats.proofs.Writers.{writers}
 use Rattle.patterns.proofs.Meaning.{patterns-mean}
 use Rattle.patterns.proofs.PatternCalls.{pattern-calls, pattern-refusals}
 use Rattle.patterns.proofs.RunsWhere.{makers-run}
+use Rattle.products.proofs.RoundsMultiply.{products-work}
 use Rattle.products.proofs.RunsWhere.{team-runs}
 use Rattle.products.proofs.TeamRefusals.{team-refusals}
 use Rattle.products.proofs.TeamWorks.{team-works}
@@ -91,6 +93,7 @@ holds = record {
     loses-nothing = loses-nothing;
     rows = all-rows;
     watch = watch-works;
+    multiply = products-work;
   };
   patterns = patterns-mean;
   arithmetic = arithmetic;
@@ -120,4 +123,5 @@ evidence = record {
   team-page = team-page;
   rows-page = rows-page;
   watch-page = watch-page;
+  products-page = products-page;
 }

@@ -6,6 +6,7 @@ use Rattle.disjunctions.specs.OneOfTwo.{OrProof}
 use Rattle.formats.specs.Converts.{Converts}
 use Rattle.formats.specs.WordsCompare.{WordsCompare}
 use Rattle.patterns.specs.PatternCalls.{PatternCalls}
+use Rattle.products.specs.RoundsMultiply.{ProductsWork}
 use Rattle.products.specs.TeamWorks.{TeamWorks}
 use Rattle.reasons.specs.ReasonsTrue.{ReasonsTrue}
 use Rattle.runs.specs.ReadsAlike.{LosesNothing}
@@ -40,3 +41,6 @@ pub record Cards (code : Calls) : Type 0 where
   -- nearest of them with the same commitment and another challenge, with the witness that the extractor gives for the two, and none
   -- exactly if there is no such round
   pub watch : WatchWorks (code .files) (code .runs) (code .watches)
+  -- 11: of two sheets that differ at most in their statements z and z′ two accepted rounds with one challenge multiply to an accepted
+  -- round for z·z′, and extracting from two such products gives the two sheets' extracted witnesses, joined
+  pub multiply : ProductsWork (code .files) (code .runs)

@@ -7,3 +7,4 @@ pub mod ReasonPage
 pub mod Corners
 pub mod WatchCorners
 pub mod AnswerPage
+pub mod ProductsPage
