@@ -43,6 +43,7 @@ use Rattle.products.specs.RoundsMultiply.{
   ProductsWork,
   RoundsMultiply,
   SameTable,
+  joinedAnswer,
   productRound,
   productStatement,
   productValues,
@@ -91,18 +92,7 @@ module _ (sheet sheet′ : List ℕ) (first : loadRefusal sheet ≡ 0) (second :
   -- ---- two accepted rounds
 
   module _ (round round′ : Round) (e : Accepts sheet round) (e′ : Accepts sheet′ round′) where
-    -- the product fits
-    product-fits : Fits (instanceOf sheet) (productRound (instanceOf sheet .header) round round′)
-    product-fits =
-        let (fits, holds) = sheet-accepted sheet first round .0 e in
-        let (fits′, holds′) = second-accepted round′ e′ in
-        record {
-          commitment = multiply-in valid (round .commitment) (round′ .commitment) (fits .commitment) (fits′ .commitment);
-          challenge = fits .challenge;
-          response = join-in valid (round .response) (round′ .response) (fits .response) (fits′ .response);
-        }
-
-    -- if the challenges are the same, it holds in every row for the product of the statements
+    -- if the challenges are the same, the product holds in every row for the product of the statements
     product-holds : round .challenge ≡ round′ .challenge
         → Holds (withStatement (instanceOf sheet) (productStatement (instanceOf sheet) (instanceOf sheet′)))
         (productRound (instanceOf sheet .header) round round′)
@@ -114,6 +104,17 @@ module _ (sheet sheet′ : List ℕ) (first : loadRefusal sheet ≡ 0) (second :
         second-decides valid (inst .statement) z′ (round .commitment) (round′ .commitment) (round .response) (round′ .response)
         (round .challenge) (fits .response) (fits′ .response) i b (holds i b) .1
         (subst (λ (c : ℕ). Holds (withStatement inst z′) (roundOf (round′ .commitment) c (round′ .response))) (sym same) holds′ i b)
+
+    -- it fits
+    product-fits : Fits (instanceOf sheet) (productRound (instanceOf sheet .header) round round′)
+    product-fits =
+        let (fits, holds) = sheet-accepted sheet first round .0 e in
+        let (fits′, holds′) = second-accepted round′ e′ in
+        record {
+          commitment = multiply-in valid (round .commitment) (round′ .commitment) (fits .commitment) (fits′ .commitment);
+          challenge = fits .challenge;
+          response = join-in valid (round .response) (round′ .response) (fits .response) (fits′ .response);
+        }
 
   -- ---- on a sheet for the product
 
@@ -188,8 +189,7 @@ module _ (sheet sheet′ : List ℕ) (first : loadRefusal sheet ≡ 0) (second :
       -- what is extracted from the products
       pub product-extracted : (extractWitness sheet one two .refusal ≡ 0) × (extractWitness sheet′ one′ two′ .refusal ≡ 0)
           × (extractWitness product made made′
-          ≡ answering
-          (joinSlots (instanceOf sheet .header) (extractWitness sheet one two .values) (extractWitness sheet′ one′ two′ .values)))
+          ≡ joinedAnswer (instanceOf sheet .header) (extractWitness sheet one two) (extractWitness sheet′ one′ two′))
       product-extracted =
           let (a, b, fit) = sheet-extraction sheet first one two p .some-integers in
           let fit′ : Bezout (instanceOf sheet′ .header .order) (one′ .challenge) (two′ .challenge) a b =
@@ -314,8 +314,7 @@ module _ (sheet sheet′ : List ℕ) (first : loadRefusal sheet ≡ 0) (second :
               runs,
               runs′,
               answer
-                  ∙ ap (λ (k : Header). answering (joinSlots k (extractWitness sheet one two .values) (extractWitness sheet′ one′ two′ .values)))
-                  (sym own),
+                  ∙ ap (λ (k : Header). joinedAnswer k (extractWitness sheet one two) (extractWitness sheet′ one′ two′)) (sym own),
             );
       }
 

@@ -5,6 +5,7 @@ use Prim.Native.Nat.{ℕ, _≤_}
 use mathlib.Core.Path.{_≡_}
 use mathlib.Core.List.{List}
 use lib.ListN.{length}
+use Rattle.types.specs.declared.Computed.{Computed}
 use Rattle.types.specs.declared.Header.{Header}
 use Rattle.types.specs.declared.Round.{Round}
 use Rattle.encoding.specs.Bytes.{AllBytes}
@@ -33,6 +34,10 @@ abbrev pub productRound : Header → Round → Round → Round
 productRound h round round′ =
     roundOf (multiplyRows h (round .commitment) (round′ .commitment)) (round .challenge)
     (joinSlots h (round .response) (round′ .response))
+
+-- the answer of an extraction that is not refused and gives the witnesses of two others, joined, with 0 beyond n
+abbrev pub joinedAnswer : Header → Computed → Computed → Computed
+joinedAnswer h x x′ = record { refusal = 0; values = pad8 0 (joinSlots h (x .values) (x′ .values)) }
 
 module _ (files : FileCalls) where
   open FileCalls files using (load, loadEntries)
@@ -68,7 +73,7 @@ module _ (files : FileCalls) (code : RunCalls) where
         → SameRound (load sheet .header) made (productRound (load sheet .header) round round′)
         → Accepts code product made
     -- two accepted rounds of each sheet, with one commitment in each and the same two unequal challenges: neither extraction is
-    -- refused, and extracting from the products answers both witnesses joined, with 0 beyond n
+    -- refused, and extracting from the products gives both extracted witnesses, joined
     pub extracted : (product : List ℕ) → ProductSheet files sheet sheet′ product → (one two one′ two′ made made′ : Round)
         → AcceptedPair (load sheet .header) (Accepts code sheet) one two
         → AcceptedPair (load sheet′ .header) (Accepts code sheet′) one′ two′
@@ -77,10 +82,7 @@ module _ (files : FileCalls) (code : RunCalls) where
         → SameRound (load sheet .header) made′ (productRound (load sheet .header) two two′)
         → (extractWitness sheet one two .refusal ≡ 0) × (extractWitness sheet′ one′ two′ .refusal ≡ 0)
         × (extractWitness product made made′
-        ≡ record {
-          refusal = 0;
-          values = pad8 0 (joinSlots (load sheet .header) (extractWitness sheet one two .values) (extractWitness sheet′ one′ two′ .values));
-        })
+        ≡ joinedAnswer (load sheet .header) (extractWitness sheet one two) (extractWitness sheet′ one′ two′))
 
   -- the card; that the first sheet is of bytes is asked so that its numbers are below 2^32, as a sheet for z·z′ stores them
   pub record ProductsWork : Type 0 where
