@@ -7,6 +7,8 @@ use Rattle.disjunctions.proofs.OrRefusals.{or-refusals}
 use Rattle.disjunctions.proofs.RunsWhere.{either-runs}
 use Rattle.examples.proofs.AnswerPage.{answer-page}
 use Rattle.examples.proofs.Corners.{every-disjunct}
+use Rattle.examples.proofs.LinearCorners.{linear-corners}
+use Rattle.examples.proofs.LinearPage.{linear-page}
 use Rattle.examples.proofs.Pages.{worked-examples}
 use Rattle.examples.proofs.ProductsPage.{products-page}
 use Rattle.examples.proofs.ReasonPage.{reason-page}
@@ -21,6 +23,8 @@ use Rattle.formats.proofs.FileRefusals.{file-refusals}
 use Rattle.formats.proofs.RunsWhere.{files-run}
 use Rattle.formats.proofs.SameCommitment.{words-compare, words-refusals}
 use Rattle.formats.proofs.Writers.{writers}
+use Rattle.linear_forms.proofs.LinearSheets.{linear-refusals, linear-sheets}
+use Rattle.linear_forms.proofs.RunsWhere.{linear-runs}
 use Rattle.patterns.proofs.Meaning.{patterns-mean}
 use Rattle.patterns.proofs.PatternCalls.{pattern-calls, pattern-refusals}
 use Rattle.patterns.proofs.RunsWhere.{makers-run}
@@ -66,6 +70,7 @@ holds = record {
     team = team-refusals;
     sixteen-bits = convert-refusals;
     watch = watch-refusals;
+    linear = linear-refusals;
   };
   runs-where = record {
     files = files-run;
@@ -74,6 +79,7 @@ holds = record {
     one-of-two = either-runs;
     team = team-runs;
     watch = watch-runs;
+    linear = linear-runs;
   };
   main-protocol = main-protocol;
   protocol = protocol;
@@ -93,6 +99,7 @@ holds = record {
     loses-nothing = loses-nothing;
     rows = all-rows;
     watch = watch-works;
+    linear = linear-sheets;
     multiply = products-work;
   };
   patterns = patterns-mean;
@@ -116,6 +123,7 @@ evidence = record {
   or-corners = every-disjunct .4;
   team-corners = every-disjunct .5;
   watch-corners = watch-corners;
+  linear-corners = linear-corners;
   reason-page = reason-page;
   or-page = worked-examples .2;
   answer-page = answer-page;
@@ -123,5 +131,6 @@ evidence = record {
   team-page = team-page;
   rows-page = rows-page;
   watch-page = watch-page;
+  linear-page = linear-page;
   products-page = products-page;
 }

@@ -7,4 +7,6 @@ pub mod ReasonPage
 pub mod Corners
 pub mod WatchCorners
 pub mod AnswerPage
+pub mod LinearPage
+pub mod LinearCorners
 pub mod ProductsPage
