@@ -56,7 +56,7 @@ products-page =
       };
       three = record { factors = (refl, refl); values = refl; whole = refl };
       one = record { factors = (refl, refl); values = refl; whole = refl };
-      witnesses = (refl, refl, refl);
+      witnesses = record { witness = refl; witness′ = refl; whole = refl; joined = refl };
       sheets-over = record {
         loads = (refl, refl);
         alike = record { header = refl; entries = refl };
@@ -65,7 +65,7 @@ products-page =
       };
       three-over = record { factors = (refl, refl); values = refl; whole = refl };
       one-over = record { factors = (refl, refl); values = refl; whole = refl };
-      witnesses-over = (refl, refl, refl);
+      witnesses-over = record { witness = refl; witness′ = refl; whole = refl; joined = refl };
       sheets-squared = record {
         loads = (refl, refl);
         alike = record { header = refl; entries = refl };
@@ -74,7 +74,7 @@ products-page =
       };
       three-squared = record { factors = (refl, refl); values = refl; whole = refl };
       one-squared = record { factors = (refl, refl); values = refl; whole = refl };
-      witnesses-squared = (refl, refl);
+      witnesses-squared = record { witness = refl; witness′ = refl; whole = refl; joined = refl };
       sheets-root = record {
         loads = (refl, refl);
         alike = record { header = refl; entries = refl };
@@ -83,5 +83,5 @@ products-page =
       };
       one-root = record { factors = (refl, refl); values = refl; whole = refl };
       three-root = record { factors = (refl, refl); values = refl; whole = refl };
-      witnesses-root = (refl, refl, refl);
+      witnesses-root = record { witness = refl; witness′ = refl; whole = refl; joined = refl };
     }

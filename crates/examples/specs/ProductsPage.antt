@@ -12,7 +12,7 @@ use Rattle.formats.specs.Load.{load}
 use Rattle.formats.specs.Ours.{fileCalls, loaded}
 use Rattle.runs.specs.Calls.{extractWitness, judgeRound}
 use Rattle.sigma.specs.Reads.{roundOf}
-use Rattle.products.specs.RoundsMultiply.{ProductSheet, SameTable, productRound, productValues}
+use Rattle.products.specs.RoundsMultiply.{ProductSheet, SameTable, joinedAnswer, productRound, productValues}
 use Rattle.examples.specs.Corners.{rootBytes}
 use Rattle.examples.specs.Pages.{array, smallRound}
 use Rattle.examples.specs.Sheets.{schnorrSheet, sheetBytes, smallSheet}
@@ -36,6 +36,14 @@ pub record Multiplies (sheet sheet′ product : List ℕ) (round round′ : Roun
   pub values : productRound (load sheet .header) round round′ ≡ roundOf t c r
   pub whole : judgeRound product (roundOf (array t) c (array r)) ≡ Accepted
 
+-- the whole answers of extracting from two rounds of each sheet and from their products, and that the last is the two others joined
+pub record WitnessesJoin (sheet sheet′ product : List ℕ) (one two one′ two′ made made′ : Round) (x x′ w : ℕ) : Type 0 where
+  pub witness : Extracts sheet one two x
+  pub witness′ : Extracts sheet′ one′ two′ x′
+  pub whole : Extracts product made made′ w
+  pub joined : joinedAnswer (load sheet .header) (extractWitness sheet one two) (extractWitness sheet′ one′ two′)
+      ≡ record { values = w ∷ replicate 7 0; refusal = 0 }
+
 -- page A's table with z′ 4 (x 2, nonce 2), with z′ 6 (x 9, nonce 2), and with the products 6 and 9
 unfoldable pub logarithm : ℕ → List ℕ
 logarithm z = smallSheet 23 11 11 2 z
@@ -57,26 +65,23 @@ pub record ProductsPage : Type 0 where
   pub sheets : SheetsMultiply schnorrSheet (logarithm 4) (logarithm 6)
   pub three : Multiplies schnorrSheet (logarithm 4) (logarithm 6) (smallRound 9 3 4) (smallRound 4 3 8) (13 ∷ []) 3 (1 ∷ [])
   pub one : Multiplies schnorrSheet (logarithm 4) (logarithm 6) (smallRound 9 1 1) (smallRound 4 1 4) (13 ∷ []) 1 (5 ∷ [])
-  pub witnesses : Extracts schnorrSheet (smallRound 9 3 4) (smallRound 9 1 1) 7
-      × Extracts (logarithm 4) (smallRound 4 3 8) (smallRound 4 1 4) 2
-      × Extracts (logarithm 6) (smallRound 13 3 1) (smallRound 13 1 5) 9
+  pub witnesses : WitnessesJoin schnorrSheet (logarithm 4) (logarithm 6) (smallRound 9 3 4) (smallRound 9 1 1) (smallRound 4 3 8)
+      (smallRound 4 1 4) (smallRound 13 3 1) (smallRound 13 1 5) 7 2 9
   -- slots that add up to q or more: 13 · 6 = 9, 4 + 7 = 11 gives 0, and 7 + 9 = 16 gives 5
   pub sheets-over : SheetsMultiply schnorrSheet (logarithm 6) (logarithm 9)
   pub three-over : Multiplies schnorrSheet (logarithm 6) (logarithm 9) (smallRound 9 3 4) (smallRound 4 3 7) (13 ∷ []) 3 (0 ∷ [])
   pub one-over : Multiplies schnorrSheet (logarithm 6) (logarithm 9) (smallRound 9 1 1) (smallRound 4 1 0) (13 ∷ []) 1 (1 ∷ [])
-  pub witnesses-over : Extracts schnorrSheet (smallRound 9 3 4) (smallRound 9 1 1) 7
-      × Extracts (logarithm 6) (smallRound 4 3 7) (smallRound 4 1 0) 9
-      × Extracts (logarithm 9) (smallRound 13 3 0) (smallRound 13 1 1) 5
+  pub witnesses-over : WitnessesJoin schnorrSheet (logarithm 6) (logarithm 9) (smallRound 9 3 4) (smallRound 9 1 1) (smallRound 4 3 7)
+      (smallRound 4 1 0) (smallRound 13 3 0) (smallRound 13 1 1) 7 9 5
   -- equal statements, in two rows: (13, 18) · (13, 18) = (8, 2), and 7 + 7 = 14 gives 3
   pub sheets-squared : SheetsMultiply pairBytes pairBytes (logarithms 8 2)
   pub three-squared : Multiplies pairBytes pairBytes (logarithms 8 2) (pairRound 9 6 3 4) (pairRound 9 6 3 4) (12 ∷ 13 ∷ []) 3 (8 ∷ [])
   pub one-squared : Multiplies pairBytes pairBytes (logarithms 8 2) (pairRound 9 6 1 1) (pairRound 9 6 1 1) (12 ∷ 13 ∷ []) 1 (2 ∷ [])
-  pub witnesses-squared : Extracts pairBytes (pairRound 9 6 3 4) (pairRound 9 6 1 1) 7
-      × Extracts (logarithms 8 2) (pairRound 12 13 3 8) (pairRound 12 13 1 2) 3
+  pub witnesses-squared : WitnessesJoin pairBytes pairBytes (logarithms 8 2) (pairRound 9 6 3 4) (pairRound 9 6 1 1) (pairRound 9 6 3 4)
+      (pairRound 9 6 1 1) (pairRound 12 13 3 8) (pairRound 12 13 1 2) 7 7 3
   -- kind 2: 32 · 33 = 6, and 2 · 3 = 6
   pub sheets-root : SheetsMultiply rootBytes (root 33) (root 6)
   pub one-root : Multiplies rootBytes (root 33) (root 6) (smallRound 33 1 6) (smallRound 32 1 6) (6 ∷ []) 1 (1 ∷ [])
   pub three-root : Multiplies rootBytes (root 33) (root 6) (smallRound 33 3 24) (smallRound 32 3 19) (6 ∷ []) 3 (1 ∷ [])
-  pub witnesses-root : Extracts rootBytes (smallRound 33 1 6) (smallRound 33 3 24) 2
-      × Extracts (root 33) (smallRound 32 1 6) (smallRound 32 3 19) 3
-      × Extracts (root 6) (smallRound 6 1 1) (smallRound 6 3 1) 6
+  pub witnesses-root : WitnessesJoin rootBytes (root 33) (root 6) (smallRound 33 1 6) (smallRound 33 3 24) (smallRound 32 1 6)
+      (smallRound 32 3 19) (smallRound 6 1 1) (smallRound 6 3 1) 2 3 6
