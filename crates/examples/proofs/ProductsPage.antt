@@ -13,19 +13,18 @@ use Rattle.formats.specs.Encode.{encode, encodeRules, headerBytes, sheetOf, sto
 use Rattle.formats.specs.Load.{badLength, badStart, load, loadEntries, loadRefusal, loadRules, shapeRules}
 use Rattle.formats.specs.Sheet.{entriesOf, entryCount, headerOf, instanceOf, sheetLength, sheetMark, statementOf, versionOf, zeros64}
 use Rattle.formats.specs.Write.{short, written, writtenAtStart}
-use Rattle.lists.specs.Choices.{selected}
 use Rattle.lists.specs.Places.{eightByEight, itemsAt, pad8, places, tabulate, zeros8}
-use Rattle.numbers.specs.Bits.{bit, maskBelow}
+use Rattle.numbers.specs.Bits.{maskBelow}
 use Rattle.numbers.specs.Gcd.{euclid, gcd}
 use Rattle.numbers.specs.Integer.{bezoutLeft, bezoutRight, power, quotient, residue}
 use Rattle.numbers.specs.Inverse.{inverse}
-use Rattle.numbers.specs.Product.{product, sum}
+use Rattle.numbers.specs.Product.{product}
 use Rattle.numbers.specs.Search.{any, find}
 use Rattle.rules.specs.Answer.{unlessRefused}
 use Rattle.rules.specs.Rule.{lowest}
 use Rattle.runs.specs.Calls.{extractWitness, judgeRound}
 use Rattle.sigma.specs.Admission.{badCount, badEntries, badKind, badModulus, badOrder, badSize, badStatement, elementRules, firstDivisor, headerRules}
-use Rattle.sigma.specs.Answer.{computed, eightPlaces, isAccepted, judged, outcome, rowsOf}
+use Rattle.sigma.specs.Answer.{computed, eightPlaces, isAccepted, judged}
 use Rattle.sigma.specs.Comparison.{compareSides, differ, differences, firstDifference}
 use Rattle.sigma.specs.Element.{combine, isCoordinate, isElement, someNonCoordinate, someNonElement}
 use Rattle.sigma.specs.Extractor.{extractAfter, extractRules, extracted, formula, slotFormula}
@@ -36,16 +35,16 @@ use Rattle.sigma.specs.Judge.{judgeAfter, judgeRules}
 use Rattle.sigma.specs.Round.{badChallenge, badCommitment, badCoordinates, expectedImage, verdict}
 
 pub products-page : ProductsPage
-unfolding flatten bytesOf bytesOfEach numberAt ascii rootBytes array smallRound logarithm logarithms pairRound root fourBytes
-    schnorrSheet sheetBytes smallSheet pairBytes encode encodeRules headerBytes sheetOf storedEntries badLength badStart load
-    loadEntries loadRefusal loadRules shapeRules entriesOf entryCount headerOf instanceOf sheetLength sheetMark statementOf
-    versionOf zeros64 short written writtenAtStart selected eightByEight itemsAt pad8 places tabulate zeros8 bit maskBelow
-    euclid gcd bezoutLeft bezoutRight power quotient residue inverse product sum any find unlessRefused lowest extractWitness
-    judgeRound badCount badEntries badKind badModulus badOrder badSize badStatement elementRules firstDivisor headerRules
-    computed eightPlaces isAccepted judged outcome rowsOf compareSides differ differences firstDifference combine isCoordinate
-    isElement someNonCoordinate someNonElement extractAfter extractRules extracted formula slotFormula image rowImage entry
-    isExponent statementAt joinSlots multiplyRows judgeAfter judgeRules badChallenge badCommitment badCoordinates
-    expectedImage verdict
+unfolding flatten bytesOf bytesOfEach numberAt ascii rootBytes array smallRound logarithm logarithms pairRound root
+    fourBytes schnorrSheet sheetBytes smallSheet pairBytes encode encodeRules headerBytes sheetOf storedEntries
+    badLength badStart load loadEntries loadRefusal loadRules shapeRules entriesOf entryCount headerOf instanceOf
+    sheetLength sheetMark statementOf versionOf zeros64 short written writtenAtStart eightByEight itemsAt pad8 places
+    tabulate zeros8 maskBelow euclid gcd bezoutLeft bezoutRight power quotient residue inverse product any find
+    unlessRefused lowest extractWitness judgeRound badCount badEntries badKind badModulus badOrder badSize badStatement
+    elementRules firstDivisor headerRules computed eightPlaces isAccepted judged compareSides differ differences
+    firstDifference combine isCoordinate isElement someNonCoordinate someNonElement extractAfter extractRules extracted
+    formula slotFormula image rowImage entry isExponent statementAt joinSlots multiplyRows judgeAfter judgeRules
+    badChallenge badCommitment badCoordinates expectedImage verdict
 products-page =
     record {
       sheets = record {
