@@ -6,4 +6,7 @@ pub mod Lines
 pub mod FirstByte
 pub mod Tests
 pub mod Playing
+pub mod Number
+pub mod RunsWhere
 pub mod Only
+pub mod Search
