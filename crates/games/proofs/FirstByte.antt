@@ -1,7 +1,7 @@
 -- How a text of the game begins: a line of a challenge with a digit, `none` with its first letter, and neither as a refusal's line.
 -- Assumes nothing.
 use Prim.Native.Nat.{ℕ, _+_, _<_, _≤_}
-use mathlib.Core.Path.{_≡_, refl, sym, ap, subst, _∙_}
+use mathlib.Core.Path.{_≡_, refl, ap}
 use mathlib.Core.Logic.{_↔_, _≢_}
 use mathlib.Core.List.{List, [], _∷_, _++_, flatten, map}
 use native.Mathlib.Omega.{arith}

@@ -7,6 +7,9 @@ pub mod FirstByte
 pub mod Tests
 pub mod Playing
 pub mod Number
+pub mod Length
+pub mod Cut
+pub mod Corollaries
 pub mod RunsWhere
 pub mod Only
 pub mod Search

@@ -12,7 +12,7 @@ use Rattle.lists.proofs.Rising.{selected-rising}
 use Rattle.rules.specs.Says.{Says}
 use Rattle.rules.proofs.Says.{says-decides, says-less}
 use Rattle.formats.specs.Load.{loadRefusal}
-use Rattle.formats.specs.Sheet.{headerOf, instanceOf}
+use Rattle.formats.specs.Sheet.{instanceOf}
 use Rattle.formats.proofs.Loads.{loads-valid}
 use Rattle.runs.specs.Marker.{newline, rowWord}
 use Rattle.runs.proofs.Loaded.{accepts-loaded}

@@ -1,9 +1,8 @@
 -- The game's number: that of 01's check of round 0, and else that of the commitment or of the sheet's size.
 -- Assumes nothing.
 use Prim.Native.Nat.{ℕ, _<_}
-use mathlib.Core.Path.{_≡_, ap, _∙_}
+use mathlib.Core.Path.{_≡_, sym, ap, _∙_}
 use mathlib.Core.List.{List, [], _∷_, _++_, append-assoc}
-use mathlib.Core.Path.{sym}
 use Rattle.rules.specs.Rule.{Rule, _when_, lowest}
 use Rattle.rules.proofs.Lowest.{lowest-earlier, lowest-later-zero}
 use Rattle.formats.specs.Load.{loadRules}

@@ -2,7 +2,7 @@
 -- Assumes nothing.
 use Prim.Native.Nat.{ℕ, _<_}
 use mathlib.Core.Path.{_≡_, refl, sym, ap, subst, _∙_}
-use mathlib.Core.Logic.{_⊎_, _↔_, inl, inr, ⊎-elim}
+use mathlib.Core.Logic.{⊎-elim}
 use mathlib.Core.List.{List, [], _∷_, _++_}
 use native.Mathlib.Omega.{arith}
 use lib.ListN.{getD, length}
@@ -21,9 +21,8 @@ use Rattle.formats.specs.Sheet.{headerOf, instanceOf}
 use Rattle.runs.specs.Knowledge.{Accepts}
 use Rattle.runs.specs.RunCalls.{RunCalls}
 use Rattle.runs.specs.Same.{SameRuns}
-use Rattle.sigma.specs.Reads.{Agree, roundOf}
+use Rattle.sigma.specs.Reads.{Agree}
 use Rattle.sigma.specs.Refusals.{Refusal14}
-use Rattle.games.specs.Game.{Answers}
 use Rattle.games.specs.GameCalls.{GameCalls}
 use Rattle.games.specs.Prints.{AnswersOf, GamePrints, GameRefusals, Smallest, shown, shownLine}
 use Rattle.games.specs.Refusals.{Refusal31, gameConditions, named}

@@ -1,12 +1,10 @@
 -- The game on a sheet and a round file: what is refused, and the text of what is not.
 -- Assumes nothing.
-use Prim.Native.Nat.{ℕ, zero, suc, _^_, _<_, _≤_}
-use mathlib.Core.Path.{_≡_, refl, sym, subst, ap, _∙_}
-use mathlib.Core.Logic.{_↔_, _⊎_, _≢_, inl, inr}
+use Prim.Native.Nat.{ℕ, zero, suc, _<_}
+use mathlib.Core.Path.{_≡_, refl, sym, subst, _∙_}
+use mathlib.Core.Logic.{_↔_, _≢_, inl, inr}
 use mathlib.Core.List.{List, [], _∷_, _++_}
 use native.Mathlib.Omega.{arith}
-use lib.ListN.{getD, length}
-use Rattle.types.specs.declared.Header.{Header}
 use Rattle.encoding.specs.Text.{ascii, decimal}
 use Rattle.lists.specs.Member.{Member}
 use Rattle.rules.specs.Condition.{Given}
@@ -17,8 +15,7 @@ use Rattle.rules.proofs.Determined.{NoneHold, none-append, none-hold}
 use Rattle.rules.proofs.Refuses.{refuses-tested}
 use Rattle.formats.specs.Load.{loadRefusal}
 use Rattle.formats.specs.Ours.{fileCalls}
-use Rattle.formats.specs.Refusals.{RefusesOn, loadConditions, roundConditions}
-use Rattle.formats.specs.RoundCalls.{fetchRound}
+use Rattle.formats.specs.Refusals.{RefusesOn, loadConditions}
 use Rattle.formats.specs.Sheet.{headerOf, instanceOf}
 use Rattle.formats.proofs.Loads.{loads-valid}
 use Rattle.formats.proofs.Refusals.{sheet-loads}
@@ -29,9 +26,9 @@ use Rattle.games.specs.Game.{Answers}
 use Rattle.games.specs.Ours.{gameCalls, gameConditions}
 use Rattle.games.specs.Prints.{AnswersOf, GamePrints, GameRefusals, shown}
 use Rattle.games.specs.Refusals.{Refusal31, named}
-use Rattle.games.specs.Text.{answerLines, answered, gameRefusal, gameRules, gameText, linesOf, namedCommitment, textOf}
+use Rattle.games.specs.Text.{answerLines, answered, gameRefusal, gameText, namedCommitment, textOf}
 use Rattle.games.proofs.FirstByte.{shown-none}
-use Rattle.games.proofs.Lines.{answers-of, firstResponse, lines-shown, listed}
+use Rattle.games.proofs.Lines.{answers-of, firstResponse, lines-shown}
 use Rattle.games.proofs.Tests.{game-tests}
 
 module _ (sheet f : List ℕ) where

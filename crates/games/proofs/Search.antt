@@ -2,7 +2,7 @@
 -- image is t · z^c, in kind 2 the first group element whose power is.
 -- Assumes nothing.
 use Prim.Native.Nat.{ℕ, zero, suc, _*_, _%_, _^_, _<_}
-use mathlib.Core.Path.{_≡_, refl, sym, _∙_}
+use mathlib.Core.Path.{_≡_, sym, _∙_}
 use mathlib.Core.Logic.{_↔_, _≢_}
 use mathlib.Core.Bool.{not, _&&_}
 use mathlib.Core.List.{List, [], _∷_}
@@ -21,7 +21,7 @@ use Rattle.sigma.specs.Element.{Coordinate, Element, isElement}
 use Rattle.sigma.specs.Image.{image, rowImage}
 use Rattle.sigma.specs.Instance.{Instance, statementAt, tableOf}
 use Rattle.sigma.specs.Judge.{judgeLoaded}
-use Rattle.sigma.specs.Meaning.{Coordinates, Elements, Fits, Holds}
+use Rattle.sigma.specs.Meaning.{Coordinates, Elements, Holds}
 use Rattle.sigma.specs.Reads.{Agree, roundOf}
 use Rattle.sigma.specs.Round.{expectedImage}
 use Rattle.sigma.specs.Valid.{Valid}

@@ -1,21 +1,18 @@
 -- The first candidate that answers is the smallest accepting response in slot order.
 -- Assumes nothing.
-use Prim.Native.Nat.{ℕ, zero, suc, _^_, _<_, _≤_}
+use Prim.Native.Nat.{ℕ, zero, suc, _<_, _≤_}
 use mathlib.Core.Path.{_≡_, refl, sym, ap, _∙_, subst}
-use mathlib.Core.Bool.{Bool, true, false, false≢true}
-use mathlib.Core.Logic.{_↔_, _⊎_, _≢_, inl, inr, ⊎-elim}
-use mathlib.Core.List.{List, [], _∷_, map}
+use mathlib.Core.Bool.{Bool, true, false≢true}
+use mathlib.Core.Logic.{_⊎_, _≢_, inl, inr}
+use mathlib.Core.List.{List, [], _∷_}
 use native.Mathlib.Decide.{decLt}
 use native.Mathlib.Omega.{arith}
 use lib.ListN.{getD, length}
-use Rattle.types.specs.declared.Header.{Header}
-use Rattle.types.specs.declared.Round.{Round}
-use Rattle.types.specs.declared.Verdict.the-variants.{Accepted}
 use Rattle.lists.specs.Each.{Each}
 use Rattle.lists.specs.Places.{places}
-use Rattle.lists.proofs.Each.{each-at, each-from, each-length, each-places}
+use Rattle.lists.proofs.Each.{each-places}
 use Rattle.lists.proofs.Places.{getD-places}
-use Rattle.numbers.proofs.Search.{find-first, find-holds, find-within}
+use Rattle.numbers.proofs.Search.{find-first, find-holds}
 use Rattle.sigma.specs.Answer.{isAccepted}
 use Rattle.sigma.specs.Instance.{Instance}
 use Rattle.sigma.specs.Judge.{judgeLoaded}
@@ -27,7 +24,7 @@ use Rattle.sigma.proofs.ByKind.{by-kind, exponent-kind, root-kind}
 use Rattle.sigma.proofs.Calls.{valid-judge-accepted}
 use Rattle.sigma.proofs.Tests.{says-accepted}
 use Rattle.sigma.proofs.Unread.{judge-same}
-use Rattle.games.specs.Slots.{Before, slotsOf}
+use Rattle.games.specs.Slots.{Before}
 use Rattle.games.specs.Text.{candidate, candidates, firstAnswer}
 use Rattle.games.proofs.Slots.{indexOf, index-below, length-slots, slots-of-index, slots-rise}
 
