@@ -3,7 +3,7 @@
 use mathlib.Core.List.{flatten}
 use mathlib.Core.Path.{refl}
 use Rattle.encoding.specs.Bytes.{numberAt}
-use Rattle.encoding.specs.Text.{ascii, decimal, digits}
+use Rattle.encoding.specs.Text.{ascii}
 use Rattle.examples.specs.Corners.{changed}
 use Rattle.examples.specs.GameCorners.{GameCorners, choicesGame, onesFile, onesGame, rootsGame, rootsIn, slotsIn, wideBytes}
 use Rattle.examples.specs.GamePage.{oneRound}
@@ -11,40 +11,28 @@ use Rattle.examples.specs.Sheets.{fourBytes, schnorrSheet, sheetBytes, s
 use Rattle.formats.specs.Load.{badLength, badStart, loadRules, shapeRules}
 use Rattle.formats.specs.RoundCalls.{checkAfter, fetchAfter, fetchRound, fileRules, noRound, roundRules}
 use Rattle.formats.specs.RoundFile.{badFile, challengeWidth, countField, fileVersion, recordLength, recordStart, roundAt, roundMark, unknownVersion, widthOf}
-use Rattle.formats.specs.Sheet.{entriesOf, entryCount, headerOf, instanceOf, sheetLength, sheetMark, statementOf, versionOf, zeros64}
-use Rattle.games.specs.Slots.{slotsOf}
-use Rattle.games.specs.Text.{answerLine, answerLines, answered, badGame, candidate, candidates, firstAnswer, gameRefusal, gameRules, gameText, isAnswered, linesOf, namedCommitment, textOf}
-use Rattle.lists.specs.Choices.{selected}
+use Rattle.formats.specs.Sheet.{entriesOf, entryCount, headerOf, instanceOf, sheetLength, sheetMark, statementOf, versionOf}
+use Rattle.games.specs.Text.{badGame, gameRefusal, gameRules, namedCommitment}
 use Rattle.lists.specs.Places.{eightByEight, itemsAt, pad8, places, tabulate, zeros8}
-use Rattle.numbers.specs.Bits.{bit, maskBelow}
 use Rattle.numbers.specs.Gcd.{euclid, gcd}
-use Rattle.numbers.specs.Product.{product, sum}
 use Rattle.numbers.specs.Search.{any, find}
 use Rattle.rules.specs.Answer.{unlessRefused}
 use Rattle.rules.specs.Rule.{lowest}
-use Rattle.runs.specs.Marker.{newline, rowWord, wordLine}
 use Rattle.sigma.specs.Admission.{badCount, badEntries, badKind, badModulus, badOrder, badSize, badStatement, elementRules, firstDivisor, headerRules}
-use Rattle.sigma.specs.Answer.{computed, eightPlaces, isAccepted, judged, outcome, rowsOf}
-use Rattle.sigma.specs.Comparison.{compareSides, differ, differences, firstDifference}
-use Rattle.sigma.specs.Element.{isCoordinate, isElement, someNonCoordinate, someNonElement}
-use Rattle.sigma.specs.Image.{image, rowImage}
+use Rattle.sigma.specs.Comparison.{differ, firstDifference}
+use Rattle.sigma.specs.Element.{isElement, someNonElement}
 use Rattle.sigma.specs.Instance.{entry, isExponent, statementAt}
-use Rattle.sigma.specs.Judge.{judgeAfter, judgeLoaded, judgeRules}
-use Rattle.sigma.specs.Reads.{paddedRound}
-use Rattle.sigma.specs.Round.{badChallenge, badCommitment, badCoordinates, expectedImage, verdict}
+use Rattle.sigma.specs.Round.{badCommitment}
 
 pub game-corners : GameCorners
-unfolding flatten numberAt ascii decimal digits changed choicesGame onesFile onesGame rootsGame rootsIn slotsIn
-    wideBytes oneRound fourBytes schnorrSheet sheetBytes smallSheet badLength badStart loadRules shapeRules checkAfter
-    fetchAfter fetchRound fileRules noRound roundRules badFile challengeWidth countField fileVersion recordLength
-    recordStart roundAt roundMark unknownVersion widthOf entriesOf entryCount headerOf instanceOf sheetLength
-    sheetMark statementOf versionOf zeros64 slotsOf answerLine answerLines answered badGame candidate candidates
-    firstAnswer gameRefusal gameRules gameText isAnswered linesOf namedCommitment textOf selected eightByEight itemsAt
-    pad8 places tabulate zeros8 bit maskBelow euclid gcd product sum any find unlessRefused lowest newline rowWord
-    wordLine badCount badEntries badKind badModulus badOrder badSize badStatement elementRules firstDivisor
-    headerRules computed eightPlaces isAccepted judged outcome rowsOf compareSides differ differences firstDifference
-    isCoordinate isElement someNonCoordinate someNonElement image rowImage entry isExponent statementAt judgeAfter
-    judgeLoaded judgeRules paddedRound badChallenge badCommitment badCoordinates expectedImage verdict
+unfolding flatten numberAt ascii changed choicesGame onesFile onesGame rootsGame rootsIn slotsIn wideBytes oneRound
+    fourBytes schnorrSheet sheetBytes smallSheet badLength badStart loadRules shapeRules checkAfter fetchAfter
+    fetchRound fileRules noRound roundRules badFile challengeWidth countField fileVersion recordLength recordStart
+    roundAt roundMark unknownVersion widthOf entriesOf entryCount headerOf instanceOf sheetLength sheetMark
+    statementOf versionOf badGame gameRefusal gameRules namedCommitment eightByEight itemsAt pad8 places tabulate
+    zeros8 euclid gcd any find unlessRefused lowest badCount badEntries badKind badModulus badOrder badSize
+    badStatement elementRules firstDivisor headerRules differ firstDifference isElement someNonElement entry
+    isExponent statementAt badCommitment
 game-corners = record {
   choices31 = (refl, refl);
   modulus31 = (refl, refl);
