@@ -7,6 +7,8 @@ use Rattle.disjunctions.proofs.OrRefusals.{or-refusals}
 use Rattle.disjunctions.proofs.RunsWhere.{either-runs}
 use Rattle.examples.proofs.AnswerPage.{answer-page}
 use Rattle.examples.proofs.Corners.{every-disjunct}
+use Rattle.examples.proofs.GameCorners.{game-corners}
+use Rattle.examples.proofs.GamePage.{game-page}
 use Rattle.examples.proofs.LinearCorners.{linear-corners}
 use Rattle.examples.proofs.LinearPage.{linear-page}
 use Rattle.examples.proofs.Pages.{worked-examples}
@@ -23,6 +25,9 @@ use Rattle.formats.proofs.FileRefusals.{file-refusals}
 use Rattle.formats.proofs.RunsWhere.{files-run}
 use Rattle.formats.proofs.SameCommitment.{words-compare, words-refusals}
 use Rattle.formats.proofs.Writers.{writers}
+use Rattle.games.proofs.Game.{game}
+use Rattle.games.proofs.Playing.{game-prints, game-refusals}
+use Rattle.games.proofs.RunsWhere.{game-runs}
 use Rattle.linear_forms.proofs.LinearSheets.{linear-refusals, linear-sheets}
 use Rattle.linear_forms.proofs.RunsWhere.{linear-runs}
 use Rattle.patterns.proofs.Meaning.{patterns-mean}
@@ -71,6 +76,7 @@ holds = record {
     sixteen-bits = convert-refusals;
     watch = watch-refusals;
     linear = linear-refusals;
+    game = game-refusals;
   };
   runs-where = record {
     files = files-run;
@@ -80,6 +86,7 @@ holds = record {
     team = team-runs;
     watch = watch-runs;
     linear = linear-runs;
+    game = game-runs;
   };
   main-protocol = main-protocol;
   protocol = protocol;
@@ -101,6 +108,8 @@ holds = record {
     watch = watch-works;
     linear = linear-sheets;
     multiply = products-work;
+    game = game;
+    game-text = game-prints;
   };
   patterns = patterns-mean;
   arithmetic = arithmetic;
@@ -124,6 +133,7 @@ evidence = record {
   team-corners = every-disjunct .5;
   watch-corners = watch-corners;
   linear-corners = linear-corners;
+  game-corners = game-corners;
   reason-page = reason-page;
   or-page = worked-examples .2;
   answer-page = answer-page;
@@ -133,4 +143,5 @@ evidence = record {
   watch-page = watch-page;
   linear-page = linear-page;
   products-page = products-page;
+  game-page = game-page;
 }

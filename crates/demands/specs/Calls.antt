@@ -1,8 +1,9 @@
--- The public calls of 01 and of 02's cards 1 to 10, those of each topic together: what any code has to give. No call's definition is
+-- The public calls of 01 and of 02's cards 1 to 12, those of each topic together: what any code has to give. No call's definition is
 -- named.
 -- Assumes nothing.
 use Rattle.disjunctions.specs.OrCalls.{OrCalls}
 use Rattle.formats.specs.FileCalls.{FileCalls}
+use Rattle.games.specs.GameCalls.{GameCalls}
 use Rattle.linear_forms.specs.LinearCalls.{LinearCalls}
 use Rattle.patterns.specs.MakerCalls.{MakerCalls}
 use Rattle.products.specs.TeamCalls.{TeamCalls}
@@ -30,3 +31,5 @@ pub record Calls : Type 0 where
   pub watches : WatchCalls
   -- card 10: sheets from linear forms
   pub linear : LinearCalls
+  -- card 12: Peggy against Vic
+  pub games : GameCalls

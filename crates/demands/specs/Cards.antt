@@ -2,9 +2,14 @@
 -- what card 7 changes of 01's calls on round files in Refusals, Layout, Writers, ReadsBack and ReasonsTrue. That card 8's rows rise
 -- stands in VerdictOutcomes, Protocol and OneOfTwo, and how they are printed in MarksFiles and ReasonsTrue.
 -- Assumes nothing.
+use Prim.Native.Nat.{ℕ}
+use mathlib.Core.Path.{_≡_}
+use mathlib.Core.List.{List}
 use Rattle.disjunctions.specs.OneOfTwo.{OrProof}
 use Rattle.formats.specs.Converts.{Converts}
 use Rattle.formats.specs.WordsCompare.{WordsCompare}
+use Rattle.games.specs.Game.{Game}
+use Rattle.games.specs.Prints.{GamePrints}
 use Rattle.linear_forms.specs.LinearSheets.{LinearSheets}
 use Rattle.patterns.specs.PatternCalls.{PatternCalls}
 use Rattle.products.specs.RoundsMultiply.{ProductsWork}
@@ -48,3 +53,8 @@ pub record Cards (code : Calls) : Type 0 where
   -- 11: of two sheets that differ at most in their statements z and z′ two accepted rounds with one challenge multiply to an accepted
   -- round for z·z′, and extracting from two such products gives the two sheets' extracted witnesses, joined
   pub multiply : ProductsWork (code .files) (code .runs)
+  -- 12: for every sheet that loads, Peggy can name a commitment that answers every challenge exactly if the statement has a witness;
+  -- without one each answers at most one challenge, with one all or none
+  pub game : (sheet : List ℕ) → code .files .load sheet .refusal ≡ 0 → Game (code .runs) sheet
+  -- and for round 0's commitment the text has a line for each challenge that it answers, with the smallest response in slot order
+  pub game-text : GamePrints (code .files) (code .runs) (code .games)

@@ -4,6 +4,8 @@
 use Rattle.examples.specs.AnswerPage.{AnswerPage}
 use Rattle.examples.specs.Corners.{EveryCorner}
 use Rattle.examples.specs.FileCorners.{FileCorners}
+use Rattle.examples.specs.GameCorners.{GameCorners}
+use Rattle.examples.specs.GamePage.{GamePage}
 use Rattle.examples.specs.LinearCorners.{LinearCorners}
 use Rattle.examples.specs.LinearPage.{LinearPage}
 use Rattle.examples.specs.OrCorners.{OrCorners}
@@ -35,6 +37,7 @@ pub record Evidence : Type 0 where
   pub team-corners : TeamCorners
   pub watch-corners : WatchCorners
   pub linear-corners : LinearCorners
+  pub game-corners : GameCorners
   -- the reason's whole line for every number and each of its causes
   pub reason-page : ReasonPage
   -- a worked pair of sheets for the OR proof
@@ -52,3 +55,5 @@ pub record Evidence : Type 0 where
   pub linear-page : LinearPage
   -- worked rounds that multiply
   pub products-page : ProductsPage
+  -- worked games
+  pub game-page : GamePage

@@ -2,6 +2,7 @@
 -- Assumes nothing.
 use Rattle.disjunctions.specs.Ours.{orCalls}
 use Rattle.formats.specs.Ours.{fileCalls}
+use Rattle.games.specs.Ours.{gameCalls}
 use Rattle.linear_forms.specs.Ours.{linearCalls}
 use Rattle.patterns.specs.Ours.{makerCalls}
 use Rattle.products.specs.Ours.{teamCalls}
@@ -22,4 +23,5 @@ ours = record {
   team = teamCalls;
   watches = watchCalls;
   linear = linearCalls;
+  games = gameCalls;
 }

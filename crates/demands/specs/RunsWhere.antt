@@ -3,6 +3,7 @@
 -- Assumes nothing.
 use Rattle.disjunctions.specs.RunsWhere.{EitherRuns}
 use Rattle.formats.specs.RunsWhere.{FilesRun}
+use Rattle.games.specs.RunsWhere.{GameRuns}
 use Rattle.linear_forms.specs.RunsWhere.{LinearRuns}
 use Rattle.patterns.specs.RunsWhere.{MakersRun}
 use Rattle.products.specs.RunsWhere.{TeamRuns}
@@ -25,3 +26,5 @@ pub record RunsWhere (code : Calls) : Type 0 where
   pub watch : WatchRuns (code .files) (code .runs) (code .watches)
   -- card 10: the maker of sheets from linear forms
   pub linear : LinearRuns (code .files) (code .linear)
+  -- card 12: the game's text
+  pub game : GameRuns (code .files) (code .runs) (code .games)
