@@ -4,6 +4,7 @@
 -- are those of the calls and cross as they are, so that `Demands` itself says what their fields are.
 -- Assumes nothing.
 use Rattle.crossing.specs.SessionsCross.{SessionsCross}
+use Rattle.linear_forms.specs.LinearCrosses.{LinearCrosses}
 use Rattle.or_crossing.specs.OrCrosses.{OrCrosses}
 use Rattle.tables.specs.TablesCross.{TablesCross}
 use Rattle.watch_crossing.specs.WatchCrosses.{WatchCrosses}
@@ -17,3 +18,5 @@ pub record Crosses : Type 0 where
   pub tables : TablesCross
   -- what a watch answers to a round
   pub watches : WatchCrosses
+  -- the numbers and lists of a sheet from linear forms
+  pub linear : LinearCrosses

@@ -5,6 +5,8 @@ use types::Written;
 ghost use mathlib.Core.Path.{_≡_};
 ghost use Rattle.formats.specs.Encode.{encode};
 ghost use Rattle.formats.specs.Load.{load};
+ghost use Rattle.linear_forms.specs.Linear.{makeLinear};
+ghost use Rattle.linear_forms.specs.LinearPlan.{linearPlan};
 ghost use Rattle.patterns.specs.Maker.{makeFrom};
 ghost use Rattle.patterns.specs.Table.{writeShipped};
 ghost use Rattle.tables.specs.Flat.{flatInstance, flatUnlessRefused};
@@ -74,6 +76,42 @@ pub extern "C" fn dimkhoros_from_pattern(
         order,
         challenges,
         values,
+        statement,
+        buffer,
+    )
+}
+
+// The maker of sheets from linear forms (02, card 10): puts the sheet of kind 1 whose entry (i, j) is the product over the 1 to 8
+// generators of generator^coefficient mod m at the start of buffer and answers its length, or the number that it is refused with, 5,
+// 6, 7, 8, 29, 30, 10, 11 or 22. The coefficients stand by row, then generator, then column. No byte after the sheet is changed, and
+// a refused call changes none.
+#[no_mangle]
+pub extern "C" fn dimkhoros_from_forms(
+    modulus: u32,
+    order: u32,
+    challenges: u32,
+    rows: u32,
+    columns: u32,
+    generators: &[u32],
+    coefficients: &[u32],
+    statement: &[u32],
+    buffer: &mut [u8],
+) -> Written
+    ensures answer { λ r. ⌜ r ≡
+        makeLinear (linearPlan modulus order challenges rows columns (now (generators .entry)) (now (coefficients .entry))
+        (now (statement .entry))) (now (buffer .entry)) .answer ⌝ }
+    ensures bytes { λ _. ⌜ now (buffer .exit) ≡
+        makeLinear (linearPlan modulus order challenges rows columns (now (generators .entry)) (now (coefficients .entry))
+        (now (statement .entry))) (now (buffer .entry)) .buffer ⌝ }
+{
+    linear_maker::make(
+        modulus,
+        order,
+        challenges,
+        rows,
+        columns,
+        generators,
+        coefficients,
         statement,
         buffer,
     )

@@ -6,3 +6,4 @@ pub mod Making
 pub mod LinearSheets
 pub mod RunsWhere
 pub mod Only
+pub mod LinearCrosses

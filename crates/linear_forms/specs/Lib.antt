@@ -1,5 +1,6 @@
 -- Sheets from linear forms.
 pub mod LinearPlan
+pub mod LinearCrosses
 pub mod Refusals
 pub mod Linear
 pub mod LinearCalls

@@ -13,3 +13,17 @@ pub record LinearPlan : Type 0 where
   pub generators : List ℕ
   pub coefficients : List ℕ
   pub statement : List ℕ
+
+-- the plan of numbers and lists in the order of the export's parameters
+abbrev pub linearPlan : ℕ → ℕ → ℕ → ℕ → ℕ → List ℕ → List ℕ → List ℕ → LinearPlan
+linearPlan modulus order challenges rows columns generators coefficients statement =
+    record {
+      modulus = modulus;
+      order = order;
+      challenges = challenges;
+      rows = rows;
+      columns = columns;
+      generators = generators;
+      coefficients = coefficients;
+      statement = statement;
+    }

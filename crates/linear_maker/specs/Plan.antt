@@ -9,21 +9,12 @@ use Rattle.lists.specs.Places.{pad8, tabulate}
 use Rattle.rules.specs.Rule.{Rule, _when_}
 use Rattle.sigma.specs.Element.{someNonElement}
 use Rattle.linear_forms.specs.Linear.{badCoefficient, badCounts, linearEntry}
-use Rattle.linear_forms.specs.LinearPlan.{LinearPlan}
+use Rattle.linear_forms.specs.LinearPlan.{LinearPlan, linearPlan}
 
 -- the plan of fixed fields, generators, coefficients and a statement
 abbrev pub planOf : Header → List ℕ → List ℕ → List ℕ → LinearPlan
 planOf h generators coefficients statement =
-    record {
-      modulus = h .modulus;
-      order = h .order;
-      challenges = h .challenges;
-      rows = h .rows;
-      columns = h .columns;
-      generators = generators;
-      coefficients = coefficients;
-      statement = statement;
-    }
+    linearPlan (h .modulus) (h .order) (h .challenges) (h .rows) (h .columns) generators coefficients statement
 
 -- the rules of the counts, the coefficients and the generators
 unfoldable pub planRules : Header → List ℕ → List ℕ → List ℕ → List Rule

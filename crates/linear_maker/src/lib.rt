@@ -13,6 +13,7 @@ use writer::encode_tested;
 use writer::refused;
 ghost use mathlib.Core.Path.{_≡_};
 ghost use Rattle.linear_forms.specs.Linear.{makeLinear};
+ghost use Rattle.linear_forms.specs.LinearPlan.{linearPlan};
 
 // The maker of sheets from linear forms: writes the sheet of kind 1 whose entry (i, j) is the product over the generators of
 // generator^coefficient mod m, and answers its length, or the number that it is refused with, 5, 6, 7, 8, 29, 30, 10, 11 or 22.
@@ -30,29 +31,11 @@ pub fn make(
     buffer: &mut [u8],
 ) -> Written
     ensures answer { λ r. ⌜ r ≡
-        makeLinear (record {
-          modulus = modulus;
-          order = order;
-          challenges = challenges;
-          rows = rows;
-          columns = columns;
-          generators = now (generators .entry);
-          coefficients = now (coefficients .entry);
-          statement = now (statement .entry);
-        })
-        (now (buffer .entry)) .answer ⌝ }
+        makeLinear (linearPlan modulus order challenges rows columns (now (generators .entry)) (now (coefficients .entry))
+        (now (statement .entry))) (now (buffer .entry)) .answer ⌝ }
     ensures left { λ _. ⌜ now (buffer .exit) ≡
-        makeLinear (record {
-          modulus = modulus;
-          order = order;
-          challenges = challenges;
-          rows = rows;
-          columns = columns;
-          generators = now (generators .entry);
-          coefficients = now (coefficients .entry);
-          statement = now (statement .entry);
-        })
-        (now (buffer .entry)) .buffer ⌝ }
+        makeLinear (linearPlan modulus order challenges rows columns (now (generators .entry)) (now (coefficients .entry))
+        (now (statement .entry))) (now (buffer .entry)) .buffer ⌝ }
 {
     let h = Header {
         kind: 1,
