@@ -7,6 +7,8 @@ use Rattle.disjunctions.proofs.OrRefusals.{or-refusals}
 use Rattle.disjunctions.proofs.RunsWhere.{either-runs}
 use Rattle.examples.proofs.AnswerPage.{answer-page}
 use Rattle.examples.proofs.Corners.{every-disjunct}
+use Rattle.examples.proofs.LinearCorners.{linear-corners}
+use Rattle.examples.proofs.LinearPage.{linear-page}
 use Rattle.examples.proofs.Pages.{worked-examples}
 use Rattle.examples.proofs.ReasonPage.{reason-page}
 use Rattle.examples.proofs.RowsPage.{rows-page}
@@ -20,6 +22,8 @@ use Rattle.formats.proofs.FileRefusals.{file-refusals}
 use Rattle.formats.proofs.RunsWhere.{files-run}
 use Rattle.formats.proofs.SameCommitment.{words-compare, words-refusals}
 use Rattle.formats.proofs.Writers.{writers}
+use Rattle.linear_forms.proofs.LinearSheets.{linear-refusals, linear-sheets}
+use Rattle.linear_forms.proofs.RunsWhere.{linear-runs}
 use Rattle.patterns.proofs.Meaning.{patterns-mean}
 use Rattle.patterns.proofs.PatternCalls.{pattern-calls, pattern-refusals}
 use Rattle.patterns.proofs.RunsWhere.{makers-run}
@@ -64,6 +68,7 @@ holds = record {
     team = team-refusals;
     sixteen-bits = convert-refusals;
     watch = watch-refusals;
+    linear = linear-refusals;
   };
   runs-where = record {
     files = files-run;
@@ -72,6 +77,7 @@ holds = record {
     one-of-two = either-runs;
     team = team-runs;
     watch = watch-runs;
+    linear = linear-runs;
   };
   main-protocol = main-protocol;
   protocol = protocol;
@@ -91,6 +97,7 @@ holds = record {
     loses-nothing = loses-nothing;
     rows = all-rows;
     watch = watch-works;
+    linear = linear-sheets;
   };
   patterns = patterns-mean;
   arithmetic = arithmetic;
@@ -113,6 +120,7 @@ evidence = record {
   or-corners = every-disjunct .4;
   team-corners = every-disjunct .5;
   watch-corners = watch-corners;
+  linear-corners = linear-corners;
   reason-page = reason-page;
   or-page = worked-examples .2;
   answer-page = answer-page;
@@ -120,4 +128,5 @@ evidence = record {
   team-page = team-page;
   rows-page = rows-page;
   watch-page = watch-page;
+  linear-page = linear-page;
 }

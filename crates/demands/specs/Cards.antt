@@ -5,6 +5,7 @@
 use Rattle.disjunctions.specs.OneOfTwo.{OrProof}
 use Rattle.formats.specs.Converts.{Converts}
 use Rattle.formats.specs.WordsCompare.{WordsCompare}
+use Rattle.linear_forms.specs.LinearSheets.{LinearSheets}
 use Rattle.patterns.specs.PatternCalls.{PatternCalls}
 use Rattle.products.specs.TeamWorks.{TeamWorks}
 use Rattle.reasons.specs.ReasonsTrue.{ReasonsTrue}
@@ -40,3 +41,6 @@ pub record Cards (code : Calls) : Type 0 where
   -- nearest of them with the same commitment and another challenge, with the witness that the extractor gives for the two, and none
   -- exactly if there is no such round
   pub watch : WatchWorks (code .files) (code .runs) (code .watches)
+  -- 10: the maker of sheets from linear forms puts the sheet of kind 1 whose entries are the products of the generators' powers into the
+  -- buffer, and the sheet's image of every secret is the formula of Maurer's section 6.5
+  pub linear : LinearSheets (code .files) (code .linear)

@@ -38,7 +38,7 @@ pub record Demands (code : Calls) : Type 0 where
   -- which bytes the calls that write put into a lent buffer
   pub writers : Writers (code .files)
   -- what is written reads back as what it was, and what reads is written back byte by byte
-  pub files : ReadsBack (code .files) (code .makers)
+  pub files : ReadsBack (code .files) (code .makers) (code .linear)
   -- the marker's text on a sheet, a round file and a level is what the verdicts make it, word for word
   pub marker : MarksFiles (code .files) (code .runs) (code .marker)
   -- 3: the extractor gives a witness, and simulated and honest rounds are exactly the accepted ones, each met once, for every

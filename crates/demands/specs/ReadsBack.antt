@@ -18,6 +18,9 @@ use Rattle.formats.specs.RoundFile.{recordStart}
 use Rattle.formats.specs.Rounds.{Grows, Words, appendEach, roundsRead}
 use Rattle.formats.specs.Sheet.{headerOf}
 use Rattle.formats.specs.Write.{Writing}
+use Rattle.linear_forms.specs.LinearCalls.{LinearCalls}
+use Rattle.linear_forms.specs.LinearPlan.{LinearPlan}
+use Rattle.linear_forms.specs.LinearSheets.{OfPlan}
 use Rattle.patterns.specs.Maker.{asked}
 use Rattle.patterns.specs.MakerCalls.{MakerCalls}
 
@@ -28,9 +31,10 @@ module _ (files : FileCalls) where
   abbrev pub LoadsAs : List ℕ → Instance → Type 0
   LoadsAs sheet inst = (load sheet .refusal ≡ 0) × (loaded files sheet ≡ inst)
 
-module _ (files : FileCalls) (makers : MakerCalls) where
+module _ (files : FileCalls) (makers : MakerCalls) (linear : LinearCalls) where
   open FileCalls files using (load, encode, countRounds, emptyFile, append)
   open MakerCalls makers using (makeFrom)
+  open LinearCalls linear using (makeLinear)
 
   pub record ReadsBack : Type 0 where
     -- what the second writer writes loads as the values that it read, with 0 in the places that are not read
@@ -41,6 +45,10 @@ module _ (files : FileCalls) (makers : MakerCalls) where
     pub from-pattern : (f : List ℕ) (number m ℓ K : ℕ) (values z buffer : List ℕ) → m < 2 ^ 32 → ℓ < 2 ^ 32
         → makeFrom f number m ℓ K values z buffer .answer .refusal ≡ 0
         → LoadsAs files (front (makeFrom f number m ℓ K values z buffer)) (asked f number m ℓ K values z)
+    -- what the maker of sheets from linear forms writes loads as the plan's values
+    pub from-forms : (p : LinearPlan) (buffer : List ℕ) → p .modulus < 2 ^ 32 → p .order < 2 ^ 32
+        → makeLinear p buffer .answer .refusal ≡ 0
+        → (inst : Instance) × OfPlan p inst × LoadsAs files (front (makeLinear p buffer)) inst
     -- a sheet that loads is written back as the same bytes from what loading gives
     pub sheet-again : (sheet buffer : List ℕ) → AllBytes sheet → load sheet .refusal ≡ 0 → length sheet ≤ length buffer
         → Puts sheet buffer (encode (loaded files sheet) buffer)

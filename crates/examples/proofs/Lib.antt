@@ -7,3 +7,5 @@ pub mod ReasonPage
 pub mod Corners
 pub mod WatchCorners
 pub mod AnswerPage
+pub mod LinearPage
+pub mod LinearCorners
