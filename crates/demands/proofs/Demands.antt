@@ -10,6 +10,7 @@ use Rattle.examples.proofs.Corners.{every-disjunct}
 use Rattle.examples.proofs.LinearCorners.{linear-corners}
 use Rattle.examples.proofs.LinearPage.{linear-page}
 use Rattle.examples.proofs.Pages.{worked-examples}
+use Rattle.examples.proofs.ProductsPage.{products-page}
 use Rattle.examples.proofs.ReasonPage.{reason-page}
 use Rattle.examples.proofs.RowsPage.{rows-page}
 use Rattle.examples.proofs.TeamPage.{team-page}
@@ -27,6 +28,7 @@ use Rattle.linear_forms.proofs.RunsWhere.{linear-runs}
 use Rattle.patterns.proofs.Meaning.{patterns-mean}
 use Rattle.patterns.proofs.PatternCalls.{pattern-calls, pattern-refusals}
 use Rattle.patterns.proofs.RunsWhere.{makers-run}
+use Rattle.products.proofs.RoundsMultiply.{products-work}
 use Rattle.products.proofs.RunsWhere.{team-runs}
 use Rattle.products.proofs.TeamRefusals.{team-refusals}
 use Rattle.products.proofs.TeamWorks.{team-works}
@@ -98,6 +100,7 @@ holds = record {
     rows = all-rows;
     watch = watch-works;
     linear = linear-sheets;
+    multiply = products-work;
   };
   patterns = patterns-mean;
   arithmetic = arithmetic;
@@ -129,4 +132,5 @@ evidence = record {
   rows-page = rows-page;
   watch-page = watch-page;
   linear-page = linear-page;
+  products-page = products-page;
 }

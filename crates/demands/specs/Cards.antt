@@ -7,6 +7,7 @@ use Rattle.formats.specs.Converts.{Converts}
 use Rattle.formats.specs.WordsCompare.{WordsCompare}
 use Rattle.linear_forms.specs.LinearSheets.{LinearSheets}
 use Rattle.patterns.specs.PatternCalls.{PatternCalls}
+use Rattle.products.specs.RoundsMultiply.{ProductsWork}
 use Rattle.products.specs.TeamWorks.{TeamWorks}
 use Rattle.reasons.specs.ReasonsTrue.{ReasonsTrue}
 use Rattle.runs.specs.ReadsAlike.{LosesNothing}
@@ -44,3 +45,6 @@ pub record Cards (code : Calls) : Type 0 where
   -- 10: the maker of sheets from linear forms puts the sheet of kind 1 whose entries are the products of the generators' powers into the
   -- buffer, and the sheet's image of every secret is the formula of Maurer's section 6.5
   pub linear : LinearSheets (code .files) (code .linear)
+  -- 11: of two sheets that differ at most in their statements z and z′ two accepted rounds with one challenge multiply to an accepted
+  -- round for z·z′, and extracting from two such products gives the two sheets' extracted witnesses, joined
+  pub multiply : ProductsWork (code .files) (code .runs)

@@ -10,6 +10,7 @@ use Rattle.examples.specs.OrCorners.{OrCorners}
 use Rattle.examples.specs.OrPage.{OrPage}
 use Rattle.examples.specs.Pages.{EveryPage}
 use Rattle.examples.specs.PatternCorners.{PatternCorners}
+use Rattle.examples.specs.ProductsPage.{ProductsPage}
 use Rattle.examples.specs.ReasonPage.{ReasonPage}
 use Rattle.examples.specs.RoundCorners.{RoundCorners}
 use Rattle.examples.specs.RowsPage.{RowsPage}
@@ -49,3 +50,5 @@ pub record Evidence : Type 0 where
   pub watch-page : WatchPage
   -- worked sheets from linear forms
   pub linear-page : LinearPage
+  -- worked rounds that multiply
+  pub products-page : ProductsPage

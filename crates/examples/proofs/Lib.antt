@@ -9,3 +9,4 @@ pub mod WatchCorners
 pub mod AnswerPage
 pub mod LinearPage
 pub mod LinearCorners
+pub mod ProductsPage

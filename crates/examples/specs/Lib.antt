@@ -1,6 +1,6 @@
 -- 01's calculator pages, the marker's example, a worked pair of sheets for the OR proof, worked sessions, worked teams, worked rows
--- that differ, a worked watch, worked linear forms, the reason's lines, whole answers of the calls, and the corners of each part of
--- each refusal's condition.
+-- that differ, a worked watch, worked linear forms, worked rounds that multiply, the reason's lines, whole answers of the calls, and
+-- the corners of each part of each refusal's condition.
 pub mod Sheets
 pub mod Pages
 pub mod MarkerExample
@@ -22,3 +22,4 @@ pub mod WatchCorners
 pub mod AnswerPage
 pub mod LinearPage
 pub mod LinearCorners
+pub mod ProductsPage

@@ -1,4 +1,4 @@
--- Laws of a prover that is split over a team.
+-- Laws of a prover that is split over a team, and of rounds that multiply.
 pub mod Combined
 pub mod TeamRefusals
 pub mod TeamAnswers
@@ -6,5 +6,6 @@ pub mod PlayerSheets
 pub mod Whole
 pub mod Single
 pub mod TeamWorks
+pub mod RoundsMultiply
 pub mod RunsWhere
 pub mod Only

@@ -87,6 +87,9 @@ module _ (h : Header) where
   unfolding joinSlots
   join-agree x y y′ same = tabulate-agree (h .columns) _ _ (λ j b. ap (combine h (getD x j 0)) (same j b))
 
+  pub joins-agree : (x x′ y y′ : List ℕ) → Agree (h .columns) x x′ → Agree (h .columns) y y′ → joinSlots h x y ≡ joinSlots h x′ y′
+  joins-agree x x′ y y′ same same′ = join-agree x y y′ same′ ∙ join-swap h x y′ ∙ join-agree y′ x x′ same ∙ join-swap h y′ x′
+
   -- a slot of the response of joined nonces and witnesses
   slot-joined : (k k′ c x x′ : ℕ)
       → responseCoordinate h (combine h k k′) c (combine h x x′) ≡ combine h (responseCoordinate h k c x) (responseCoordinate h k′ c x′)

@@ -29,3 +29,4 @@ pub mod Extractor
 pub mod Lists
 pub mod Restated
 pub mod Joined
+pub mod JoinedFormula
