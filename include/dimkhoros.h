@@ -44,9 +44,9 @@
  * session keeps what it holds in all eight, and the commitments that Peggy's hold are tested in all eight (by 21).
  *
  * Refusals. A call answers a number, or a struct with a field `refusal`: 0, or the number of what was refused. Where several
- * apply it is the earliest in the order 23, 24, 1 to 9, 27, 10, 11, 26, 12, 25, 13 to 16, 28, 17 to 22. A refused call changes
- * no session, watch, array or buffer, and has 0 in every other field of its answer. Compilers warn of a call whose answer is
- * thrown away.
+ * apply it is the earliest in the order 23, 24, 1 to 9, 27, 29, 30, 10, 11, 26, 12, 25, 13 to 16, 28, 17 to 22. A refused call
+ * changes no session, watch, array or buffer, and has 0 in every other field of its answer. Compilers warn of a call whose answer
+ * is thrown away.
  *
  * Random numbers are the caller's: nonces, challenges and simulated responses are handed in. A nonce has to be drawn at
  * random from all coordinates for each session, or the responses give the witness away.
@@ -130,8 +130,8 @@ extern "C" {
 #define DIMKHOROS_VERIFIER_JUDGED 3  /* a response was judged */
 
 /*
- * Every refusal by its number, with its name and what it says. 23 and 24 are tested before 1, 27 behind 9, 26 behind 11, 25
- * behind 12 and 28 behind 16.
+ * Every refusal by its number, with its name and what it says. 23 and 24 are tested before 1, 27, 29 and 30 behind 9, 26 behind 11,
+ * 25 behind 12 and 28 behind 16.
  */
 #define DIMKHOROS_REFUSALS(REFUSAL)                                                                               \
     REFUSAL(1, PATTERN, "the pattern file has no pattern of this number, or it takes another count of values")    \
@@ -144,7 +144,7 @@ extern "C" {
     REFUSAL(8, CHALLENGES, "the challenge count K has to be 2 to 65536, and no number from 2 to K - 1 may divide" \
                            " the order or exponent")                                                              \
     REFUSAL(9, SHEET_LENGTH, "the sheet is longer or shorter than its header says")                               \
-    REFUSAL(10, ENTRY, "a table entry or public value lies outside the group")                                    \
+    REFUSAL(10, ENTRY, "a table entry, public value or generator lies outside the group")                         \
     REFUSAL(11, STATEMENT, "a value of the statement or of a player's image lies outside the group")              \
     REFUSAL(12, FILE, "the bytes are no round file of this sheet, the file is full, or the version asked for is"  \
                       " another than 1 and 2")                                                                    \
@@ -166,7 +166,10 @@ extern "C" {
     REFUSAL(25, LEVEL, "the level has to be one byte from 1 to 64")                                               \
     REFUSAL(26, COUNTS_DIFFER, "the two sheets have different challenge counts")                                  \
     REFUSAL(27, TEAM, "the team has to have 2 to 8 players")                                                      \
-    REFUSAL(28, IMAGES, "the images of the team's players do not multiply to the statement")
+    REFUSAL(28, IMAGES, "the images of the team's players do not multiply to the statement")                      \
+    REFUSAL(29, FORM_COUNTS, "there have to be 1 to 8 generators, a coefficient for each row, generator and"      \
+                             " column, and a statement value for each row")                                       \
+    REFUSAL(30, COEFFICIENT, "a coefficient has to be below the order")
 
 /* The refusals by name: DIMKHOROS_REFUSED_PATTERN is 1, and so on through the list. */
 enum {
@@ -419,6 +422,32 @@ DimkhorosWritten dimkhoros_from_pattern(const uint8_t *patterns, size_t patterns
                                         uint32_t modulus, uint32_t order, uint32_t challenges, const uint32_t *values,
                                         size_t value_count, const uint32_t *statement, size_t statement_count,
                                         uint8_t *buffer, size_t buffer_length);
+
+/* --- Sheets from linear forms --- */
+
+/*
+ * Writes the exponent sheet of a statement over several generators, whose exponents are linear forms of the secrets (section 6.5
+ * of Maurer's paper), to the start of `buffer`, and answers its length. Row i of the image of x_1, .., x_n is the product, over
+ * the generators, of
+ *
+ *     generator ^ (a_1 * x_1 + .. + a_n * x_n)   modulo m,
+ *
+ * where a_1 to a_n are the coefficients of row i and this generator. They stand by row, then generator, then column: those of
+ * z_1 = h_1^x_3 * h_2^x_1 and z_2 = h_1^x_2 * h_2^x_4 * h_3^x_1 are
+ *
+ *     0 0 1 0   1 0 0 0   0 0 0 0     row z_1: x_3 over h_1, x_1 over h_2, none over h_3
+ *     0 1 0 0   0 0 0 1   1 0 0 0     row z_2: x_2 over h_1, x_4 over h_2, x_1 over h_3
+ *
+ * So the coefficient of row i, generator g and column j, all from 0, stands at (i * generator_count + g) * columns + j. Entry
+ * (i, j) of the sheet is the product over the generators of generator^coefficient modulo m. `statement` has a value for each
+ * row. No byte behind the sheet is changed. Refuses 5 to 8, 29, 30, 10, 11 and 22: 10 by a generator, also one that no
+ * coefficient uses.
+ */
+DIMKHOROS_CHECKED
+DimkhorosWritten dimkhoros_from_forms(uint32_t modulus, uint32_t order, uint32_t challenges, uint32_t rows, uint32_t columns,
+                                      const uint32_t *generators, size_t generator_count, const uint32_t *coefficients,
+                                      size_t coefficient_count, const uint32_t *statement, size_t statement_count,
+                                      uint8_t *buffer, size_t buffer_length);
 
 /* --- Peggy's session --- */
 

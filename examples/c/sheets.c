@@ -1,4 +1,7 @@
-/* A course author makes a sheet of each shipped pattern and one of a pattern of her own, and bad ones are refused by number. */
+/*
+ * A course author makes a sheet of each shipped pattern, one of a pattern of her own and one of linear forms, and bad ones are
+ * refused by number.
+ */
 #include "common.h"
 
 /* A pattern file. */
@@ -49,20 +52,55 @@ static const File bad_files[] = {
     {"a byte behind", byte_behind, sizeof byte_behind},
 };
 
+/* A statement of two rows over generators, in four secrets. */
+typedef struct {
+    const char *name;
+    uint32_t generators[3];
+    size_t generator_count;
+    uint32_t coefficients[24];
+} Forms;
+
+/* Maurer's example, over h1 = 2, h2 = 3 and h3 = 4: z1 = h1^x3 * h2^x1 and z2 = h1^x2 * h2^x4 * h3^x1. */
+#define ROW_1 0, 0, 1, 0, 1, 0, 0, 0, 0, 0, 0, 0
+#define ROW_2 0, 1, 0, 0, 0, 0, 0, 1, 1, 0, 0, 0
+
+static const Forms maurer = {"Maurer's example", {2, 3, 4}, 3, {ROW_1, ROW_2}};
+
+static const Forms bad_forms[] = {
+    {"two generators for three forms in a row", {2, 3}, 2, {ROW_1, ROW_2}},
+    {"coefficient 11", {2, 3, 4}, 3, {11}},
+    {"generator 5", {2, 3, 5}, 3, {ROW_1, ROW_2}},
+};
+
+static DimkhorosWritten make_forms(const Forms *forms, uint8_t sheet[DIMKHOROS_LONGEST_SHEET]) {
+    const uint32_t statement[2] = {1, 8};
+    return dimkhoros_from_forms(23, 11, 11, 2, 4, forms->generators, forms->generator_count, forms->coefficients, 24,
+                                statement, 2, sheet, DIMKHOROS_LONGEST_SHEET);
+}
+
 static DimkhorosWritten make(const File *file, const Plan *plan, uint8_t sheet[DIMKHOROS_LONGEST_SHEET]) {
     return dimkhoros_from_pattern(file->bytes, file->length, plan->pattern, plan->modulus, plan->order, plan->challenges,
                                   plan->values, plan->value_count, plan->statement, plan->statement_count, sheet,
                                   DIMKHOROS_LONGEST_SHEET);
 }
 
-/* Makes the sheet of a plan and says what it has. */
-static void show(const File *file, const Plan *plan) {
-    uint8_t sheet[DIMKHOROS_LONGEST_SHEET];
-    DimkhorosWritten made = make(file, plan, sheet);
+/* Says what a sheet has that was made. */
+static void show(const char *name, const uint8_t *sheet, DimkhorosWritten made) {
     expect(made.refusal);
     DimkhorosLoaded loaded = dimkhoros_load(sheet, made.length);
     expect(loaded.refusal);
-    printf("%s: rows %u, columns %u, %zu bytes\n", plan->name, loaded.header.rows, loaded.header.columns, made.length);
+    printf("%s: rows %u, columns %u, %zu bytes\n", name, loaded.header.rows, loaded.header.columns, made.length);
+}
+
+/* Makes Maurer's sheet, and says what the bad ones are refused with. */
+static void linear_forms(void) {
+    uint8_t sheet[DIMKHOROS_LONGEST_SHEET];
+    printf("Linear forms over three generators.\n");
+    show(maurer.name, sheet, make_forms(&maurer, sheet));
+    for (size_t i = 0; i < sizeof bad_forms / sizeof bad_forms[0]; i++) {
+        printf("%s: ", bad_forms[i].name);
+        show_refusal(make_forms(&bad_forms[i], sheet).refusal);
+    }
 }
 
 int main(void) {
@@ -73,7 +111,7 @@ int main(void) {
     File shipped = {"shipped", patterns, written.length};
     printf("The shipped file: %zu bytes.\n", shipped.length);
     for (size_t i = 0; i < sizeof good / sizeof good[0]; i++) {
-        show(&shipped, &good[i]);
+        show(good[i].name, sheet, make(&shipped, &good[i], sheet));
     }
     for (size_t i = 0; i < sizeof bad / sizeof bad[0]; i++) {
         printf("%s: ", bad[i].name);
@@ -81,10 +119,11 @@ int main(void) {
     }
     File own = {"own", elgamal, sizeof elgamal};
     printf("A file of her own: %zu bytes.\n", own.length);
-    show(&own, &commitment);
+    show(commitment.name, sheet, make(&own, &commitment, sheet));
     for (size_t i = 0; i < sizeof bad_files / sizeof bad_files[0]; i++) {
         printf("%s: ", bad_files[i].name);
         show_refusal(make(&bad_files[i], &commitment, sheet).refusal);
     }
+    linear_forms();
     return 0;
 }

@@ -7,6 +7,7 @@ from ._library import VERSION as __version__
 from ._library import version
 from ._sizes import EXPONENT, ROOT
 from ._stored import Damaged
+from .forms import Forms
 from .instance import Header, Instance, Values
 from .marker import mark, reason
 from .or_prover import OrProver
@@ -25,6 +26,7 @@ __all__ = [
     "EXPONENT",
     "ROOT",
     "Damaged",
+    "Forms",
     "Found",
     "Header",
     "Heard",

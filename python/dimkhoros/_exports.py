@@ -21,6 +21,10 @@ EXPORTS = {
     "encode": (c.Written, [c.Header, Numbers, Numbers, *Given]),
     "patterns": (c.Written, [*Given]),
     "from_pattern": (c.Written, [*Given, U32, U32, U32, U32, Numbers, Size, Numbers, Size, *Given]),
+    "from_forms": (
+        c.Written,
+        [U32, U32, U32, U32, U32, Numbers, Size, Numbers, Size, Numbers, Size, *Given],
+    ),
     "count": (c.Counted, [*Given, *Given]),
     "check": (U32, [*Given, *Given, Size]),
     "part": (c.Part, [*Given, *Given, Size]),

@@ -9,6 +9,7 @@ from . import _structs
 from ._library import buffer, calls
 from ._numbers import counted, data, exactly, given, listed, number, numbers, of_kind, places, rows, several
 from ._sizes import EXPONENT, LONGEST_SHEET, PLACES
+from .forms import Forms, forms_of
 from .patterns import Patterns
 from .refusals import check
 from .rounds import Round, Verdict, round_struct
@@ -96,6 +97,39 @@ class Instance:
         sheet = buffer(LONGEST_SHEET)
         lists = (several(public), len(public), several(z), len(z))
         written = calls.from_pattern(*given(patterns.bytes), *fixed, *lists, sheet, len(sheet))
+        check(written.refusal)
+        return cls(sheet.raw[: written.length])
+
+    @classmethod
+    def from_forms(
+        cls,
+        forms: Forms | Iterable[Iterable[Iterable[int]]],
+        *,
+        modulus: int,
+        order: int,
+        challenges: int,
+        generators: Iterable[int],
+        statement: Iterable[int],
+    ) -> Instance:
+        """Makes a sheet of linear forms over generators: row i of the image of x is the product, over the generators,
+        of the generator to the power of row i's form of x. `forms` has a list for each row, with a form for each
+        generator, which is a list with a coefficient for each column. Refuses it with 5 to 8, 29, 30, 10 or 11."""
+        linear = forms_of(forms)
+        lists = (
+            numbers(generators, "the generators"),
+            linear.coefficients,
+            numbers(statement, "the statement"),
+        )
+        fixed = [
+            number(modulus, "the modulus"),
+            number(order, "the order"),
+            number(challenges, "the challenge count"),
+            linear.rows,
+            linear.columns,
+        ]
+        sheet = buffer(LONGEST_SHEET)
+        given_lists = [part for values in lists for part in (several(values), len(values))]
+        written = calls.from_forms(*fixed, *given_lists, sheet, len(sheet))
         check(written.refusal)
         return cls(sheet.raw[: written.length])
 

@@ -13,7 +13,7 @@ SENTENCES = {
     7: "rows and columns have to be 1 to 8 each, and equal in a root sheet",
     8: "the challenge count K has to be 2 to 65536, and no number from 2 to K - 1 may divide the order or exponent",
     9: "the sheet is longer or shorter than its header says",
-    10: "a table entry or public value lies outside the group",
+    10: "a table entry, public value or generator lies outside the group",
     11: "a value of the statement or of a player's image lies outside the group",
     12: "the bytes are no round file of this sheet, the file is full, or the version asked for is another than 1 and 2",
     13: "the file has no round of this number",
@@ -33,14 +33,17 @@ SENTENCES = {
     26: "the two sheets have different challenge counts",
     27: "the team has to have 2 to 8 players",
     28: "the images of the team's players do not multiply to the statement",
+    29: "there have to be 1 to 8 generators, a coefficient for each row, generator and column, and a statement value"
+    " for each row",
+    30: "a coefficient has to be below the order",
 }
 
 
 class Refusal(Exception):
     """A call that was refused. It has changed nothing.
 
-    Where several refusals apply, the earliest in the order 23, 24, 1 to 9, 27, 10, 11, 26, 12, 25, 13 to 16, 28, 17
-    to 22 is given."""
+    Where several refusals apply, the earliest in the order 23, 24, 1 to 9, 27, 29, 30, 10, 11, 26, 12, 25, 13 to 16,
+    28, 17 to 22 is given."""
 
     def __init__(self, number: int) -> None:
         """The refusal of a number."""

@@ -6,6 +6,7 @@ import zlib
 
 from dimkhoros import (
     EXPONENT,
+    Forms,
     Header,
     Instance,
     OrProver,
@@ -206,6 +207,16 @@ class Answers:
         fixed = {field: inputs.number(name) for field, name in fields.items()}
         lists = {"values": inputs.list("values"), "statement": inputs.list("z")}
         made = Instance.from_pattern(patterns, inputs.number("pattern"), **fixed, **lists)
+        return written(made.bytes, inputs.bytes("buffer"))
+
+    def from_forms(self, inputs):
+        """The sheet of linear forms."""
+        coefficients = itertools.chain.from_iterable(inputs.rows("coefficients"))
+        forms = Forms(inputs.number("s"), inputs.number("n"), tuple(coefficients))
+        fields = {"modulus": "m", "order": "l", "challenges": "K"}
+        fixed = {field: inputs.number(name) for field, name in fields.items()}
+        lists = {"generators": inputs.list("generators"), "statement": inputs.list("z")}
+        made = Instance.from_forms(forms, **fixed, **lists)
         return written(made.bytes, inputs.bytes("buffer"))
 
     def count(self, inputs):

@@ -35,6 +35,19 @@ def page_g():
     return Instance.from_pattern(shipped, Pattern.ROOT, modulus=35, order=5, challenges=5, statement=[32])
 
 
+# Maurer's example of linear forms, over h1 = 2, h2 = 3 and h3 = 4: z1 = h1^x3 * h2^x1 and z2 = h1^x2 * h2^x4 * h3^x1.
+MAURER = [
+    [[0, 0, 1, 0], [1, 0, 0, 0], [0, 0, 0, 0]],
+    [[0, 1, 0, 0], [0, 0, 0, 1], [1, 0, 0, 0]],
+]
+
+
+def linear(forms=MAURER, modulus=23, order=11, challenges=11, generators=(2, 3, 4), statement=(1, 8)):
+    """A sheet of linear forms. The witness of Maurer's example is (1, 2, 3, 4)."""
+    fields = {"modulus": modulus, "order": order, "challenges": challenges}
+    return Instance.from_forms(forms, **fields, generators=generators, statement=statement)
+
+
 def round_of(t, c, r):
     """A round of a sheet of one row and one column."""
     return Round([t], c, [r])

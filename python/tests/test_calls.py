@@ -34,7 +34,7 @@ from dimkhoros import (
     reason,
 )
 
-from .pages import page_a, page_d, page_e, page_f, page_g, round_of
+from .pages import linear, page_a, page_d, page_e, page_f, page_g, round_of
 from .repository import ROOT as REPOSITORY
 from .repository import refused
 
@@ -82,8 +82,10 @@ class Refusals(unittest.TestCase):
             26: lambda: Pair(a, page_a(5)),
             27: lambda: Team(a, [[13]]),
             28: lambda: Team(a, [[8], [8]]),
+            29: lambda: linear(generators=[2, 3]),
+            30: lambda: linear([[[11]]], generators=[2], statement=[1]),
         }
-        self.assertEqual(set(range(1, 29)) - set(given), {22, 25})
+        self.assertEqual(set(range(1, 31)) - set(given), {22, 25})
         for number, call in given.items():
             with refused(self, number):
                 call()

@@ -34,8 +34,9 @@ use Rattle.sigma.specs.Knowledge.{AcceptedPair}
 use Rattle.sigma.specs.Meaning.{Elements, Fits, Holds}
 use Rattle.sigma.specs.Reads.{SameRound, roundOf}
 use Rattle.sigma.specs.Valid.{Valid}
+use Rattle.sigma.proofs.ByKind.{combine-exponent, combine-root}
 use Rattle.sigma.proofs.Formula.{formula-agree, formula-by-kind}
-use Rattle.sigma.proofs.Joined.{join-in, joins-agree, multiply-at, multiply-in, second-decides, withStatement-valid}
+use Rattle.sigma.proofs.Joined.{join-at, join-in, joins-agree, multiply-at, multiply-in, second-decides, withStatement-valid}
 use Rattle.sigma.proofs.JoinedFormula.{formula-joined, formula-restated}
 use Rattle.sigma.proofs.Unread.{judgeAfter-same}
 use Rattle.products.specs.RoundsMultiply.{
@@ -290,8 +291,8 @@ module _ (sheet sheet′ : List ℕ) (first : loadRefusal sheet ≡ 0) (second :
       )
 
   -- the card, of two sheets
-  pub rounds-multiply : AllBytes sheet → RoundsMultiply fileCalls runCalls sheet sheet′
-  rounds-multiply bytes =
+  pub rounds-multiply : RoundsMultiply fileCalls runCalls sheet sheet′
+  rounds-multiply =
       let h = instanceOf sheet .header in
       let own : load sheet .header ≡ h = header-given sheet first in
       let own′ : load sheet′ .header ≡ instanceOf sheet′ .header = header-given sheet′ second in
@@ -299,7 +300,7 @@ module _ (sheet sheet′ : List ℕ) (first : loadRefusal sheet ≡ 0) (second :
       → SameRound h made (productRound h round round′) =
       λ made round round′ is. subst (λ (k : Header). SameRound k made (productRound k round round′)) own is in
       record {
-        sheet-there = sheet-there bytes;
+        sheet-there = sheet-there;
         accepted = λ product whole round round′ made e e′ same is.
             let (none, values) = sheet-given product whole in
             product-accepted sheet sheet′ first second one-table product none values round round′ made e e′ same
@@ -321,5 +322,8 @@ module _ (sheet sheet′ : List ℕ) (first : loadRefusal sheet ≡ 0) (second :
 pub products-work : ProductsWork fileCalls runCalls
 unfolding load
 products-work = record {
-  multiply = λ sheet sheet′ bytes first second alike. rounds-multiply sheet sheet′ first second alike bytes;
+  rows = multiply-at;
+  sums = λ h e x y j b. join-at h x y j b ∙ combine-exponent h e (getD x j 0) (getD y j 0);
+  slots = λ h e x y j b. join-at h x y j b ∙ combine-root h (λ one. omega (arith, e, one)) (getD x j 0) (getD y j 0);
+  multiply = rounds-multiply;
 }

@@ -1,10 +1,10 @@
 -- What 02's eleventh card asks: rounds of two sheets that differ at most in their statements multiply to a round for the product of the
 -- statements, and extracting from such rounds gives the two sheets' extracted witnesses, joined. It is said of any calls, in both kinds.
 -- Assumes nothing.
-use Prim.Native.Nat.{ℕ, _≤_}
+use Prim.Native.Nat.{ℕ, _+_, _*_, _%_, _<_, _≤_}
 use mathlib.Core.Path.{_≡_}
 use mathlib.Core.List.{List}
-use lib.ListN.{length}
+use lib.ListN.{getD, length}
 use Rattle.types.specs.declared.Computed.{Computed}
 use Rattle.types.specs.declared.Header.{Header}
 use Rattle.types.specs.declared.Round.{Round}
@@ -62,8 +62,8 @@ module _ (files : FileCalls) (code : RunCalls) where
   -- beyond s and n hold anything
   pub record RoundsMultiply (sheet sheet′ : List ℕ) : Type 0 where
     -- there is a sheet for z·z′: given these values and a buffer as long as the first sheet or longer, the second writer is not
-    -- refused, and what it wrote is one
-    pub sheet-there : (buffer : List ℕ) → length sheet ≤ length buffer
+    -- refused, and what it wrote is one; a sheet of bytes has numbers below 2^32, as the one for z·z′ stores them
+    pub sheet-there : AllBytes sheet → (buffer : List ℕ) → length sheet ≤ length buffer
         → (encode (productValues (loaded files sheet) (loaded files sheet′)) buffer .answer .refusal ≡ 0)
         × ProductSheet files sheet sheet′ (front (encode (productValues (loaded files sheet) (loaded files sheet′)) buffer))
     -- for every sheet for z·z′: a round of each sheet, accepted, with the same challenge make an accepted one, whether or not any of
@@ -84,7 +84,15 @@ module _ (files : FileCalls) (code : RunCalls) where
         × (extractWitness product made made′
         ≡ joinedAnswer (load sheet .header) (extractWitness sheet one two) (extractWitness sheet′ one′ two′))
 
-  -- the card; that the first sheet is of bytes is asked so that its numbers are below 2^32, as a sheet for z·z′ stores them
   pub record ProductsWork : Type 0 where
-    pub multiply : (sheet sheet′ : List ℕ) → AllBytes sheet → load sheet .refusal ≡ 0 → load sheet′ .refusal ≡ 0
+    -- the products in numbers: statements and commitments are multiplied row by row mod m
+    pub rows : (h : Header) (t u : List ℕ) (i : ℕ) → i < h .rows → getD (multiplyRows h t u) i 0 ≡ getD t i 0 * getD u i 0 % h .modulus
+    -- joined slots are added mod q in kind 1
+    pub sums : (h : Header) → h .kind ≡ 1 → (x y : List ℕ) (j : ℕ) → j < h .columns
+        → getD (joinSlots h x y) j 0 ≡ (getD x j 0 + getD y j 0) % h .order
+    -- and multiplied mod m in kind 2
+    pub slots : (h : Header) → h .kind ≡ 2 → (x y : List ℕ) (j : ℕ) → j < h .columns
+        → getD (joinSlots h x y) j 0 ≡ getD x j 0 * getD y j 0 % h .modulus
+    -- the card, of any two sheets that load and differ at most in their statements
+    pub multiply : (sheet sheet′ : List ℕ) → load sheet .refusal ≡ 0 → load sheet′ .refusal ≡ 0
         → SameTable files sheet sheet′ → RoundsMultiply sheet sheet′

@@ -8,6 +8,7 @@ pub enum Call {
     Encode,
     Patterns,
     FromPattern,
+    FromForms,
     Count,
     Check,
     Part,
@@ -68,6 +69,7 @@ const CALLS: &[Entry] = &[
     entry(Call::Encode, "encode", false, &[4, 5, 6, 7, 8, 10, 11, 22]),
     entry(Call::Patterns, "patterns", false, &[22]),
     entry(Call::FromPattern, "from_pattern", false, &[23, 24, 1, 5, 6, 8, 10, 11, 22]),
+    entry(Call::FromForms, "from_forms", false, &[5, 6, 7, 8, 29, 30, 10, 11, 22]),
     entry(Call::Count, "count", true, &[12]),
     entry(Call::Check, "check", true, &[12, 13]),
     entry(Call::Part, "part", true, &[12, 13]),
@@ -107,8 +109,8 @@ pub const CALL_COUNT: usize = CALLS.len();
 /// All numbers in the order in which they are tested, the cards' numbers where
 /// 02 puts them. Of several that apply the first here is given.
 pub const ORDER: [u32; LAST as usize] = [
-    23, 24, 1, 2, 3, 4, 5, 6, 7, 8, 9, 27, 10, 11, 26, 12, 25, 13, 14, 15, 16, 28, 17, 18, 19, 20,
-    21, 22,
+    23, 24, 1, 2, 3, 4, 5, 6, 7, 8, 9, 27, 29, 30, 10, 11, 26, 12, 25, 13, 14, 15, 16, 28, 17, 18,
+    19, 20, 21, 22,
 ];
 
 /// The numbers that the loading of a sheet can give.

@@ -56,7 +56,7 @@ fn outside(random: &mut Random, inside: &[u32], widest: u32) -> u32 {
 }
 
 /// Puts rows or columns out of range, or makes them differ in kind 2.
-fn spoil_sides(random: &mut Random, header: &mut Header, widest: u32) {
+pub fn spoil_sides(random: &mut Random, header: &mut Header, widest: u32) {
     let sides = [1, 2, 3, 4, 5, 6, 7, 8];
     match random.below(4) {
         0 => header.rows = outside(random, &sides, widest),
@@ -80,6 +80,11 @@ pub fn group_for(random: &mut Random, number: u32) -> Group {
     } else {
         random.between(1, 2)
     };
+    group_of_kind(random, kind, number)
+}
+
+/// A group of this kind. For 8 it mostly has an order that ends the challenge counts.
+pub fn group_of_kind(random: &mut Random, kind: u32, number: u32) -> Group {
     match random.below(6) {
         0 if number == 8 => Group::wide(random, kind),
         1..=4 if number == 8 => Group::divided(random, kind),

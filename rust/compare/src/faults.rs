@@ -2,6 +2,7 @@
 
 mod extracting;
 mod files;
+mod forms;
 mod list;
 mod marking;
 mod or_extracting;
@@ -23,6 +24,7 @@ mod writers;
 
 pub use extracting::extract;
 pub use files::{check, count, part, read, same_commitment};
+pub use forms::from_forms;
 pub use list::{Fault, FAULTS};
 pub use marking::mark;
 pub use or_extracting::or_extract;

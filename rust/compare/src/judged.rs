@@ -6,10 +6,10 @@ mod teams;
 mod values;
 mod watches;
 
-use judge::pattern_file;
+use judge::{linear, pattern_file};
 
 use crate::library::{
-    Compared, Computed, Counted, Fetched, Header, Judgement, Loaded, Part, Places, Plan,
+    Compared, Computed, Counted, Fetched, Forms, Header, Judgement, Loaded, Part, Places, Plan,
     ProverAnswer, ProverSession, Round, VerifierAnswer, VerifierJudgement, VerifierSession,
     Written, LONGEST_REASON, LONGEST_TEXT,
 };
@@ -62,6 +62,21 @@ pub fn from_pattern(
     let (number, m, q, k) = (plan.number, plan.modulus, plan.order, plan.challenges);
     let made = pattern_file::make(patterns, number, m, q, k, values, statement, buffer);
     written(made)
+}
+
+pub fn from_forms(forms: &Forms, buffer: &mut [u8]) -> Written {
+    let header = forms.header;
+    written(linear::make(
+        header.modulus,
+        header.order,
+        header.challenges,
+        header.rows,
+        header.columns,
+        &forms.generators,
+        &forms.coefficients,
+        &forms.statement,
+        buffer,
+    ))
 }
 
 pub fn count(sheet: &[u8], file: &[u8]) -> Counted {

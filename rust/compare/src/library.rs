@@ -35,6 +35,17 @@ impl Plan {
     }
 }
 
+/// What the maker of sheets from linear forms takes, but for the buffer. The header's
+/// kind is 1, and no call is told it.
+#[derive(Clone, Debug, PartialEq, Eq)]
+pub struct Forms {
+    pub header: Header,
+    pub generators: Vec<u32>,
+    /// By row, then generator, then column.
+    pub coefficients: Vec<u32>,
+    pub statement: Vec<u32>,
+}
+
 /// A library that answers the calls.
 #[derive(Clone, Copy, Debug, PartialEq, Eq)]
 pub enum Library {
@@ -48,7 +59,7 @@ pub enum Library {
 /// library's module.
 macro_rules! calls {
     ($($name:ident($($argument:ident: $type:ty),*) -> $answer:ty;)*) => {
-        #[allow(clippy::wrong_self_convention, reason = "from_pattern is the name of a call")]
+        #[allow(clippy::wrong_self_convention, reason = "from_pattern and from_forms are names of calls")]
         #[allow(clippy::too_many_arguments, reason = "the calls take these")]
         impl Library {
             $(pub fn $name(self, $($argument: $type),*) -> $answer {
@@ -73,6 +84,7 @@ calls! {
     from_pattern(
         patterns: &[u8], plan: Plan, values: &[u32], statement: &[u32], buffer: &mut [u8]
     ) -> Written;
+    from_forms(forms: &Forms, buffer: &mut [u8]) -> Written;
 
     count(sheet: &[u8], file: &[u8]) -> Counted;
     check(sheet: &[u8], file: &[u8], number: usize) -> u32;

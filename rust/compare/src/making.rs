@@ -4,6 +4,7 @@
 mod brought;
 mod file_writers;
 mod files;
+mod forms;
 mod inputs;
 mod levels;
 mod marking;
@@ -37,12 +38,13 @@ pub use watch_runs::of_rounds as watched_rounds;
 type Maker = fn(&mut Random) -> Box<dyn Case>;
 
 /// How often each maker is asked, among the sum of these.
-const SHARES: [(Maker, usize); 36] = [
+const SHARES: [(Maker, usize); 37] = [
     (sheets::load, 3),
     (sheets::entries, 2),
     (sheets::encode, 4),
     (patterns::patterns, 1),
     (patterns::from_pattern, 4),
+    (forms::from_forms, 5),
     (files::count, 2),
     (files::check, 2),
     (files::part, 2),

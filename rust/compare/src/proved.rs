@@ -1,7 +1,7 @@
 //! The proved library, through its archive. The functions are those of the crate
-//! `dimkhoros_sys`, but for the sheet maker.
+//! `dimkhoros_sys`, but for the makers of sheets.
 
-use crate::library::{Plan, Written};
+use crate::library::{Forms, Plan, Written};
 
 pub use dimkhoros_sys::*;
 
@@ -15,4 +15,20 @@ pub fn from_pattern(
 ) -> Written {
     let (number, m, q, k) = (plan.number, plan.modulus, plan.order, plan.challenges);
     dimkhoros_sys::from_pattern(patterns, number, m, q, k, values, statement, buffer)
+}
+
+/// Gives the numbers and lists of the forms to the maker one by one.
+pub fn from_forms(forms: &Forms, buffer: &mut [u8]) -> Written {
+    let header = forms.header;
+    dimkhoros_sys::from_forms(
+        header.modulus,
+        header.order,
+        header.challenges,
+        header.rows,
+        header.columns,
+        &forms.generators,
+        &forms.coefficients,
+        &forms.statement,
+        buffer,
+    )
 }

@@ -1,6 +1,7 @@
-//! A course author makes a sheet of each shipped pattern and one of a pattern of her own, and bad ones are refused by number.
+//! A course author makes a sheet of each shipped pattern, one of a pattern of her own and one of linear forms, and bad ones are
+//! refused by number.
 
-use dimkhoros::{Instance, Pattern, Patterns, Plan, Refusal};
+use dimkhoros::{Forms, Instance, LinearPlan, Pattern, Patterns, Plan, Refusal};
 
 /// A pattern file with one pattern, ElGamal's commitments: rows (1 g) and (g h) over the public values g and h.
 const ELGAMAL: &[u8] = b"PAT\x00\x01\x01\x02\x02\x02\x00\x01\x01\x02";
@@ -40,28 +41,57 @@ fn bad() -> [(&'static str, Plan<'static>); 5] {
     ]
 }
 
-/// Makes the sheet of a plan and says what it has.
-fn show(patterns: &Patterns, name: &str, plan: &Plan<'_>) -> Result<(), Refusal> {
-    let instance = Instance::from_pattern(patterns, plan)?;
+/// Maurer's example of linear forms, over h1 = 2, h2 = 3 and h3 = 4: z1 = h1^x3 * h2^x1 and z2 = h1^x2 * h2^x4 * h3^x1.
+fn maurer() -> LinearPlan<'static> {
+    LinearPlan {
+        modulus: 23,
+        order: 11,
+        challenges: 11,
+        generators: &[2, 3, 4],
+        forms: Forms::of(&[
+            [[0, 0, 1, 0], [1, 0, 0, 0], [0, 0, 0, 0]],
+            [[0, 1, 0, 0], [0, 0, 0, 1], [1, 0, 0, 0]],
+        ]),
+        statement: &[1, 8],
+    }
+}
+
+/// The same with a fault each.
+fn bad_forms() -> [(&'static str, LinearPlan<'static>); 3] {
+    let eleven = Forms::of(&[[[11, 0, 0, 0]; 3]; 2]);
+    [
+        ("two generators for three forms in a row", LinearPlan { generators: &[2, 3], ..maurer() }),
+        ("coefficient 11", LinearPlan { forms: eleven, ..maurer() }),
+        ("generator 5", LinearPlan { generators: &[2, 3, 5], ..maurer() }),
+    ]
+}
+
+/// Says what a sheet has.
+fn show(name: &str, instance: &Instance) {
     let header = instance.values().header;
     let length = instance.bytes().len();
     println!("{name}: rows {}, columns {}, {length} bytes", header.rows, header.columns);
-    Ok(())
 }
 
 fn main() -> Result<(), Refusal> {
     let shipped = Patterns::shipped();
     println!("The shipped file: {} bytes.", shipped.bytes().len());
     for (name, plan) in good() {
-        show(&shipped, name, &plan)?;
+        show(name, &Instance::from_pattern(&shipped, &plan)?);
     }
     for (name, plan) in bad() {
         println!("{name}: {}", Instance::from_pattern(&shipped, &plan).unwrap_err());
     }
     println!("A file of her own: {} bytes.", ELGAMAL.len());
-    show(&Patterns::load(ELGAMAL)?, "ElGamal", &plan(1, &[2, 3], &[9, 8]))?;
+    let own = Patterns::load(ELGAMAL)?;
+    show("ElGamal", &Instance::from_pattern(&own, &plan(1, &[2, 3], &[9, 8]))?);
     for (name, file) in [("digit 3 of two values", DIGIT_3), ("a byte behind", BYTE_BEHIND)] {
         println!("{name}: {}", Patterns::load(file).unwrap_err());
+    }
+    println!("Linear forms over three generators.");
+    show("Maurer's example", &Instance::from_forms(&maurer())?);
+    for (name, plan) in bad_forms() {
+        println!("{name}: {}", Instance::from_forms(&plan).unwrap_err());
     }
     Ok(())
 }

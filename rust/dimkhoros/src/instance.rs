@@ -1,6 +1,6 @@
 //! Sheets: loading and making them.
 
-use crate::{Header, LONGEST_SHEET, PLACES, Patterns, Places, Plan, Refusal};
+use crate::{Forms, Header, LONGEST_SHEET, LinearPlan, PLACES, Patterns, Places, Plan, Refusal};
 use core::fmt;
 use dimkhoros_sys::{self as sys, ENTRIES};
 
@@ -85,6 +85,55 @@ impl Instance {
             order,
             challenges,
             values,
+            statement,
+            &mut sheet,
+        );
+        Refusal::check(written.refusal)?;
+        Instance::load(&sheet[..written.length])
+    }
+
+    /// Makes a sheet of linear forms over generators, or refuses the plan with 5 to 8, 29, 30, 10 or 11.
+    ///
+    /// Row i of the image of x is the product, over the generators, of the generator to the power of row i's form of x. Entry
+    /// (i, j) of the sheet is the product over the generators of generator^coefficient modulo m. A generator is tested whether or
+    /// not a coefficient uses it.
+    ///
+    /// ```
+    /// use dimkhoros::{Forms, Instance, LinearPlan, Refusal, places};
+    ///
+    /// // Maurer's example, over h1 = 2, h2 = 3 and h3 = 4: z1 = h1^x3 * h2^x1 and z2 = h1^x2 * h2^x4 * h3^x1.
+    /// let plan = LinearPlan {
+    ///     modulus: 23,
+    ///     order: 11,
+    ///     challenges: 11,
+    ///     generators: &[2, 3, 4],
+    ///     forms: Forms::of(&[
+    ///         [[0, 0, 1, 0], [1, 0, 0, 0], [0, 0, 0, 0]],
+    ///         [[0, 1, 0, 0], [0, 0, 0, 1], [1, 0, 0, 0]],
+    ///     ]),
+    ///     statement: &[1, 8],
+    /// };
+    /// let instance = Instance::from_forms(&plan)?;
+    /// assert_eq!(instance.values().entries[0], places([3, 1, 2, 1]));
+    /// assert_eq!(instance.values().entries[1], places([4, 2, 1, 3]));
+    /// assert_eq!(instance.image(&places([1, 2, 3, 4]))?, places([1, 8]));
+    ///
+    /// let wrong = LinearPlan { generators: &[2, 3], ..plan };
+    /// assert_eq!(Instance::from_forms(&wrong), Err(Refusal::FormCounts));
+    /// # Ok::<(), Refusal>(())
+    /// ```
+    pub fn from_forms(plan: &LinearPlan<'_>) -> Result<Instance, Refusal> {
+        let mut sheet = [0; LONGEST_SHEET];
+        let LinearPlan { modulus, order, challenges, generators, forms, statement } = *plan;
+        let Forms { rows, columns, coefficients } = forms;
+        let written = sys::from_forms(
+            modulus,
+            order,
+            challenges,
+            rows,
+            columns,
+            generators,
+            coefficients,
             statement,
             &mut sheet,
         );

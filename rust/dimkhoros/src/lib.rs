@@ -3,6 +3,7 @@
 #![deny(missing_docs)]
 #![forbid(unsafe_code)]
 
+mod forms;
 mod found;
 mod instance;
 mod marker;
@@ -35,6 +36,7 @@ pub use dimkhoros_sys::{
     LONGEST_SHEET, LONGEST_TEXT, MOST_PATTERNS, MOST_PLAYERS, MOST_REMEMBERED, MOST_ROUNDS,
     OrRound, PLACES, Places, ROOT, Round, SHIPPED_PATTERNS, Watch as WatchParts, version,
 };
+pub use forms::{Forms, LinearPlan};
 pub use found::Found;
 pub use instance::{Instance, Values};
 pub use marker::mark;

@@ -6,8 +6,8 @@ use core::fmt;
 /// Makes the enum, with its sentences as the documentation, and the list of all out of one table.
 macro_rules! refusals {
     ($($number:literal, $name:ident, $sentence:literal;)*) => {
-        /// Why a call was refused. Where several refusals apply, the earliest in the order 23, 24, 1 to 9, 27, 10, 11, 26, 12,
-        /// 25, 13 to 16, 28, 17 to 22 is given.
+        /// Why a call was refused. Where several refusals apply, the earliest in the order 23, 24, 1 to 9, 27, 29, 30, 10, 11,
+        /// 26, 12, 25, 13 to 16, 28, 17 to 22 is given.
         ///
         /// ```
         /// use dimkhoros::{Instance, Refusal};
@@ -49,7 +49,7 @@ refusals! {
     7, Shape, "rows and columns have to be 1 to 8 each, and equal in a root sheet";
     8, Challenges, "the challenge count K has to be 2 to 65536, and no number from 2 to K - 1 may divide the order or exponent";
     9, SheetLength, "the sheet is longer or shorter than its header says";
-    10, Entry, "a table entry or public value lies outside the group";
+    10, Entry, "a table entry, public value or generator lies outside the group";
     11, Statement, "a value of the statement or of a player's image lies outside the group";
     12, File, "the bytes are no round file of this sheet, the file is full, or the version asked for is another than 1 and 2";
     13, RoundNumber, "the file has no round of this number";
@@ -68,6 +68,8 @@ refusals! {
     26, CountsDiffer, "the two sheets have different challenge counts";
     27, Team, "the team has to have 2 to 8 players";
     28, Images, "the images of the team's players do not multiply to the statement";
+    29, FormCounts, "there have to be 1 to 8 generators, a coefficient for each row, generator and column, and a statement value for each row";
+    30, Coefficient, "a coefficient has to be below the order";
 }
 
 impl Refusal {

@@ -94,6 +94,41 @@ pub fn from_pattern(
     }
 }
 
+/// Writes the sheet of linear forms over generators to the start of a buffer. The coefficients stand by row, then generator, then
+/// column.
+#[inline]
+#[allow(clippy::too_many_arguments, reason = "the export takes these")]
+pub fn from_forms(
+    modulus: u32,
+    order: u32,
+    challenges: u32,
+    rows: u32,
+    columns: u32,
+    generators: &[u32],
+    coefficients: &[u32],
+    statement: &[u32],
+    buffer: &mut [u8],
+) -> Written {
+    // SAFETY: the slices are given by their pointers and lengths.
+    unsafe {
+        dimkhoros_from_forms(
+            modulus,
+            order,
+            challenges,
+            rows,
+            columns,
+            generators.as_ptr(),
+            generators.len(),
+            coefficients.as_ptr(),
+            coefficients.len(),
+            statement.as_ptr(),
+            statement.len(),
+            buffer.as_mut_ptr(),
+            buffer.len(),
+        )
+    }
+}
+
 /// Answers how many rounds a file has.
 #[inline]
 pub fn count(sheet: &[u8], file: &[u8]) -> Counted {

@@ -38,6 +38,22 @@ unsafe extern "C" {
         buffer_length: usize,
     ) -> Written;
 
+    pub fn dimkhoros_from_forms(
+        modulus: u32,
+        order: u32,
+        challenges: u32,
+        rows: u32,
+        columns: u32,
+        generators: *const u32,
+        generator_count: usize,
+        coefficients: *const u32,
+        coefficient_count: usize,
+        statement: *const u32,
+        statement_count: usize,
+        buffer: *mut u8,
+        buffer_length: usize,
+    ) -> Written;
+
     pub fn dimkhoros_count(
         sheet: *const u8,
         sheet_length: usize,

@@ -5,7 +5,7 @@ use std::fmt;
 use crate::calls::Call;
 use crate::cases::Case;
 use crate::lent::Lent;
-use crate::library::{Header, Library, Plan, Round, Written};
+use crate::library::{Forms, Header, Library, Plan, Round, Written};
 use crate::outcome::{Answer, Outcome};
 use crate::printing::{hex, numbers};
 use crate::sheets::{self, Sheet};
@@ -22,6 +22,9 @@ pub enum Writing {
         plan: Plan,
         values: Vec<u32>,
         statement: Vec<u32>,
+    },
+    FromForms {
+        forms: Forms,
     },
     Empty {
         version: u32,
@@ -50,6 +53,7 @@ impl Writing {
             Writing::Encode { .. } => Call::Encode,
             Writing::Patterns => Call::Patterns,
             Writing::FromPattern { .. } => Call::FromPattern,
+            Writing::FromForms { .. } => Call::FromForms,
             Writing::Empty { .. } => Call::Empty,
             Writing::Append { .. } => Call::Append,
             Writing::Convert { .. } => Call::Convert,
@@ -68,6 +72,7 @@ impl Writing {
                 values,
                 statement,
             } => library.from_pattern(patterns, *plan, values, statement, buffer),
+            Writing::FromForms { forms } => library.from_forms(forms, buffer),
             Writing::Empty { version } => library.empty(*version, buffer),
             Writing::Append { sheet, used, round } => library.append(sheet, buffer, *used, round),
             Writing::Convert { sheet, file } => library.convert(sheet, file, buffer),
@@ -86,10 +91,19 @@ impl Case for WriterCase {
         match &self.writing {
             Writing::Encode { sheet } => Some(sheet.header),
             Writing::FromPattern { plan, .. } => Some(plan.header()),
+            Writing::FromForms { forms } => Some(forms.header),
             Writing::Patterns | Writing::Empty { .. } => None,
             Writing::Append { sheet, .. } | Writing::Convert { sheet, .. } => sheets::header(sheet),
         }
     }
+}
+
+/// The inputs of a maker from linear forms, a line each.
+fn show_forms(out: &mut fmt::Formatter, forms: &Forms) -> fmt::Result {
+    writeln!(out, "    {:x?}", forms.header)?;
+    writeln!(out, "    generators {}", numbers(&forms.generators))?;
+    writeln!(out, "    coefficients {}", numbers(&forms.coefficients))?;
+    writeln!(out, "    statement {}", numbers(&forms.statement))
 }
 
 impl fmt::Display for WriterCase {
@@ -112,6 +126,7 @@ impl fmt::Display for WriterCase {
                 writeln!(out, "    values {}", numbers(values))?;
                 writeln!(out, "    statement {}", numbers(statement))?;
             }
+            Writing::FromForms { forms } => show_forms(out, forms)?,
             Writing::Patterns => {}
             Writing::Empty { version } => writeln!(out, "    version {version:#x}")?,
             Writing::Append { sheet, used, round } => {

@@ -11,7 +11,7 @@ pub fn refused(refusal: u32) -> Written {
 }
 
 /// The length of the sheet that a right header gives.
-fn sheet_length(header: &Header) -> usize {
+pub fn sheet_length(header: &Header) -> usize {
     let entries = if header.kind == 1 {
         header.rows * header.columns
     } else {

@@ -79,6 +79,14 @@ fn written(answer: Written, before: &[u8], after: &[u8]) -> String {
     )
 }
 
+/// The maker of sheets from linear forms, which is given no sheet and no file.
+fn from_forms(library: Library, inputs: &mut Inputs) -> Result<String, String> {
+    let (before, forms) = (inputs.bytes("buffer")?, inputs.forms()?);
+    let mut after = before.clone();
+    let answer = library.from_forms(&forms, &mut after);
+    Ok(written(answer, &before, &after))
+}
+
 /// The rows s and the columns n of a sheet, as its bytes have them.
 pub fn sizes(sheet: &[u8]) -> (usize, usize) {
     let byte = |place: usize| sheet.get(place).map_or(0, |byte| usize::from(*byte).min(8));
@@ -102,6 +110,7 @@ impl Given {
             Call::Load => Ok(self.load(library)),
             Call::Entries => Ok(self.entries(library)),
             Call::Encode | Call::FromPattern => self.sheet_writer(library, call, inputs),
+            Call::FromForms => from_forms(library, inputs),
             Call::Count | Call::Check | Call::Part | Call::Read => {
                 self.reader(library, call, inputs)
             }
@@ -202,7 +211,7 @@ impl Given {
         Ok(told(refusal, same == 0, || format!("same={same}")))
     }
 
-    /// Both writers of sheets.
+    /// The second writer of sheets, and the maker from patterns.
     fn sheet_writer(
         &self,
         library: Library,

@@ -7,7 +7,7 @@ use std::str::FromStr;
 use super::bytes;
 use crate::library::phases::{prover, verifier};
 use crate::library::{
-    Header, OrRound, OrSession, Places, ProverSession, Round, VerifierSession, Watch,
+    Forms, Header, OrRound, OrSession, Places, ProverSession, Round, VerifierSession, Watch,
     LONGEST_SHEET, MOST_REMEMBERED,
 };
 
@@ -103,14 +103,35 @@ impl<'a> Inputs<'a> {
     }
 
     pub fn header(&mut self) -> Result<Header, String> {
+        let kind = self.number("kind")?;
+        self.header_of(kind)
+    }
+
+    /// The fixed fields of a sheet of this kind.
+    fn header_of(&mut self, kind: u32) -> Result<Header, String> {
         Ok(Header {
-            kind: self.number("kind")?,
+            kind,
             modulus: self.number("m")?,
             order: self.number("l")?,
             challenges: self.number("K")?,
             rows: self.number("s")?,
             columns: self.number("n")?,
         })
+    }
+
+    /// What the maker of sheets from linear forms takes. The coefficients of one row and
+    /// generator have a slash behind them, and `-` is none.
+    pub fn forms(&mut self) -> Result<Forms, String> {
+        let mut forms = Forms {
+            header: self.header_of(1)?,
+            generators: self.list("generators")?,
+            coefficients: Vec::new(),
+            statement: self.list("z")?,
+        };
+        for form in self.value("coefficients")?.split('/') {
+            forms.coefficients.extend(numbers(form)?);
+        }
+        Ok(forms)
     }
 
     /// The round of t, c and r, or of t2, c2 and r2.

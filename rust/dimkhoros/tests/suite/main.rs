@@ -8,6 +8,7 @@ mod boxes;
 mod cc;
 mod converting;
 mod examples;
+mod forms;
 mod home;
 mod install;
 mod installed;

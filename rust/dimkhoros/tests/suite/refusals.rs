@@ -1,8 +1,9 @@
 //! Each refusal is given under its number.
 
-use crate::pages::{SCHNORR, made, page_a, round};
+use crate::pages::{MAURER, SCHNORR, made, page_a, round};
 use dimkhoros::{
-    Instance, Pair, Patterns, Plan, Prover, Refusal, RoundFile, RoundWriter, Team, places,
+    Forms, Instance, LinearPlan, Pair, Patterns, Plan, Prover, Refusal, RoundFile, RoundWriter,
+    Team, places,
 };
 
 /// What page A's sheet is refused with once a byte of it is changed.
@@ -65,6 +66,9 @@ fn every_number_is_given() {
         other_count(),
         Team::new(&a, &[places([13])]).unwrap_err(),
         Team::new(&a, &[places([8]); 2]).unwrap_err(),
+        Instance::from_forms(&LinearPlan { statement: &[1], ..MAURER }).unwrap_err(),
+        Instance::from_forms(&LinearPlan { forms: Forms::of(&[[[11; 4]; 3]; 2]), ..MAURER })
+            .unwrap_err(),
     ];
     assert_eq!(Refusal::from_number(given.len() as u32 + 1), None);
     for (number, refusal) in (1..).zip(given) {
