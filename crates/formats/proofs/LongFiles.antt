@@ -6,7 +6,7 @@ use mathlib.Core.Path.{_≡_, refl, sym, ap, _∙_}
 use mathlib.Core.Logic.{_⊎_, inl, inr, ⊎-elim}
 use mathlib.Core.Bool.{Bool, true, false, not}
 use mathlib.Core.List.{List, [], _∷_, _++_}
-use native.Mathlib.Decide.{decLe}
+use native.Mathlib.Decide.{decLe, decLt}
 use native.Mathlib.Nat.{mul-le-mul}
 use native.Mathlib.Omega.{arith}
 use lib.Dec.{T, eqb}
@@ -216,3 +216,14 @@ module _ (n : ℕ) (enough : 34824 ≤ n) (s f : List ℕ) where
   check-cut k =
       cut-same (λ g. checkRound s g k) _ 12 (λ some g. checkAfter-refused (loadRules s) (headerOf s) some g k)
       (λ clear g bad. bad-check clear g k bad)
+
+-- a round of a file and of a sheet that are both cut is checked as a round of the whole
+pub both-cut : (a b : ℕ) → 309 ≤ a → 34824 ≤ b → (s f : List ℕ) (k : ℕ) → checkRound (take a s) (take b f) k ≡ checkRound s f k
+unfolding checkRound loadRefusal
+both-cut a b enough enough′ s f k = elim (decLt 0 (loadRefusal s)) [
+  | yes refused ↦
+      let kept = refusal-cut a enough s in
+      checkAfter-refused (loadRules (take a s)) _ (omega arith) (take b f) k ∙ kept
+      ∙ sym (checkAfter-refused (loadRules s) _ refused f k)
+  | no loaded ↦ ap (λ (t : List ℕ). checkRound t (take b f) k) (loads-cut a enough s (omega arith)) ∙ check-cut b enough′ s f k
+]

@@ -18,15 +18,14 @@ use Rattle.rules.proofs.Condition.{given}
 use Rattle.rules.proofs.Says.{says-equal}
 use Rattle.sigma.specs.Comparison.{differ, firstDifference}
 use Rattle.sigma.proofs.Calculus.{says-stable}
-use Rattle.formats.specs.Load.{loadRefusal, loadRules}
+use Rattle.formats.specs.Load.{loadRules}
 use Rattle.formats.specs.Refusals.{loadConditions, roundConditions}
 use Rattle.formats.specs.RoundCalls.{checkAfter, checkRound, roundRules}
 use Rattle.formats.specs.RoundFile.{countField, fileVersion, roundMark}
 use Rattle.formats.specs.Sheet.{headerOf, sheetLength}
-use Rattle.formats.proofs.After.{checkAfter-refused}
 use Rattle.formats.proofs.Files.{check-runs}
 use Rattle.formats.proofs.Loads.{loads, loads-few}
-use Rattle.formats.proofs.LongFiles.{check-cut, file-short, loads-cut, refusal-cut, sheet-short}
+use Rattle.formats.proofs.LongFiles.{both-cut, file-short, loads-cut, sheet-short}
 use Rattle.formats.proofs.Refusals.{check-tests}
 use Rattle.reasons.specs.Lines.{refusedLine}
 use Rattle.reasons.specs.Reason.{fileSpot, reasonLine, sheetSpot, spotOf}
@@ -70,14 +69,7 @@ module _ (a b : ℕ) (enough : 309 ≤ a) (enough′ : 34824 ≤ b) (s f : List 
 
   -- the number of the check is the same
   number-cut : checkRound (take a s) (take b f) 0 ≡ checkRound s f 0
-  unfolding checkRound loadRefusal
-  number-cut = elim (decLt 0 (loadRefusal s)) [
-    | yes refused ↦
-        let kept = refusal-cut a enough s in
-        checkAfter-refused (loadRules (take a s)) _ (omega arith) (take b f) 0 ∙ kept
-        ∙ sym (checkAfter-refused (loadRules s) _ refused f 0)
-    | no loaded ↦ ap (λ (t : List ℕ). checkRound t (take b f) 0) (loads-cut a enough s (omega arith)) ∙ check-cut b enough′ s f 0
-  ]
+  number-cut = both-cut a b enough enough′ s f 0
 
   -- so is the line
   pub line-cut : reasonLine (take a s) x (take b f) y ≡ reasonLine s x f y

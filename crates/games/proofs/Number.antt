@@ -1,0 +1,35 @@
+-- The game's number: that of 01's check of round 0, and else that of the commitment or of the sheet's size.
+-- Assumes nothing.
+use Prim.Native.Nat.{ℕ, _<_}
+use mathlib.Core.Path.{_≡_, sym, ap, _∙_}
+use mathlib.Core.List.{List, [], _∷_, _++_, append-assoc}
+use Rattle.rules.specs.Rule.{Rule, _when_, lowest}
+use Rattle.rules.proofs.Lowest.{lowest-earlier, lowest-later-zero}
+use Rattle.formats.specs.Load.{loadRules}
+use Rattle.formats.specs.RoundCalls.{checkAfter, checkRound, roundRules}
+use Rattle.formats.specs.Sheet.{headerOf, instanceOf}
+use Rattle.formats.proofs.Positive.{check-positive}
+use Rattle.sigma.specs.Round.{badCommitment}
+use Rattle.games.specs.Text.{badGame, gameRefusal, gameRules, namedCommitment}
+
+module _ (sheet f : List ℕ) where
+  -- what is asked behind the check
+  abbrev pub ownRules : List Rule
+  ownRules = (14 when badCommitment (instanceOf sheet) (namedCommitment sheet f)) ∷ (31 when badGame (headerOf sheet)) ∷ []
+
+  -- the check's rules come first
+  checked-first : gameRefusal sheet f ≡ lowest (loadRules sheet ++ roundRules (headerOf sheet) f 0 ++ ownRules)
+  unfolding gameRefusal gameRules
+  checked-first = ap lowest (sym (append-assoc (loadRules sheet) (roundRules (headerOf sheet) f 0) ownRules))
+
+  -- what the check refuses is refused with its number
+  pub number-checked : 0 < checkRound sheet f 0 → gameRefusal sheet f ≡ checkRound sheet f 0
+  unfolding checkRound checkAfter
+  number-checked some = checked-first ∙ lowest-earlier (loadRules sheet ++ roundRules (headerOf sheet) f 0) ownRules some
+
+  -- else the game's own rules give the number
+  pub number-own : checkRound sheet f 0 ≡ 0 → gameRefusal sheet f ≡ lowest ownRules
+  unfolding checkRound checkAfter
+  number-own none =
+      checked-first
+      ∙ lowest-later-zero (loadRules sheet ++ roundRules (headerOf sheet) f 0) ownRules (check-positive sheet (headerOf sheet) f 0) none
