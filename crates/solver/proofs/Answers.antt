@@ -2,7 +2,7 @@
 -- Assumes nothing.
 use Prim.Native.Nat.{ℕ, suc, _+_, _*_, _/_, _%_, _^_, _<_, _≤_}
 use mathlib.Core.Path.{_≡_, sym, ap, ap₂, _∙_}
-use mathlib.Core.Bool.{false, not, _&&_}
+use mathlib.Core.Bool.{false, not}
 use mathlib.Core.Logic.{_≢_}
 use mathlib.Core.List.{List, []}
 use native.Mathlib.Nat.{div-eq-of-lt, mod-eq-of-lt, mod-lt, mul-add-div-right, mul-add-mod-self-right, mul-le-mul, mul-le-mul-right}
@@ -16,7 +16,6 @@ use Rattle.numbers.specs.Search.{any, find}
 use Rattle.numbers.proofs.Search.{any-agree, find-agree, find-is, find-none, find-within}
 use Rattle.rules.proofs.Says.{says-and, says-equal}
 use Rattle.sigma.specs.Comparison.{differ, firstDifference}
-use Rattle.sigma.specs.Element.{Element}
 use Rattle.sigma.specs.Image.{image, rowImage}
 use Rattle.sigma.specs.Instance.{Instance, instanceWith, statementAt, tableOf}
 use Rattle.sigma.specs.Round.{badCommitment, expectedImage}
@@ -55,11 +54,13 @@ match-within table count rows expected = omega (arith, find-within (λ k. rowsAg
 
 -- what is expected in row 0 is below m
 pub expected-below : (h : Header) (statement t : List ℕ) (c : ℕ) → Small h → (expected : List ℕ)
-    → ((entries : List (List ℕ)) → expected ≡ pad8 0 (expectedImage (instanceWith h entries statement) t c)) → getD expected 0 0 < h .modulus
+    → ((entries : List (List ℕ)) → expected ≡ pad8 0 (expectedImage (instanceWith h entries statement) t c))
+    → getD expected 0 0 < h .modulus
 expected-below h statement t c small expected is-expected =
     let inst = instanceWith h [] statement in
     let value : getD expected 0 0 ≡ getD t 0 0 * statementAt inst 0 ^ c % h .modulus =
-    ap (λ (xs : List ℕ). getD xs 0 0) (is-expected []) ∙ getD-pad8 0 (expectedImage inst t c) 0 ∙ expected-image-at inst t c 0 (small .some-row) in
+    ap (λ (xs : List ℕ). getD xs 0 0) (is-expected []) ∙ getD-pad8 0 (expectedImage inst t c) 0
+    ∙ expected-image-at inst t c 0 (small .some-row) in
     omega (arith, value, mod-lt (getD t 0 0 * statementAt inst 0 ^ c) (small .modulus))
 
 module _ (inst : Instance) (small : Small (inst .header)) (valid : Valid inst) (t : List ℕ) (fine : badCommitment inst t ≡ false) (c : ℕ)
@@ -78,7 +79,8 @@ module _ (inst : Instance) (small : Small (inst .header)) (valid : Valid inst) (
     image-row k i below inside =
         let h = inst .header in
         images .each (k * h .rows + i) (place-below (h .rows) k i inside (candidates h) below)
-        ∙ ap₂ (λ (a b : ℕ). rowImage (tableOf inst) (candidate h a) b) (place-quotient (h .rows) k i inside) (place-rest (h .rows) k i inside)
+        ∙ ap₂ (λ (a b : ℕ). rowImage (tableOf inst) (candidate h a) b) (place-quotient (h .rows) k i inside)
+        (place-rest (h .rows) k i inside)
         ∙ ap (λ (x : List ℕ). rowImage (tableOf inst) x i) (candidate-exponent h kind k)
         ∙ sym (image-at (tableOf inst) (slotsOf (h .order) (h .columns) k) i inside)
 
@@ -111,8 +113,8 @@ module _ (inst : Instance) (small : Small (inst .header)) (valid : Valid inst) (
     -- if 0 is held none answers
     pub none-answers : held ≡ 0 → inst .header .modulus ≡ firstAnswer inst t c
     none-answers e =
-        sym (find-none (isRoot (inst .header) (getD expected 0 0)) 0 (inst .header .modulus) .0 (λ r from inside. at .none e r (omega arith))
-        ∙ omega arith) ∙ roots-answer
+        sym (find-none (isRoot (inst .header) (getD expected 0 0)) 0 (inst .header .modulus) .0
+        (λ r from inside. at .none e r (omega arith)) ∙ omega arith) ∙ roots-answer
 
     -- else what is held is the first that does
     pub held-answers : held ≢ 0 → held ≡ firstAnswer inst t c

@@ -1,7 +1,7 @@
 -- The candidates of each kind: how many there are, and that counting them forms no number above their count.
 -- Assumes nothing.
 use Prim.Native.Nat.{ℕ, _-_, _*_, _^_, _<_, _≤_}
-use mathlib.Core.Path.{_≡_, sym}
+use mathlib.Core.Path.{_≡_}
 use mathlib.Core.Logic.{_≢_}
 use mathlib.Core.List.{[], _∷_}
 use native.Mathlib.Nat.{le-mul-of-pos-right, one-le-pow}
@@ -37,7 +37,8 @@ module _ (h : Header) where
   -- there are at most 4,096
   pub count-few : Small h → candidates h ≤ 4096
   count-few small =
-      by-kind h (λ e. omega (arith, count-exponent e, small .few-choices e)) (λ other. omega (arith, count-root other, small .small-modulus other))
+      by-kind h (λ e. omega (arith, count-exponent e, small .few-choices e))
+      (λ other. omega (arith, count-root other, small .small-modulus other))
 
 -- a product that has all of a power's factors but some has no more than the power
 pub factor-inside : (p q left whole : ℕ) → 0 < q → p * q ^ left ≡ whole → 0 < left → p * q ≤ whole

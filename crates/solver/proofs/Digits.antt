@@ -1,9 +1,9 @@
 -- The digits of a number to base q, one a turn, the first with the greatest weight.
 -- Assumes nothing.
-use Prim.Native.Nat.{ℕ, zero, suc, _+_, _-_, _*_, _/_, _%_, _^_, _<_}
+use Prim.Native.Nat.{ℕ, suc, _+_, _-_, _/_, _%_, _^_, _<_}
 use mathlib.Core.Path.{_≡_, sym, ap, ap₂, _∙_}
 use mathlib.Core.List.{List}
-use native.Mathlib.Nat.{mul-div-cancel-left, pow-succ', sub-zero}
+use native.Mathlib.Nat.{mul-div-cancel-left, pow-succ'}
 use native.Mathlib.Omega.{arith}
 use lib.ListN.{getD}
 use Rattle.lists.specs.Places.{places, tabulate}

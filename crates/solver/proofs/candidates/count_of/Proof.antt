@@ -45,7 +45,8 @@ returns-2 : tie.Need-returns-2 Inv-loop μ-loop
 returns-2 c =
     let at-loop = c .before in
     let h = at-loop .before .before .before .args .h in
-    no-factor-left _ (h .order) _ _ (at-loop .loop .inv) (c .loop-test .left) ∙ sym (count-exponent h (omega (arith, at-loop .before .if1 .left)))
+    no-factor-left _ (h .order) _ _ (at-loop .loop .inv) (c .loop-test .left)
+    ∙ sym (count-exponent h (omega (arith, at-loop .before .if1 .left)))
 
 pub count-of-spec : {M : Type 1} → statement M
 count-of-spec =

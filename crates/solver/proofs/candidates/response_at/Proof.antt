@@ -5,7 +5,6 @@ use mathlib.Core.Path.{_≡_, sym, ap, _∙_}
 use native.Mathlib.Omega.{arith}
 use Rattle.lists.specs.Places.{pad8}
 use Rattle.lists.proofs.Filling.{Filled, filled-start, filled-turn, filled-eight}
-use Rattle.games.specs.Slots.{slotsOf}
 use Rattle.solver.proofs.Counting.{candidate-exponent, candidate-root, count-exponent}
 use Rattle.solver.proofs.Digits.{Left, digit, digits-all, left-start, left-turn, next-digit, next-positive}
 use Rattle.solver.proofs.candidates.response_at.Statement.{statement}
@@ -43,7 +42,8 @@ div-weight c = omega (arith, c .before .before .before .before .before .before .
 div-slots : tie.Need-div-slots Inv-loop μ-loop
 div-slots c =
     let at-loop = c .before .before in
-    next-positive _ (at-loop .before .before .before .before .before .pre .order) _ _ _ _ _ (c .before .loop-test .taken) (at-loop .loop .inv .1)
+    let some = at-loop .before .before .before .before .before .pre .order in
+    next-positive _ some _ _ _ _ _ (c .before .loop-test .taken) (at-loop .loop .inv .1)
 
 mul-slots : tie.Need-mul-slots Inv-loop μ-loop
 mul-slots c = omega arith
@@ -54,7 +54,8 @@ array-write-slots c = omega (arith, c .before .before .before .before .before .b
 rem-rest : tie.Need-rem-rest Inv-loop μ-loop
 rem-rest c =
     let at-loop = c .before .before in
-    next-positive _ (at-loop .before .before .before .before .before .pre .order) _ _ _ _ _ (c .before .loop-test .taken) (at-loop .loop .inv .1)
+    let some = at-loop .before .before .before .before .before .pre .order in
+    next-positive _ some _ _ _ _ _ (c .before .loop-test .taken) (at-loop .loop .inv .1)
 
 add-j : tie.Need-add-j Inv-loop μ-loop
 add-j c = omega arith
@@ -77,7 +78,8 @@ returns-2 c =
     let h = start .args .h in
     let kind : h .kind ≡ 1 = omega (arith, at-loop .before .before .before .if1 .left) in
     filled-eight (at-loop .loop .inv .0) (c .loop-test .left)
-    ∙ ap (pad8 0) (digits-all (h .order) (start .pre .order) (h .columns) (start .args .k) ∙ sym (candidate-exponent h kind (start .args .k)))
+    ∙ ap (pad8 0) (digits-all (h .order) (start .pre .order) (h .columns) (start .args .k)
+    ∙ sym (candidate-exponent h kind (start .args .k)))
 
 pub response-at-spec : {M : Type 1} → statement M
 response-at-spec =

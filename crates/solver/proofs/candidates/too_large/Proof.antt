@@ -17,7 +17,8 @@ returns-2 c = game-neither _ (c .before .before .if1 .left) (c .if2 .taken)
 
 returns-3 : tie.Need-returns-3
 returns-3 c =
-    rw (lt-ltb _ _ (c .if3 .taken)) at (game-root (c .before .before .before .before .before .before .args .h) (c .before .before .if2 .left))
+    let passed = c .before .before in
+    rw (lt-ltb _ _ (c .if3 .taken)) at (game-root (passed .before .before .before .before .args .h) (passed .if2 .left))
 
 returns-4 : tie.Need-returns-4
 returns-4 c =

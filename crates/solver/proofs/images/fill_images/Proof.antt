@@ -1,7 +1,7 @@
 -- `solver::images::fill_images` meets its contract. The invariant: the first j places hold the first j values. The measure: how many
 -- values are left. Assumes nothing.
 use Prim.Native.Nat.{_-_, _*_}
-use mathlib.Core.Path.{_≡_, ap}
+use mathlib.Core.Path.{ap}
 use native.Mathlib.Nat.{div-le-self, mod-lt}
 use native.Mathlib.Omega.{arith}
 use Rattle.lists.proofs.Filling.{Filled, filled-start, filled-turn}
@@ -41,7 +41,8 @@ div-response-at c = c .before .before .before .before .before .pre .0 .some-row
 cast-response-at : tie.Need-cast-response-at Inv-loop μ-loop
 cast-response-at c =
     let start = c .before .before .before .before .before in
-    omega (arith, images-room (start .args .h) (start .pre .0) _ (c .before .before .count-of .ensures), div-le-self (c .before .loop .j) (start .args .h .rows))
+    let room = images-room (start .args .h) (start .pre .0) _ (c .before .before .count-of .ensures) in
+    omega (arith, room, div-le-self (c .before .loop .j) (start .args .h .rows))
 
 response-at-requires : tie.Need-response-at-requires Inv-loop μ-loop
 response-at-requires c κs = c .before .before .before .before .before .pre .0
@@ -62,7 +63,8 @@ mul-table c =
 slice-write-table : tie.Need-slice-write-table Inv-loop μ-loop
 slice-write-table c =
     let start = c .before .before .before .before .before .before .before in
-    omega (arith, start .pre .2, filled-length (c .before .before .before .loop .inv), images-room (start .args .h) (start .pre .0) _ (c .before .before .before .before .count-of .ensures))
+    let room = images-room (start .args .h) (start .pre .0) _ (c .before .before .before .before .count-of .ensures) in
+    omega (arith, room, start .pre .2, filled-length (c .before .before .before .loop .inv))
 
 add-j : tie.Need-add-j Inv-loop μ-loop
 add-j c =
@@ -77,7 +79,7 @@ loop-again c =
     let at-loop = c .before .before .before in
     let start = at-loop .before .before .before .before in
     filled-turn (at-loop .loop .inv) (omega arith)
-    (value-padded (start .args .h) (start .pre .1) (start .args .entries) (at-loop .loop .j) (c .before .response-at .ensures) (c .row-image .ensures))
+    (value-padded _ (start .pre .1) _ (at-loop .loop .j) (c .before .response-at .ensures) (c .row-image .ensures))
 
 same-length : tie.Need-same-length Inv-loop μ-loop
 same-length c = filled-length (c .before .loop .inv)
@@ -87,7 +89,8 @@ returns c =
     let at-loop = c .before in
     let start = at-loop .before .before .before .before in
     let h = start .args .h in
-    images-all h _ (at-loop .loop .inv) (c .loop-test .left) (start .pre .2) (ap (λ (count : _). count * h .rows) (at-loop .before .count-of .ensures))
+    images-all h _ (at-loop .loop .inv) (c .loop-test .left) (start .pre .2)
+    (ap (λ (count : _). count * h .rows) (at-loop .before .count-of .ensures))
 
 pub fill-images-spec : {M : Type 1} → statement M
 fill-images-spec =

@@ -1,3 +1,5 @@
+-- `solver::images::first_match` meets its contract. The invariant: the search from candidate k on gives what the whole search gives.
+-- The measure: how many candidates are left. Assumes nothing.
 use Prim.Native.Nat.{ℕ, suc, _*_, _-_, _≤_}
 use mathlib.Core.Path.{_≡_, sym, subst, _∙_}
 use mathlib.Core.Bool.{true, false}
@@ -11,15 +13,15 @@ use Rattle.solver.proofs.images.first_match.Tie as tie
 
 abbrev Inv-loop : tie.InvT-loop
 Inv-loop table count rows expected k₀ start₀ k start =
-    (k ≤ count) × (start ≡ k * rows)
-    × (find (λ j. rowsAgree table (j * rows) rows expected) k (count - k) ≡ firstMatch table count rows expected)
+    (find (λ j. rowsAgree table (j * rows) rows expected) k (count - k) ≡ firstMatch table count rows expected)
+    × (k ≤ count) × (start ≡ k * rows)
 
 abbrev μ-loop : tie.MeasureT-loop
 μ-loop table count rows expected k₀ start₀ k start = count - k
 
 loop-holds : tie.Need-loop-holds Inv-loop μ-loop
 unfolding firstMatch
-loop-holds c = (omega arith, omega arith, find-to-start _ _)
+loop-holds c = (find-to-start _ _, omega arith, omega arith)
 
 same-rows-requires : tie.Need-same-rows-requires Inv-loop μ-loop
 same-rows-requires c κs =
@@ -30,9 +32,10 @@ same-rows-requires c κs =
 returns : tie.Need-returns Inv-loop μ-loop
 returns c =
     let at = c .before .before .before .loop in
-    let (within, place, same) = at .inv in
+    let (same, within, place) = at .inv in
     let a = c .before .before .before .before .args in
-    let test = subst (λ (s : ℕ). rowsAgree (a .table .now) s (a .rows) (a .expected) ≡ true) place (sym (c .before .same-rows .ensures) ∙ c .if1 .taken) in
+    let test = subst (λ (s : ℕ). rowsAgree (a .table .now) s (a .rows) (a .expected) ≡ true) place
+    (sym (c .before .same-rows .ensures) ∙ c .if1 .taken) in
     sym (find-to-here _ (at .k) _ (c .before .before .loop-test .taken) test) ∙ same
 
 add-k : tie.Need-add-k Inv-loop μ-loop
@@ -52,15 +55,16 @@ loop-less c = omega arith
 loop-again : tie.Need-loop-again Inv-loop μ-loop
 loop-again c =
     let at = c .before .before .before .loop in
-    let (within, place, same) = at .inv in
+    let (same, within, place) = at .inv in
     let a = c .before .before .before .before .args in
-    let test = subst (λ (s : ℕ). rowsAgree (a .table .now) s (a .rows) (a .expected) ≡ false) place (sym (c .before .same-rows .ensures) ∙ c .if1 .left) in
-    (omega arith, omega arith, find-to-on _ (at .k) _ (c .before .before .loop-test .taken) test ∙ same)
+    let test = subst (λ (s : ℕ). rowsAgree (a .table .now) s (a .rows) (a .expected) ≡ false) place
+    (sym (c .before .same-rows .ensures) ∙ c .if1 .left) in
+    (find-to-on _ (at .k) _ (c .before .before .loop-test .taken) test ∙ same, omega arith, omega arith)
 
 returns-2 : tie.Need-returns-2 Inv-loop μ-loop
 returns-2 c =
     let at = c .before .loop in
-    let (within, place, same) = at .inv in
+    let (same, within, place) = at .inv in
     let end : at .k ≡ c .before .before .args .count = omega (arith, c .loop-test .left) in
     sym end ∙ sym (find-to-end _ (at .k) _ (c .loop-test .left)) ∙ same
 

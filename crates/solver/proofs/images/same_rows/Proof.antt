@@ -1,3 +1,5 @@
+-- `solver::images::same_rows` meets its contract. The invariant: none of the first i rows differs. The measure: how many are left.
+-- Assumes nothing.
 use Prim.Native.Nat.{_+_, _-_, _≤_}
 use mathlib.Core.Path.{_≡_, ap}
 use mathlib.Core.Bool.{not, false}

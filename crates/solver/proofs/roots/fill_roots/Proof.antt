@@ -1,7 +1,7 @@
 -- `solver::roots::fill_roots` meets its contract. The invariant: each place holds the smallest root among the numbers below next.
 -- The measure: how many numbers are left. Assumes nothing.
 use Prim.Native.Nat.{_-_, _≤_}
-use mathlib.Core.Path.{_≡_, sym, _∙_}
+use mathlib.Core.Path.{sym, _∙_}
 use native.Mathlib.Omega.{arith}
 use Rattle.solver.specs.Prepared.{Roots}
 use Rattle.solver.proofs.RootTable.{roots-all, roots-here, roots-kept, roots-on, roots-start}
@@ -68,7 +68,8 @@ loop-again c =
     let (power, below) = after-power .pow-mod .ensures in (
       omega arith,
       roots-here (start .args .h) (at-loop .loop .next) (at-loop .loop .table) (at-loop .loop .inv .1) _ power below
-          (omega (arith, start .pre .0 .small-modulus (start .pre .1))) (sym (tested .is-element .ensures) ∙ after-power .before .if1 .taken) (omega arith),
+          (omega (arith, start .pre .0 .small-modulus (start .pre .1)))
+          (sym (tested .is-element .ensures) ∙ after-power .before .if1 .taken) (omega arith),
     )
 
 loop-less-2 : tie.Need-loop-less-2 Inv-loop μ-loop
@@ -80,7 +81,8 @@ loop-again-2 c =
     let at-loop = after-power .before .before .before .before in
     let start = at-loop .before .before .before .before .before .before .before .before in (
       omega arith,
-      roots-kept (start .args .h) (at-loop .loop .next) (at-loop .loop .table) (at-loop .loop .inv .1) _ (after-power .pow-mod .ensures .0) (c .if2 .left),
+      roots-kept (start .args .h) (at-loop .loop .next) (at-loop .loop .table) (at-loop .loop .inv .1) _
+          (after-power .pow-mod .ensures .0) (c .if2 .left),
     )
 
 loop-less-3 : tie.Need-loop-less-3 Inv-loop μ-loop
@@ -92,11 +94,14 @@ loop-again-3 c =
     let at-loop = tested .before .before in
     let start = at-loop .before .before .before .before .before .before .before .before in (
       omega arith,
-      roots-on (start .args .h) (at-loop .loop .next) (at-loop .loop .table) (at-loop .loop .inv .1) (sym (tested .is-element .ensures) ∙ c .if1 .left),
+      roots-on (start .args .h) (at-loop .loop .next) (at-loop .loop .table) (at-loop .loop .inv .1)
+          (sym (tested .is-element .ensures) ∙ c .if1 .left),
     )
 
 same-length : tie.Need-same-length Inv-loop μ-loop
-same-length c = omega (arith, c .before .before .before .before .before .before .before .before .before .pre .2, c .before .loop .inv .1 .size)
+same-length c =
+    let at-loop = c .before in
+    omega (arith, at-loop .before .before .before .before .before .before .before .before .pre .2, at-loop .loop .inv .1 .size)
 
 returns : tie.Need-returns Inv-loop μ-loop
 returns c =

@@ -1,5 +1,5 @@
 -- `solver::search::first_answer` meets its contract. Assumes nothing.
-use mathlib.Core.Path.{_≡_, ap, _∙_}
+use mathlib.Core.Path.{ap, _∙_}
 use native.Mathlib.Omega.{arith}
 use borrow.Author.Needs.{needs}
 use Rattle.sigma.specs.Instance.{instanceWith}
@@ -29,9 +29,16 @@ first-match-requires c κs =
 cast-result : tie.Need-cast-result
 cast-result c =
     let counted = c .before .before in
-    let start = counted .before .before .before .before in
-    omega (arith, c .first-match .ensures, match-within (start .args .table .now) (counted .count-of .result) (start .args .h .rows) (counted .before .before .before .expected-image .result),
-    counted .count-of .ensures, count-few (start .args .h) (start .pre))
+    let expected = counted .before .before .before in
+    let start = expected .before in
+    let a = start .args in
+    omega (
+      arith,
+      c .first-match .ensures,
+      match-within (a .table .now) (counted .count-of .result) (a .h .rows) (expected .expected-image .result),
+      counted .count-of .ensures,
+      count-few (a .h) (start .pre),
+    )
 
 returns : tie.Need-returns
 returns c = λ entries valid fine asked prepared.
@@ -54,14 +61,20 @@ mul-root : tie.Need-mul-root
 mul-root c =
     let expected = c .before .before in
     let a = expected .before .args in
-    omega (arith, expected-below (a .h) (a .statement) (a .commitment) (a .challenge) (expected .before .pre) _ (expected .expected-image .ensures))
+    omega (
+      arith,
+      expected-below (a .h) (a .statement) (a .commitment) (a .challenge) (expected .before .pre) _ (expected .expected-image .ensures),
+    )
 
 element-copy-out-root : tie.Need-element-copy-out-root
 element-copy-out-root c =
     let expected = c .before .before in
     let a = expected .before .args in
-    omega (arith, expected .before .pre .small-modulus (c .if1 .left),
-    expected-below (a .h) (a .statement) (a .commitment) (a .challenge) (expected .before .pre) _ (expected .expected-image .ensures))
+    omega (
+      arith,
+      expected .before .pre .small-modulus (c .if1 .left),
+      expected-below (a .h) (a .statement) (a .commitment) (a .challenge) (expected .before .pre) _ (expected .expected-image .ensures),
+    )
 
 returns-2 : tie.Need-returns-2
 returns-2 c = λ entries valid fine asked prepared.
