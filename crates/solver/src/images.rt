@@ -5,13 +5,14 @@ use image::row_image;
 use types::Header;
 ghost use Prim.Native.Nat.{_+_, _*_, _≤_};
 ghost use mathlib.Core.Path.{_≡_};
+ghost use lib.ListN.{length};
 ghost use Rattle.solver.specs.Match.{firstMatch, rowsAgree};
 ghost use Rattle.solver.specs.Prepared.{Images};
 ghost use Rattle.solver.specs.Small.{Small};
 
 // Puts the images of all candidates at the start of the table: value j is row j % s of the image of candidate j / s.
-pub fn fill_images(h: Header, entries: [[u32; 8]; 8], table: &mut [u32; 32768])
-    requires { ⌜ Small h × (h .kind ≡ 1) ⌝ }
+pub fn fill_images(h: Header, entries: [[u32; 8]; 8], table: &mut [u32])
+    requires { ⌜ Small h × (h .kind ≡ 1) × (length (now table) ≡ 32768) ⌝ }
     ensures { λ _. ⌜ Images h entries (now (table .exit)) ⌝ }
 {
     let rows = h.rows as usize;

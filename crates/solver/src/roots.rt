@@ -10,8 +10,8 @@ ghost use Rattle.solver.specs.Prepared.{Roots, Zeros};
 ghost use Rattle.solver.specs.Small.{Small};
 
 // Puts zeros in the first n places of the table.
-fn clear(table: &mut [u32; 32768], n: usize)
-    requires { ⌜ n ≤ 32768 ⌝ }
+fn clear(table: &mut [u32], n: usize)
+    requires { ⌜ (n ≤ 32768) × (length (now table) ≡ 32768) ⌝ }
     ensures { λ _. ⌜ Zeros n (now (table .exit)) ⌝ }
 {
     for v in 0..n {
@@ -21,8 +21,8 @@ fn clear(table: &mut [u32; 32768], n: usize)
 
 // Puts the smallest root of each number v below m in place v of the table, 0 if there is none. The numbers are tried from 0 on,
 // and a root is kept if none stands in its place.
-pub fn fill_roots(h: Header, table: &mut [u32; 32768])
-    requires { ⌜ Small h × (h .kind ≢ 1) ⌝ }
+pub fn fill_roots(h: Header, table: &mut [u32])
+    requires { ⌜ Small h × (h .kind ≢ 1) × (length (now table) ≡ 32768) ⌝ }
     ensures { λ _. ⌜ Roots h (h .modulus) (now (table .exit)) ⌝ }
 {
     clear(table, h.modulus as usize);
