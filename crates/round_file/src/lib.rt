@@ -11,4 +11,5 @@ pub use calls::read;
 pub use reading::challenge_at;
 pub use reading::check_in;
 pub use reading::count_in;
+pub use reading::read_in;
 pub use reading::round_at;

@@ -1,0 +1,2 @@
+-- Definitions of the game's lines, challenge by challenge.
+pub mod Lines

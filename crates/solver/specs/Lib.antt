@@ -1,0 +1,4 @@
+-- The search of the game.
+pub mod Small
+pub mod Match
+pub mod Prepared
