@@ -1,10 +1,13 @@
 //! A plain judge for proofs of a preimage under a group homomorphism.
 //!
 //! Every call takes any bytes and any numbers. It ends in a result or in one
-//! refusal, a number from 1 to 30. The earliest that applies is given, in the
+//! refusal, a number from 1 to 31. The earliest that applies is given, in the
 //! order 23, 24, then 1 to 9, then 27, 29, 30, 10, 11, 26, 12, 25, then 13 to
-//! 16, then 28 and then 17 to 22. A refused call changes neither a lent buffer
-//! nor a session nor a watch.
+//! 16, then 28, 31 and then 17 to 22. A refused call changes neither a lent
+//! buffer nor a session nor a watch.
+//!
+//! The cards put 28 and 31 both after 16. No call can give both, so nothing
+//! hangs on which of the two stands first.
 //!
 //! Each sheet is handed in as bytes and is tested on every call.
 
@@ -13,6 +16,7 @@
 
 mod arithmetic;
 mod bytes;
+mod game;
 // A module of its own name: its `make` stands beside 01's maker.
 pub mod linear;
 mod marker;
@@ -30,6 +34,7 @@ mod team;
 // A module of its own name: its `open` is about a watch only.
 pub mod watch;
 
+pub use game::game;
 pub use marker::marker;
 pub use pattern::make;
 pub use pattern_file::Written;
