@@ -44,9 +44,9 @@
  * session keeps what it holds in all eight, and the commitments that Peggy's hold are tested in all eight (by 21).
  *
  * Refusals. A call answers a number, or a struct with a field `refusal`: 0, or the number of what was refused. Where several
- * apply it is the earliest in the order 23, 24, 1 to 9, 27, 29, 30, 10, 11, 26, 12, 25, 13 to 16, 28, 17 to 22. A refused call
- * changes no session, watch, array or buffer, and has 0 in every other field of its answer. Compilers warn of a call whose answer
- * is thrown away.
+ * apply it is the earliest in the order 23, 24, 1 to 9, 27, 29, 30, 10, 11, 26, 12, 25, 13 to 16, 28, 31, 17 to 22. A refused
+ * call changes no session, watch, array or buffer, and has 0 in every other field of its answer. Compilers warn of a call whose
+ * answer is thrown away.
  *
  * Random numbers are the caller's: nonces, challenges and simulated responses are handed in. A nonce has to be drawn at
  * random from all coordinates for each session, or the responses give the witness away.
@@ -92,6 +92,7 @@ extern "C" {
 #define DIMKHOROS_LONGEST_FILE_2 33799  /* bytes of the longest round file of version 2 */
 #define DIMKHOROS_LONGEST_TEXT 14864    /* bytes that hold every text of the marker */
 #define DIMKHOROS_LONGEST_REASON 201    /* bytes that hold every line of the reason */
+#define DIMKHOROS_LONGEST_GAME 720896   /* bytes that hold every text of the game */
 #define DIMKHOROS_STORED_PROVER 79      /* bytes of a stored session of Peggy's */
 #define DIMKHOROS_STORED_VERIFIER 51    /* bytes of a stored session of Vic's */
 #define DIMKHOROS_STORED_OR_PROVER 151  /* bytes of a stored session of Peggy's of the OR proof */
@@ -131,7 +132,7 @@ extern "C" {
 
 /*
  * Every refusal by its number, with its name and what it says. 23 and 24 are tested before 1, 27, 29 and 30 behind 9, 26 behind 11,
- * 25 behind 12 and 28 behind 16.
+ * 25 behind 12, 28 behind 16 and 31 behind 28.
  */
 #define DIMKHOROS_REFUSALS(REFUSAL)                                                                               \
     REFUSAL(1, PATTERN, "the pattern file has no pattern of this number, or it takes another count of values")    \
@@ -169,7 +170,9 @@ extern "C" {
     REFUSAL(28, IMAGES, "the images of the team's players do not multiply to the statement")                      \
     REFUSAL(29, FORM_COUNTS, "there have to be 1 to 8 generators, a coefficient for each row, generator and"      \
                              " column, and a statement value for each row")                                       \
-    REFUSAL(30, COEFFICIENT, "a coefficient has to be below the order")
+    REFUSAL(30, COEFFICIENT, "a coefficient has to be below the order")                                           \
+    REFUSAL(31, GAME_SIZE, "the sheet is too large for the game, which takes q^n up to 4096, or in a root sheet"  \
+                           " m up to 4096 and one row")
 
 /* The refusals by name: DIMKHOROS_REFUSED_PATTERN is 1, and so on through the list. */
 enum {
@@ -831,7 +834,7 @@ DIMKHOROS_CHECKED
 DimkhorosWritten dimkhoros_convert(const uint8_t *sheet, size_t sheet_length, const uint8_t *file, size_t file_length,
                                    uint8_t *buffer, size_t buffer_length);
 
-/* --- The marker and the reason --- */
+/* --- The marker, the reason and the game --- */
 
 /*
  * Judges a round file at a level and writes the marker's text, in ASCII and without a zero at its end, to the start of `text`.
@@ -863,6 +866,23 @@ size_t dimkhoros_mark(const uint8_t *sheet, size_t sheet_length, const uint8_t *
 DIMKHOROS_CHECKED
 size_t dimkhoros_reason(const uint8_t *sheet, size_t sheet_length, const uint8_t *file, size_t file_length,
                         uint8_t text[DIMKHOROS_LONGEST_REASON]);
+
+/*
+ * Says which challenges Peggy can answer on the commitment t of a file's round 0, whoever knows a witness, and writes the text,
+ * in ASCII and without a zero at its end, to the start of `text`. Answers its length; no byte behind it is changed. The text has
+ * a line for each challenge below K that has an accepting response, rising: the challenge and the smallest such response, n
+ * numbers, as in `1 0 9`. Responses are compared by the first of their values that differs. If there is no such challenge, the
+ * text is the one line `none`. Each line ends in a newline. The challenge and the response of round 0 are not tested.
+ *
+ * What is refused gives the one line `refused N`: 2 to 11 of the sheet, 12 of the file, 13 if the file has no rounds, 14 if t is
+ * no commitment, then 31 if the sheet is too large for all responses to be tried: an exponent sheet if q^n is above 4096, a root
+ * sheet if m is above 4096 or s above 1.
+ *
+ * The bytes are too many for a small stack: allocate them, or let them be static. The call itself has a table of 128 KiB there.
+ */
+DIMKHOROS_CHECKED
+size_t dimkhoros_game(const uint8_t *sheet, size_t sheet_length, const uint8_t *file, size_t file_length,
+                      uint8_t text[DIMKHOROS_LONGEST_GAME]);
 
 /* --- Version --- */
 

@@ -10,10 +10,10 @@
 
 use crate::exports::*;
 use crate::{
-    Compared, Computed, Counted, ENTRIES, Fetched, Header, Judgement, LONGEST_REASON, LONGEST_TEXT,
-    Loaded, Opened, OrAnswer, OrExtracted, OrJudgement, OrRound, OrSession, Part, Parts, Places,
-    ProverAnswer, ProverSession, Round, VerifierAnswer, VerifierJudgement, VerifierSession, Watch,
-    WatchAnswer, Written,
+    Compared, Computed, Counted, ENTRIES, Fetched, Header, Judgement, LONGEST_GAME, LONGEST_REASON,
+    LONGEST_TEXT, Loaded, Opened, OrAnswer, OrExtracted, OrJudgement, OrRound, OrSession, Part,
+    Parts, Places, ProverAnswer, ProverSession, Round, VerifierAnswer, VerifierJudgement,
+    VerifierSession, Watch, WatchAnswer, Written,
 };
 
 /// The version of the archive that is linked, 10000 * major + 100 * minor + patch.
@@ -290,6 +290,14 @@ pub fn reason(sheet: &[u8], file: &[u8], text: &mut [u8; LONGEST_REASON]) -> usi
     let (pointer, length) = (sheet.as_ptr(), sheet.len());
     // SAFETY: the slices are given by their pointers and lengths, and `text` has the bytes that may be written.
     unsafe { dimkhoros_reason(pointer, length, file.as_ptr(), file.len(), text.as_mut_ptr()) }
+}
+
+/// Writes the game's text on the commitment of a round file's round 0 to the start of `text`, and answers its length.
+#[inline]
+pub fn game(sheet: &[u8], file: &[u8], text: &mut [u8; LONGEST_GAME]) -> usize {
+    let (pointer, length) = (sheet.as_ptr(), sheet.len());
+    // SAFETY: the slices are given by their pointers and lengths, and `text` has the bytes that may be written.
+    unsafe { dimkhoros_game(pointer, length, file.as_ptr(), file.len(), text.as_mut_ptr()) }
 }
 
 /// A new session of Peggy's, with zeros.

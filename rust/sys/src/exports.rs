@@ -190,6 +190,14 @@ unsafe extern "C" {
         text: *mut u8,
     ) -> usize;
 
+    pub fn dimkhoros_game(
+        sheet: *const u8,
+        sheet_length: usize,
+        file: *const u8,
+        file_length: usize,
+        text: *mut u8,
+    ) -> usize;
+
     pub fn dimkhoros_prover_new() -> ProverSession;
 
     pub fn dimkhoros_prover_commit(

@@ -148,3 +148,12 @@ pub const LONGEST_TEXT: usize = 14_864;
 /// assert!(format!("refused 12 length {}\n", u64::MAX).len() <= LONGEST_REASON);
 /// ```
 pub const LONGEST_REASON: usize = 201;
+
+/// How many bytes are lent to the game's text. They hold a line for each of 65,536 challenges, and so every text. They are too
+/// many for a small stack.
+///
+/// ```
+/// # use dimkhoros_sys::LONGEST_GAME;
+/// assert_eq!(LONGEST_GAME, 65_536 * "65535 4095\n".len());
+/// ```
+pub const LONGEST_GAME: usize = 720_896;

@@ -73,6 +73,7 @@ size_t look(const uint8_t *sheet, size_t length, uint8_t *bytes, uint32_t *eight
     LOOK(dimkhoros_convert(sheet, length, sheet, length, bytes, length), .refusal);
     LOOK(dimkhoros_mark(sheet, length, bytes, length, bytes, length, bytes), );
     LOOK(dimkhoros_reason(sheet, length, bytes, length, bytes), );
+    LOOK(dimkhoros_game(sheet, length, bytes, length, bytes), );
 
     LOOK(dimkhoros_prover_commit(sheet, length, peggy, eight), .refusal);
     LOOK(dimkhoros_prover_respond(sheet, length, peggy, 3, eight), .refusal);

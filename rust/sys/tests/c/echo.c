@@ -567,6 +567,33 @@ static void reasons(void) {
     print_reason(wide, sizeof wide, NULL, 0);
 }
 
+/* The length of the game's text on two files, the text, and two bytes behind it, which stay. */
+static void print_game(const uint8_t *sheet, size_t sheet_length, const uint8_t *file, size_t file_length) {
+    static uint8_t text[DIMKHOROS_LONGEST_GAME];
+    memset(text, 238, sizeof text);
+    size_t length = dimkhoros_game(sheet, sheet_length, file, file_length, text);
+    printf("%zu\n%.*s%u %u\n", length, (int)length, (const char *)text, text[length], text[sizeof text - 1]);
+}
+
+/* A response has two numbers below 5, and the first leads. The challenge is not below 5. The wide sheet is too large. */
+static void games(void) {
+    const uint32_t h[2] = {3, 9}, z[1] = {4};
+    const DimkhorosRound round = {{5}, 77, {88, 99}};
+    uint8_t sheet[32], file[200];
+    size_t length = dimkhoros_from_pattern(shipped, sizeof shipped, 2, 11, 5, 5, h, 2, z, 1, sheet, sizeof sheet).length;
+    size_t used = dimkhoros_empty(1, file, sizeof file).length;
+    print_game(sheet, length, file, used);
+    used = dimkhoros_append(sheet, length, file, sizeof file, used, round).length;
+    print_game(sheet, length, file, used);
+    print_game(sheet, length, file, used - 1);
+    print_game(sheet, length - 1, file, used);
+    print_game(sheet, length, NULL, 0);
+    print_game(NULL, 0, NULL, 0);
+    used = dimkhoros_empty(1, file, sizeof file).length;
+    used = dimkhoros_append(wide, sizeof wide, file, sizeof file, used, honest_round(1, response)).length;
+    print_game(wide, sizeof wide, file, used);
+}
+
 /* Every slice of every call is empty. */
 static void empty_slices(void) {
     print_entries(NULL, 0);
@@ -631,6 +658,7 @@ int main(void) {
     watches();
     marks();
     reasons();
+    games();
     empty_slices();
     return 0;
 }

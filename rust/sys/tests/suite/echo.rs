@@ -414,6 +414,36 @@ fn reasons(text: &mut String) {
     text.push_str(&reason_over(&wide, &[]));
 }
 
+/// The length of the game's text on two files, the text, and two bytes behind it, which stay.
+fn game_over(sheet: &[u8], file: &[u8]) -> String {
+    let mut text: Box<[u8; LONGEST_GAME]> = vec![238; LONGEST_GAME].try_into().unwrap();
+    let length = game(sheet, file, &mut text);
+    let lines = std::str::from_utf8(&text[..length]).unwrap();
+    format!("{length}\n{lines}{} {}\n", text[length], text[LONGEST_GAME - 1])
+}
+
+/// A response has two numbers below 5, and the first leads. The challenge is not below 5. The wide sheet is too large.
+fn games(text: &mut String) {
+    let (mut sheet, mut file) = ([0; 32], [0; 200]);
+    let made = from_pattern(&shipped(), 2, 11, 5, 5, &[3, 9], &[4], &mut sheet);
+    let round = Round {
+        commitment: [5, 0, 0, 0, 0, 0, 0, 0],
+        challenge: 77,
+        response: [88, 99, 0, 0, 0, 0, 0, 0],
+    };
+    empty(1, &mut file);
+    text.push_str(&game_over(&sheet, &file[..7]));
+    let used = append(&sheet, &mut file, 7, &round).length;
+    text.push_str(&game_over(&sheet, &file[..used]));
+    text.push_str(&game_over(&sheet, &file[..used - 1]));
+    text.push_str(&game_over(&sheet[..made.length - 1], &file[..used]));
+    text.push_str(&game_over(&sheet, &[]));
+    text.push_str(&game_over(&[], &[]));
+    empty(1, &mut file);
+    let used = append(&wide(), &mut file, 7, &honest_round(1, RESPONSE)).length;
+    text.push_str(&game_over(&wide(), &file[..used]));
+}
+
 /// Every slice of every call is empty.
 fn empty_slices(text: &mut String) {
     let wide = wide();
@@ -478,6 +508,7 @@ fn fields_cross_from_rust() {
     watches(&mut text);
     marks(&mut text);
     reasons(&mut text);
+    games(&mut text);
     empty_slices(&mut text);
     assert_eq!(text, EXPECTED);
 }

@@ -9,7 +9,7 @@ use std::fmt::Write;
 use std::fs;
 
 /// The constants of this crate, under their names in C and in the order of the C program.
-const CONSTANTS: [(&str, usize); 25] = [
+const CONSTANTS: [(&str, usize); 26] = [
     ("PLACES", PLACES),
     ("ENTRIES", ENTRIES),
     ("MOST_PLAYERS", MOST_PLAYERS),
@@ -25,6 +25,7 @@ const CONSTANTS: [(&str, usize); 25] = [
     ("LONGEST_FILE_2", LONGEST_FILE_2),
     ("LONGEST_TEXT", LONGEST_TEXT),
     ("LONGEST_REASON", LONGEST_REASON),
+    ("LONGEST_GAME", LONGEST_GAME),
     ("EXPONENT", EXPONENT as usize),
     ("ROOT", ROOT as usize),
     ("PROVER_NEW", prover::NEW as usize),
