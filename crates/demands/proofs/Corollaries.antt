@@ -2,6 +2,7 @@
 -- Assumes nothing.
 use Rattle.disjunctions.proofs.OneOfTwo.{or-corollaries}
 use Rattle.formats.proofs.Corollaries.{file-corollaries}
+use Rattle.games.proofs.Corollaries.{game-corollaries}
 use Rattle.patterns.proofs.Corollaries.{maker-corollaries}
 use Rattle.products.proofs.TeamAnswers.{team-corollaries}
 use Rattle.reasons.proofs.ReasonsTrue.{reason-corollaries}
@@ -21,4 +22,5 @@ corollaries = record {
   one-of-two = or-corollaries;
   team = team-corollaries;
   watch = watch-corollaries;
+  game = game-corollaries;
 }

@@ -7,6 +7,8 @@ use Rattle.disjunctions.proofs.OrRefusals.{or-refusals}
 use Rattle.disjunctions.proofs.RunsWhere.{either-runs}
 use Rattle.examples.proofs.AnswerPage.{answer-page}
 use Rattle.examples.proofs.Corners.{every-disjunct}
+use Rattle.examples.proofs.GameCorners.{game-corners}
+use Rattle.examples.proofs.GamePage.{game-page}
 use Rattle.examples.proofs.Pages.{worked-examples}
 use Rattle.examples.proofs.ReasonPage.{reason-page}
 use Rattle.examples.proofs.RowsPage.{rows-page}
@@ -20,6 +22,9 @@ use Rattle.formats.proofs.FileRefusals.{file-refusals}
 use Rattle.formats.proofs.RunsWhere.{files-run}
 use Rattle.formats.proofs.SameCommitment.{words-compare, words-refusals}
 use Rattle.formats.proofs.Writers.{writers}
+use Rattle.games.proofs.Game.{game}
+use Rattle.games.proofs.Playing.{game-prints, game-refusals}
+use Rattle.games.proofs.RunsWhere.{game-runs}
 use Rattle.patterns.proofs.Meaning.{patterns-mean}
 use Rattle.patterns.proofs.PatternCalls.{pattern-calls, pattern-refusals}
 use Rattle.patterns.proofs.RunsWhere.{makers-run}
@@ -64,6 +69,7 @@ holds = record {
     team = team-refusals;
     sixteen-bits = convert-refusals;
     watch = watch-refusals;
+    game = game-refusals;
   };
   runs-where = record {
     files = files-run;
@@ -72,6 +78,7 @@ holds = record {
     one-of-two = either-runs;
     team = team-runs;
     watch = watch-runs;
+    game = game-runs;
   };
   main-protocol = main-protocol;
   protocol = protocol;
@@ -91,6 +98,8 @@ holds = record {
     loses-nothing = loses-nothing;
     rows = all-rows;
     watch = watch-works;
+    game = game;
+    game-text = game-prints;
   };
   patterns = patterns-mean;
   arithmetic = arithmetic;
@@ -113,6 +122,7 @@ evidence = record {
   or-corners = every-disjunct .4;
   team-corners = every-disjunct .5;
   watch-corners = watch-corners;
+  game-corners = game-corners;
   reason-page = reason-page;
   or-page = worked-examples .2;
   answer-page = answer-page;
@@ -120,4 +130,5 @@ evidence = record {
   team-page = team-page;
   rows-page = rows-page;
   watch-page = watch-page;
+  game-page = game-page;
 }

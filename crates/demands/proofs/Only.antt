@@ -3,6 +3,7 @@
 use Rattle.disjunctions.proofs.Only.{only-either}
 use Rattle.disjunctions.proofs.OnlyRounds.{EitherDemands}
 use Rattle.formats.proofs.Only.{FileDemands, only-files}
+use Rattle.games.proofs.Only.{only-games}
 use Rattle.patterns.proofs.Only.{MakerDemands, only-makers}
 use Rattle.products.proofs.Only.{only-team}
 use Rattle.reasons.proofs.Only.{only-reasons}
@@ -60,4 +61,5 @@ only code code′ d d′ =
       team = only-team (code .team) (code′ .team) (d .refusals .team) (d′ .refusals .team) (d .cards .team .answers)
           (d′ .cards .team .answers);
       watches = only-watches (d .refusals .watch) (d′ .refusals .watch) (d .cards .watch .answers) (d′ .cards .watch .answers) runs;
+      games = only-games (d .refusals .game) (d′ .refusals .game) (d .cards .game-text) (d′ .cards .game-text) (files .fetchRound) runs;
     }

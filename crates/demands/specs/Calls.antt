@@ -1,8 +1,9 @@
--- The public calls of 01 and of 02's cards 1 to 9, those of each topic together: what any code has to give. No call's definition is
+-- The public calls of 01 and of 02's cards 1 to 9 and 12, those of each topic together: what any code has to give. No call's definition is
 -- named.
 -- Assumes nothing.
 use Rattle.disjunctions.specs.OrCalls.{OrCalls}
 use Rattle.formats.specs.FileCalls.{FileCalls}
+use Rattle.games.specs.GameCalls.{GameCalls}
 use Rattle.patterns.specs.MakerCalls.{MakerCalls}
 use Rattle.products.specs.TeamCalls.{TeamCalls}
 use Rattle.reasons.specs.ReasonCalls.{ReasonCalls}
@@ -27,3 +28,5 @@ pub record Calls : Type 0 where
   pub team : TeamCalls
   -- card 9: a watch for used nonces
   pub watches : WatchCalls
+  -- card 12: Peggy against Vic
+  pub games : GameCalls

@@ -2,9 +2,14 @@
 -- what card 7 changes of 01's calls on round files in Refusals, Layout, Writers, ReadsBack and ReasonsTrue. That card 8's rows rise
 -- stands in VerdictOutcomes, Protocol and OneOfTwo, and how they are printed in MarksFiles and ReasonsTrue.
 -- Assumes nothing.
+use Prim.Native.Nat.{ℕ}
+use mathlib.Core.Path.{_≡_}
+use mathlib.Core.List.{List}
 use Rattle.disjunctions.specs.OneOfTwo.{OrProof}
 use Rattle.formats.specs.Converts.{Converts}
 use Rattle.formats.specs.WordsCompare.{WordsCompare}
+use Rattle.games.specs.Game.{Game}
+use Rattle.games.specs.Prints.{GamePrints}
 use Rattle.patterns.specs.PatternCalls.{PatternCalls}
 use Rattle.products.specs.TeamWorks.{TeamWorks}
 use Rattle.reasons.specs.ReasonsTrue.{ReasonsTrue}
@@ -40,3 +45,8 @@ pub record Cards (code : Calls) : Type 0 where
   -- nearest of them with the same commitment and another challenge, with the witness that the extractor gives for the two, and none
   -- exactly if there is no such round
   pub watch : WatchWorks (code .files) (code .runs) (code .watches)
+  -- 12: for every sheet that loads, Peggy can name a commitment that answers every challenge exactly if the statement has a witness;
+  -- without one each answers at most one challenge, with one all or none
+  pub game : (sheet : List ℕ) → code .files .load sheet .refusal ≡ 0 → Game (code .runs) sheet
+  -- and for round 0's commitment the text has a line for each challenge that it answers, with the smallest response in slot order
+  pub game-text : GamePrints (code .files) (code .runs) (code .games)

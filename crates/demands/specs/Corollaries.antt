@@ -11,6 +11,7 @@ use Rattle.disjunctions.specs.Corollaries.{OrCorollaries}
 use Rattle.formats.specs.Corollaries.{FileCorollaries}
 use Rattle.formats.specs.FileCalls.{FileCalls}
 use Rattle.formats.specs.Sheet.{instanceOf}
+use Rattle.games.specs.Corollaries.{GameCorollaries}
 use Rattle.patterns.specs.Corollaries.{MakerCorollaries}
 use Rattle.products.specs.Corollaries.{TeamCorollaries}
 use Rattle.reasons.specs.Corollaries.{ReasonCorollaries}
@@ -52,3 +53,4 @@ pub record Corollaries (code : Calls) : Type 0 where
   pub one-of-two : OrCorollaries (code .files) (code .either)
   pub team : TeamCorollaries (code .team)
   pub watch : WatchCorollaries (code .watches)
+  pub game : GameCorollaries (code .games)

@@ -4,6 +4,8 @@
 use Rattle.examples.specs.AnswerPage.{AnswerPage}
 use Rattle.examples.specs.Corners.{EveryCorner}
 use Rattle.examples.specs.FileCorners.{FileCorners}
+use Rattle.examples.specs.GameCorners.{GameCorners}
+use Rattle.examples.specs.GamePage.{GamePage}
 use Rattle.examples.specs.OrCorners.{OrCorners}
 use Rattle.examples.specs.OrPage.{OrPage}
 use Rattle.examples.specs.Pages.{EveryPage}
@@ -31,6 +33,7 @@ pub record Evidence : Type 0 where
   pub or-corners : OrCorners
   pub team-corners : TeamCorners
   pub watch-corners : WatchCorners
+  pub game-corners : GameCorners
   -- the reason's whole line for every number and each of its causes
   pub reason-page : ReasonPage
   -- a worked pair of sheets for the OR proof
@@ -44,3 +47,5 @@ pub record Evidence : Type 0 where
   pub rows-page : RowsPage
   -- a worked watch
   pub watch-page : WatchPage
+  -- worked games
+  pub game-page : GamePage

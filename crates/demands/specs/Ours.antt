@@ -2,6 +2,7 @@
 -- Assumes nothing.
 use Rattle.disjunctions.specs.Ours.{orCalls}
 use Rattle.formats.specs.Ours.{fileCalls}
+use Rattle.games.specs.Ours.{gameCalls}
 use Rattle.patterns.specs.Ours.{makerCalls}
 use Rattle.products.specs.Ours.{teamCalls}
 use Rattle.reasons.specs.Ours.{reasonCalls}
@@ -20,4 +21,5 @@ ours = record {
   either = orCalls;
   team = teamCalls;
   watches = watchCalls;
+  games = gameCalls;
 }

@@ -9,6 +9,7 @@ use Rattle.disjunctions.specs.OneOfTwo.{OrRefusals}
 use Rattle.formats.specs.Converts.{ConvertRefusals}
 use Rattle.formats.specs.FileRefusals.{FileRefusals}
 use Rattle.formats.specs.WordsCompare.{WordsRefusals}
+use Rattle.games.specs.Prints.{GameRefusals}
 use Rattle.patterns.specs.PatternCalls.{PatternRefusals}
 use Rattle.products.specs.TeamWorks.{TeamRefusals}
 use Rattle.runs.specs.RunRefusals.{MarkRefusals, RunRefusals}
@@ -39,3 +40,5 @@ pub record Refusals (code : Calls) : Type 0 where
   pub sixteen-bits : ConvertRefusals (code .files)
   -- card 9: opening a watch and giving it a round
   pub watch : WatchRefusals (code .watches)
+  -- card 12: the game's text
+  pub game : GameRefusals (code .files) (code .games)

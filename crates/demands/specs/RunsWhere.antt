@@ -3,6 +3,7 @@
 -- Assumes nothing.
 use Rattle.disjunctions.specs.RunsWhere.{EitherRuns}
 use Rattle.formats.specs.RunsWhere.{FilesRun}
+use Rattle.games.specs.RunsWhere.{GameRuns}
 use Rattle.patterns.specs.RunsWhere.{MakersRun}
 use Rattle.products.specs.RunsWhere.{TeamRuns}
 use Rattle.runs.specs.RunsWhere.{RoundsRun}
@@ -22,3 +23,5 @@ pub record RunsWhere (code : Calls) : Type 0 where
   pub team : TeamRuns (code .files) (code .team)
   -- card 9: opening a watch and giving it a round
   pub watch : WatchRuns (code .files) (code .runs) (code .watches)
+  -- card 12: the game's text
+  pub game : GameRuns (code .files) (code .runs) (code .games)

@@ -5,6 +5,7 @@ use mathlib.Core.Path.{_≡_}
 use mathlib.Core.List.{List}
 use Rattle.disjunctions.specs.Same.{SameEither}
 use Rattle.formats.specs.Same.{SameFiles}
+use Rattle.games.specs.Same.{SameGames}
 use Rattle.patterns.specs.Same.{SameMakers}
 use Rattle.products.specs.Same.{SameTeam}
 use Rattle.reasons.specs.Same.{SameReasons}
@@ -21,3 +22,4 @@ pub record Same (code code′ : Calls) : Type 0 where
   pub either : SameEither (code .either) (code′ .either)
   pub team : SameTeam (code .team) (code′ .team)
   pub watches : SameWatches (code .watches) (code′ .watches)
+  pub games : SameGames (code .games) (code′ .games)

@@ -67,6 +67,7 @@ use Rattle.sigma.specs.Round.{badChallenge, badCommitment, badCoordinates, badW
 use Rattle.sigma.specs.Simulator.{simulateAfter, simulateRules, simulated}
 use Rattle.watches.specs.Watch.{freshWatch, isNamed, isWatched, namedRound, nearest, noting, openWatch, remembering, reuses, unfitWatch, watchAfter, watchRound, watchRules, watchVerdict, zeroRound}
 use Rattle.watches.specs.Window.{rememberedAt}
+use Rattle.games.specs.Text.{badGame, gameRefusal, gameRules, namedCommitment}
 use mathlib.Core.List.{flatten}
 
 pub every-disjunct : SheetCorners × PatternCorners × FileCorners × RoundCorners × OrCorners × TeamCorners
@@ -107,9 +108,9 @@ unfolding extractOr extractOrAfter extractOrRules extractedOf extractedOr extrac
     compareSides differ differences firstDifference isCoordinate isElement someNonCoordinate someNonElement
     extractAfter extractRules extracted formula slotFormula image rowImage entry isExponent statementAt judgeAfter
     judgeRules badChallenge badCommitment badCoordinates badWitness expectedImage response responseCoordinate verdict
-    simulateAfter simulateRules simulated extractLoaded judgeLoaded paddedRound freshWatch isNamed isWatched namedRound
-    nearest noting openWatch remembering reuses unfitWatch watchAfter watchRound watchRules watchVerdict zeroRound
-    rememberedAt newWatch flatten
+    simulateAfter simulateRules simulated extractLoaded judgeLoaded paddedRound badGame gameRefusal gameRules
+    namedCommitment freshWatch isNamed isWatched namedRound nearest noting openWatch remembering reuses unfitWatch
+    watchAfter watchRound watchRules watchVerdict zeroRound rememberedAt newWatch flatten
 every-disjunct = (
   record {
     passing = refl;

@@ -9,6 +9,7 @@ use Rattle.encoding.specs.Text.{ascii}
 use Rattle.formats.specs.Append.{append}
 use Rattle.formats.specs.RoundCalls.{checkRound, countRounds, fetchRound, partOfRound}
 use Rattle.formats.specs.SameCommitment.{sameCommitment}
+use Rattle.games.specs.Text.{gameRefusal}
 use Rattle.runs.specs.Marker.{markRefusal, markerText}
 use Rattle.examples.specs.Corners.{Corner, changed, converting, noBytes, zerosFile}
 use Rattle.examples.specs.MarkerExample.{exampleFile, narrowFile}
@@ -23,7 +24,8 @@ use Rattle.examples.specs.TwoRows.{narrow, wide}
 unfoldable pub readingFile : List ℕ → List ℕ
 readingFile f =
     countRounds schnorrSheet f .refusal ∷ checkRound schnorrSheet f 0 ∷ fetchRound schnorrSheet f 0 .refusal ∷
-    sameCommitment schnorrSheet f 0 0 .refusal ∷ markRefusal schnorrSheet f (7 ∷ []) ∷ converting f 55 ∷ []
+    sameCommitment schnorrSheet f 0 0 .refusal ∷ markRefusal schnorrSheet f (7 ∷ []) ∷ converting f 55 ∷
+    gameRefusal schnorrSheet f ∷ []
 
 -- files that 12 refuses by one field alone: each byte of the mark, the version by both its bytes, a count of 513, and the length
 unfoldable pub badFiles : List (List ℕ)

@@ -1,5 +1,6 @@
 -- 01's calculator pages, the marker's example, a worked pair of sheets for the OR proof, worked sessions, worked teams, worked rows
--- that differ, a worked watch, the reason's lines, whole answers of the calls, and the corners of each part of each refusal's condition.
+-- that differ, a worked watch, worked games, the reason's lines, whole answers of the calls, and the corners of each part of each
+-- refusal's condition.
 pub mod Sheets
 pub mod Pages
 pub mod MarkerExample
@@ -9,6 +10,7 @@ pub mod SessionPage
 pub mod TeamPage
 pub mod RowsPage
 pub mod WatchPage
+pub mod GamePage
 pub mod TwoRows
 pub mod ReasonPage
 pub mod RoundCorners
@@ -18,4 +20,5 @@ pub mod FileCorners
 pub mod OrCorners
 pub mod TeamCorners
 pub mod WatchCorners
+pub mod GameCorners
 pub mod AnswerPage

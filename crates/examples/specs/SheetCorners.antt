@@ -15,6 +15,7 @@ use Rattle.formats.specs.Load.{load, loadEntries, loadRefusal}
 use Rattle.formats.specs.RoundCalls.{checkRound, countRounds, fetchRound, partOfRound}
 use Rattle.formats.specs.SameCommitment.{sameCommitment}
 use Rattle.formats.specs.Sheet.{headerOf, instanceOf}
+use Rattle.games.specs.Text.{gameRefusal}
 use Rattle.runs.specs.Calls.{extractWitness, judgeRound, simulateCommitment}
 use Rattle.runs.specs.Marker.{markRefusal}
 use Rattle.runs.specs.Prover.{commit, newProver, respond}
@@ -75,6 +76,7 @@ callsOn sheet =
     markRefusal sheet exampleFile (7 ∷ []) ∷
     openWatch sheet .refusal ∷
     outcome (watchRound sheet (newWatch schnorrSheet) (smallRound 9 3 4) .verdict) .number ∷
+    gameRefusal sheet exampleFile ∷
     teamNumbers sheet 2 (8 ∷ 16 ∷ []) (9 ∷ 1 ∷ []) (4 ∷ 0 ∷ [])
 
 -- and of those that take two, for a sheet on either side

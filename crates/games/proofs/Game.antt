@@ -78,7 +78,8 @@ module _ (sheet : List ℕ) (loaded : loadRefusal sheet ≡ 0) where
         let (k, slots, same) = sheet-honest-rounds sheet loaded c (answered-below t c (r, e)) x w .met (roundOf t c r) refl e in
         let r′ : List ℕ = respond sheet (commit sheet newProver k .session) c′ x .values in (
           r′,
-          accepts-same sheet (roundOf t c′ r′) (honestRound sheet x c′ k) (record { commitment = λ i b. sym (same .commitment i b); challenge = refl; response = λ j b. refl })
+          accepts-same sheet (roundOf t c′ r′) (honestRound sheet x c′ k)
+              (record { commitment = λ i b. sym (same .commitment i b); challenge = refl; response = λ j b. refl })
               (sheet-honest-rounds sheet loaded c′ below′ x w .accepted k slots),
         )
 

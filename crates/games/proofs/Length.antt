@@ -80,7 +80,8 @@ module _ (inst : Instance) (valid : Valid inst) (small : ¬ Refusal31 (inst .hea
   -- and with it q
   order-few : inst .header .kind ≡ 1 → inst .header .order ≤ 4096
   order-few one =
-      omega (arith, choices-few one, order-most (inst .header .order) (omega (arith, valid .table .order)) (inst .header .columns) (valid .table .some-column))
+      let some : 0 < inst .header .order = omega (arith, valid .table .order) in
+      omega (arith, choices-few one, order-most (inst .header .order) some (inst .header .columns) (valid .table .some-column))
 
   -- m is small in kind 2
   modulus-few : inst .header .kind ≢ 1 → inst .header .modulus ≤ 4096
@@ -103,7 +104,8 @@ module _ (inst : Instance) (valid : Valid inst) (small : ¬ Refusal31 (inst .hea
     answer-short c below =
         let found : firstAnswer inst t c ≤ 0 + candidates (inst .header) = find-within _ 0 (candidates (inst .header)) .1 in
         let within : firstAnswer inst t c ≤ candidates (inst .header) = omega (arith, found) in
-        let line = line-short c (firstResponse inst t c) (omega (arith, valid .table .few-challenges)) (candidate-short (firstAnswer inst t c) within) in
+        let line = line-short c (firstResponse inst t c) (omega (arith, valid .table .few-challenges))
+        (candidate-short (firstAnswer inst t c) within) in
         omega (arith, line, length-candidate inst valid one (firstAnswer inst t c))
 
     -- so many lines of that length
@@ -122,7 +124,8 @@ module _ (inst : Instance) (valid : Valid inst) (small : ¬ Refusal31 (inst .hea
     pub lines-short : length (shown (firstResponse inst t) (answered inst t)) ≤ 720896
     unfolding answered
     lines-short =
-        let words = words-short (λ c. shownLine c (firstResponse inst t c)) (6 + 5 * inst .header .columns) (inst .header .challenges) (isAnswered inst t) answer-short in
+        let words = words-short (λ c. shownLine c (firstResponse inst t c)) (6 + 5 * inst .header .columns) (inst .header .challenges)
+        (isAnswered inst t) answer-short in
         shown-short (firstResponse inst t) (answered inst t) 720896 (omega arith) (omega (arith, words, most-short))
 
 -- a refusal's line
@@ -142,6 +145,7 @@ text-short sheet f =
     (λ some.
     let small : gameRefusal sheet f < 100 =
     ⊎-elim (λ (none : gameRefusal sheet f ≡ 0). omega arith)
-    (λ (member : Member (gameRefusal sheet f) (sheetNumbers ++ 12 ∷ 13 ∷ 14 ∷ 31 ∷ [])). member-below 100 _ (sheetNumbers ++ 12 ∷ 13 ∷ 14 ∷ 31 ∷ []) tt member)
+    (λ (member : Member (gameRefusal sheet f) (sheetNumbers ++ 12 ∷ 13 ∷ 14 ∷ 31 ∷ [])).
+    member-below 100 _ (sheetNumbers ++ 12 ∷ 13 ∷ 14 ∷ 31 ∷ []) tt member)
     (refuses sheet f .among) in
     subst (λ (text : List ℕ). length text ≤ 720896) (sym (refused-line sheet f _ refl some)) (refused-short (gameRefusal sheet f) small))

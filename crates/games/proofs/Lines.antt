@@ -43,8 +43,8 @@ module _ (inst : Instance) (t : List ℕ) where
   unfolding isAnswered
   says-answered c = says-less (firstAnswer inst t c) (candidates (inst .header))
 
-module _ (sheet : List ℕ) (loaded : loadRefusal sheet ≡ 0) (one : instanceOf sheet .header .kind ≢ 1 → instanceOf sheet .header .columns ≡ 1)
-    (t : List ℕ) where
+module _ (sheet : List ℕ) (loaded : loadRefusal sheet ≡ 0)
+    (one : instanceOf sheet .header .kind ≢ 1 → instanceOf sheet .header .columns ≡ 1) (t : List ℕ) where
   -- a challenge is listed exactly if it is answered
   pub listed : (c : ℕ) → Member c (answered (instanceOf sheet) t) ↔ Answers sheet t c
   unfolding answered

@@ -69,7 +69,8 @@ module _ {runs runs′ : RunCalls} (same : SameRuns runs runs′) where
       )) in
       ap (shown response) one
       ∙ alike cs′ (λ c m.
-      smallest-same sheet t c (response c) (response′ c) (a .smallest c (subst (λ (ds : List ℕ). Member c ds) (sym one) m)) (a′ .smallest c m))
+      smallest-same sheet t c (response c) (response′ c)
+      (a .smallest c (subst (λ (ds : List ℕ). Member c ds) (sym one) m)) (a′ .smallest c m))
     where
       alike : (ds : List ℕ) → ((c : ℕ) → Member c ds → response c ≡ response′ c) → shown response ds ≡ shown response′ ds
       alike [] each = refl
@@ -91,7 +92,8 @@ module _ {files files′ : FileCalls} {runs runs′ : RunCalls} {games games′ 
       (games′ .gameText sheet f ≡ ascii "refused " ++ decimal n′ ++ ascii "\n")) one number′)
       (λ alike left left′. left ∙ ap (λ (k : ℕ). ascii "refused " ++ decimal k ++ ascii "\n") alike ∙ sym left′)
       (λ e e′ none.
-      let (cs, response, of, text) = d .lines sheet f (subst (Given (loadConditions sheet ++ gameConditions files sheet f)) e (number .given)) in
+      let (cs, response, of, text) =
+      d .lines sheet f (subst (Given (loadConditions sheet ++ gameConditions files sheet f)) e (number .given)) in
       let (cs′, response′, of′, text′) =
       d′ .lines sheet f (subst (Given (loadConditions sheet ++ gameConditions files′ sheet f)) e′ given′) in
       text

@@ -105,8 +105,7 @@ module _ (sheet f : List ℕ) where
 
 -- demand 1 holds of the game
 pub game-refusals : GameRefusals fileCalls gameCalls
-unfolding isSublist refusalOrder
-game-refusals = record { playing = λ sheet f. (gameRefusal sheet f, refuses sheet f); inserted = refl }
+game-refusals = record { playing = λ sheet f. (gameRefusal sheet f, refuses sheet f) }
 
 -- and what 02 asks of its text
 pub game-prints : GamePrints fileCalls runCalls gameCalls

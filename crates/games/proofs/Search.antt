@@ -33,7 +33,8 @@ use Rattle.games.specs.Slots.{slotsOf}
 use Rattle.games.specs.Text.{candidate, candidates, firstAnswer}
 use Rattle.games.proofs.Slots.{slots-below}
 
-module _ (inst : Instance) (valid : Valid inst) (t : List ℕ) (elements : Elements inst t) (c : ℕ) (below : c < inst .header .challenges) where
+module _ (inst : Instance) (valid : Valid inst) (t : List ℕ) (elements : Elements inst t) (c : ℕ)
+    (below : c < inst .header .challenges) where
   -- a round of t, c and r is accepted exactly if r fits and the two sides agree
   says-fits : (r : List ℕ) → Says (isAccepted (judgeLoaded inst (roundOf t c r))) (Coordinates inst r × Holds inst (roundOf t c r))
   says-fits r =
@@ -54,7 +55,8 @@ module _ (inst : Instance) (valid : Valid inst) (t : List ℕ) (elements : Eleme
 
   -- kind 1: every choice of n numbers below q fits
   pub first-image : inst .header .kind ≡ 1 → firstAnswer inst t c
-      ≡ find (λ k. not (differ (inst .header .rows) (image (tableOf inst) (slotsOf (inst .header .order) (inst .header .columns) k)) (expectedImage inst t c)))
+      ≡ find (λ k.
+      not (differ (inst .header .rows) (image (tableOf inst) (slotsOf (inst .header .order) (inst .header .columns) k)) (expectedImage inst t c)))
       0 (inst .header .order ^ inst .header .columns)
   unfolding firstAnswer candidates candidate
   first-image kind =

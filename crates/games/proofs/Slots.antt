@@ -4,7 +4,8 @@ use Prim.Native.Nat.{ℕ, zero, suc, _+_, _*_, _/_, _%_, _^_, _<_, _≤_}
 use mathlib.Core.Path.{_≡_, refl, ap, ap₂, _∙_, subst}
 use mathlib.Core.List.{List, [], _∷_}
 use native.Mathlib.Decide.{decLt}
-use native.Mathlib.Nat.{add-zero, mul-add-div-right, mul-add-mod-self-right, mul-le-mul-right, pow-zero, div-add-mod', div-eq-of-lt, div-lt-iff-lt-mul, le-div-iff-mul-le, mod-eq-of-lt, mod-lt, one-le-pow, pow-succ'}
+use native.Mathlib.Nat.{add-zero, mul-add-div-right, mul-add-mod-self-right, mul-le-mul-right, one-le-pow, pow-succ', pow-zero}
+use native.Mathlib.Nat.{div-add-mod', div-eq-of-lt, div-lt-iff-lt-mul, le-div-iff-mul-le, mod-eq-of-lt, mod-lt}
 use native.Mathlib.Omega.{arith}
 use lib.ListN.{length}
 use Rattle.lists.specs.Each.{Each}
@@ -83,8 +84,10 @@ module _ (q : ℕ) (some : 0 < q) where
     | yes lower ↦ record { slot = 0; inside = omega arith; earlier = λ j b. absurd (omega arith); lower = lower }
     | no equal ↦
         let w = q ^ n in
-        let same : k / w ≡ k′ / w = omega (arith, le-div-iff-mul-le {k = w} {x = k / w} {y = k′} (power-some n) .1 (omega (arith, div-add-mod' k w))) in
-        let later = slots-rise n (k % w) (k′ % w) (omega (arith, div-add-mod' k w, div-add-mod' k′ w, ap (λ (d : ℕ). d * w) same)) (mod-lt k′ (power-some n)) in
+        let same : k / w ≡ k′ / w =
+        omega (arith, le-div-iff-mul-le {k = w} {x = k / w} {y = k′} (power-some n) .1 (omega (arith, div-add-mod' k w))) in
+        let later = slots-rise n (k % w) (k′ % w)
+        (omega (arith, div-add-mod' k w, div-add-mod' k′ w, ap (λ (d : ℕ). d * w) same)) (mod-lt k′ (power-some n)) in
         record {
           slot = suc (later .slot);
           inside = omega (arith, later .inside);

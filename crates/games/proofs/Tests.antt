@@ -38,5 +38,6 @@ game-tests sheet f =
     (roundRules (headerOf sheet) f 0 ++ (14 when badCommitment inst t) ∷ (31 when badGame (headerOf sheet)) ∷ [])
     (loadConditions sheet) (gameConditions sheet f) (load-tests sheet)
     (tests-append (roundRules (headerOf sheet) f 0) ((14 when badCommitment inst t) ∷ (31 when badGame (headerOf sheet)) ∷ [])
-    (roundConditions (headerOf sheet) f 0) ((14 if Refusal14 inst t) ∷ (31 if Refusal31 (headerOf sheet)) ∷ []) (round-tests (headerOf sheet) f 0)
+    (roundConditions (headerOf sheet) f 0) ((14 if Refusal14 inst t) ∷ (31 if Refusal31 (headerOf sheet)) ∷ [])
+    (round-tests (headerOf sheet) f 0)
     (refl, says-badCommitment inst t, (refl, says-badGame (headerOf sheet), tt)))

@@ -3,14 +3,12 @@
 -- Assumes nothing.
 use Prim.Native.Nat.{ℕ}
 use mathlib.Core.Path.{_≡_}
-use mathlib.Core.Bool.{true}
 use mathlib.Core.Logic.{_↔_, _⊎_}
 use mathlib.Core.List.{List, [], _∷_, _++_, flatten, map}
 use lib.ListN.{length}
 use Rattle.encoding.specs.Text.{ascii, decimal}
 use Rattle.lists.specs.Member.{Member, Rising}
 use Rattle.rules.specs.Condition.{Given}
-use Rattle.rules.specs.Order.{isSublist, refusalOrder}
 use Rattle.formats.specs.FileCalls.{FileCalls}
 use Rattle.formats.specs.Refusals.{RefusesOn, loadConditions}
 use Rattle.formats.specs.Sheet.{headerOf}
@@ -30,8 +28,6 @@ module _ (files : FileCalls) (games : GameCalls) where
     pub playing : (sheet f : List ℕ)
         → (n : ℕ) × RefusesOn sheet (12 ∷ 13 ∷ 14 ∷ 31 ∷ []) (gameConditions files sheet f) n
         (gameText sheet f ≡ ascii "refused " ++ decimal n ++ ascii "\n")
-    -- in the order of all numbers 31 stands between 16 and 17
-    pub inserted : isSublist (16 ∷ 31 ∷ 17 ∷ []) refusalOrder ≡ true
 
 -- the line of a challenge and its response: each number of it with a space before it
 abbrev pub shownLine : ℕ → List ℕ → List ℕ
