@@ -37,7 +37,7 @@ const GROUPS: [Group; 3] = [
 const AUTHORS: [Command; 4] = [
     Command {
         name: "make",
-        summary: "make a sheet of a pattern, a root or a table",
+        summary: "make a sheet of a pattern, a root, a table or linear forms",
         help: make::HELP,
         run: make::run,
     },

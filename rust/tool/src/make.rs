@@ -1,6 +1,8 @@
-//! The command `make`: a sheet of a pattern or a table.
+//! The command `make`: a sheet of a pattern, a table or linear forms.
 
 mod asked;
+mod formula;
+mod linear;
 
 use crate::brought::{self, Brought};
 use crate::failure::{Failure, Outcome};
@@ -17,9 +19,10 @@ pub const HELP: &str = "\
 usage: dimkhoros make PATTERN m=MODULUS q=ORDER [K=COUNT] h=VALUE,... (z=VALUE,... | x=VALUE,...) -o SHEET
        dimkhoros make root m=MODULUS e=EXPONENT [K=COUNT] (z=VALUE,... | x=VALUE,...) -o SHEET
        dimkhoros make table=ENTRY,.../... m=MODULUS q=ORDER [K=COUNT] (z=VALUE,... | x=VALUE,...) -o SHEET
+       dimkhoros make linear m=MODULUS q=ORDER [K=COUNT] h=VALUE,... row=ROW... (z=VALUE,... | x=VALUE,...) -o SHEET
 
-Makes a sheet of a pattern, of a root or of any table. With z the statement is as it stands, and whether it has a witness is not
-tested; with x the statement is computed of this witness, which the sheet itself does not hold.
+Makes a sheet of a pattern, of a root, of any table or of linear forms over generators. With z the statement is as it stands,
+and whether it has a witness is not tested; with x the statement is computed of this witness, which the sheet does not hold.
 
     PATTERN          schnorr, okamoto, equality, diffie-hellman or product, or a pattern's number in its file. `dimkhoros
                      patterns` shows them, and how many public values each takes
@@ -27,8 +30,11 @@ tested; with x the statement is computed of this witness, which the sheet itself
     q=ORDER          the order, of an exponent sheet: an element v of the group has v^q mod m = 1
     e=EXPONENT       the exponent, of a root sheet
     K=COUNT          the challenge count; the largest that q or e allows where it is left out
-    h=VALUE,...      the public values of the pattern, in its order
+    h=VALUE,...      the public values of the pattern, in its order; with linear the generators h1, h2, ..., 1 to 8 of them
     table=ENTRY,...  the entries, with commas within a row and / between rows
+    row=ROW          a row of the statement, in quotes: a product of powers of the generators whose exponents are secrets x1,
+                     x2, ... or linear forms of them, such as 'h1^x3 h2^x1' or 'h1^(x1 + 2x2) h2^(x1 - x2)'. There is one
+                     row= for each row, in their order
     z=VALUE,...      the statement, a value for each row
     x=VALUE,...      a witness, a value for each column, of which the statement is computed. A root sheet has as many rows and
                      columns as z or x has values
@@ -42,12 +48,16 @@ Example:
     root.bin has 24 bytes
     $ dimkhoros make table=1,2/2,3 m=23 q=11 K=11 x=4,5 -o elgamal.bin
     elgamal.bin has 44 bytes
+    $ dimkhoros make linear m=23 q=11 h=2,3,4 row='h1^x3 h2^x1' row='h1^x2 h2^x4 h3^x1' x=1,2,3,4 -o linear.bin
+    linear.bin has 60 bytes. Peggy claims to know (x1, x2, x3, x4) with
+        1 = 2^x3 · 3^x1 mod 23
+        8 = 2^x2 · 3^x4 · 4^x1 mod 23
 ";
 
 const GRAMMAR: Grammar = Grammar {
     plain: &["PATTERN"],
     optional: 1,
-    letters: &["m", "q", "e", "K", "h", "z", "x", "table"],
+    letters: &["m", "q", "e", "K", "h", "z", "x", "table", "row"],
     flags: &["--force"],
     options: &["-o", "--patterns"],
 };
@@ -60,7 +70,7 @@ pub fn run(words: Vec<OsString>, out: &mut dyn Write) -> Outcome {
     let words = Words::sort(words, &GRAMMAR)?;
     let (asked, target) = (Asked::read(&words)?, Target::of(&words)?);
     let sheet = with_statement(&words, &without_statement(&words, &asked)?)?;
-    target.write(sheet.bytes(), out)
+    target.write_saying(sheet.bytes(), &asked.said(&sheet), out)
 }
 
 /// The statement or the witness that the words have.

@@ -164,7 +164,10 @@ pub fn number(word: &str, shipped: bool) -> Outcome<u32> {
 fn no_pattern(word: &str, shipped: bool) -> Failure {
     let names = NAMES.map(|(name, _)| name);
     Failure::words(match shipped {
-        true => format!("there is no pattern {word}, but {}", notation::enumerated(&names, "and")),
+        true => format!(
+            "there is no pattern {word}, but {}, and the word linear",
+            notation::enumerated(&names, "and")
+        ),
         false => format!("there is no pattern {word}: those of a file are named by their numbers"),
     })
 }

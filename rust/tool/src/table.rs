@@ -21,10 +21,27 @@ pub fn lines(indent: &str, set: &[Set], rows: &[Vec<String>]) -> String {
 
 /// A line of a table.
 fn line(indent: &str, set: &[Set], widths: &[usize], row: &[String]) -> String {
-    let cell = |((cell, set), width): ((&String, &Set), &usize)| match set {
-        Set::Left => format!("{cell:<width$}"),
-        Set::Right => format!("{cell:>width$}"),
+    // Not by the width of a format, which has 16 bits: the name of a folder may be longer.
+    let cell = |((cell, set), width): ((&String, &Set), &usize)| {
+        let spaces = " ".repeat(width.saturating_sub(cell.chars().count()));
+        match set {
+            Set::Left => format!("{cell}{spaces}"),
+            Set::Right => format!("{spaces}{cell}"),
+        }
     };
     let cells: Vec<String> = row.iter().zip(set).zip(widths).map(cell).collect();
     format!("{indent}{}", cells.join("  ")).trim_end().to_string() + "\n"
+}
+
+#[cfg(test)]
+mod tests {
+    use super::{Set, lines};
+
+    #[test]
+    fn cells_of_any_length_are_set() {
+        let long = "x".repeat(70_000);
+        let rows = [vec![long.clone(), long.clone()], vec!["1".to_string(), "2".to_string()]];
+        let (gap, text) = (" ".repeat(69_999), lines("", &[Set::Left, Set::Right], &rows));
+        assert_eq!(text, format!("{long}  {long}\n1{gap}  {gap}2\n"));
+    }
 }

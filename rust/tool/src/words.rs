@@ -31,11 +31,15 @@ pub struct Value {
     pub rows: Vec<Vec<u32>>,
 }
 
+/// The letters behind which a formula stands, which the command itself reads.
+const FORMULAS: [&str; 1] = ["row"];
+
 /// The words of a command, sorted.
 #[derive(Debug, Default)]
 pub struct Words {
     plain: Vec<OsString>,
     values: Vec<Value>,
+    formulas: Vec<(&'static str, String)>,
     flags: Vec<&'static str>,
     options: Vec<(&'static str, OsString)>,
 }
@@ -78,7 +82,10 @@ impl Words {
         } else if let Some((letter, numbers)) = letter_of(&text) {
             let letter =
                 find(grammar.letters, letter).ok_or_else(|| hints::no_letter(letter, grammar))?;
-            self.values.push(Value::read(letter, numbers)?);
+            match FORMULAS.contains(&letter) {
+                true => self.formulas.push((letter, numbers.to_string())),
+                false => self.values.push(Value::read(letter, numbers)?),
+            }
         } else if word.is_empty() {
             return Err(Failure::words("a word is empty"));
         } else {
@@ -141,6 +148,12 @@ impl Words {
     /// The values of a letter, in their order.
     pub fn all(&self, letter: &str) -> Vec<&Value> {
         self.values.iter().filter(|value| value.letter == letter).collect()
+    }
+
+    /// The formulas of a letter, in their order.
+    pub fn formulas(&self, letter: &str) -> Vec<&str> {
+        let of_letter = self.formulas.iter().filter(|(other, _)| *other == letter);
+        of_letter.map(|(_, text)| text.as_str()).collect()
     }
 
     /// The value of a letter that may come once.

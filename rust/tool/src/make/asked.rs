@@ -1,5 +1,6 @@
 //! The table of a sheet that is to be made.
 
+use super::linear::Linear;
 use super::stated;
 use crate::brought::{self, Brought};
 use crate::failure::{Failure, Outcome};
@@ -17,26 +18,36 @@ pub enum Asked {
     Root(usize),
     /// With these entries, in rows of one length.
     Table(Vec<Vec<u32>>),
+    /// Of linear forms over generators.
+    Linear(Linear),
 }
 
 impl Asked {
     /// The table that the words ask for.
     pub fn read(words: &Words) -> Outcome<Asked> {
         let pattern = words.plain().first().map(|word| word.to_string_lossy().into_owned());
+        if pattern.as_deref() != Some("linear") && !words.formulas("row").is_empty() {
+            return Err(Failure::words("row= has no meaning without the word linear"));
+        }
         match (pattern, words.once("table")?) {
             (Some(_), Some(_)) => Err(Failure::words("a pattern and table= are both there")),
             (None, None) => Err(Failure::words("PATTERN or table= is missing")),
             (None, Some(table)) => Asked::by_table(words, &table.rows),
+            (Some(name), None) if name == "linear" => Asked::by_forms(words),
             (Some(name), None) => Asked::by_pattern(words, &name),
         }
+    }
+
+    /// The table of linear forms over generators.
+    fn by_forms(words: &Words) -> Outcome<Asked> {
+        without_patterns(words, "for linear forms")?;
+        Ok(Asked::Linear(Linear::read(words)?))
     }
 
     /// The table of these entries.
     fn by_table(words: &Words, rows: &[Vec<u32>]) -> Outcome<Asked> {
         words.without(&["h"], "for a table")?;
-        if words.option("--patterns").is_some() {
-            return Err(Failure::words("--patterns has no meaning for a table"));
-        }
+        without_patterns(words, "for a table")?;
         match rows.iter().any(|row| row.len() != rows[0].len()) {
             true => Err(Failure::words("table= has rows of different lengths")),
             false => Ok(Asked::Table(rows.to_vec())),
@@ -62,6 +73,15 @@ impl Asked {
             Asked::Pattern(file, number, values) => by_pattern(file, *number, values, numbers),
             Asked::Root(rows) => by_table(ROOT, [*rows, *rows], &[], numbers),
             Asked::Table(rows) => by_table(EXPONENT, [rows.len(), rows[0].len()], rows, numbers),
+            Asked::Linear(linear) => linear.sheet(numbers),
+        }
+    }
+
+    /// What is said of the sheet that was made, beside its length.
+    pub fn said(&self, sheet: &Instance) -> String {
+        match self {
+            Asked::Linear(linear) => linear.claim(sheet),
+            _ => String::new(),
         }
     }
 
@@ -81,9 +101,24 @@ impl Asked {
             (Refusal::Entry, Asked::Table(rows)) => {
                 return outside("table", &rows.concat(), numbers);
             }
+            (Refusal::Entry, Asked::Linear(linear)) => {
+                return outside("h", &linear.generators, numbers);
+            }
+            (_, Asked::Linear(linear)) => match linear.refused_by(refusal, numbers[1]) {
+                Some(by) => by,
+                None => return refusal.into(),
+            },
             _ => return refusal.into(),
         };
         Failure::refused(refusal, by)
+    }
+}
+
+/// Fails where a pattern file is named, which has no meaning then.
+fn without_patterns(words: &Words, when: &str) -> Outcome {
+    match words.option("--patterns") {
+        Some(_) => Err(Failure::words(format!("--patterns has no meaning {when}"))),
+        None => Ok(()),
     }
 }
 
@@ -98,7 +133,7 @@ fn wrong_count(file: &Patterns, number: u32, found: usize) -> String {
     }
 }
 
-/// Refuses an entry or public value that is no element.
+/// Refuses an entry, public value or generator that is no element.
 fn outside(letter: &str, values: &[u32], numbers: [u32; 3]) -> Failure {
     match by_table(EXPONENT, [1, 1], &[vec![1]], numbers) {
         Ok(sheet) => brought::refused(Refusal::Entry, &[Brought::entries(&sheet, letter, values)]),

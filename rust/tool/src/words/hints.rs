@@ -55,6 +55,9 @@ pub fn one_too_many(word: &OsString, grammar: &Grammar) -> Failure {
         Some(letter) if is_value => {
             format!("; a value stands behind its letter, as in {letter}={word}")
         }
+        _ if grammar.letters.contains(&"row") && word.contains('^') => {
+            "; a row has quotes around it, as in row='h1^x3 h2^x1'".to_string()
+        }
         _ if grammar.options.contains(&"-o") => "; a file to write stands behind -o".to_string(),
         _ => String::new(),
     };

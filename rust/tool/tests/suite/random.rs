@@ -174,7 +174,7 @@ fn any_bytes_as_files_are_answered() {
 }
 
 /// Words that are wrong in most places.
-const WORDS: [&str; 24] = [
+const WORDS: [&str; 26] = [
     "",
     "-",
     "--",
@@ -196,6 +196,8 @@ const WORDS: [&str; 24] = [
     "x=1,1,1,1,1,1,1,1,1",
     "z=1/1/1",
     "K=2",
+    "row=h1^(x1+",
+    "row=h9^x4294967295",
     "99999999999",
     "é",
     "\u{1b}[1m\n",
