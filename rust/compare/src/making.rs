@@ -29,6 +29,7 @@ use std::iter::repeat_n;
 use crate::cases::Case;
 use crate::random::Random;
 
+pub use brought::change;
 pub use levels::{needed, HIGHEST};
 pub use marking::{mark_case, mark_file};
 pub use reasons::reason_case;
