@@ -5,6 +5,7 @@ mod judging; // judging.rt: the calls on a round's values
 mod marking; // marking.rt: the marker's text
 mod or_judging; // or_judging.rt: the calls on rounds of the OR proof
 mod or_proving; // or_proving.rt: the calls on Peggy's session of the OR proof
+mod playing; // playing.rt: the game's text
 mod proving; // proving.rt: the calls on Peggy's session
 mod rounds; // rounds.rt: the calls on round files
 mod sheets; // sheets.rt: the calls on sheets
