@@ -447,10 +447,10 @@ DimkhorosWritten dimkhoros_from_pattern(const uint8_t *patterns, size_t patterns
  * coefficient uses.
  */
 DIMKHOROS_CHECKED
-DimkhorosWritten dimkhoros_from_forms(uint32_t modulus, uint32_t order, uint32_t challenges, uint32_t rows, uint32_t columns,
-                                      const uint32_t *generators, size_t generator_count, const uint32_t *coefficients,
-                                      size_t coefficient_count, const uint32_t *statement, size_t statement_count,
-                                      uint8_t *buffer, size_t buffer_length);
+DimkhorosWritten dimkhoros_linear(uint32_t modulus, uint32_t order, uint32_t challenges, uint32_t rows, uint32_t columns,
+                                  const uint32_t *generators, size_t generator_count, const uint32_t *coefficients,
+                                  size_t coefficient_count, const uint32_t *statement, size_t statement_count,
+                                  uint8_t *buffer, size_t buffer_length);
 
 /* --- Peggy's session --- */
 

@@ -1,13 +1,14 @@
 /*
- * The extractor, a watch, the simulator, the OR proof and the game, for a lecture. Two rounds on one nonce give the witness away,
- * so that nobody can make such rounds without knowing it; a watch that is given the rounds of a term tells of such a nonce; rounds
- * can be simulated without the witness, so a round tells Vic nothing about it; Peggy, who knows a witness of one of two sheets,
- * simulates the other, so a round does not tell which of the two she knows; and on a small sheet all responses are tried, to see
- * which challenges a commitment can answer.
+ * The extractor, a watch, the simulator, rounds that multiply, the OR proof and the game, for a lecture. Two rounds on one nonce give
+ * the witness away, so that nobody can make such rounds without knowing it; a watch that is given the rounds of a term tells of such a
+ * nonce; rounds can be simulated without the witness, so a round tells Vic nothing about it; rounds of two sheets of one table
+ * multiply to rounds of a third; Peggy, who knows a witness of one of two sheets, simulates the other, so a round does not tell which
+ * of the two she knows; and on a small sheet all responses are tried, to see which challenges a commitment can answer.
  */
 #include "common.h"
 #include <string.h>
 
+#define MODULUS 23
 #define ORDER 11
 
 static const uint32_t witness[8] = {7};
@@ -91,6 +92,70 @@ static void show_simulator(const uint8_t *sheet, size_t length, uint32_t challen
         same = same && simulated.values[0] == peggys[r];
     }
     printf("%s\n", same ? "The rounds are the same, so none of them tells who made it." : "The rounds differ.");
+}
+
+/* A sheet of page A's table. */
+typedef struct {
+    uint32_t statement;
+    uint8_t bytes[DIMKHOROS_LONGEST_SHEET];
+    size_t length;
+} Sheet;
+
+/* The sheet of page A's table with another statement. */
+static Sheet with_statement(const uint8_t *sheet, size_t length, uint32_t statement) {
+    DimkhorosLoaded loaded = dimkhoros_load(sheet, length);
+    expect(loaded.refusal);
+    uint32_t entries[DIMKHOROS_ENTRIES];
+    expect(dimkhoros_entries(sheet, length, entries));
+    Sheet made = {.statement = statement};
+    loaded.statement[0] = statement;
+    DimkhorosWritten written = dimkhoros_encode(loaded.header, entries, loaded.statement, made.bytes, sizeof made.bytes);
+    expect(written.refusal);
+    made.length = written.length;
+    return made;
+}
+
+/* Shows a round, and what it is. */
+static void show_round(const Sheet *sheet, DimkhorosRound round, const char *what) {
+    DimkhorosJudgement verdict = dimkhoros_judge(sheet->bytes, sheet->length, round);
+    expect(verdict.refusal);
+    printf("z = %2u: t = %2u, c = %u, r = %u, %s%s\n", sheet->statement, round.commitment[0], round.challenge,
+           round.response[0], verdict.accepted ? "accepted" : "rejected in row 0", what);
+}
+
+/* The product of two rounds with one challenge: commitments are multiplied modulo m, and responses added modulo q. */
+static DimkhorosRound multiplied(DimkhorosRound one, DimkhorosRound other) {
+    DimkhorosRound product = {.challenge = one.challenge};
+    product.commitment[0] = one.commitment[0] * other.commitment[0] % MODULUS;
+    product.response[0] = (one.response[0] + other.response[0]) % ORDER;
+    return product;
+}
+
+/* The witness that two rounds give. */
+static uint32_t extracted_from(const Sheet *sheet, DimkhorosRound one, DimkhorosRound other) {
+    DimkhorosComputed extracted = dimkhoros_extract(sheet->bytes, sheet->length, one, other);
+    expect(extracted.refusal);
+    return extracted.values[0];
+}
+
+/* Rounds of two sheets with equal challenges multiply to rounds of a third, and two products give the sum of the witnesses. */
+static void show_products(const uint8_t *sheet, size_t length) {
+    printf("\nRounds that multiply. Of the same table are 2^y = 4 and, since 13 * 4 leaves 6, 2^w = 6 modulo 23.\n");
+    const Sheet first = with_statement(sheet, length, 13);
+    const Sheet second = with_statement(sheet, length, 4);
+    const Sheet third = with_statement(sheet, length, 13 * 4 % MODULUS);
+    const DimkhorosRound ones[2] = {{{9}, 3, {4}}, {{9}, 1, {1}}};
+    const DimkhorosRound others[2] = {{{4}, 3, {8}}, {{4}, 1, {4}}};
+    DimkhorosRound products[2];
+    for (int i = 0; i < 2; i++) {
+        products[i] = multiplied(ones[i], others[i]);
+        show_round(&first, ones[i], "");
+        show_round(&second, others[i], "");
+        show_round(&third, products[i], ", the product");
+    }
+    printf("the two products give w = %u, the sum of x = %u and y = %u, which their factors give\n",
+           extracted_from(&third, products[0], products[1]), extracted_from(&first, ones[0], ones[1]),
+           extracted_from(&second, others[0], others[1]));
 }
 
 /* Page A's sheet and a root sheet, y^11 = 18 modulo 35, with one K. */
@@ -210,6 +275,7 @@ int main(void) {
     show_extractor(sheet, length);
     show_watch(sheet, length);
     show_simulator(sheet, length, 3);
+    show_products(sheet, length);
     Pair pair = paired(sheet, length);
     show_or_proof(&pair);
     show_game(sheet, length);

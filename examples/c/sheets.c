@@ -74,8 +74,8 @@ static const Forms bad_forms[] = {
 
 static DimkhorosWritten make_forms(const Forms *forms, uint8_t sheet[DIMKHOROS_LONGEST_SHEET]) {
     const uint32_t statement[2] = {1, 8};
-    return dimkhoros_from_forms(23, 11, 11, 2, 4, forms->generators, forms->generator_count, forms->coefficients, 24,
-                                statement, 2, sheet, DIMKHOROS_LONGEST_SHEET);
+    return dimkhoros_linear(23, 11, 11, 2, 4, forms->generators, forms->generator_count, forms->coefficients, 24,
+                            statement, 2, sheet, DIMKHOROS_LONGEST_SHEET);
 }
 
 static DimkhorosWritten make(const File *file, const Plan *plan, uint8_t sheet[DIMKHOROS_LONGEST_SHEET]) {

@@ -21,7 +21,7 @@ EXPORTS = {
     "encode": (c.Written, [c.Header, Numbers, Numbers, *Given]),
     "patterns": (c.Written, [*Given]),
     "from_pattern": (c.Written, [*Given, U32, U32, U32, U32, Numbers, Size, Numbers, Size, *Given]),
-    "from_forms": (
+    "linear": (
         c.Written,
         [U32, U32, U32, U32, U32, Numbers, Size, Numbers, Size, Numbers, Size, *Given],
     ),

@@ -129,7 +129,7 @@ class Instance:
         ]
         sheet = buffer(LONGEST_SHEET)
         given_lists = [part for values in lists for part in (several(values), len(values))]
-        written = calls.from_forms(*fixed, *given_lists, sheet, len(sheet))
+        written = calls.linear(*fixed, *given_lists, sheet, len(sheet))
         check(written.refusal)
         return cls(sheet.raw[: written.length])
 

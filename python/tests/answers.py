@@ -210,7 +210,7 @@ class Answers:
         made = Instance.from_pattern(patterns, inputs.number("pattern"), **fixed, **lists)
         return written(made.bytes, inputs.bytes("buffer"))
 
-    def from_forms(self, inputs):
+    def linear(self, inputs):
         """The sheet of linear forms."""
         coefficients = itertools.chain.from_iterable(inputs.rows("coefficients"))
         forms = Forms(inputs.number("s"), inputs.number("n"), tuple(coefficients))

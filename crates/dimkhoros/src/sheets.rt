@@ -86,7 +86,7 @@ pub extern "C" fn dimkhoros_from_pattern(
 // 6, 7, 8, 29, 30, 10, 11 or 22. The coefficients stand by row, then generator, then column. No byte after the sheet is changed, and
 // a refused call changes none.
 #[no_mangle]
-pub extern "C" fn dimkhoros_from_forms(
+pub extern "C" fn dimkhoros_linear(
     modulus: u32,
     order: u32,
     challenges: u32,

@@ -1,5 +1,5 @@
--- Worked games (02, card 12): the whole text on page A's sheet, page D's, page G's, on sheets whose image has a kernel, on statements
--- without a witness, and where something is refused.
+-- Worked games (02, card 12): the whole text on page A's sheet, page D's, page G's, on page E's table, on sheets whose image has a kernel,
+-- on statements without a witness, and where something is refused.
 -- Assumes nothing.
 use Prim.Native.Nat.{ℕ}
 use mathlib.Core.Path.{_≡_}
@@ -31,6 +31,8 @@ pub record GamePage : Type 0 where
   -- page D with t 1: of the eleven responses to 1 the one with the lowest first slot, (0, 9), and not (6, 0)
   pub D : gameText okamotoBytes (oneRound (1 ∷ 0 ∷ 0 ∷ 0 ∷ []))
       ≡ ascii "0 0 0\n1 0 9\n2 0 7\n3 0 5\n4 0 3\n5 0 1\n6 0 10\n7 0 8\n8 0 6\n9 0 4\n10 0 2\n"
+  -- page E's table, 2 and 16, with z (13, 13): row 0 alone would answer every challenge, and both rows agree for r 0 alone
+  pub two-rows : gameText (sheetBytes 1 23 11 11 2 1 (2 ∷ 16 ∷ 13 ∷ 13 ∷ [])) (oneRound (9 ∷ 9 ∷ 0 ∷ 0 ∷ [])) ≡ ascii "4 0\n"
   -- page G with t 33
   pub G : playOn rootBytes 33 ≡ ascii "0 3\n1 6\n2 12\n3 24\n4 13\n"
   -- m 31, q 15, K 3, entry 1, z 2 has no witness: t 1 answers 0, t 16 answers 1, and t 2 none
@@ -40,8 +42,9 @@ pub record GamePage : Type 0 where
   -- entry 2 has the order 5 for q 15, and z 4 a witness: t 1 answers all, and 5, a group element that is no image, none
   pub kernel : playOn (smallSheet 31 15 3 2 4) 1 ≡ ascii "0 0\n1 2\n2 4\n"
   pub no-image : playOn (smallSheet 31 15 3 2 4) 5 ≡ ascii "none\n"
-  -- m 7, e 3: 1 and 6 have three roots each; z 6 has a root, and z 2 none
+  -- m 7, e 3: 1 and 6 have three roots each, and no other number has one; z 6 has a root, and z 2 none
   pub roots : playOn (sheetBytes 2 7 3 3 1 1 (6 ∷ [])) 1 ≡ ascii "0 1\n1 3\n2 1\n"
+  pub none-rooted : playOn (sheetBytes 2 7 3 3 1 1 (6 ∷ [])) 2 ≡ ascii "none\n"
   pub no-root : playOn (sheetBytes 2 7 3 3 1 1 (2 ∷ [])) 3 ≡ ascii "1 3\n"
   -- what is refused: no sheet, no file, no round, a t that is no group element, and a sheet of kind 2 with two rows
   pub no-sheet : gameText [] exampleFile ≡ ascii "refused 2\n"

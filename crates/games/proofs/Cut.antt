@@ -18,7 +18,7 @@ use Rattle.games.proofs.Number.{number-checked}
 use Rattle.games.proofs.Playing.{refused-line}
 
 -- what the check refuses has the one line with its number
-checked-line : (sheet f : List ℕ) → 0 < checkRound sheet f 0
+pub checked-line : (sheet f : List ℕ) → 0 < checkRound sheet f 0
     → gameText sheet f ≡ ascii "refused " ++ decimal (checkRound sheet f 0) ++ ascii "\n"
 checked-line sheet f some = refused-line sheet f (checkRound sheet f 0) (number-checked sheet f some) some
 

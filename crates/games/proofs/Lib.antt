@@ -5,8 +5,9 @@ pub mod Smallest
 pub mod Lines
 pub mod FirstByte
 pub mod Tests
-pub mod Playing
 pub mod Number
+pub mod Words
+pub mod Playing
 pub mod Length
 pub mod Cut
 pub mod Corollaries

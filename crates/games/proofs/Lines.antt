@@ -21,7 +21,7 @@ use Rattle.games.specs.Ours.{Answers, AnswersOf, Smallest}
 use Rattle.games.specs.Prints.{shown, shownLine}
 use Rattle.games.specs.Text.{answerLine, answered, candidate, candidates, firstAnswer, isAnswered, linesOf}
 use Rattle.games.proofs.Game.{answered-below}
-use Rattle.games.proofs.Smallest.{first-accepted, first-least, length-candidate, none-accepted}
+use Rattle.games.proofs.Smallest.{first-accepted, first-leading, first-least, length-candidate, none-accepted}
 
 module _ (inst : Instance) (t : List ℕ) where
   -- the response that is shown for a challenge
@@ -81,6 +81,7 @@ module _ (sheet : List ℕ) (loaded : loadRefusal sheet ≡ 0)
         slots = length-candidate inst valid one (firstAnswer inst t c);
         accepted = accepts-loaded sheet loaded _ .1 (first-accepted inst valid one t c found);
         least = λ r e. first-least inst valid one t c found r (accepts-loaded sheet loaded _ .0 e);
+        leading = λ r e. first-leading inst valid one t c found r (accepts-loaded sheet loaded _ .0 e);
       }
 
   -- all of it

@@ -3,7 +3,9 @@
 use Prim.Native.Nat.{ℕ, _<_}
 use mathlib.Core.Path.{_≡_, sym, ap, _∙_}
 use mathlib.Core.List.{List, [], _∷_, _++_, append-assoc}
+use native.Mathlib.Omega.{arith}
 use Rattle.rules.specs.Rule.{Rule, _when_, lowest}
+use Rattle.rules.proofs.Determined.{either}
 use Rattle.rules.proofs.Lowest.{lowest-earlier, lowest-later-zero}
 use Rattle.formats.specs.Load.{loadRules}
 use Rattle.formats.specs.RoundCalls.{checkAfter, checkRound, roundRules}
@@ -33,3 +35,8 @@ module _ (sheet f : List ℕ) where
   number-own none =
       checked-first
       ∙ lowest-later-zero (loadRules sheet ++ roundRules (headerOf sheet) f 0) ownRules (check-positive sheet (headerOf sheet) f 0) none
+
+  -- what is not refused is checked
+  pub number-none : gameRefusal sheet f ≡ 0 → checkRound sheet f 0 ≡ 0
+  number-none none =
+      either (checkRound sheet f 0) (λ checked. checked) (λ some. absurd (omega (arith, number-checked some, none, some)))

@@ -24,8 +24,8 @@ use Rattle.runs.specs.Same.{SameRuns}
 use Rattle.sigma.specs.Reads.{Agree}
 use Rattle.sigma.specs.Refusals.{Refusal14}
 use Rattle.games.specs.GameCalls.{GameCalls}
-use Rattle.games.specs.Prints.{AnswersOf, GamePrints, GameRefusals, Smallest, shown, shownLine}
-use Rattle.games.specs.Refusals.{Refusal31, gameConditions, named}
+use Rattle.games.specs.Prints.{AnswersOf, GamePrints, GameRefusals, Smallest, commitmentWords, shown, shownLine}
+use Rattle.games.specs.Refusals.{Refusal31, gameConditions}
 use Rattle.games.specs.Same.{SameGames}
 use Rattle.games.specs.Slots.{Before}
 
@@ -81,15 +81,15 @@ module _ {files files′ : FileCalls} {runs runs′ : RunCalls} {games games′ 
     (fetched : (s f : List ℕ) (k : ℕ) → files .fetchRound s f k ≡ files′ .fetchRound s f k) (same : SameRuns runs runs′) where
   text-same : (sheet f : List ℕ) → games .gameText sheet f ≡ games′ .gameText sheet f
   text-same sheet f =
-      let one : named files′ sheet f ≡ named files sheet f = ap (λ (x : Fetched). x .round .commitment) (sym (fetched sheet f 0)) in
-      let asked : List ℕ → List Condition = λ t.
-      roundConditions (headerOf sheet) f 0 ++ (14 if Refusal14 (instanceOf sheet) t) ∷ (31 if Refusal31 (headerOf sheet)) ∷ [] in
+      let asked : Fetched → List Condition = λ x.
+      roundConditions (headerOf sheet) f 0 ++
+      (14 if Refusal14 (instanceOf sheet) (x .round .commitment)) ∷ (31 if Refusal31 (headerOf sheet)) ∷ [] in
       let (n, number) = r .playing sheet f in
       let (n′, number′) = r′ .playing sheet f in
       let given′ = number′ .given in
       refused-or-not number
-      (subst (λ (t : List ℕ). RefusesOn sheet (12 ∷ 13 ∷ 14 ∷ 31 ∷ []) (asked t) n′
-      (games′ .gameText sheet f ≡ ascii "refused " ++ decimal n′ ++ ascii "\n")) one number′)
+      (subst (λ (x : Fetched). RefusesOn sheet (12 ∷ 13 ∷ 14 ∷ 31 ∷ []) (asked x) n′
+      (games′ .gameText sheet f ≡ ascii "refused " ++ decimal n′ ++ ascii "\n")) (sym (fetched sheet f 0)) number′)
       (λ alike left left′. left ∙ ap (λ (k : ℕ). ascii "refused " ++ decimal k ++ ascii "\n") alike ∙ sym left′)
       (λ e e′ none.
       let (cs, response, of, text) =
@@ -97,8 +97,7 @@ module _ {files files′ : FileCalls} {runs runs′ : RunCalls} {games games′ 
       let (cs′, response′, of′, text′) =
       d′ .lines sheet f (subst (Given (loadConditions sheet ++ gameConditions files′ sheet f)) e′ given′) in
       text
-      ∙ shown-same same sheet (named files sheet f) cs cs′ response response′ of
-      (subst (λ (t : List ℕ). AnswersOf runs′ sheet t cs′ response′) one of′)
+      ∙ shown-same same sheet (commitmentWords sheet f) cs cs′ response response′ of of′
       ∙ sym text′)
 
   pub only-games : SameGames games games′

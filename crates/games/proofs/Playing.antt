@@ -24,12 +24,14 @@ use Rattle.runs.specs.Ours.{runCalls}
 use Rattle.sigma.proofs.Valid.{valid-kind}
 use Rattle.games.specs.Game.{Answers}
 use Rattle.games.specs.Ours.{gameCalls, gameConditions}
-use Rattle.games.specs.Prints.{AnswersOf, GamePrints, GameRefusals, shown}
-use Rattle.games.specs.Refusals.{Refusal31, named}
+use Rattle.games.specs.Prints.{AnswersOf, GamePrints, GameRefusals, commitmentWords, shown}
+use Rattle.games.specs.Refusals.{Refusal31}
 use Rattle.games.specs.Text.{answerLines, answered, gameRefusal, gameText, namedCommitment, textOf}
 use Rattle.games.proofs.FirstByte.{shown-none}
 use Rattle.games.proofs.Lines.{answers-of, firstResponse, lines-shown}
+use Rattle.games.proofs.Number.{number-none}
 use Rattle.games.proofs.Tests.{game-tests}
+use Rattle.games.proofs.Words.{answers-agree, named-agree}
 
 module _ (sheet f : List ℕ) where
   -- the text of what is refused is the one line with its number
@@ -79,18 +81,24 @@ module _ (sheet f : List ℕ) where
     text-shown = rw none (lines-shown (instanceOf sheet) (namedCommitment sheet f) (answered (instanceOf sheet) (namedCommitment sheet f)))
 
     abbrev Lines : Type 0
-    Lines = (challenges : List ℕ) × (response : ℕ → List ℕ) × AnswersOf runCalls sheet (named fileCalls sheet f) challenges response
+    Lines = (challenges : List ℕ) × (response : ℕ → List ℕ) × AnswersOf runCalls sheet (commitmentWords sheet f) challenges response
         × (gameText sheet f ≡ shown response challenges)
 
     -- all of it
     pub game-lines : Lines
-    unfolding namedCommitment
     game-lines =
         let t = namedCommitment sheet f in
-        (answered (instanceOf sheet) t, firstResponse (instanceOf sheet) t, answers-of sheet game-loads one-column t, text-shown)
+        let challenges = answered (instanceOf sheet) t in
+        let response = firstResponse (instanceOf sheet) t in (
+          challenges,
+          response,
+          answers-agree sheet t (commitmentWords sheet f) (named-agree sheet f (number-none sheet f none)) challenges response
+              (answers-of sheet game-loads one-column t),
+          text-shown,
+        )
 
     -- it is `none` exactly if no challenge is answered
-    pub game-none : (gameText sheet f ≡ ascii "none\n") ↔ ((c : ℕ) → ¬ Answers runCalls sheet (named fileCalls sheet f) c)
+    pub game-none : (gameText sheet f ≡ ascii "none\n") ↔ ((c : ℕ) → ¬ Answers runCalls sheet (commitmentWords sheet f) c)
     game-none =
         let (challenges, response, of, text) = game-lines in
         let empty = shown-none response challenges in (

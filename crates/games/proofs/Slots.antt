@@ -7,9 +7,10 @@ use native.Mathlib.Decide.{decLt}
 use native.Mathlib.Nat.{add-zero, mul-add-div-right, mul-add-mod-self-right, mul-le-mul-right, one-le-pow, pow-succ', pow-zero}
 use native.Mathlib.Nat.{div-add-mod', div-eq-of-lt, div-lt-iff-lt-mul, le-div-iff-mul-le, mod-eq-of-lt, mod-lt}
 use native.Mathlib.Omega.{arith}
-use lib.ListN.{length}
+use lib.ListN.{getD, length}
 use Rattle.lists.specs.Each.{Each}
 use Rattle.lists.proofs.Each.{each-length}
+use Rattle.rules.proofs.Determined.{below-or-not}
 use Rattle.sigma.specs.Reads.{Agree}
 use Rattle.games.specs.Slots.{Before, slotsOf}
 
@@ -95,3 +96,13 @@ module _ (q : ℕ) (some : 0 < q) where
           lower = later .lower;
         }
   ]
+
+-- where two agree in all earlier slots, the one that comes first has no higher number
+pub before-leads : (n : ℕ) (x r : List ℕ) → Before n x r → (j : ℕ) → Agree j x r → getD x j 0 ≤ getD r j 0
+before-leads n x r first j same =
+    below-or-not j (first .slot) (λ early. omega (arith, first .earlier j early))
+    (λ late. below-or-not (first .slot) j (λ passed. absurd (omega (arith, first .lower, same (first .slot) passed)))
+    (λ reached.
+    let here : first .slot ≡ j = omega (arith, late, reached) in
+    let lower = subst (λ (i : ℕ). getD x i 0 < getD r i 0) here (first .lower) in
+    omega (arith, lower)))

@@ -3,7 +3,7 @@
 use Prim.Native.Nat.{ℕ, zero, suc, _<_, _≤_}
 use mathlib.Core.Path.{_≡_, refl, sym, ap, _∙_, subst}
 use mathlib.Core.Bool.{Bool, true, false≢true}
-use mathlib.Core.Logic.{_⊎_, _≢_, inl, inr}
+use mathlib.Core.Logic.{_⊎_, _≢_, inl, inr, ⊎-elim}
 use mathlib.Core.List.{List, [], _∷_}
 use native.Mathlib.Decide.{decLt}
 use native.Mathlib.Omega.{arith}
@@ -26,7 +26,7 @@ use Rattle.sigma.proofs.Tests.{says-accepted}
 use Rattle.sigma.proofs.Unread.{judge-same}
 use Rattle.games.specs.Slots.{Before}
 use Rattle.games.specs.Text.{candidate, candidates, firstAnswer}
-use Rattle.games.proofs.Slots.{indexOf, index-below, length-slots, slots-of-index, slots-rise}
+use Rattle.games.proofs.Slots.{before-leads, indexOf, index-below, length-slots, slots-of-index, slots-rise}
 
 module _ (inst : Instance) (v : Valid inst) (one : inst .header .kind ≢ 1 → inst .header .columns ≡ 1) where
   -- there are candidates
@@ -120,6 +120,15 @@ module _ (inst : Instance) (v : Valid inst) (one : inst .header .kind ≢ 1 → 
           earlier = λ j d. b .earlier j d ∙ same j (omega (arith, b .inside));
           lower = subst (λ (u : ℕ). getD x (b .slot) 0 < u) (same (b .slot) (b .inside)) (b .lower);
         }
+
+    -- so in each slot it has the lowest number of those that agree with it in all earlier slots
+    pub first-leading : firstAnswer inst t c < candidates (inst .header) → (r : List ℕ) → AcceptedRound inst (roundOf t c r)
+        → (j : ℕ) → j < inst .header .columns → Agree j (candidate (inst .header) (firstAnswer inst t c)) r
+        → getD (candidate (inst .header) (firstAnswer inst t c)) j 0 ≤ getD r j 0
+    first-leading found r e j b same =
+        let x = candidate (inst .header) (firstAnswer inst t c) in
+        ⊎-elim (λ (agree : Agree (inst .header .columns) x r). omega (arith, agree j b))
+        (λ (first : Before (inst .header .columns) x r). before-leads (inst .header .columns) x r first j same) (first-least found r e)
 
     -- where none answers, no response is accepted
     pub none-accepted : candidates (inst .header) ≤ firstAnswer inst t c → (r : List ℕ) → ¬ AcceptedRound inst (roundOf t c r)

@@ -24,7 +24,7 @@ mod writers;
 
 pub use extracting::extract;
 pub use files::{check, count, part, read, same_commitment};
-pub use forms::from_forms;
+pub use forms::linear;
 pub use list::{Fault, FAULTS};
 pub use marking::mark;
 pub use or_extracting::or_extract;

@@ -64,7 +64,7 @@ pub fn from_pattern(
     written(made)
 }
 
-pub fn from_forms(forms: &Forms, buffer: &mut [u8]) -> Written {
+pub fn linear(forms: &Forms, buffer: &mut [u8]) -> Written {
     let header = forms.header;
     written(linear::make(
         header.modulus,

@@ -59,7 +59,7 @@ pub enum Library {
 /// library's module.
 macro_rules! calls {
     ($($name:ident($($argument:ident: $type:ty),*) -> $answer:ty;)*) => {
-        #[allow(clippy::wrong_self_convention, reason = "from_pattern and from_forms are names of calls")]
+        #[allow(clippy::wrong_self_convention, reason = "from_pattern is the name of a call")]
         #[allow(clippy::too_many_arguments, reason = "the calls take these")]
         impl Library {
             $(pub fn $name(self, $($argument: $type),*) -> $answer {
@@ -84,7 +84,7 @@ calls! {
     from_pattern(
         patterns: &[u8], plan: Plan, values: &[u32], statement: &[u32], buffer: &mut [u8]
     ) -> Written;
-    from_forms(forms: &Forms, buffer: &mut [u8]) -> Written;
+    linear(forms: &Forms, buffer: &mut [u8]) -> Written;
 
     count(sheet: &[u8], file: &[u8]) -> Counted;
     check(sheet: &[u8], file: &[u8], number: usize) -> u32;

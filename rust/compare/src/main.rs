@@ -5,7 +5,7 @@
 //! Both libraries get it, and every field of the answers and every byte of a
 //! lent buffer must be the same. The first difference is printed and ends the
 //! run. Last page K, files at every level and all masks of rows are run in both,
-//! demand 3 and cards 4 and 6 are tried on small sheets, and card 9 in long runs.
+//! demand 3 and cards 4, 6 and 11 are tried on small sheets, and card 9 in long runs.
 //! Exit status: 0 no difference, 1 a difference, something met too seldom or a
 //! program that is missing, 2 wrong words or a place to which nothing can be
 //! written.
@@ -27,6 +27,7 @@ mod levels;
 mod library;
 mod making;
 mod masks;
+mod multiplying;
 mod one_of_two;
 mod options;
 mod outcome;
@@ -119,5 +120,6 @@ fn stages(options: &Options) -> Result<(), String> {
     println!("{}", one_of_two::check(options.other)?);
     println!("{}", whole_rounds::check(options.other)?);
     println!("{}", watching::check(options.other)?);
+    println!("{}", multiplying::check(options.other)?);
     Ok(())
 }

@@ -29,6 +29,7 @@ use std::iter::repeat_n;
 use crate::cases::Case;
 use crate::random::Random;
 
+pub use brought::change;
 pub use levels::{needed, HIGHEST};
 pub use marking::{mark_case, mark_file};
 pub use reasons::reason_case;
@@ -44,7 +45,7 @@ const SHARES: [(Maker, usize); 37] = [
     (sheets::encode, 4),
     (patterns::patterns, 1),
     (patterns::from_pattern, 4),
-    (forms::from_forms, 5),
+    (forms::linear, 5),
     (files::count, 2),
     (files::check, 2),
     (files::part, 2),

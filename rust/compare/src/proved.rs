@@ -18,9 +18,9 @@ pub fn from_pattern(
 }
 
 /// Gives the numbers and lists of the forms to the maker one by one.
-pub fn from_forms(forms: &Forms, buffer: &mut [u8]) -> Written {
+pub fn linear(forms: &Forms, buffer: &mut [u8]) -> Written {
     let header = forms.header;
-    dimkhoros_sys::from_forms(
+    dimkhoros_sys::linear(
         header.modulus,
         header.order,
         header.challenges,

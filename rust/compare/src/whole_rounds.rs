@@ -84,7 +84,7 @@ fn multiplied(lists: &[Places], used: u32, modulus: u32) -> Places {
 }
 
 /// Every s group elements of a sheet.
-fn elements(sheet: &Sheet) -> Vec<Places> {
+pub fn elements(sheet: &Sheet) -> Vec<Places> {
     let header = sheet.header;
     let group = Group::new(header.kind, header.modulus, header.order);
     let all: Vec<u32> = (1..header.modulus)

@@ -1,8 +1,8 @@
-//! The extractor, a watch, the simulator, the OR proof and the game, for a lecture. Two rounds on one nonce give the witness away,
-//! so that nobody can make such rounds without knowing it; a watch that is given the rounds of a term tells of such a nonce; rounds
-//! can be simulated without the witness, so a round tells Vic nothing about it; Peggy, who knows a witness of one of two sheets,
-//! simulates the other, so a round does not tell which of the two she knows; and on a small sheet all responses are tried, to see
-//! which challenges a commitment can answer.
+//! The extractor, a watch, the simulator, rounds that multiply, the OR proof and the game, for a lecture. Two rounds on one nonce give
+//! the witness away, so that nobody can make such rounds without knowing it; a watch that is given the rounds of a term tells of such a
+//! nonce; rounds can be simulated without the witness, so a round tells Vic nothing about it; rounds of two sheets of one table
+//! multiply to rounds of a third; Peggy, who knows a witness of one of two sheets, simulates the other, so a round does not tell which
+//! of the two she knows; and on a small sheet all responses are tried, to see which challenges a commitment can answer.
 
 mod common;
 
@@ -14,6 +14,9 @@ use dimkhoros::{
 };
 
 const WITNESS: Places = [7, 0, 0, 0, 0, 0, 0, 0];
+
+/// The modulus of page A's sheet.
+const MODULUS: u32 = 23;
 
 /// The order of page A's sheet, and so the count of nonces and of responses. It is the challenge count too.
 const ORDER: usize = 11;
@@ -62,7 +65,7 @@ fn show_watch(instance: &Instance) -> Result<(), Refusal> {
     );
     let mut watch = Watch::open(instance);
     for [t, c, r] in TERM {
-        let round = Round { commitment: places([t]), challenge: c, response: places([r]) };
+        let round = round_of([t, c, r]);
         let heard = watch.hear(instance, &round)?;
         print!("t = {t}, c = {c}, r = {r:2}, {}", heard.verdict);
         if let Some(reuse) = heard.reuse {
@@ -97,6 +100,51 @@ fn show_simulator(instance: &Instance, challenge: u32) -> Result<(), Refusal> {
         "The rounds differ."
     };
     println!("{verdict}");
+    Ok(())
+}
+
+/// A round of page A's table.
+fn round_of([t, c, r]: [u32; 3]) -> Round {
+    Round { commitment: places([t]), challenge: c, response: places([r]) }
+}
+
+/// Shows a round, and what it is.
+fn show_round(sheet: &Instance, round: &Round, what: &str) -> Result<(), Refusal> {
+    let (t, c, r) = (round.commitment[0], round.challenge, round.response[0]);
+    let (z, verdict) = (sheet.values().statement[0], sheet.judge(round)?);
+    println!("z = {z:2}: t = {t:2}, c = {c}, r = {r}, {verdict}{what}");
+    Ok(())
+}
+
+/// The product of two rounds with one challenge: commitments are multiplied modulo m, and responses added modulo q.
+fn multiplied(one: &Round, other: &Round) -> Round {
+    let t = one.commitment[0] * other.commitment[0] % MODULUS;
+    let r = (one.response[0] + other.response[0]) % ORDER as u32;
+    round_of([t, one.challenge, r])
+}
+
+/// Rounds of two sheets with equal challenges multiply to rounds of a third, and two products give the sum of the witnesses.
+fn show_products(instance: &Instance) -> Result<(), Refusal> {
+    println!(
+        "\nRounds that multiply. Of the same table are 2^y = 4 and, since 13 * 4 leaves 6, 2^w = 6 modulo 23."
+    );
+    let first = instance.with_statement(&places([13]))?;
+    let second = instance.with_statement(&places([4]))?;
+    let third = instance.with_statement(&places([13 * 4 % MODULUS]))?;
+    let ones = [[9, 3, 4], [9, 1, 1]].map(round_of);
+    let others = [[4, 3, 8], [4, 1, 4]].map(round_of);
+    let products = [0, 1].map(|i| multiplied(&ones[i], &others[i]));
+    for i in 0..2 {
+        show_round(&first, &ones[i], "")?;
+        show_round(&second, &others[i], "")?;
+        show_round(&third, &products[i], ", the product")?;
+    }
+    let x = first.extract(&ones[0], &ones[1])?[0];
+    let y = second.extract(&others[0], &others[1])?[0];
+    let w = third.extract(&products[0], &products[1])?[0];
+    println!(
+        "the two products give w = {w}, the sum of x = {x} and y = {y}, which their factors give"
+    );
     Ok(())
 }
 
@@ -226,6 +274,7 @@ fn main() -> Result<(), Refusal> {
     show_extractor(&instance)?;
     show_watch(&instance)?;
     show_simulator(&instance, 3)?;
+    show_products(&instance)?;
     let roots = roots()?;
     show_or_proof(&Pair::new(&instance, &roots)?)?;
     show_game(&instance)

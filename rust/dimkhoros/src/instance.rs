@@ -126,7 +126,7 @@ impl Instance {
         let mut sheet = [0; LONGEST_SHEET];
         let LinearPlan { modulus, order, challenges, generators, forms, statement } = *plan;
         let Forms { rows, columns, coefficients } = forms;
-        let written = sys::from_forms(
+        let written = sys::linear(
             modulus,
             order,
             challenges,

@@ -98,7 +98,7 @@ pub fn from_pattern(
 /// column.
 #[inline]
 #[allow(clippy::too_many_arguments, reason = "the export takes these")]
-pub fn from_forms(
+pub fn linear(
     modulus: u32,
     order: u32,
     challenges: u32,
@@ -111,7 +111,7 @@ pub fn from_forms(
 ) -> Written {
     // SAFETY: the slices are given by their pointers and lengths.
     unsafe {
-        dimkhoros_from_forms(
+        dimkhoros_linear(
             modulus,
             order,
             challenges,

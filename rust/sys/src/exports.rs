@@ -38,7 +38,7 @@ unsafe extern "C" {
         buffer_length: usize,
     ) -> Written;
 
-    pub fn dimkhoros_from_forms(
+    pub fn dimkhoros_linear(
         modulus: u32,
         order: u32,
         challenges: u32,

@@ -23,7 +23,7 @@ pub enum Writing {
         values: Vec<u32>,
         statement: Vec<u32>,
     },
-    FromForms {
+    Linear {
         forms: Forms,
     },
     Empty {
@@ -53,7 +53,7 @@ impl Writing {
             Writing::Encode { .. } => Call::Encode,
             Writing::Patterns => Call::Patterns,
             Writing::FromPattern { .. } => Call::FromPattern,
-            Writing::FromForms { .. } => Call::FromForms,
+            Writing::Linear { .. } => Call::Linear,
             Writing::Empty { .. } => Call::Empty,
             Writing::Append { .. } => Call::Append,
             Writing::Convert { .. } => Call::Convert,
@@ -72,7 +72,7 @@ impl Writing {
                 values,
                 statement,
             } => library.from_pattern(patterns, *plan, values, statement, buffer),
-            Writing::FromForms { forms } => library.from_forms(forms, buffer),
+            Writing::Linear { forms } => library.linear(forms, buffer),
             Writing::Empty { version } => library.empty(*version, buffer),
             Writing::Append { sheet, used, round } => library.append(sheet, buffer, *used, round),
             Writing::Convert { sheet, file } => library.convert(sheet, file, buffer),
@@ -91,7 +91,7 @@ impl Case for WriterCase {
         match &self.writing {
             Writing::Encode { sheet } => Some(sheet.header),
             Writing::FromPattern { plan, .. } => Some(plan.header()),
-            Writing::FromForms { forms } => Some(forms.header),
+            Writing::Linear { forms } => Some(forms.header),
             Writing::Patterns | Writing::Empty { .. } => None,
             Writing::Append { sheet, .. } | Writing::Convert { sheet, .. } => sheets::header(sheet),
         }
@@ -126,7 +126,7 @@ impl fmt::Display for WriterCase {
                 writeln!(out, "    values {}", numbers(values))?;
                 writeln!(out, "    statement {}", numbers(statement))?;
             }
-            Writing::FromForms { forms } => show_forms(out, forms)?,
+            Writing::Linear { forms } => show_forms(out, forms)?,
             Writing::Patterns => {}
             Writing::Empty { version } => writeln!(out, "    version {version:#x}")?,
             Writing::Append { sheet, used, round } => {

@@ -7,9 +7,9 @@ use crate::groups::Group;
 use crate::library::Library::Judge;
 use crate::library::{Forms, Written};
 
-pub fn from_forms(fault: Fault, forms: &Forms, buffer: &mut [u8]) -> Written {
+pub fn linear(fault: Fault, forms: &Forms, buffer: &mut [u8]) -> Written {
     let before = buffer.to_vec();
-    let right = Judge.from_forms(forms, buffer);
+    let right = Judge.linear(forms, buffer);
     let mended = match right.refusal {
         0 => return written(fault, forms, &before, buffer),
         22 => return too_short(fault, forms, buffer),
@@ -23,7 +23,7 @@ pub fn from_forms(fault: Fault, forms: &Forms, buffer: &mut [u8]) -> Written {
         let number = other_number(fault, forms, buffer.len(), right.refusal);
         return refused(number);
     };
-    let answer = Judge.from_forms(&mended, buffer);
+    let answer = Judge.linear(&mended, buffer);
     if answer.refusal == 0 {
         let header = mended.header;
         let read = Forms {
@@ -104,7 +104,7 @@ fn written(fault: Fault, forms: &Forms, before: &[u8], buffer: &mut [u8]) -> Wri
 /// What becomes of a buffer that is too short.
 fn too_short(fault: Fault, forms: &Forms, buffer: &mut [u8]) -> Written {
     let mut whole = vec![0; sheet_length(&forms.header)];
-    let Written { length, .. } = Judge.from_forms(forms, &mut whole);
+    let Written { length, .. } = Judge.linear(forms, &mut whole);
     match fault {
         Fault::FormsShortWritten => buffer.copy_from_slice(&whole[..buffer.len()]),
         Fault::FormsRefusedLength => {
@@ -235,14 +235,14 @@ fn other_number(fault: Fault, forms: &Forms, length: usize, number: u32) -> u32 
         }
         (Fault::FormsCoefficientsLate, 30) => {
             mended.coefficients.fill(0);
-            match Judge.from_forms(&mended, &mut []).refusal {
+            match Judge.linear(&mended, &mut []).refusal {
                 10 => 10,
                 _ => 30,
             }
         }
         (Fault::FormsStatementFirst, 10) => {
             mended.generators.fill(1);
-            match Judge.from_forms(&mended, &mut []).refusal {
+            match Judge.linear(&mended, &mut []).refusal {
                 11 => 11,
                 _ => 10,
             }

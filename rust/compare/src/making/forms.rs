@@ -9,7 +9,7 @@ use crate::library::{Forms, Header};
 use crate::random::Random;
 
 /// A case of the maker.
-pub fn from_forms(random: &mut Random) -> Box<dyn Case> {
+pub fn linear(random: &mut Random) -> Box<dyn Case> {
     Box::new(case(random))
 }
 
@@ -25,14 +25,14 @@ fn case(random: &mut Random) -> WriterCase {
         }
     }
     WriterCase {
-        writing: Writing::FromForms { forms },
+        writing: Writing::Linear { forms },
         lent: Lent::for_result(random, needed),
     }
 }
 
 /// The numbers that inputs can be spoilt with. The buffer is lent apart.
 fn made_numbers() -> impl Iterator<Item = u32> {
-    let numbers = Call::FromForms.others().iter().copied();
+    let numbers = Call::Linear.others().iter().copied();
     numbers.filter(|number| *number != 22)
 }
 
@@ -182,7 +182,7 @@ mod tests {
     /// What is given to the maker, and how long its buffer is.
     fn given(case: &WriterCase) -> (&Forms, usize) {
         match &case.writing {
-            Writing::FromForms { forms } => (forms, case.lent.to - case.lent.from),
+            Writing::Linear { forms } => (forms, case.lent.to - case.lent.from),
             _ => unreachable!(),
         }
     }

@@ -80,10 +80,10 @@ fn written(answer: Written, before: &[u8], after: &[u8]) -> String {
 }
 
 /// The maker of sheets from linear forms, which is given no sheet and no file.
-fn from_forms(library: Library, inputs: &mut Inputs) -> Result<String, String> {
+fn linear(library: Library, inputs: &mut Inputs) -> Result<String, String> {
     let (before, forms) = (inputs.bytes("buffer")?, inputs.forms()?);
     let mut after = before.clone();
-    let answer = library.from_forms(&forms, &mut after);
+    let answer = library.linear(&forms, &mut after);
     Ok(written(answer, &before, &after))
 }
 
@@ -110,7 +110,7 @@ impl Given {
             Call::Load => Ok(self.load(library)),
             Call::Entries => Ok(self.entries(library)),
             Call::Encode | Call::FromPattern => self.sheet_writer(library, call, inputs),
-            Call::FromForms => from_forms(library, inputs),
+            Call::Linear => linear(library, inputs),
             Call::Count | Call::Check | Call::Part | Call::Read => {
                 self.reader(library, call, inputs)
             }

@@ -27,7 +27,7 @@ size_t look(const uint8_t *sheet, size_t length, uint8_t *bytes, uint32_t *eight
     LOOK(dimkhoros_encode(header, table, eight, bytes, length), .refusal);
     LOOK(dimkhoros_patterns(bytes, length), .refusal);
     LOOK(dimkhoros_from_pattern(sheet, length, 1, 23, 11, 11, eight, 1, eight, 1, bytes, length), .refusal);
-    LOOK(dimkhoros_from_forms(23, 11, 11, 1, 1, eight, 1, eight, 1, eight, 1, bytes, length), .refusal);
+    LOOK(dimkhoros_linear(23, 11, 11, 1, 1, eight, 1, eight, 1, eight, 1, bytes, length), .refusal);
 
     LOOK(dimkhoros_prover_new(), .phase);
     LOOK(dimkhoros_commit(sheet, length, &peggy, eight, eight), );

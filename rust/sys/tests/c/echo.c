@@ -314,19 +314,19 @@ static void forms(void) {
         c[k] = k * k % 11;
     }
     memset(sheet, 238, sizeof sheet);
-    DimkhorosWritten made = dimkhoros_from_forms(23, 11, 5, 2, 4, good, 3, c, 24, z, 2, sheet, sizeof sheet);
+    DimkhorosWritten made = dimkhoros_linear(23, 11, 5, 2, 4, good, 3, c, 24, z, 2, sheet, sizeof sheet);
     print_written(made);
     print_loaded(dimkhoros_load(sheet, made.length));
     print_entries(sheet, made.length);
     print_bytes(sheet, sizeof sheet);
-    print_written(dimkhoros_from_forms(23, 11, 5, 2, 9, good, 3, c, 24, z, 2, sheet, sizeof sheet));
-    print_written(dimkhoros_from_forms(23, 11, 5, 2, 4, good, 2, c, 24, z, 2, sheet, sizeof sheet));
-    print_written(dimkhoros_from_forms(23, 11, 5, 2, 4, good, 3, c, 23, z, 2, sheet, sizeof sheet));
-    print_written(dimkhoros_from_forms(23, 11, 5, 2, 4, good, 3, c, 24, z, 1, sheet, sizeof sheet));
-    print_written(dimkhoros_from_forms(23, 7, 5, 2, 4, good, 3, c, 24, z, 2, sheet, sizeof sheet));
-    print_written(dimkhoros_from_forms(23, 11, 5, 2, 4, bad, 3, c, 24, z, 2, sheet, sizeof sheet));
-    print_written(dimkhoros_from_forms(23, 11, 5, 2, 4, good, 3, c, 24, bad_z, 2, sheet, sizeof sheet));
-    print_written(dimkhoros_from_forms(23, 11, 5, 2, 4, good, 3, c, 24, z, 2, sheet, 59));
+    print_written(dimkhoros_linear(23, 11, 5, 2, 9, good, 3, c, 24, z, 2, sheet, sizeof sheet));
+    print_written(dimkhoros_linear(23, 11, 5, 2, 4, good, 2, c, 24, z, 2, sheet, sizeof sheet));
+    print_written(dimkhoros_linear(23, 11, 5, 2, 4, good, 3, c, 23, z, 2, sheet, sizeof sheet));
+    print_written(dimkhoros_linear(23, 11, 5, 2, 4, good, 3, c, 24, z, 1, sheet, sizeof sheet));
+    print_written(dimkhoros_linear(23, 7, 5, 2, 4, good, 3, c, 24, z, 2, sheet, sizeof sheet));
+    print_written(dimkhoros_linear(23, 11, 5, 2, 4, bad, 3, c, 24, z, 2, sheet, sizeof sheet));
+    print_written(dimkhoros_linear(23, 11, 5, 2, 4, good, 3, c, 24, bad_z, 2, sheet, sizeof sheet));
+    print_written(dimkhoros_linear(23, 11, 5, 2, 4, good, 3, c, 24, z, 2, sheet, 59));
     print_bytes(sheet, sizeof sheet);
 }
 
@@ -608,8 +608,8 @@ static void empty_slices(void) {
     print_written(dimkhoros_from_pattern(NULL, 0, 0, 35, 5, 5, NULL, 0, NULL, 0, NULL, 0));
     print_written(dimkhoros_from_pattern(shipped, sizeof shipped, 0, 35, 5, 5, NULL, 0, NULL, 0, NULL, 0));
     print_written(dimkhoros_from_pattern(shipped, sizeof shipped, 0, 35, 5, 5, NULL, 0, statement, 1, NULL, 0));
-    print_written(dimkhoros_from_forms(23, 11, 5, 2, 4, NULL, 0, NULL, 0, NULL, 0, NULL, 0));
-    print_written(dimkhoros_from_forms(23, 11, 5, 2, 4, statement, 2, NULL, 0, statement, 2, NULL, 0));
+    print_written(dimkhoros_linear(23, 11, 5, 2, 4, NULL, 0, NULL, 0, NULL, 0, NULL, 0));
+    print_written(dimkhoros_linear(23, 11, 5, 2, 4, statement, 2, NULL, 0, statement, 2, NULL, 0));
     print_counted(dimkhoros_count(NULL, 0, NULL, 0));
     print_counted(dimkhoros_count(wide, sizeof wide, NULL, 0));
     printf("%u\n", dimkhoros_check(wide, sizeof wide, NULL, 0, 0));

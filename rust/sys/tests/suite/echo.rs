@@ -148,18 +148,18 @@ fn sheets(text: &mut String) {
 fn forms(text: &mut String) {
     let coefficients: [u32; 24] = core::array::from_fn(|place| place as u32 * place as u32 % 11);
     let mut sheet = [238; 62];
-    let made = from_forms(23, 11, 5, 2, 4, &[2, 3, 4], &coefficients, &[13, 8], &mut sheet);
+    let made = linear(23, 11, 5, 2, 4, &[2, 3, 4], &coefficients, &[13, 8], &mut sheet);
     let front = &sheet[..made.length];
     print!(text: made, load(front), entries_over(front), sheet);
     print!(text:
-        from_forms(23, 11, 5, 2, 9, &[2, 3, 4], &coefficients, &[13, 8], &mut sheet),
-        from_forms(23, 11, 5, 2, 4, &[2, 3], &coefficients, &[13, 8], &mut sheet),
-        from_forms(23, 11, 5, 2, 4, &[2, 3, 4], &coefficients[1..], &[13, 8], &mut sheet),
-        from_forms(23, 11, 5, 2, 4, &[2, 3, 4], &coefficients, &[13], &mut sheet),
-        from_forms(23, 7, 5, 2, 4, &[2, 3, 4], &coefficients, &[13, 8], &mut sheet),
-        from_forms(23, 11, 5, 2, 4, &[2, 3, 5], &coefficients, &[13, 8], &mut sheet),
-        from_forms(23, 11, 5, 2, 4, &[2, 3, 4], &coefficients, &[13, 7], &mut sheet),
-        from_forms(23, 11, 5, 2, 4, &[2, 3, 4], &coefficients, &[13, 8], &mut sheet[..59]),
+        linear(23, 11, 5, 2, 9, &[2, 3, 4], &coefficients, &[13, 8], &mut sheet),
+        linear(23, 11, 5, 2, 4, &[2, 3], &coefficients, &[13, 8], &mut sheet),
+        linear(23, 11, 5, 2, 4, &[2, 3, 4], &coefficients[1..], &[13, 8], &mut sheet),
+        linear(23, 11, 5, 2, 4, &[2, 3, 4], &coefficients, &[13], &mut sheet),
+        linear(23, 7, 5, 2, 4, &[2, 3, 4], &coefficients, &[13, 8], &mut sheet),
+        linear(23, 11, 5, 2, 4, &[2, 3, 5], &coefficients, &[13, 8], &mut sheet),
+        linear(23, 11, 5, 2, 4, &[2, 3, 4], &coefficients, &[13, 7], &mut sheet),
+        linear(23, 11, 5, 2, 4, &[2, 3, 4], &coefficients, &[13, 8], &mut sheet[..59]),
         sheet,
     );
 }
@@ -455,8 +455,8 @@ fn empty_slices(text: &mut String) {
         from_pattern(&[], 0, 35, 5, 5, &[], &[], &mut []),
         from_pattern(&shipped(), 0, 35, 5, 5, &[], &[], &mut []),
         from_pattern(&shipped(), 0, 35, 5, 5, &[], &[2], &mut []),
-        from_forms(23, 11, 5, 2, 4, &[], &[], &[], &mut []),
-        from_forms(23, 11, 5, 2, 4, &STATEMENT[..2], &[], &STATEMENT[..2], &mut []),
+        linear(23, 11, 5, 2, 4, &[], &[], &[], &mut []),
+        linear(23, 11, 5, 2, 4, &STATEMENT[..2], &[], &STATEMENT[..2], &mut []),
         count(&[], &[]),
         count(&wide, &[]),
         check(&wide, &[], 0),
