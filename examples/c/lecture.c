@@ -1,9 +1,10 @@
 /*
- * The extractor, a watch, the simulator, rounds that multiply, the OR proof and the game, for a lecture. Two rounds on one nonce give
- * the witness away, so that nobody can make such rounds without knowing it; a watch that is given the rounds of a term tells of such a
- * nonce; rounds can be simulated without the witness, so a round tells Vic nothing about it; rounds of two sheets of one table
- * multiply to rounds of a third; Peggy, who knows a witness of one of two sheets, simulates the other, so a round does not tell which
- * of the two she knows; and on a small sheet all responses are tried, to see which challenges a commitment can answer.
+ * The extractor, a watch, the simulator, rounds that multiply, the OR proof and the game, for a lecture. Two rounds on one
+ * nonce give the witness away, so that nobody can make such rounds without knowing it; a watch that is given the rounds of a
+ * term tells of such a nonce; rounds can be simulated without the witness, so a round tells Vic nothing about it; rounds of two
+ * sheets of one table multiply to rounds of a third; Peggy, who knows a witness of one of two sheets, simulates the other, so a
+ * round does not tell which of the two she knows; and on a small sheet all responses are tried, to see which challenges a
+ * commitment can answer.
  */
 #include "common.h"
 #include <string.h>
