@@ -19,6 +19,7 @@ mod damage;
 mod demand_three;
 mod faults;
 mod files;
+mod games;
 mod groups;
 mod instance;
 mod judged;
@@ -38,6 +39,7 @@ mod program;
 mod proved;
 mod random;
 mod run;
+mod search;
 mod shapes;
 mod sheets;
 mod stored;
@@ -119,5 +121,6 @@ fn stages(options: &Options) -> Result<(), String> {
     println!("{}", one_of_two::check(options.other)?);
     println!("{}", whole_rounds::check(options.other)?);
     println!("{}", watching::check(options.other)?);
+    println!("{}", games::check(options.other)?);
     Ok(())
 }
