@@ -1,8 +1,9 @@
 /*
- * The extractor, a watch, the simulator and the OR proof, for a lecture. Two rounds on one nonce give the witness away, so that
- * nobody can make such rounds without knowing it; a watch that is given the rounds of a term tells of such a nonce; rounds can be
- * simulated without the witness, so a round tells Vic nothing about it; and Peggy, who knows a witness of one of two sheets,
- * simulates the other, so a round does not tell which of the two she knows.
+ * The extractor, a watch, the simulator, the OR proof and the game, for a lecture. Two rounds on one nonce give the witness away,
+ * so that nobody can make such rounds without knowing it; a watch that is given the rounds of a term tells of such a nonce; rounds
+ * can be simulated without the witness, so a round tells Vic nothing about it; Peggy, who knows a witness of one of two sheets,
+ * simulates the other, so a round does not tell which of the two she knows; and on a small sheet all responses are tried, to see
+ * which challenges a commitment can answer.
  */
 #include "common.h"
 #include <string.h>
@@ -166,6 +167,43 @@ static void show_or_proof(const Pair *pair) {
     }
 }
 
+/* Writes a sheet whose statement has no witness, 1^x = 2 modulo 31, and answers its length. */
+static size_t claim(uint8_t sheet[DIMKHOROS_LONGEST_SHEET]) {
+    const uint32_t h = 1, z = 2;
+    uint8_t patterns[DIMKHOROS_SHIPPED_PATTERNS];
+    expect(dimkhoros_patterns(patterns, sizeof patterns).refusal);
+    DimkhorosWritten made = dimkhoros_from_pattern(patterns, sizeof patterns, DIMKHOROS_PATTERN_SCHNORR, 31, 15, 3, &h, 1,
+                                                   &z, 1, sheet, DIMKHOROS_LONGEST_SHEET);
+    expect(made.refusal);
+    return made.length;
+}
+
+/* Shows which challenges a commitment can answer, of a file with one round, whose challenge and response are not tested. */
+static void show_answers(const uint8_t *sheet, size_t length, uint32_t t) {
+    static uint8_t text[DIMKHOROS_LONGEST_GAME]; /* too large for a small stack */
+    const DimkhorosRound round = {{t}, 0, {0}};
+    uint8_t file[DIMKHOROS_EMPTY_FILE + 12];
+    DimkhorosWritten written = dimkhoros_empty(1, file, sizeof file);
+    expect(written.refusal);
+    written = dimkhoros_append(sheet, length, file, sizeof file, written.length, round);
+    expect(written.refusal);
+    size_t text_length = dimkhoros_game(sheet, length, file, written.length, text);
+    printf("t = %u:\n%.*s", t, (int)text_length, (const char *)text);
+}
+
+/* With a witness a commitment answers every challenge or none, without one it answers one at most. */
+static void show_game(const uint8_t *sheet, size_t length) {
+    const uint32_t commitments[3] = {1, 16, 2};
+    uint8_t other[DIMKHOROS_LONGEST_SHEET];
+    printf("\nPeggy against Vic. All responses are tried: each challenge that t can answer, with the smallest response.\n");
+    show_answers(sheet, length, 9);
+    printf("A claim without a witness: 1^x = 2 modulo 31, order 15, challenges 0 to 2.\n");
+    size_t other_length = claim(other);
+    for (int i = 0; i < 3; i++) {
+        show_answers(other, other_length, commitments[i]);
+    }
+}
+
 int main(void) {
     uint8_t sheet[DIMKHOROS_LONGEST_SHEET];
     size_t length = page_a(sheet);
@@ -174,5 +212,6 @@ int main(void) {
     show_simulator(sheet, length, 3);
     Pair pair = paired(sheet, length);
     show_or_proof(&pair);
+    show_game(sheet, length);
     return 0;
 }

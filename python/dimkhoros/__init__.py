@@ -9,7 +9,7 @@ from ._sizes import EXPONENT, ROOT
 from ._stored import Damaged
 from .forms import Forms
 from .instance import Header, Instance, Values
-from .marker import mark, reason
+from .marker import game, mark, reason
 from .or_prover import OrProver
 from .pair import Pair
 from .patterns import Layout, Pattern, Patterns
@@ -56,6 +56,7 @@ __all__ = [
     "VerifierPhase",
     "Watch",
     "__version__",
+    "game",
     "mark",
     "reason",
     "version",

@@ -44,6 +44,7 @@ EXPORTS = {
     "watch_round": (c.WatchAnswer, [*Given, c.Watch, c.Round]),
     "mark": (Size, [*Given, *Given, *Given, Bytes]),
     "reason": (Size, [*Given, *Given, Bytes]),
+    "game": (Size, [*Given, *Given, Bytes]),
     "prover_new": (c.ProverSession, []),
     "prover_commit": (c.ProverAnswer, [*Given, c.ProverSession, Numbers]),
     "prover_respond": (c.ProverAnswer, [*Given, c.ProverSession, U32, Numbers]),

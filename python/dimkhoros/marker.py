@@ -1,10 +1,10 @@
-"""The marker's text and the reason's line."""
+"""The marker's text, the reason's line and the game's text."""
 
 from __future__ import annotations
 
 from ._library import buffer, calls
 from ._numbers import data, given
-from ._sizes import LONGEST_REASON, LONGEST_TEXT
+from ._sizes import LONGEST_GAME, LONGEST_REASON, LONGEST_TEXT
 
 
 def mark(sheet: bytes, file: bytes, level: bytes) -> str:
@@ -23,4 +23,14 @@ def reason(sheet: bytes, file: bytes) -> str:
     differs and both values; or `accepted`."""
     text = buffer(LONGEST_REASON)
     length = calls.reason(*given(data(sheet, "the sheet")), *given(data(file, "the round file")), text)
+    return text.raw[:length].decode("ascii")
+
+
+def game(sheet: bytes, file: bytes) -> str:
+    """Which challenges Peggy can answer on the commitment of a file's round 0, with or without a witness: a line for
+    each challenge that has an accepting response, rising, with the smallest one; or `none`; or `refused` with the
+    number, 2 to 14, or 31 for a sheet that is not small: q^n above 4,096, or in a root sheet m above 4,096 or more rows
+    than one. The challenge and the response of round 0 are not tested."""
+    text = buffer(LONGEST_GAME)
+    length = calls.game(*given(data(sheet, "the sheet")), *given(data(file, "the round file")), text)
     return text.raw[:length].decode("ascii")

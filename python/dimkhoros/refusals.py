@@ -36,6 +36,7 @@ SENTENCES = {
     29: "there have to be 1 to 8 generators, a coefficient for each row, generator and column, and a statement value"
     " for each row",
     30: "a coefficient has to be below the order",
+    31: "the sheet is too large for the game, which takes q^n up to 4096, or in a root sheet m up to 4096 and one row",
 }
 
 
@@ -43,7 +44,7 @@ class Refusal(Exception):
     """A call that was refused. It has changed nothing.
 
     Where several refusals apply, the earliest in the order 23, 24, 1 to 9, 27, 29, 30, 10, 11, 26, 12, 25, 13 to 16,
-    28, 17 to 22 is given."""
+    28, 31, 17 to 22 is given."""
 
     def __init__(self, number: int) -> None:
         """The refusal of a number."""

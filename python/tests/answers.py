@@ -24,6 +24,7 @@ from dimkhoros import (
     Verifier,
     Watch,
     _structs,
+    game,
     mark,
     reason,
 )
@@ -354,6 +355,10 @@ class Answers:
     def reason(self, inputs):
         """The reason's line."""
         return reason(self.given["sheet"], self.given["file"]).replace("\n", "\\n")
+
+    def game(self, inputs):
+        """The game's text."""
+        return game(self.given["sheet"], self.given["file"]).replace("\n", "\\n")
 
     def prover_new(self, inputs):
         """A new session of Peggy's."""

@@ -30,6 +30,7 @@ from dimkhoros import (
     Verdict,
     Verifier,
     Watch,
+    game,
     mark,
     reason,
 )
@@ -50,7 +51,7 @@ class Refusals(unittest.TestCase):
     """Refusals are exceptions."""
 
     def test_every_number_is_given(self):
-        """But 25, which stands in the marker's text alone, and 22, since no buffer is lent."""
+        """But 25 and 31, which stand in texts alone, and 22, since no buffer is lent."""
         a, first = page_a(), round_of(9, 3, 4)
         empty = RoundWriter.start(a).file
         made = {"modulus": 23, "order": 11, "challenges": 11, "values": [2], "statement": [13]}
@@ -85,7 +86,7 @@ class Refusals(unittest.TestCase):
             29: lambda: linear(generators=[2, 3]),
             30: lambda: linear([[[11]]], generators=[2], statement=[1]),
         }
-        self.assertEqual(set(range(1, 31)) - set(given), {22, 25})
+        self.assertEqual(set(range(1, 32)) - set(given), {22, 25, 31})
         for number, call in given.items():
             with refused(self, number):
                 call()
@@ -145,6 +146,7 @@ class Taken(unittest.TestCase):
             self.assertRaises(TypeError, RoundFile.open, page_a(), value)
             self.assertRaises(TypeError, mark, b"", b"", value)
             self.assertRaises(TypeError, reason, b"", value)
+            self.assertRaises(TypeError, game, b"", value)
 
     def test_a_list_has_an_order_and_no_truth_values(self):
         """A set has no order, so a nonce of two values could be held either way round. `True` is no 1."""
@@ -407,6 +409,7 @@ class AnyBytes(unittest.TestCase):
             self.tried(lambda: opened and [opened.convert(), list(opened)])
             self.assertTrue(mark(page_a().bytes, file, self.bytes_like(b"\7")).endswith("\n"))
             self.assertTrue(reason(sheet, file).endswith("\n"))
+            self.assertTrue(game(sheet, file).endswith("\n"))
             for kind, right in zip((Prover, Verifier, OrProver), stored):
                 read = kind.from_stored if kind is Verifier else kind.reopen
                 self.tried(lambda: read(self.bytes_like(right)), Damaged)

@@ -78,10 +78,13 @@ pub fn write_answers(
 {
     let mut table = [0u32; 32768];
     table_of(h, entries, &mut table);
+    let last = h.challenges - 1;
     let mut next = 0;
-    for c in 0..h.challenges {
+    let mut c = 0;
+    while c <= last {
         let k = first_answer(h, statement, t, c, &table);
         next = write_answer(text, next, h, c, k);
+        c += 1;
     }
     if next == 0 {
         return write_word(text, 0, b"none\n");

@@ -2,7 +2,7 @@
 -- Assumes nothing.
 use Prim.Native.Nat.{ℕ, _+_, _%_, _^_, _≤_, _<_}
 use mathlib.Core.Path.{_≡_, refl, sym, ap, _∙_, subst}
-use mathlib.Core.Bool.{true, false, _&&_}
+use mathlib.Core.Bool.{true, false, and-false}
 use mathlib.Core.Logic.{_≢_}
 use mathlib.Core.List.{List}
 use native.Mathlib.Decide.{decLt, ℕ-discrete}
@@ -30,8 +30,8 @@ zeros-turn n table room zeros = record {
 }
 
 -- all of them
-pub zeros-all : (n v : ℕ) (table : List ℕ) → v ≤ n → n ≤ v → Zeros v table → Zeros n table
-zeros-all n v table within past zeros = record { size = zeros .size; each = λ w below. zeros .each w (omega arith) }
+pub zeros-all : (n v : ℕ) (table : List ℕ) → n ≤ v → Zeros v table → Zeros n table
+zeros-all n v table past zeros = record { size = zeros .size; each = λ w below. zeros .each w (omega arith) }
 
 module _ (h : Header) where
   -- a number that is no group element is no root
@@ -43,10 +43,6 @@ module _ (h : Header) where
   other-power : (v r : ℕ) → r ^ h .order % h .modulus ≢ v → isRoot h v r ≡ false
   unfolding isRoot
   other-power v r other = rw (ne-eqb (r ^ h .order % h .modulus) v other) (and-false (isElement h r))
-    where
-      and-false : (b : _) → (b && false) ≡ false
-      and-false true = refl
-      and-false false = refl
 
   -- 0 is no group element
   no-zero : (r : ℕ) → isElement h r ≡ true → r ≢ 0
@@ -124,7 +120,7 @@ module _ (h : Header) where
             least = λ some. earlier;
           }
 
-  -- where no number is left all were tried
+  -- if no number is left, all were tried
   pub roots-all : (n : ℕ) (table : List ℕ) → h .modulus ≤ n → Roots h n table → Roots h (h .modulus) table
   roots-all n table past roots = record {
     size = roots .size;

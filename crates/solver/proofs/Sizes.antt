@@ -1,9 +1,9 @@
 -- Whether a game is too large, by the kind, and what a sheet that loads has if it is not.
 -- Assumes nothing.
 use Prim.Native.Nat.{_^_, _<_}
-use mathlib.Core.Path.{_≡_, refl, sym}
+use mathlib.Core.Path.{_≡_, sym}
 use mathlib.Core.Logic.{_≢_, inl, inr}
-use mathlib.Core.Bool.{Bool, true, false, _||_}
+use mathlib.Core.Bool.{false, _||_, or-false}
 use native.Mathlib.Omega.{arith}
 use borrow.Author.Tests.{eq-eqb, ne-eqb}
 use lib.Dec.{ltb}
@@ -16,11 +16,6 @@ use Rattle.games.specs.Refusals.{Refusal31}
 use Rattle.games.specs.Text.{badGame}
 use Rattle.games.proofs.Tests.{says-badGame}
 use Rattle.solver.specs.Small.{Small}
-
--- a test or one that fails is the test
-or-false : (b : Bool) → (b || false) ≡ b
-or-false true = refl
-or-false false = refl
 
 module _ (h : Header) where
   -- q^n beside 4,096 in kind 1

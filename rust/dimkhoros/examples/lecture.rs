@@ -1,14 +1,16 @@
-//! The extractor, a watch, the simulator and the OR proof, for a lecture. Two rounds on one nonce give the witness away, so that
-//! nobody can make such rounds without knowing it; a watch that is given the rounds of a term tells of such a nonce; rounds can be
-//! simulated without the witness, so a round tells Vic nothing about it; and Peggy, who knows a witness of one of two sheets,
-//! simulates the other, so a round does not tell which of the two she knows.
+//! The extractor, a watch, the simulator, the OR proof and the game, for a lecture. Two rounds on one nonce give the witness away,
+//! so that nobody can make such rounds without knowing it; a watch that is given the rounds of a term tells of such a nonce; rounds
+//! can be simulated without the witness, so a round tells Vic nothing about it; Peggy, who knows a witness of one of two sheets,
+//! simulates the other, so a round does not tell which of the two she knows; and on a small sheet all responses are tried, to see
+//! which challenges a commitment can answer.
 
 mod common;
 
 use common::page_a;
 use dimkhoros::{
-    Instance, MOST_REMEMBERED, OrProver, OrProverParts, OrRound, Pair, Pattern, Patterns, Places,
-    Plan, Prover, ProverParts, Refusal, Round, Side, Watch, places,
+    EMPTY_FILE, Instance, LONGEST_GAME, MOST_REMEMBERED, OrProver, OrProverParts, OrRound, Pair,
+    Pattern, Patterns, Places, Plan, Prover, ProverParts, Refusal, Round, RoundWriter, Side, Watch,
+    game, places,
 };
 
 const WITNESS: Places = [7, 0, 0, 0, 0, 0, 0, 0];
@@ -180,11 +182,51 @@ fn show_or_proof(pair: &Pair) -> Result<(), Refusal> {
     Ok(())
 }
 
+/// A sheet whose statement has no witness: 1^x = 2 modulo 31.
+fn claim() -> Result<Instance, Refusal> {
+    let plan = Plan {
+        pattern: Pattern::Schnorr.number(),
+        modulus: 31,
+        order: 15,
+        challenges: 3,
+        values: &[1],
+        statement: &[2],
+    };
+    Instance::from_pattern(&Patterns::shipped(), &plan)
+}
+
+/// Shows which challenges a commitment can answer, of a file with one round, whose challenge and response are not tested.
+fn show_answers(instance: &Instance, t: u32) -> Result<(), Refusal> {
+    let mut buffer = [0; EMPTY_FILE + 12];
+    let mut writer = RoundWriter::start(instance, 1, &mut buffer)?;
+    writer.append(&Round { commitment: places([t]), challenge: 0, response: places([0]) })?;
+    // The buffer is too large for a small stack.
+    let mut text: Box<[u8; LONGEST_GAME]> =
+        vec![0; LONGEST_GAME].try_into().expect("the length is the array's");
+    print!("t = {t}:\n{}", game(instance.bytes(), writer.file().bytes(), &mut text));
+    Ok(())
+}
+
+/// With a witness a commitment answers every challenge or none, without one it answers one at most.
+fn show_game(instance: &Instance) -> Result<(), Refusal> {
+    println!(
+        "\nPeggy against Vic. All responses are tried: each challenge that t can answer, with the smallest response."
+    );
+    show_answers(instance, 9)?;
+    println!("A claim without a witness: 1^x = 2 modulo 31, order 15, challenges 0 to 2.");
+    let claim = claim()?;
+    for t in [1, 16, 2] {
+        show_answers(&claim, t)?;
+    }
+    Ok(())
+}
+
 fn main() -> Result<(), Refusal> {
     let instance = page_a()?;
     show_extractor(&instance)?;
     show_watch(&instance)?;
     show_simulator(&instance, 3)?;
     let roots = roots()?;
-    show_or_proof(&Pair::new(&instance, &roots)?)
+    show_or_proof(&Pair::new(&instance, &roots)?)?;
+    show_game(&instance)
 }

@@ -5,6 +5,7 @@
 
 mod forms;
 mod found;
+mod game;
 mod instance;
 mod marker;
 mod no_response;
@@ -32,12 +33,14 @@ mod watch;
 mod authors {}
 
 pub use dimkhoros_sys::{
-    EMPTY_FILE, EXPONENT, Header, LONGEST_FILE, LONGEST_FILE_2, LONGEST_PATTERNS, LONGEST_REASON,
-    LONGEST_SHEET, LONGEST_TEXT, MOST_PATTERNS, MOST_PLAYERS, MOST_REMEMBERED, MOST_ROUNDS,
-    OrRound, PLACES, Places, ROOT, Round, SHIPPED_PATTERNS, Watch as WatchParts, version,
+    EMPTY_FILE, EXPONENT, Header, LONGEST_FILE, LONGEST_FILE_2, LONGEST_GAME, LONGEST_PATTERNS,
+    LONGEST_REASON, LONGEST_SHEET, LONGEST_TEXT, MOST_PATTERNS, MOST_PLAYERS, MOST_REMEMBERED,
+    MOST_ROUNDS, OrRound, PLACES, Places, ROOT, Round, SHIPPED_PATTERNS, Watch as WatchParts,
+    version,
 };
 pub use forms::{Forms, LinearPlan};
 pub use found::Found;
+pub use game::game;
 pub use instance::{Instance, Values};
 pub use marker::mark;
 pub use no_response::NoResponse;

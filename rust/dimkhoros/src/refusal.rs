@@ -7,7 +7,7 @@ use core::fmt;
 macro_rules! refusals {
     ($($number:literal, $name:ident, $sentence:literal;)*) => {
         /// Why a call was refused. Where several refusals apply, the earliest in the order 23, 24, 1 to 9, 27, 29, 30, 10, 11,
-        /// 26, 12, 25, 13 to 16, 28, 17 to 22 is given.
+        /// 26, 12, 25, 13 to 16, 28, 31, 17 to 22 is given.
         ///
         /// ```
         /// use dimkhoros::{Instance, Refusal};
@@ -70,6 +70,7 @@ refusals! {
     28, Images, "the images of the team's players do not multiply to the statement";
     29, FormCounts, "there have to be 1 to 8 generators, a coefficient for each row, generator and column, and a statement value for each row";
     30, Coefficient, "a coefficient has to be below the order";
+    31, GameSize, "the sheet is too large for the game, which takes q^n up to 4096, or in a root sheet m up to 4096 and one row";
 }
 
 impl Refusal {

@@ -2,8 +2,8 @@
 
 use crate::failure::Outcome;
 use crate::{
-    check, extract, grid, lecture, make, mark, or_proof, patterns, reason, rounds, show, simulate,
-    team, watch,
+    check, extract, game, grid, lecture, make, mark, or_proof, patterns, reason, rounds, show,
+    simulate, team, watch,
 };
 use std::ffi::OsString;
 use std::io::Write;
@@ -62,7 +62,7 @@ const AUTHORS: [Command; 4] = [
 ];
 
 /// The commands of a demonstrator.
-const CLASS: [Command; 7] = [
+const CLASS: [Command; 8] = [
     Command {
         name: "lecture",
         summary: "make a page for the lecture hall",
@@ -80,6 +80,12 @@ const CLASS: [Command; 7] = [
         summary: "show all accepted rounds of a small sheet, challenges by responses",
         help: grid::HELP,
         run: grid::run,
+    },
+    Command {
+        name: "game",
+        summary: "play Peggy against Vic: which challenges a commitment can answer on a small sheet",
+        help: game::HELP,
+        run: game::run,
     },
     Command {
         name: "simulate",

@@ -111,7 +111,9 @@ impl Folder {
     pub fn fault(&self, refusal: Refusal) -> String {
         let (name, file) = match refusal {
             Refusal::Level => ("level.bin", &self.level),
-            Refusal::File => ("rounds.bin", &self.rounds),
+            Refusal::File | Refusal::RoundNumber | Refusal::Commitment => {
+                ("rounds.bin", &self.rounds)
+            }
             _ => ("sheet.bin", &self.sheet),
         };
         let Some(bytes) = file else {
@@ -129,7 +131,9 @@ impl Folder {
         let [sheet, rounds, level] = self.bytes();
         match refusal {
             Refusal::Level => Some(Fault { refusal, found: of_level(level) }),
-            Refusal::File => faults::in_rounds(&Instance::load(sheet).ok()?, rounds),
+            Refusal::File | Refusal::RoundNumber | Refusal::Commitment => {
+                faults::in_rounds(&Instance::load(sheet).ok()?, rounds)
+            }
             _ => faults::in_sheet(sheet),
         }
     }

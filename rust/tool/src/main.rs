@@ -15,6 +15,7 @@ mod failure;
 mod faults;
 mod files;
 mod folder;
+mod game;
 mod grid;
 mod judged;
 mod lecture;

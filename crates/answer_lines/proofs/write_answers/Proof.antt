@@ -1,7 +1,7 @@
 -- `answer_lines::write_answers` meets its contract. The invariant: the lines of the challenges before this one are placed, for
 -- the entries that the table was made of. The measure: how many challenges are left.
 -- Assumes nothing.
-use Prim.Native.Nat.{ℕ, _≤_, _-_}
+use Prim.Native.Nat.{ℕ, _<_, _≤_, _-_}
 use mathlib.Core.Path.{_≡_, refl}
 use mathlib.Core.Bool.{false}
 use mathlib.Core.List.{List}
@@ -21,7 +21,7 @@ use Rattle.answer_lines.proofs.write_answers.Statement.{statement}
 use Rattle.answer_lines.proofs.write_answers.Tie as tie
 
 abbrev Inv-loop : tie.InvT-loop
-Inv-loop text₀ h statement t table next₀ c₀ t10 c-end text next c =
+Inv-loop text₀ h statement t table last next₀ c₀ t11 text next c =
     ((entries : List (List ℕ)) → Valid (instanceWith h entries statement)
     → badCommitment (instanceWith h entries statement) t ≡ false → Prepared h entries table
     → Placed text₀ 0 (linesBelow (instanceWith h entries statement) t c) text next)
@@ -29,48 +29,59 @@ Inv-loop text₀ h statement t table next₀ c₀ t10 c-end text next c =
     × (length text ≡ length text₀)
 
 abbrev μ-loop : tie.MeasureT-loop
-μ-loop text₀ h statement t table next₀ c₀ t10 c-end text next c = h .challenges - c
+μ-loop text₀ h statement t table last next₀ c₀ t11 text next c = h .challenges - c
 
 table-of-requires : tie.Need-table-of-requires Inv-loop μ-loop
 table-of-requires c κs = c .before .before .pre .1 .0
+
+sub-last : tie.Need-sub-last Inv-loop μ-loop
+sub-last c = omega (arith, c .before .before .before .before .pre .0 .table .some-challenges)
 
 loop-holds : tie.Need-loop-holds Inv-loop μ-loop
 loop-holds c = (λ entries valid elements prepared. no-lines _ _ _, omega arith, refl)
 
 first-answer-requires : tie.Need-first-answer-requires Inv-loop μ-loop
-first-answer-requires c κs = c .before .before .before .before .before .before .pre .1 .0
+first-answer-requires c κs = c .before .before .before .before .before .before .before .pre .1 .0
 
 write-answer-requires : tie.Need-write-answer-requires Inv-loop μ-loop
 write-answer-requires c κs =
     let found = c .before in
     let turn = found .before .before in
-    let made = turn .before .before in
+    let made = turn .before .before .before in
     let start = made .before .before .before in
     let (valid, (small, (elements, room))) = start .pre in
     let inst = instanceWith (start .args .h) (start .args .entries) (start .args .statement) in
     let (lines, few, size) = turn .before .loop .inv in
     let prepared = made .table-of .ensures in
-    let first = found .first-answer .ensures (start .args .entries) valid elements (turn .loop-test .taken) prepared in (
+    let below : turn .before .loop .c < start .args .h .challenges = omega (arith, valid .table .some-challenges) in
+    let first = found .first-answer .ensures (start .args .entries) valid elements below prepared in (
       small,
-      line-fits inst (start .args .t) _ (lines (start .args .entries) valid elements prepared) first (start .args .h .challenges) _
-          (turn .loop-test .taken) (omega (arith, lines-fit inst (start .args .t))),
+      line-fits inst (start .args .t) _ (lines (start .args .entries) valid elements prepared) first (start .args .h .challenges) _ below
+          (omega (arith, lines-fit inst (start .args .t))),
     )
 
 add-c : tie.Need-add-c Inv-loop μ-loop
-add-c c = omega arith
+add-c c =
+    let start = c .before .before .before .before .before .before .before .before .before .before .before .before in
+    omega (arith, start .pre .0 .table .few-challenges)
 
 loop-less : tie.Need-loop-less Inv-loop μ-loop
-loop-less c = omega arith
+loop-less c =
+    let start = c .before .before .before .before .before .before .before .before .before .before .before .before in
+    omega (arith, start .pre .0 .table .some-challenges)
 
 loop-again : tie.Need-loop-again Inv-loop μ-loop
 loop-again c =
     let written = c .before .before in
     let found = written .before .before in
     let turn = found .before .before in
+    let start = turn .before .before .before .before .before .before in
+    let some = start .pre .0 .table .some-challenges in
+    let below : turn .before .loop .c < start .args .h .challenges = omega arith in
     let (lines, few, size) = turn .before .loop .inv in (
       λ entries valid elements prepared.
           line-placed _ _ _ (lines entries valid elements prepared)
-          (found .first-answer .ensures entries valid elements (turn .loop-test .taken) prepared) (written .write-answer .ensures),
+          (found .first-answer .ensures entries valid elements below prepared) (written .write-answer .ensures),
       omega arith,
       omega arith,
     )
@@ -82,7 +93,7 @@ write-word-requires : tie.Need-write-word-requires Inv-loop μ-loop
 write-word-requires c κs =
     let chosen = c .before .before in
     let at-loop = chosen .before .before in
-    let made = at-loop .before in
+    let made = at-loop .before .before in
     let start = made .before .before .before in
     let (valid, (small, (elements, room))) = start .pre in
     let lines = at-loop .loop .inv .0 (start .args .entries) valid elements (made .table-of .ensures) in
@@ -98,7 +109,7 @@ returns c =
     let word = c .before .before in
     let chosen = word .before .before .before in
     let at-loop = chosen .before .before in
-    let made = at-loop .before in
+    let made = at-loop .before .before in
     let start = made .before .before .before in
     let (valid, (small, (elements, room))) = start .pre in
     let lines = at-loop .loop .inv .0 (start .args .entries) valid elements (made .table-of .ensures) in
@@ -111,7 +122,7 @@ same-length-2 c = omega arith
 returns-2 : tie.Need-returns-2 Inv-loop μ-loop
 returns-2 c =
     let at-loop = c .before .before in
-    let made = at-loop .before in
+    let made = at-loop .before .before in
     let start = made .before .before .before in
     let (valid, (small, (elements, room))) = start .pre in
     let lines = at-loop .loop .inv .0 (start .args .entries) valid elements (made .table-of .ensures) in
@@ -125,6 +136,7 @@ write-answers-spec =
     Inv-loop
     μ-loop
     table-of-requires
+    sub-last
     loop-holds
     first-answer-requires
     write-answer-requires

@@ -25,13 +25,13 @@ array-share-prefix-sheet-bytes : tie.Need-array-share-prefix-sheet-bytes
 array-share-prefix-sheet-bytes c = search needs
 
 slice-aggregate-game : tie.Need-slice-aggregate-game
-slice-aggregate-game c = sym (length-take-le _ _ (omega arith))
+slice-aggregate-game c = sym (length-take-le _ (c .before .before .before .bytes .result) (omega arith))
 
 array-share-prefix-rounds-bytes : tie.Need-array-share-prefix-rounds-bytes
 array-share-prefix-rounds-bytes c = search needs
 
 slice-aggregate-game-2 : tie.Need-slice-aggregate-game-2
-slice-aggregate-game-2 c = sym (length-take-le _ _ (omega arith))
+slice-aggregate-game-2 c = sym (length-take-le _ (c .before .before .bytes2 .result) (omega arith))
 
 game-requires : tie.Need-game-requires
 game-requires c κs = search needs

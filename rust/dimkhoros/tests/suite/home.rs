@@ -46,9 +46,9 @@ impl Home {
         }
     }
 
-    /// Puts the programs `marker` and `reason` here, which are then newer than all that stands here.
+    /// Puts the programs `marker`, `reason` and `game` here, which are then newer than all that stands here.
     pub fn put_programs(&self) {
-        for program in ["marker", "reason"] {
+        for program in ["marker", "reason", "game"] {
             copy(&built(program), &self.0.join("target/bin").join(program));
         }
     }

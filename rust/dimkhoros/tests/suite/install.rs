@@ -16,9 +16,9 @@ const TOOLS: [&str; 17] = [
     "rmdir", "sed", "sort", "tail", "touch",
 ];
 
-/// A list of crates in which the archive and both programs are made of six.
+/// A list of crates in which the archive and the three programs are made of seven.
 const CRATES: &str = "laws:\nothers: laws\ncode: io laws\ndimkhoros: code\nmarker: io code\nreason: io code others\n\
-                      trials: laws\n";
+                      game: io code\ntrials: laws\n";
 
 /// Files of a Python module, then such as are not installed.
 const MODULE: [&str; 2] = ["python/README.md", "python/dimkhoros/__init__.py"];
@@ -31,9 +31,10 @@ const NO_MODULE: [&str; 5] = [
 ];
 
 /// What an install puts under PREFIX, with the modes.
-const TREE: [&str; 22] = [
+const TREE: [&str; 23] = [
     "bin/ 755",
     "bin/dimkhoros 755",
+    "bin/game 755",
     "bin/marker 755",
     "bin/reason 755",
     "include/ 755",
@@ -122,6 +123,7 @@ fn all_files_stand_in_their_places() {
         ("bin/dimkhoros", "rust/target/release/dimkhoros"),
         ("bin/marker", "target/bin/marker"),
         ("bin/reason", "target/bin/reason"),
+        ("bin/game", "target/bin/game"),
         ("include/dimkhoros.h", "include/dimkhoros.h"),
         ("include/dimkhoros_box.h", "include/dimkhoros_box.h"),
         ("lib/libdimkhoros.a", "target/staticlib/libdimkhoros.a"),
@@ -465,7 +467,12 @@ fn without_a_compiler_the_shared_library_is_left_out() {
 fn without_rt_nothing_old_is_installed() {
     let home = laid_out("rt");
     let before = tree(&home.0);
-    for name in ["target/staticlib/libdimkhoros.a", "target/bin/marker", "target/bin/reason"] {
+    for name in [
+        "target/staticlib/libdimkhoros.a",
+        "target/bin/marker",
+        "target/bin/reason",
+        "target/bin/game",
+    ] {
         home.date(name, false);
         let line = format!(
             "{} is missing or older than its sources, and the command rt, which builds it, is not on PATH",
@@ -486,10 +493,10 @@ fn what_is_old_is_built_once() {
     home.date("rust/target/release/dimkhoros", true);
     home.put_tool("rt", "echo \"$@\" >>asked\necho 'rt: ok'");
     let run = home.run(&["prefix"]);
-    let begins = "install: proving 6 crates and building libdimkhoros.a with marker and reason; where none is proved yet, \
-                  about 5 minutes on two processors\n";
+    let begins = "install: proving 7 crates and building libdimkhoros.a with marker, reason and game; where none is proved \
+                  yet, about 5 minutes on two processors\n";
     assert_eq!(run.stderr, begins);
-    let asked = "check laws others code marker reason\nstaticlib dimkhoros\n";
+    let asked = "check laws others code marker reason game\nstaticlib dimkhoros\n";
     assert_eq!((run.status, home.text("asked").as_str()), (Some(0), asked));
     install(&home, "prefix");
     assert_eq!(home.text("asked"), asked);
@@ -507,7 +514,7 @@ fn a_failed_proof_names_its_log_and_installs_nothing() {
     let lines: Vec<&str> = run.stderr.lines().collect();
     let log = path(&home, "target/install.log");
     let last = format!(
-        "install: libdimkhoros.a with marker and reason is not built; the prover's whole output is in {log}"
+        "install: libdimkhoros.a with marker, reason and game is not built; the prover's whole output is in {log}"
     );
     assert_eq!((run.status, &lines[1..]), (Some(1), &["rt: no proof", last.as_str()][..]));
     assert!(!home.0.join("prefix").exists());

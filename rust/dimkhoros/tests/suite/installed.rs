@@ -3,7 +3,7 @@
 
 use crate::cc;
 use crate::home::{self, Home, built, ended};
-use crate::run::EXAMPLE;
+use crate::run::{EXAMPLE, GAME};
 use crate::tree::{tree, untried};
 
 use dimkhoros_sys::ARCHIVE;
@@ -92,6 +92,7 @@ fn what_is_installed_is_what_is_built() {
     for (place, source) in [
         ("bin/marker", built("marker")),
         ("bin/reason", built("reason")),
+        ("bin/game", built("game")),
         ("include/dimkhoros.h", cc::root().join("include/dimkhoros.h")),
         ("include/dimkhoros_box.h", cc::root().join("include/dimkhoros_box.h")),
         ("lib/libdimkhoros.a", PathBuf::from(ARCHIVE)),
@@ -111,10 +112,12 @@ fn the_programs_are_found_on_path() {
     let example = "cd \"$root/crates/marker/data\" &&";
     assert_eq!(shell("programs", &format!("{example} marker")), EXAMPLE);
     assert_eq!(shell("programs", &format!("{example} reason")), "accepted\n");
+    assert_eq!(shell("programs", &format!("{example} game")), GAME);
     assert!(shell("programs", "dimkhoros --help").contains("dimkhoros"));
-    let found = shell("programs", "for name in marker reason dimkhoros; do command -v $name; done");
+    let found =
+        shell("programs", "for name in marker reason game dimkhoros; do command -v $name; done");
     assert!(found.lines().all(|line| Path::new(line).starts_with(installed().0.join("bin"))));
-    assert_eq!(found.lines().count(), 3);
+    assert_eq!(found.lines().count(), 4);
 }
 
 #[test]

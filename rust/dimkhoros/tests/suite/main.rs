@@ -9,6 +9,7 @@ mod cc;
 mod converting;
 mod examples;
 mod forms;
+mod games;
 mod home;
 mod install;
 mod installed;

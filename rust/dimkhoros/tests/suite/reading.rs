@@ -1,8 +1,8 @@
-//! The programs `marker` and `reason` on files that are read in pieces, and on files whose end cannot be read.
+//! The programs `marker`, `reason` and `game` on files that are read in pieces, and on files whose end cannot be read.
 
 use crate::cc;
 use crate::home::built;
-use crate::run::EXAMPLE;
+use crate::run::{EXAMPLE, GAME};
 
 use std::fs;
 use std::path::{Path, PathBuf};
@@ -34,9 +34,9 @@ fn lengthen(folder: &Path, file: &str) {
     fs::write(folder.join(file), bytes).unwrap();
 }
 
-/// What both programs print in the folder, if a variable bounds what their reads give.
-fn printed(folder: &Path, variable: &str, number: usize) -> [String; 2] {
-    ["marker", "reason"].map(|program| {
+/// What the three programs print in the folder, if a variable bounds what their reads give.
+fn printed(folder: &Path, variable: &str, number: usize) -> [String; 3] {
+    ["marker", "reason", "game"].map(|program| {
         let mut command = Command::new(built(program));
         command.current_dir(folder).env("LD_PRELOAD", folder.join("partial_read.so"));
         cc::succeed(command.env(variable, number.to_string()))
@@ -48,12 +48,12 @@ fn a_file_that_is_read_in_pieces_is_read_whole() {
     let folder = laid_out("pieces");
     let pieces = [1, 7, 4096];
     for piece in pieces {
-        assert_eq!(printed(&folder, "PIECE", piece), [EXAMPLE, "accepted\n"]);
+        assert_eq!(printed(&folder, "PIECE", piece), [EXAMPLE, "accepted\n", GAME]);
     }
     for (file, texts) in [
-        ("level.bin", ["level 25\n", "accepted\n"]),
-        ("rounds.bin", ["file 12\n", "refused 12 length 60000\n"]),
-        ("sheet.bin", ["sheet 9\n", "refused 9 length 60000\n"]),
+        ("level.bin", ["level 25\n", "accepted\n", GAME]),
+        ("rounds.bin", ["file 12\n", "refused 12 length 60000\n", "refused 12\n"]),
+        ("sheet.bin", ["sheet 9\n", "refused 9 length 60000\n", "refused 9\n"]),
     ] {
         lengthen(&folder, file);
         for piece in pieces {
@@ -64,17 +64,17 @@ fn a_file_that_is_read_in_pieces_is_read_whole() {
 
 /// A file is empty if a read fails before all is read that is kept of it. It ends at a later read that fails.
 #[test]
-fn both_programs_agree_on_a_file_whose_end_cannot_be_read() {
+fn the_programs_agree_on_a_file_whose_end_cannot_be_read() {
     let folder = laid_out("failing");
     for (file, readable, texts) in [
-        ("rounds.bin", 100, ["file 12\n", "refused 12 length 0\n"]),
-        ("rounds.bin", 34_823, ["file 12\n", "refused 12 length 0\n"]),
-        ("rounds.bin", 34_824, ["file 12\n", "refused 12 length 34824\n"]),
-        ("rounds.bin", 50_000, ["file 12\n", "refused 12 length 50000\n"]),
-        ("sheet.bin", 100, ["sheet 2\n", "refused 2 length 0\n"]),
-        ("sheet.bin", 308, ["sheet 2\n", "refused 2 length 0\n"]),
-        ("sheet.bin", 309, ["sheet 9\n", "refused 9 length 309\n"]),
-        ("sheet.bin", 50_000, ["sheet 9\n", "refused 9 length 50000\n"]),
+        ("rounds.bin", 100, ["file 12\n", "refused 12 length 0\n", "refused 12\n"]),
+        ("rounds.bin", 34_823, ["file 12\n", "refused 12 length 0\n", "refused 12\n"]),
+        ("rounds.bin", 34_824, ["file 12\n", "refused 12 length 34824\n", "refused 12\n"]),
+        ("rounds.bin", 50_000, ["file 12\n", "refused 12 length 50000\n", "refused 12\n"]),
+        ("sheet.bin", 100, ["sheet 2\n", "refused 2 length 0\n", "refused 2\n"]),
+        ("sheet.bin", 308, ["sheet 2\n", "refused 2 length 0\n", "refused 2\n"]),
+        ("sheet.bin", 309, ["sheet 9\n", "refused 9 length 309\n", "refused 9\n"]),
+        ("sheet.bin", 50_000, ["sheet 9\n", "refused 9 length 50000\n", "refused 9\n"]),
     ] {
         lengthen(&folder, file);
         let said = printed(&folder, "READABLE", readable);

@@ -31,7 +31,7 @@ fn other_count() -> Refusal {
     Pair::new(&page_a(), &other).unwrap_err()
 }
 
-/// 25 is a number of the marker's text alone, and no call answers it.
+/// 25 is a number of the marker's text alone and 31 one of the game's, and no call answers them.
 #[test]
 fn every_number_is_given() {
     let a = page_a();
@@ -69,6 +69,7 @@ fn every_number_is_given() {
         Instance::from_forms(&LinearPlan { statement: &[1], ..MAURER }).unwrap_err(),
         Instance::from_forms(&LinearPlan { forms: Forms::of(&[[[11; 4]; 3]; 2]), ..MAURER })
             .unwrap_err(),
+        Refusal::GameSize,
     ];
     assert_eq!(Refusal::from_number(given.len() as u32 + 1), None);
     for (number, refusal) in (1..).zip(given) {

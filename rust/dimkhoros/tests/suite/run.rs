@@ -1,4 +1,4 @@
-//! The script `./run`, which marks folders or says the reason on them.
+//! The script `./run`, which marks folders, says the reason on them or plays the game on them.
 
 use crate::cc;
 use crate::home::{Ended, Home, built, copy, ended};
@@ -10,19 +10,21 @@ use std::process::{Command, Stdio};
 /// The marker's text on 01's example.
 pub const EXAMPLE: &str = "rounds 4\n0 accepted\n1 accepted\n2 rejected 0\n3 refused 14\nfail\n";
 
+/// The game's text on 01's example.
+pub const GAME: &str = "0 5\n1 1\n2 8\n3 4\n4 0\n5 7\n6 3\n7 10\n8 6\n9 2\n10 9\n";
+
 /// What the script needs beside the shell.
 const TOOLS: [&str; 7] = ["awk", "cat", "dirname", "find", "mkdir", "tail", "touch"];
 
-/// A list of crates in which the marker is made of three and the program `reason` of four.
-const CRATES: &str =
-    "# Ours.\nlaws:\nothers: laws\ncode: io laws\n\nmarker: io code\nreason: io code others\n";
+/// A list of crates in which the programs `marker` and `game` are made of three and the program `reason` of four.
+const CRATES: &str = "# Ours.\nlaws:\nothers: laws\ncode: io laws\n\nmarker: io code\nreason: io code others\ngame: io code\n";
 
 /// What a program says where its text cannot be written.
 fn unwritten(program: &str) -> String {
     format!("{program}: the text cannot be written whole")
 }
 
-/// The folder of a test, with 01's example, a folder without files and both programs, which are up to date.
+/// The folder of a test, with 01's example, a folder without files and the three programs, which are up to date.
 fn laid_out(test: &str) -> Home {
     let home = Home::new("run", test, &TOOLS, CRATES);
     for file in ["sheet.bin", "rounds.bin", "level.bin"] {
@@ -101,7 +103,7 @@ fn wrong_words_mark_nothing() {
 fn help_is_printed_and_marks_nothing() {
     let help = laid_out("help").run(&["--help"]);
     assert_eq!((help.status, help.stderr.as_str()), (Some(0), ""));
-    let usage = "usage: ./run [--] [FOLDER...]\n       ./run reason [--] [FOLDER...]\n";
+    let usage = "usage: ./run [--] [FOLDER...]\n       ./run reason [--] [FOLDER...]\n       ./run game [--] [FOLDER...]\n";
     assert!(help.stdout.starts_with(usage));
     assert!(!help.stdout.contains("rounds 4"));
 }
@@ -118,6 +120,20 @@ fn behind_the_word_reason_each_folder_gets_its_line() {
     assert_eq!(home.run(&["reason", "nobody"]), missing);
     assert_eq!(home.run(&["reason", ""]), failed(2, "a folder's name is empty"));
     assert_eq!(home.run(&["reason", "--help"]), home.run(&["--help"]));
+}
+
+#[test]
+fn behind_the_word_game_each_folder_gets_its_text() {
+    let home = laid_out("game");
+    assert_eq!(home.run(&["game"]), marked(GAME));
+    assert_eq!(home.run(&["game", "--", "crates/marker/data"]), marked(GAME));
+    assert_eq!(home.run(&["game", "no files"]), marked("refused 2\n"));
+    let several = format!("no files:\nrefused 2\ncrates/marker/data:\n{GAME}");
+    assert_eq!(home.run(&["game", "no files", "crates/marker/data"]), marked(&several));
+    let missing = failed(1, "there is no folder nobody that can be entered");
+    assert_eq!(home.run(&["game", "nobody"]), missing);
+    assert_eq!(home.run(&["game", ""]), failed(2, "a folder's name is empty"));
+    assert_eq!(home.run(&["game", "--help"]), home.run(&["--help"]));
 }
 
 /// The example's round 0 is accepted and its file fails, so the line is not said alone. It is said once of all folders, and of no
@@ -138,20 +154,21 @@ fn accepted_is_said_to_be_on_round_0() {
 
 /// The word is one only where it stands first.
 #[test]
-fn a_folder_called_reason_is_marked() {
+fn a_folder_called_reason_or_game_is_marked() {
     let home = laid_out("called");
-    fs::create_dir(home.0.join("reason")).unwrap();
     let sheet = fs::read(home.0.join("crates/marker/data/sheet.bin")).unwrap();
-    fs::write(home.0.join("reason/sheet.bin"), &sheet[..27]).unwrap();
-    for words in [&["./reason"][..], &["--", "reason"]] {
-        assert_eq!(home.run(words), marked("sheet 9\n"));
+    for (word, line) in [("reason", "refused 9 length 27\n"), ("game", "refused 9\n")] {
+        fs::create_dir(home.0.join(word)).unwrap();
+        fs::write(home.0.join(word).join("sheet.bin"), &sheet[..27]).unwrap();
+        assert_eq!(home.run(&[&format!("./{word}")]), marked("sheet 9\n"));
+        assert_eq!(home.run(&["--", word]), marked("sheet 9\n"));
+        let both = format!("no files:\nsheet 2\n{word}:\nsheet 9\n");
+        assert_eq!(home.run(&["no files", word]), marked(&both));
+        assert_eq!(home.run(&[word, word]), marked(line));
     }
-    let both = "no files:\nsheet 2\nreason:\nsheet 9\n";
-    assert_eq!(home.run(&["no files", "reason"]), marked(both));
-    assert_eq!(home.run(&["reason", "reason"]), marked("refused 9 length 27\n"));
 }
 
-/// The level stands beside the other two files, and the program `reason` does not read it.
+/// The level stands beside the other two files, and the programs `reason` and `game` do not read it.
 #[test]
 fn a_folder_without_a_level_is_not_marked_by_rounds() {
     let home = laid_out("level");
@@ -159,6 +176,7 @@ fn a_folder_without_a_level_is_not_marked_by_rounds() {
     home.date("crates/marker/data", false);
     assert_eq!(home.run(&[]), marked("level 25\n"));
     assert_eq!(home.run(&["reason"]), accepted("accepted\n"));
+    assert_eq!(home.run(&["game"]), marked(GAME));
 }
 
 /// The README's script is told a pass by the last line. With K = 11 one round passes at the level 3.
@@ -202,7 +220,11 @@ fn two_hyphens_end_the_options() {
 fn a_text_that_cannot_be_written_is_told_of() {
     let home = laid_out("full");
     let full = || OpenOptions::new().write(true).open("/dev/full").unwrap();
-    for (program, words) in [("marker", &["no files"][..]), ("reason", &["reason", "no files"])] {
+    for (program, words) in [
+        ("marker", &["no files"][..]),
+        ("reason", &["reason", "no files"]),
+        ("game", &["game", "no files"]),
+    ] {
         let line = unwritten(program);
         let mut alone = Command::new(built(program));
         let alone = ended(alone.current_dir(home.0.join("no files")).stdout(full()));
@@ -220,6 +242,7 @@ fn nothing_is_said_of_a_reader_that_has_gone_away() {
     for (words, status) in [
         (&["no files"][..], Some(1)),
         (&["reason", "no files"], Some(1)),
+        (&["game", "no files"], Some(1)),
         (&["no files", "no files"], None),
     ] {
         let mut reader = Command::new("true").stdin(Stdio::piped()).spawn().unwrap();
@@ -233,7 +256,7 @@ fn nothing_is_said_of_a_reader_that_has_gone_away() {
 #[test]
 fn a_closed_output_is_told_of() {
     let home = laid_out("closed");
-    for words in ["'no files'", "'no files' 'no files'", "reason"] {
+    for words in ["'no files'", "'no files' 'no files'", "reason", "game"] {
         let mut shell = Command::new("/bin/sh");
         shell.arg("-c").arg(format!("./run {words} >&-"));
         let line = "the text cannot be written: standard output is closed";
@@ -260,12 +283,11 @@ fn what_is_no_regular_file_is_named_and_the_others_are_marked() {
             let stdout = format!("no files:\nsheet 2\ncrates/marker/data:\n{EXAMPLE}");
             let several = Ended { stdout, ..failed(1, &line) };
             assert_eq!(home.run(&["no files", "odd", "crates/marker/data"]), several, "{other}");
-            // The program `reason` does not read the level.
-            let reason = match file {
-                "level.bin" => marked("refused 2 length 0\n"),
-                _ => failed(1, &line),
-            };
-            assert_eq!(home.run(&["reason", "odd"]), reason, "{other}");
+            // The programs `reason` and `game` do not read the level.
+            for (word, text) in [("reason", "refused 2 length 0\n"), ("game", "refused 2\n")] {
+                let said = if file == "level.bin" { marked(text) } else { failed(1, &line) };
+                assert_eq!(home.run(&[word, "odd"]), said, "{other}");
+            }
             fs::remove_dir_all(folder).unwrap();
         }
     }
@@ -343,9 +365,9 @@ fn an_old_marker_is_built_once() {
     assert_eq!(home.text("target/run.log"), "rt: ok\n");
 }
 
-/// Each program is built where it is asked for and old, whatever the other one is.
+/// Each program is built where it is asked for and old, whatever the others are.
 #[test]
-fn an_old_program_reason_is_built_for_itself() {
+fn an_old_program_is_built_for_itself() {
     let home = laid_out("reason-build");
     home.date("target/bin/reason", false);
     home.put_tool("rt", "echo \"$@\" >>asked\necho 'rt: ok'");
@@ -359,6 +381,16 @@ fn an_old_program_reason_is_built_for_itself() {
     );
     assert_eq!(home.run(&["reason"]), accepted("accepted\n"));
     assert_eq!(home.text("asked"), "check reason\n");
+    home.date("target/bin/game", false);
+    assert_eq!(home.run(&["reason"]), accepted("accepted\n"));
+    let built = home.run(&["game"]);
+    assert_eq!((built.status, built.stdout.as_str()), (Some(0), GAME));
+    assert!(
+        built.stderr.starts_with("run: proving 3 crates and building game; "),
+        "{}",
+        built.stderr
+    );
+    assert_eq!(home.text("asked"), "check reason\ncheck game\n");
 }
 
 #[test]

@@ -2,7 +2,7 @@
 
 /// The lines. SHEET, ROUNDS, PATTERNS and FOLDER are files that are read, GROWN is a round file that is written over, OUT is a
 /// file that is written, X, T and C are values for each column, for each row, and a challenge.
-pub const LINES: [&str; 55] = [
+pub const LINES: [&str; 58] = [
     "make 1 --patterns PATTERNS m=23 q=11 h=2 x=7 -o OUT",
     "make 5 --patterns PATTERNS m=23 q=11 h=2,3,3 z=12,9 -o OUT",
     "make root --patterns PATTERNS m=35 e=5 z=32 -o OUT",
@@ -18,6 +18,9 @@ pub const LINES: [&str; 55] = [
     "check SHEET x=X",
     "grid SHEET",
     "grid SHEET t=T",
+    "game SHEET t=T",
+    "game FOLDER",
+    "game FOLDER FOLDER",
     "simulate SHEET c=C",
     "simulate SHEET c=C r=X",
     "extract SHEET ROUNDS",
