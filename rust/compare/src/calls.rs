@@ -40,6 +40,7 @@ pub enum Call {
     OrProverDrop,
     Mark,
     Reason,
+    Game,
 }
 
 /// A call's name in the interface, without the library's own name, whether it
@@ -101,6 +102,7 @@ const CALLS: &[Entry] = &[
     entry(Call::OrProverDrop, "or_prover_drop", false, &[21]),
     entry(Call::Mark, "mark", true, &[12, 25, 14, 15, 16]),
     entry(Call::Reason, "reason", true, &[12, 13, 14, 15, 16]),
+    entry(Call::Game, "game", true, &[12, 13, 14, 31]),
 ];
 
 /// How many calls there are.
@@ -109,8 +111,8 @@ pub const CALL_COUNT: usize = CALLS.len();
 /// All numbers in the order in which they are tested, the cards' numbers where
 /// 02 puts them. Of several that apply the first here is given.
 pub const ORDER: [u32; LAST as usize] = [
-    23, 24, 1, 2, 3, 4, 5, 6, 7, 8, 9, 27, 29, 30, 10, 11, 26, 12, 25, 13, 14, 15, 16, 28, 17, 18,
-    19, 20, 21, 22,
+    23, 24, 1, 2, 3, 4, 5, 6, 7, 8, 9, 27, 29, 30, 10, 11, 26, 12, 25, 13, 14, 15, 16, 28, 31, 17,
+    18, 19, 20, 21, 22,
 ];
 
 /// The numbers that the loading of a sheet can give.

@@ -1,6 +1,7 @@
 //! One call, or one run of calls, with all its inputs.
 
 mod files;
+mod games;
 mod or_rounds;
 mod or_sessions;
 mod rounds;
@@ -18,6 +19,7 @@ use crate::library::{Header, Library, Places};
 use crate::outcome::Outcome;
 
 pub use files::{FileCall, FileCase, SameCase};
+pub use games::GameCase;
 pub use or_rounds::{OrRoundCall, OrRoundCase};
 pub use or_sessions::{OrSessionCase, OrStep};
 pub use rounds::{RoundCall, RoundCase};

@@ -3,6 +3,7 @@
 mod extracting;
 mod files;
 mod forms;
+mod games;
 mod list;
 mod marking;
 mod or_extracting;
@@ -25,6 +26,7 @@ mod writers;
 pub use extracting::extract;
 pub use files::{check, count, part, read, same_commitment};
 pub use forms::linear;
+pub use games::game;
 pub use list::{Fault, FAULTS};
 pub use marking::mark;
 pub use or_extracting::or_extract;

@@ -11,7 +11,7 @@ use judge::{linear, pattern_file};
 use crate::library::{
     Compared, Computed, Counted, Fetched, Forms, Header, Judgement, Loaded, Part, Places, Plan,
     ProverAnswer, ProverSession, Round, VerifierAnswer, VerifierJudgement, VerifierSession,
-    Written, LONGEST_REASON, LONGEST_TEXT,
+    Written, LONGEST_GAME, LONGEST_REASON, LONGEST_TEXT,
 };
 use sessions::{
     prover, prover_answer, prover_session, verifier, verifier_answer, verifier_session,
@@ -219,4 +219,10 @@ pub fn reason(sheet: &[u8], file: &[u8], text: &mut [u8; LONGEST_REASON]) -> usi
     let line = judge::reason(sheet, file);
     text[..line.len()].copy_from_slice(line.as_bytes());
     line.len()
+}
+
+pub fn game(sheet: &[u8], file: &[u8], text: &mut [u8; LONGEST_GAME]) -> usize {
+    let played = judge::game(sheet, file);
+    text[..played.len()].copy_from_slice(played.as_bytes());
+    played.len()
 }

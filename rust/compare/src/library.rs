@@ -7,8 +7,8 @@ pub use dimkhoros_sys::{
     phases, Compared, Computed, Counted, Fetched, Header, Judgement, Loaded, Opened, OrAnswer,
     OrExtracted, OrJudgement, OrRound, OrSession, Part, Parts, Places, ProverAnswer, ProverSession,
     Round, VerifierAnswer, VerifierJudgement, VerifierSession, Watch, WatchAnswer, Written,
-    LONGEST_FILE, LONGEST_FILE_2, LONGEST_REASON, LONGEST_SHEET, LONGEST_TEXT, MOST_PLAYERS,
-    MOST_REMEMBERED, MOST_ROUNDS, PARTS, PLACES, SHIPPED_PATTERNS,
+    LONGEST_FILE, LONGEST_FILE_2, LONGEST_GAME, LONGEST_REASON, LONGEST_SHEET, LONGEST_TEXT,
+    MOST_PLAYERS, MOST_REMEMBERED, MOST_ROUNDS, PARTS, PLACES, SHIPPED_PATTERNS,
 };
 
 /// The numbers that the sheet maker takes. The pattern number 0 is that of root
@@ -73,9 +73,9 @@ macro_rules! calls {
     };
 }
 
-// Entries are 64 numbers: row i, column j at place 8 i + j. The marker's text
-// and the reason's line are put at the start of `text`, and their length is
-// answered.
+// Entries are 64 numbers: row i, column j at place 8 i + j. The marker's text,
+// the reason's line and the game's text are put at the start of `text`, and their
+// length is answered.
 calls! {
     load(sheet: &[u8]) -> Loaded;
     entries(sheet: &[u8], entries: &mut [u32; 64]) -> u32;
@@ -136,4 +136,5 @@ calls! {
 
     mark(sheet: &[u8], file: &[u8], level: &[u8], text: &mut [u8; LONGEST_TEXT]) -> usize;
     reason(sheet: &[u8], file: &[u8], text: &mut [u8; LONGEST_REASON]) -> usize;
+    game(sheet: &[u8], file: &[u8], text: &mut [u8; LONGEST_GAME]) -> usize;
 }

@@ -19,6 +19,7 @@ mod damage;
 mod demand_three;
 mod faults;
 mod files;
+mod games;
 mod groups;
 mod instance;
 mod judged;
@@ -39,6 +40,7 @@ mod program;
 mod proved;
 mod random;
 mod run;
+mod search;
 mod shapes;
 mod sheets;
 mod stored;
@@ -121,5 +123,6 @@ fn stages(options: &Options) -> Result<(), String> {
     println!("{}", whole_rounds::check(options.other)?);
     println!("{}", watching::check(options.other)?);
     println!("{}", multiplying::check(options.other)?);
+    println!("{}", games::check(options.other)?);
     Ok(())
 }

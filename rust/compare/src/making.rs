@@ -5,6 +5,7 @@ mod brought;
 mod file_writers;
 mod files;
 mod forms;
+mod games;
 mod inputs;
 mod levels;
 mod marking;
@@ -30,6 +31,7 @@ use crate::cases::Case;
 use crate::random::Random;
 
 pub use brought::change;
+pub use games::game_case;
 pub use levels::{needed, HIGHEST};
 pub use marking::{mark_case, mark_file};
 pub use reasons::reason_case;
@@ -39,7 +41,7 @@ pub use watch_runs::of_rounds as watched_rounds;
 type Maker = fn(&mut Random) -> Box<dyn Case>;
 
 /// How often each maker is asked, among the sum of these.
-const SHARES: [(Maker, usize); 37] = [
+const SHARES: [(Maker, usize); 38] = [
     (sheets::load, 3),
     (sheets::entries, 2),
     (sheets::encode, 4),
@@ -77,6 +79,7 @@ const SHARES: [(Maker, usize); 37] = [
     (or_runs::run, 2),
     (marking::mark, 3),
     (reasons::reason, 7),
+    (games::game, 3),
 ];
 
 /// The case with this number in a run with this seed.

@@ -1,9 +1,9 @@
-//! The programs `marker` and `reason`, beside the judge.
+//! The programs `marker`, `reason` and `game`, beside the judge.
 //!
 //! No contract of the system's calls says which bytes a program reads and
-//! prints. So each is run in folders of its own, as `./run FOLDER` and `./run
-//! reason FOLDER` run them, and must print the judge's text on the files there
-//! and nothing else, and exit with 0.
+//! prints. So each is run in folders of its own, as `./run FOLDER`, `./run reason
+//! FOLDER` and `./run game FOLDER` run them, and must print the judge's text on the
+//! files there and nothing else, and exit with 0.
 
 mod folders;
 mod scratch;
@@ -13,6 +13,7 @@ use std::io;
 use std::path::Path;
 use std::process::{Command, ExitStatus, Output, Stdio};
 
+use crate::search;
 use folders::{folders, Folder};
 use scratch::Scratch;
 
@@ -25,8 +26,8 @@ pub struct Program {
     text: fn(&[u8], &[u8], &[u8]) -> String,
 }
 
-/// Both programs.
-pub const PROGRAMS: [Program; 2] = [
+/// All programs. The game's text is that of a table if the judge would take long.
+pub const PROGRAMS: [Program; 3] = [
     Program {
         name: "marker",
         text: judge::marker,
@@ -34,6 +35,10 @@ pub const PROGRAMS: [Program; 2] = [
     Program {
         name: "reason",
         text: |sheet, rounds, _| judge::reason(sheet, rounds),
+    },
+    Program {
+        name: "game",
+        text: |sheet, rounds, _| search::game(sheet, rounds),
     },
 ];
 
@@ -106,6 +111,7 @@ mod tests {
 
     const MARKER: &Program = &PROGRAMS[0];
     const REASON: &Program = &PROGRAMS[1];
+    const GAME: &Program = &PROGRAMS[2];
 
     /// The bytes of a file, none where it cannot be read.
     fn bytes(folder: &Path, name: &str) -> Vec<u8> {
@@ -178,6 +184,7 @@ mod tests {
         for level in [0, 1] {
             assert!(!passes(MARKER, Kept { level, ..ENOUGH }, |_| {}));
             assert!(passes(REASON, Kept { level, ..ENOUGH }, |_| {}));
+            assert!(passes(GAME, Kept { level, ..ENOUGH }, |_| {}));
         }
     }
 
@@ -223,6 +230,7 @@ mod tests {
         for (program, names) in [
             (MARKER, &["sheet.bin", "rounds.bin", "level.bin"][..]),
             (REASON, &["sheet.bin", "rounds.bin"]),
+            (GAME, &["sheet.bin", "rounds.bin"]),
         ] {
             for cut in names {
                 let passes = passes_on(program, |name, mut bytes| {
@@ -246,6 +254,30 @@ mod tests {
             assert!(!passes(program, ENOUGH, |ran| ran.status = one));
         }
         assert!(!passes(MARKER, ENOUGH, |ran| ran.stdout.truncate(4096)));
+        for length in [4096, 65_536, 600_000] {
+            assert!(!passes(GAME, ENOUGH, |ran| ran.stdout.truncate(length)));
+        }
+    }
+
+    /// A game that takes a level, as the marker does, or asks for one.
+    #[test]
+    fn a_game_that_reads_the_level_is_found() {
+        for needed in [&[1..=64][..], &[0..=255]] {
+            let reads = Program {
+                name: "game",
+                text: GAME.text,
+            };
+            let found = reads.check_runs(SEED, |folder| {
+                let level = bytes(folder, "level.bin");
+                let mut ran = ran(GAME, folder, ENOUGH);
+                let is_level = level.len() == 1 && needed[0].contains(&level[0]);
+                if !is_level && !ran.stdout.starts_with(b"refused") {
+                    ran.stdout = b"level 25\n".to_vec();
+                }
+                Ok(ran)
+            });
+            assert!(found.is_err(), "{needed:?}");
+        }
     }
 
     #[test]

@@ -2,6 +2,7 @@
 
 use crate::arithmetic::{multiply, power};
 use crate::groups::Group;
+use crate::library::Library::Judge;
 use crate::library::{Header, Places};
 use crate::random::Random;
 
@@ -45,6 +46,17 @@ fn product(row: &[u32], slots: &Places, m: u32) -> u32 {
 }
 
 impl Sheet {
+    /// The sheet of bytes that load.
+    pub fn read(bytes: &[u8]) -> Sheet {
+        let (loaded, mut entries) = (Judge.load(bytes), [0; 64]);
+        Judge.entries(bytes, &mut entries);
+        Sheet {
+            header: loaded.header,
+            entries,
+            statement: loaded.statement,
+        }
+    }
+
     /// A sheet of the group that loads, with any statement. Unused places are 0.
     pub fn with_any_statement(random: &mut Random, group: &Group) -> Sheet {
         let mut sheet = Sheet::with_entries(random, group);
@@ -191,7 +203,6 @@ mod tests {
 
     use super::*;
     use crate::arithmetic::least_divisor;
-    use crate::library::Library::Judge;
 
     #[test]
     fn made_sheets_load_as_the_values_they_were_made_of() {

@@ -1,12 +1,15 @@
 //! How often each call gave each number and each verdict, and how often each
 //! shape of sheets and slots was met.
 
+mod games;
+
 use std::fmt;
 
 use crate::calls::{Call, CALL_COUNT, LAST, ORDER};
 use crate::cases::Case;
 use crate::outcome::{Answer, Outcome, Verdict};
 use crate::shapes::{Seen, Shapes};
+use games::Games;
 
 /// What is counted of a side: each of eight rows that it is rejected in, and in how
 /// many, 1 to 8, it is.
@@ -20,11 +23,12 @@ const VERDICTS: usize = 1 + 2 * OF_SIDE + 3;
 const NAMED: [&str; 4] = ["none", "1 back", "2 to 62 back", "63 back"];
 
 /// A count for each call with each number and with each verdict, for each round that
-/// a watch names, and for each shape.
+/// a watch names, for what games answer, and for each shape.
 pub struct Tally {
     numbers: [[u64; LAST as usize + 1]; CALL_COUNT],
     verdicts: [[u64; VERDICTS]; CALL_COUNT],
     named: [u64; NAMED.len()],
+    games: Games,
     shapes: Shapes,
 }
 
@@ -34,6 +38,7 @@ impl Default for Tally {
             numbers: [[0; LAST as usize + 1]; CALL_COUNT],
             verdicts: [[0; VERDICTS]; CALL_COUNT],
             named: [0; NAMED.len()],
+            games: Games::default(),
             shapes: Shapes::default(),
         }
     }
@@ -124,6 +129,10 @@ impl Tally {
             if let Answer::Watched(answer) = answer {
                 self.named[named(answer.back)] += u64::from(answer.verdict.accepted);
             }
+            if let (Call::Game, Answer::Told { text, .. }) = (call, answer) {
+                let header = case.header().unwrap_or_default();
+                self.games.add(&header, answer.refusal(), text);
+            }
         }
     }
 
@@ -132,7 +141,8 @@ impl Tally {
     fn rows(&self) -> Vec<(&'static str, Vec<(&'static str, u64)>)> {
         let named = NAMED.into_iter().zip(self.named);
         let watch = ("a watch names", named.collect());
-        [watch].into_iter().chain(self.shapes.rows()).collect()
+        let games = [watch].into_iter().chain(self.games.rows());
+        games.chain(self.shapes.rows()).collect()
     }
 
     fn met(&self, call: Call, number: u32) -> u64 {
@@ -182,7 +192,7 @@ impl Tally {
 
 /// A table with a line for each call and a column for each number, which has a
 /// dot where the call cannot give the number. Then the verdicts, the rounds that a
-/// watch names, and the shapes.
+/// watch names, what games answer, and the shapes.
 impl fmt::Display for Tally {
     fn fmt(&self, out: &mut fmt::Formatter) -> fmt::Result {
         write!(out, "{:<20}", "number")?;

@@ -1,20 +1,23 @@
 //! Folders with a sheet, a round file and a level file: files that are missing,
-//! empty, cut, as long as they can be, a byte shorter and longer, and those of
-//! the marker's and the reason's cases.
+//! empty, cut, as long as they can be, a byte shorter and longer, those of the
+//! marker's, the reason's and the game's cases, and the game's largest sheets.
 
 use std::fmt;
 use std::fs;
 use std::io;
 use std::path::Path;
 
+use crate::files;
+use crate::games::largest;
 use crate::groups::Group;
 use crate::instance::Instance;
-use crate::library::{LONGEST_FILE, LONGEST_FILE_2, LONGEST_SHEET, MOST_ROUNDS};
-use crate::making::{mark_case, mark_file, reason_case};
+use crate::library::{Round, LONGEST_FILE, LONGEST_FILE_2, LONGEST_SHEET, MOST_ROUNDS};
+use crate::making::{game_case, mark_case, mark_file, reason_case};
 use crate::printing::hex;
 use crate::random::Random;
 
-/// How many of the marker's cases are run, and as many of the reason's.
+/// How many of the marker's cases are run, and as many of the reason's and of the
+/// game's.
 const CASES: u64 = 60;
 
 /// How many bytes the program `reason` reads at once of those that it only
@@ -105,7 +108,37 @@ pub fn folders(seed: u64) -> Vec<Folder> {
             }
         }));
     }
+    folders.extend((0..CASES).map(|number| {
+        let case = game_case(&mut Random::of_case(seed, number));
+        without_level(case.sheet, case.file)
+    }));
+    folders.extend(played());
     folders
+}
+
+/// A sheet and a round file without a level.
+fn without_level(sheet: Vec<u8>, rounds: Vec<u8>) -> Folder {
+    Folder {
+        sheet: Place::File(sheet),
+        rounds: Place::File(rounds),
+        level: Place::Nothing,
+    }
+}
+
+/// The game's largest sheets, with files of one round in both versions.
+fn played() -> Vec<Folder> {
+    let sheets = largest::sheets()
+        .into_iter()
+        .zip([1, 2].into_iter().cycle());
+    let folders = sheets.map(|((sheet, commitments), version)| {
+        let round = Round {
+            commitment: commitments[0],
+            ..Round::default()
+        };
+        let rounds = files::of_rounds(&sheet.header, version, &[round]);
+        without_level(sheet.bytes(), rounds)
+    });
+    folders.collect()
 }
 
 /// 01's example, with each of its files, with none, and with an empty file or a
@@ -282,6 +315,7 @@ fn longest_instance(random: &mut Random) -> Instance {
 mod tests {
     use super::*;
     use crate::options::SEED;
+    use crate::search;
 
     fn text(folder: &Folder) -> String {
         let Folder {
@@ -294,6 +328,21 @@ mod tests {
 
     fn reason(folder: &Folder) -> String {
         judge::reason(folder.sheet.bytes(), folder.rounds.bytes())
+    }
+
+    /// How many lines the game's text has, none where it is refused.
+    fn answered(folder: &Folder) -> usize {
+        let text = search::game(folder.sheet.bytes(), folder.rounds.bytes());
+        let lines = text.lines().filter(|line| line.parse::<u32>().is_err());
+        lines.filter(|line| !line.starts_with("refused")).count()
+    }
+
+    #[test]
+    fn the_game_has_lines_of_few_and_of_all_challenges() {
+        assert_eq!(answered(&examples()[0]), 11);
+        let counts: Vec<usize> = played().iter().map(answered).collect();
+        assert_eq!(counts.iter().filter(|count| **count == 65_536).count(), 8);
+        assert!(counts.contains(&4093) && counts.contains(&1));
     }
 
     #[test]

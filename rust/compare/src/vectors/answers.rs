@@ -7,6 +7,7 @@ use super::inputs::{Inputs, Phases, PROVER_PHASES, UNREAD, VERIFIER_PHASES};
 use super::or_answers;
 use super::Given;
 use crate::calls::Call;
+use crate::lent::{self, AROUND};
 use crate::library::{
     Compared, Computed, Counted, Fetched, Judgement, Library, Loaded, Plan, ProverAnswer,
     ProverSession, VerifierSession, Written, LONGEST_REASON, LONGEST_TEXT,
@@ -137,6 +138,7 @@ impl Given {
             }
             Call::Mark => Ok(self.mark(library, &inputs.bytes("level")?)),
             Call::Reason => Ok(self.reason(library)),
+            Call::Game => Ok(self.game(library)),
         }
     }
 
@@ -345,6 +347,11 @@ impl Given {
         let mut text = [0xee; LONGEST_REASON];
         let length = library.reason(&self.sheet, &self.file, &mut text);
         written_text(&text, length)
+    }
+
+    fn game(&self, library: Library) -> String {
+        let (length, memory) = lent::for_game(|text| library.game(&self.sheet, &self.file, text));
+        written_text(&memory[AROUND..], length)
     }
 }
 
