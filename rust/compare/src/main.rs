@@ -1,11 +1,11 @@
 //! Compares the proved library with the judge.
 //!
-//! First the programs `marker` and `reason` are run in some folders. Then each
+//! First the programs `marker`, `reason` and `game` are run in some folders. Then each
 //! case is one call, or a run of both sessions, with inputs made from the seed.
 //! Both libraries get it, and every field of the answers and every byte of a
 //! lent buffer must be the same. The first difference is printed and ends the
 //! run. Last page K, files at every level and all masks of rows are run in both,
-//! demand 3 and cards 4, 6 and 11 are tried on small sheets, and card 9 in long runs.
+//! demand 3 and cards 4, 6, 11 and 12 are tried on small sheets, and card 9 in long runs.
 //! Exit status: 0 no difference, 1 a difference, something met too seldom or a
 //! program that is missing, 2 wrong words or a place to which nothing can be
 //! written.
