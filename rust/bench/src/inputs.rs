@@ -25,14 +25,15 @@ pub struct Inputs {
 }
 
 /// The fixed fields of a sheet.
-struct Plan {
-    name: &'static str,
-    kind: Kind,
-    modulus: u32,
-    order: u32,
-    challenges: u32,
-    rows: usize,
-    columns: usize,
+#[derive(Clone, Copy)]
+pub struct Plan {
+    pub name: &'static str,
+    pub kind: Kind,
+    pub modulus: u32,
+    pub order: u32,
+    pub challenges: u32,
+    pub rows: usize,
+    pub columns: usize,
 }
 
 /// What makes the inputs of each sheet, the smallest sheet first.
@@ -175,7 +176,7 @@ fn random(plan: Plan, challenges: (u32, u32)) -> Inputs {
 }
 
 /// The bytes of a sheet.
-fn sheet_bytes(plan: &Plan, entries: &[u32], statement: &[u32]) -> Vec<u8> {
+pub fn sheet_bytes(plan: &Plan, entries: &[u32], statement: &[u32]) -> Vec<u8> {
     let mut bytes = b"HOM\x00\x01".to_vec();
     bytes.push(match plan.kind {
         Kind::Exponent => 1,

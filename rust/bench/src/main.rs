@@ -2,7 +2,7 @@
 //! Rust, an idiomatic and a tuned one.
 //!
 //! Without words it prints a table of times in markdown, with the word `count`
-//! one of instructions. Exit status: 0 measured, 1 a version answers differently,
+//! one of instructions, with the word `game` one of the game beside a plain search. Exit status: 0 measured, 1 a version answers differently,
 //! 2 wrong words or no valgrind.
 
 #![forbid(unsafe_code)]
@@ -11,6 +11,7 @@ mod alike;
 mod cases;
 mod checking;
 mod counting;
+mod games;
 mod inputs;
 mod library;
 mod reference;
@@ -26,9 +27,10 @@ fn main() -> ExitCode {
     match words[..] {
         [] => tables::times(),
         ["count"] => tables::instructions(),
+        ["game"] => games::times(),
         ["run", sheet, call, side, times] => tables::run([sheet, call, side, times]),
         _ => {
-            eprintln!("bench: no words, or count");
+            eprintln!("bench: no words, count, or game");
             ExitCode::from(2)
         }
     }

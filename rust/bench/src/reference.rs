@@ -5,12 +5,14 @@
 //! No call is inlined into its caller, since no call of the library can be.
 
 mod arithmetic;
+mod game;
 mod marker;
 mod rounds;
 mod session;
 mod sheet;
 
 pub use arithmetic::{Arithmetic, Idiomatic, Tuned};
+pub use game::game;
 pub use marker::mark;
 pub use rounds::{extract, judge, simulate, Verdict};
 pub use session::{Phase, Prover};

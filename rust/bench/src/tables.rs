@@ -91,7 +91,7 @@ pub fn run(words: [&str; 4]) -> ExitCode {
 }
 
 /// The processor, and how many of it there are.
-fn machine() -> String {
+pub fn machine() -> String {
     let told = fs::read_to_string("/proc/cpuinfo").unwrap_or_default();
     let name = told
         .lines()

@@ -58,7 +58,7 @@ pub fn times(inputs: &mut Inputs, calls: [Call; 3]) -> Times {
 }
 
 /// The median of some numbers.
-fn median(numbers: impl Iterator<Item = f64>) -> f64 {
+pub fn median(numbers: impl Iterator<Item = f64>) -> f64 {
     let mut numbers: Vec<f64> = numbers.collect();
     numbers.sort_by(f64::total_cmp);
     numbers[numbers.len() / 2]

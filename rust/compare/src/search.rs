@@ -68,6 +68,12 @@ impl Table {
         }
     }
 
+    /// How many images there are.
+    #[cfg(test)]
+    pub fn images(&self) -> usize {
+        self.of_image.len()
+    }
+
     /// Whether the statement has a witness.
     pub fn has_witness(&self) -> bool {
         self.of_image.contains_key(&self.sheet.statement)

@@ -40,7 +40,7 @@ fn is_enough(challenges: u32, count: usize, level: u8) -> bool {
 }
 
 /// The records of a round file, or the number 12.
-fn records<'a, A>(sheet: &Sheet<A>, file: &'a [u8]) -> Result<&'a [u8], u32> {
+pub fn records<'a, A>(sheet: &Sheet<A>, file: &'a [u8]) -> Result<&'a [u8], u32> {
     let (head, records) = file.split_first_chunk::<7>().ok_or(12u32)?;
     if head[..5] != *b"RND\x00\x01" {
         return Err(12);
@@ -53,12 +53,12 @@ fn records<'a, A>(sheet: &Sheet<A>, file: &'a [u8]) -> Result<&'a [u8], u32> {
 }
 
 /// How many bytes a record has.
-fn record_length<A>(sheet: &Sheet<A>) -> usize {
+pub fn record_length<A>(sheet: &Sheet<A>) -> usize {
     4 * (sheet.rows + 1 + sheet.columns)
 }
 
 /// The round of a record.
-fn round<A>(sheet: &Sheet<A>, record: &[u8]) -> Round {
+pub fn round<A>(sheet: &Sheet<A>, record: &[u8]) -> Round {
     let (commitment, rest) = record.split_at(4 * sheet.rows);
     Round {
         commitment: words(commitment),

@@ -62,7 +62,7 @@ impl<A: Arithmetic> Sheet<A> {
     }
 
     /// What the image of the response has to be.
-    fn expected_image(&self, commitment: &Places, challenge: u32) -> Places {
+    pub fn expected_image(&self, commitment: &Places, challenge: u32) -> Places {
         let rows = self.rows;
         A::products(
             &commitment[..rows],

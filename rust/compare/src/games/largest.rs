@@ -17,8 +17,8 @@ const EXPONENT: [[u32; 5]; 12] = [
     [97, 16, 2, 8, 3],
     [73, 8, 2, 8, 4],
     [13, 4, 2, 8, 6],
-    [16_373, 4093, 4093, 1, 1],
-    [16_373, 4093, 4093, 8, 1],
+    [49_117, 4093, 4093, 1, 1],
+    [49_117, 4093, 4093, 8, 1],
     [367, 61, 61, 1, 2],
     [367, 61, 61, 3, 2],
     [31, 5, 5, 2, 5],
@@ -97,7 +97,11 @@ mod tests {
         for (sheet, _) in sheets() {
             assert_eq!(Judge.load(&sheet.bytes()).refusal, 0, "{sheet:?}");
             assert!(is_small(&sheet.header));
-            met[usize::from(Table::new(sheet).has_witness())] += 1;
+            let (order, table) = (sheet.header.order, Table::new(sheet));
+            // A prime order, so each entry but 1 has as many powers.
+            assert!(order != 4093 || table.images() == 4093);
+            assert!(table.images() > 1);
+            met[usize::from(table.has_witness())] += 1;
         }
         assert!(met.iter().all(|times| *times > 3), "{met:?}");
     }
