@@ -23,8 +23,9 @@
  *     refusal = dimkhoros_respond_after(sheet, sheet_length, &peggy, challenge, witness, store, box, response);
  *     .. if it is 0: the session is stored, so send the response ..
  *
- * Each call puts the session that comes after it in the place of the one before. So a second challenge on the same nonce is
- * refused, with 21. "The pure form", at the end, has the same calls with sessions that are handed in and back by value.
+ * Each call puts the session that comes after it in the place of the one before. So a second challenge is refused, with 21, if no
+ * call returns to a saved state, and a commitment that was answered is never answered again, by 32, whatever is returned to.
+ * "The pure form", at the end, has the same calls with sessions that are handed in and back by value.
  * dimkhoros_box.h, beside this header, has what a box needs beside the library: a store, random numbers and the lines of a wire.
  *
  * What a call takes. Any bytes and any numbers: every call ends in an answer, and it is proved to be the one that the call's
@@ -41,12 +42,12 @@
  *
  * Arrays of eight. Commitments and statements have s values, witnesses, nonces and responses n. They cross in arrays of
  * eight. The places behind these values are not read where a call takes them, and are 0 where a call answers them. A
- * session keeps what it holds in all eight, and the commitments that Peggy's hold are tested in all eight (by 21).
+ * session keeps what it holds in all eight, and the commitments that Peggy's hold are tested in all eight (by 21 and 32).
  *
  * Refusals. A call answers a number, or a struct with a field `refusal`: 0, or the number of what was refused. Where several
- * apply it is the earliest in the order 23, 24, 1 to 9, 27, 29, 30, 10, 11, 26, 12, 25, 13 to 16, 28, 31, 17 to 22. A refused
- * call changes no session, watch, array or buffer, and has 0 in every other field of its answer. Compilers warn of a call whose
- * answer is thrown away.
+ * apply it is the earliest in the order 23, 24, 1 to 9, 27, 29, 30, 10, 11, 26, 12, 25, 13 to 16, 28, 31, 17 to 21, 32 to 34, 22.
+ * A refused call changes no session, watch, array or buffer, and has 0 in every other field of its answer. Compilers warn of a
+ * call whose answer is thrown away.
  *
  * Random numbers are the caller's: nonces, challenges and simulated responses are handed in. A nonce has to be drawn at
  * random from all coordinates for each session, or the responses give the witness away.
@@ -81,6 +82,8 @@ extern "C" {
 #define DIMKHOROS_ENTRIES 64            /* numbers in a table: row i, column j, both from 0, stands at 8 * i + j */
 #define DIMKHOROS_MOST_PLAYERS 8        /* players of the largest team */
 #define DIMKHOROS_PARTS 64              /* numbers that a team brings: value i of player p, both from 0, stands at 8 * p + i */
+#define DIMKHOROS_SAVED_STATES 8        /* saved states of a session of Peggy's: their names are 0 to 7 */
+#define DIMKHOROS_MOST_ANSWERED 64      /* commitments in the fullest list of answered ones */
 #define DIMKHOROS_MOST_REMEMBERED 63    /* accepted rounds that the fullest watch remembers */
 #define DIMKHOROS_LONGEST_SHEET 308     /* bytes of the longest sheet */
 #define DIMKHOROS_SHIPPED_PATTERNS 34   /* bytes of the pattern file that dimkhoros_patterns writes */
@@ -93,7 +96,7 @@ extern "C" {
 #define DIMKHOROS_LONGEST_TEXT 14864    /* bytes that hold every text of the marker */
 #define DIMKHOROS_LONGEST_REASON 201    /* bytes that hold every line of the reason */
 #define DIMKHOROS_LONGEST_GAME 720896   /* bytes that hold every text of the game */
-#define DIMKHOROS_STORED_PROVER 79      /* bytes of a stored session of Peggy's */
+#define DIMKHOROS_STORED_PROVER 2707    /* bytes of a stored session of Peggy's, the longest of the three */
 #define DIMKHOROS_STORED_VERIFIER 51    /* bytes of a stored session of Vic's */
 #define DIMKHOROS_STORED_OR_PROVER 151  /* bytes of a stored session of Peggy's of the OR proof */
 
@@ -114,8 +117,8 @@ extern "C" {
 /* Phases of Peggy's sessions. In the OR proof the side and the simulated values are held with the nonce, and gone with it. */
 #define DIMKHOROS_PROVER_NEW 0       /* nothing has happened */
 #define DIMKHOROS_PROVER_COMMITTED 1 /* a nonce and its commitment are held */
-#define DIMKHOROS_PROVER_ANSWERED 2  /* a challenge was answered and the nonce is gone */
-#define DIMKHOROS_PROVER_DROPPED 3   /* the session was given up and the nonce is gone */
+#define DIMKHOROS_PROVER_ANSWERED 2  /* a challenge was answered and the nonce is gone, but for saved copies */
+#define DIMKHOROS_PROVER_DROPPED 3   /* the session was given up and the nonce is gone, but for saved copies */
 
 /* What a stored session of Peggy's is found to be when it is reopened: one in a phase of hers, or no session. */
 #define DIMKHOROS_FOUND_NEW 0       /* nothing had happened */
@@ -131,8 +134,8 @@ extern "C" {
 #define DIMKHOROS_VERIFIER_JUDGED 3  /* a response was judged */
 
 /*
- * Every refusal by its number, with its name and what it says. 23 and 24 are tested before 1, 27, 29 and 30 behind 9, 26 behind 11,
- * 25 behind 12, 28 behind 16 and 31 behind 28.
+ * Every refusal by its number, with its name and what it says. 23 and 24 are tested before 1, 27, 29 and 30 after 9, 26 after 11,
+ * 25 after 12, 28 after 16, 31 after 28, and 32 to 34 after 21, before 22.
  */
 #define DIMKHOROS_REFUSALS(REFUSAL)                                                                               \
     REFUSAL(1, PATTERN, "the pattern file has no pattern of this number, or it takes another count of values")    \
@@ -172,7 +175,10 @@ extern "C" {
                              " column, and a statement value for each row")                                       \
     REFUSAL(30, COEFFICIENT, "a coefficient has to be below the order")                                           \
     REFUSAL(31, GAME_SIZE, "the sheet is too large for the game, which takes q^n up to 4096, or in a root sheet"  \
-                           " m up to 4096 and one row")
+                           " m up to 4096 and one row")                                                           \
+    REFUSAL(32, ANSWERED, "the commitment that the session holds was answered before")                            \
+    REFUSAL(33, LIST_FULL, "the session's list of answered commitments is full: it holds 64")                     \
+    REFUSAL(34, NAME, "the name of a saved state has to be 0 to 7, and a return needs one that was saved")
 
 /* The refusals by name: DIMKHOROS_REFUSED_PATTERN is 1, and so on through the list. */
 enum {
@@ -310,23 +316,50 @@ typedef struct {
     uint32_t refusal;
 } DimkhorosOrExtracted;
 
+/* A saved state of Peggy's session: what a return brings back. It keeps its nonce, whatever the session does. */
+typedef struct {
+    uint32_t nonce[DIMKHOROS_PLACES];
+    uint32_t commitment[DIMKHOROS_PLACES];
+    uint32_t phase; /* any number beyond the four is taken as Dropped */
+    uint32_t kept;  /* 0 if nothing was saved under this name, 1 after a save; any other number is taken as 1 */
+} DimkhorosSaved;
+
+/* A commitment that was answered. */
+typedef struct {
+    uint32_t commitment[DIMKHOROS_PLACES];
+} DimkhorosListed;
+
+/* What Peggy's session keeps beside its state. In a new session it is zeros. */
+typedef struct {
+    DimkhorosSaved saved[DIMKHOROS_SAVED_STATES];       /* the saved states, by name */
+    DimkhorosListed answered[DIMKHOROS_MOST_ANSWERED]; /* the answered commitments; those from `count` on are not read */
+    uint32_t count;                                    /* how many commitments were answered */
+} DimkhorosMemory;
+
 /*
- * Peggy's session. Over any calls on one session at most one challenge is answered: this is proved of the archive's calls. The
- * library cannot know of copies. Whoever answers two challenges from two copies of one session gives the witness away. So a box
- * that stores a session must store the one that comes after a response, over the old, before it sends the response, as
- * dimkhoros_respond_after does; and it must not answer on a session that it finds in a file, which dimkhoros_prover_reopen drops.
+ * Peggy's session. Over any calls on one session at most one challenge is answered if no call returns, and no commitment is
+ * answered twice, whatever is returned to: this is proved of the archive's calls. The library cannot know of copies. Whoever
+ * answers two challenges from two copies of one session gives the witness away. So a box that stores a session must store the one
+ * that comes after a response, over the old, before it sends the response, as dimkhoros_respond_after does; and it must not answer
+ * on a session that it finds in a file, which dimkhoros_prover_reopen drops, nor return to a state that it finds saved there.
  *
- * Any number beyond the four is a phase that allows no call.
+ * Saved states are for demonstrations, and a box does not save. A saved copy keeps its nonce, also after the session has answered
+ * or was dropped: whoever reads it beside the response computes the witness.
+ *
+ * Any number beyond the four is a phase in which commit, respond and drop are refused. Saving takes it as Dropped: 3 is saved, and
+ * the session then has 3 too. A return brings 3 back for a saved number beyond the four.
  */
 typedef struct {
     uint32_t nonce[DIMKHOROS_PLACES];
     uint32_t commitment[DIMKHOROS_PLACES];
     uint32_t phase;
+    DimkhorosMemory memory;
 } DimkhorosProverSession;
 
 /*
- * Peggy's session of the OR proof, of which the same is proved. The side and the simulated values are as secret as the nonce:
- * they tell which of the two witnesses she holds. Any number beyond the four is a phase that allows no call.
+ * Peggy's session of the OR proof. It saves nothing: over any calls on one session at most one challenge is answered, which is
+ * proved. The side and the simulated values are as secret as the nonce: they tell which of the two witnesses she holds. Any number
+ * beyond the four is a phase that allows no call.
  */
 typedef struct {
     uint32_t nonce[DIMKHOROS_PLACES];       /* of the side whose witness she knows */
@@ -460,18 +493,25 @@ DimkhorosWritten dimkhoros_linear(uint32_t modulus, uint32_t order, uint32_t cha
  * it was given keep what they hold. dimkhoros_take_response answers a verdict, with the number in its field `refusal`.
  */
 
-/* A new session: DIMKHOROS_PROVER_NEW, with zeros. */
+/* A new session: DIMKHOROS_PROVER_NEW, with zeros. Nothing is saved in it, and nothing listed. */
 DIMKHOROS_CHECKED
 DimkhorosProverSession dimkhoros_prover_new(void);
 
-/* Commits a new session to a nonce, and gives the commitment. Leads to Committed. Refuses 2 to 11, 16 and 21. */
+/*
+ * Commits a new session to a nonce, and gives the commitment. Leads to Committed. Refuses 2 to 11, 16 and 21. A commitment that
+ * was answered before is not refused here: responding to it is, with 32.
+ */
 DIMKHOROS_CHECKED
 static inline uint32_t dimkhoros_commit(const uint8_t *sheet, size_t sheet_length, DimkhorosProverSession *session,
                                         const uint32_t nonce[DIMKHOROS_PLACES], uint32_t commitment[DIMKHOROS_PLACES]);
 
 /*
- * Gives the response of a committed session to a challenge, by a witness, and sets the nonce to zeros. Leads to Answered.
- * Refuses 2 to 11, 15 to 17 and 21; a committed session that is refused stays committed and can still answer.
+ * Gives the response of a committed session to a challenge, by a witness, sets the nonce to zeros, and lists the commitment as
+ * answered. Leads to Answered. Saved states stay, with their nonces. Refuses 2 to 11, 15 to 17, 21, then 32 if the held commitment
+ * is listed, compared in all eight places, and 33 if the list holds 64. A committed session that is refused stays committed. After
+ * 2 to 21 it can still answer; after 32 and 33 it can be dropped or returned from.
+ *
+ * Of a count above 64, which no call makes, the first 64 commitments are looked at, and then it is 33.
  */
 DIMKHOROS_CHECKED
 static inline uint32_t dimkhoros_respond(const uint8_t *sheet, size_t sheet_length, DimkhorosProverSession *session,
@@ -488,16 +528,40 @@ typedef int (*DimkhorosStore)(void *box, const uint8_t *stored, size_t length);
 /*
  * Responds as dimkhoros_respond does, and gives the response only after `store` has stored the session that comes after it. If
  * `store` fails, DIMKHOROS_NOT_STORED is answered: `response` keeps what it holds, the response is gone, and the session is
- * Answered, so that it answers no challenge. If the call is refused, `store` is not called. Refuses as dimkhoros_respond does.
+ * Answered, so that it answers no challenge if no call returns. The whole session is stored, with its saved states and its list.
+ * If the call is refused, `store` is not called. Refuses as dimkhoros_respond does.
  */
 DIMKHOROS_CHECKED
 static inline uint32_t dimkhoros_respond_after(const uint8_t *sheet, size_t sheet_length, DimkhorosProverSession *session,
                                                uint32_t challenge, const uint32_t witness[DIMKHOROS_PLACES],
                                                DimkhorosStore store, void *box, uint32_t response[DIMKHOROS_PLACES]);
 
-/* Gives up a new or committed session and sets the nonce to zeros. Leads to Dropped. Refuses 21. */
+/* Gives up a new or committed session and sets the nonce to zeros. Leads to Dropped. Saved states keep their nonces. Refuses 21. */
 DIMKHOROS_CHECKED
 static inline uint32_t dimkhoros_drop(DimkhorosProverSession *session);
+
+/*
+ * Saves the state, nonce and commitment of a session, in whatever phase, under a name from 0 to 7, in the place of what was saved
+ * there. Nothing else of the session changes. Refuses 34.
+ *
+ * Saving is for demonstrations: a box does not save. The saved copy keeps its nonce until the same name is saved again, whatever
+ * the session does, in memory and in what dimkhoros_prover_store writes.
+ *
+ * What a demonstrator does with it. She saves the new session under 0. After each answered round she returns to 0 and commits to a
+ * new nonce, so that one session makes up to 64 rounds and its list shows their commitments. And she saves a committed session and
+ * returns to it after the response, as one would have to for a second answer on the same nonce: the second challenge is refused
+ * with 32. examples/c/lecture.c shows it.
+ */
+DIMKHOROS_CHECKED
+static inline uint32_t dimkhoros_save(DimkhorosProverSession *session, uint32_t name);
+
+/*
+ * Brings back the state, nonce and commitment that were saved under a name, in whatever phase the session is. Nothing else
+ * changes: the saved states and the list of answered commitments stay, so that the return can be made again. Refuses 34, for a
+ * name of 8 or more and for one that was never saved.
+ */
+DIMKHOROS_CHECKED
+static inline uint32_t dimkhoros_return_to(DimkhorosProverSession *session, uint32_t name);
 
 /* --- Vic's session --- */
 
@@ -534,23 +598,28 @@ static inline DimkhorosJudgement dimkhoros_take_response(const uint8_t *sheet, s
  * The bytes of a stored session, numbers with the high byte first:
  *
  *     0 to 2   PRV for Peggy's, VRF for Vic's, ORP for Peggy's of the OR proof
- *     3, 4     the version, 1
- *     5, 6     the length of the whole, 79, 51 or 151
- *     7 on     32-bit numbers: Peggy's nonce (8), commitment (8) and phase; Vic's commitment (8), challenge and phase; in the
- *              OR proof nonce (8), simulated response (8), commitments (8 and 8), simulated challenge, side and phase
+ *     3, 4     the version: 2 for PRV, 1 for VRF and ORP
+ *     5, 6     the length of the whole, 2707, 51 or 151
+ *     7 on     32-bit numbers. Peggy's: nonce (8), commitment (8) and phase; for each name from 0 to 7 the saved nonce (8),
+ *              commitment (8), phase, and 1 if it is saved, else 0; 64 answered commitments (8 each); how many they are.
+ *              Vic's: commitment (8), challenge and phase. In the OR proof: nonce (8), simulated response (8), commitments
+ *              (8 and 8), simulated challenge, side and phase
  *     last 4   the CRC-32 of IEEE 802.3 of all bytes before
  *
- * Anything else is refused. So a file that is empty, cut, longer or changed in one byte is never taken for a session, and one
- * that is damaged otherwise, by chance, once in four billion times. A session whose phase is beyond the four, or whose side is
- * beyond 1, is stored, and refused when it is read back. A committed Peggy's bytes hold her nonce: whoever reads them computes
- * the witness from her response.
+ * Anything else is refused, version 1 of PRV too, which has 79 bytes and no saved states. So a file that is empty, cut, longer or
+ * changed in one byte is never taken for a session, and one that is damaged otherwise, by chance, once in four billion times. What
+ * no call makes is stored, and refused when it is read back: a phase beyond the four, held or saved, a number above 1 for saved,
+ * more than 64 answered commitments, or a side beyond 1.
+ *
+ * A committed Peggy's bytes hold her nonce: whoever reads them computes the witness from her response. So do the bytes of any
+ * session of hers with a saved state that holds a nonce, also after she has answered or was dropped.
  */
 
 /* Puts the stored form of Peggy's session into `stored`. */
 static inline void dimkhoros_prover_store(const DimkhorosProverSession *session, uint8_t stored[DIMKHOROS_STORED_PROVER]);
 
 /*
- * Reads a stored Peggy back without her nonce. Answers what these bytes are found to be, DIMKHOROS_FOUND_NEW to
+ * Reads a stored Peggy back without the nonce that she holds. Answers what these bytes are found to be, DIMKHOROS_FOUND_NEW to
  * DIMKHOROS_FOUND_DAMAGED, and sets the session to the one to go on with:
  *
  *     found        the session is                                     the box
@@ -561,8 +630,9 @@ static inline void dimkhoros_prover_store(const DimkhorosProverSession *session,
  *     DAMAGED      New, as of dimkhoros_prover_new                    stores it over these bytes, then commits it
  *
  * So the session is never Committed. This is rule 1 of docs/BOXES.md: only what this run has drawn is answered. The bytes may be
- * an old copy, from a backup or a write that the disk lost, of a session whose challenge was answered long ago. Any bytes but
- * what dimkhoros_prover_store writes of one of the four phases are damaged.
+ * an old copy, from a backup or a write that the disk lost, of a session whose challenge was answered long ago. Saved states and
+ * the list come back as they were stored: a box must not return to a state that it finds saved, for the same reason. Any bytes
+ * but what dimkhoros_prover_store writes of a session that calls can make are damaged.
  */
 DIMKHOROS_CHECKED
 static inline uint32_t dimkhoros_prover_reopen(const uint8_t *stored, size_t length, DimkhorosProverSession *session);
@@ -894,9 +964,10 @@ uint32_t dimkhoros_version(void);
 /*
  * The calls on sessions as the archive exports them, and as they are proved. Each is handed a session by value and hands one
  * back, which is the same where the call is refused. The one that was handed in still stands where it stood: from then on it
- * is an old copy, and whoever answers another challenge from it gives the witness away, of which no compiler warns. At most
- * one challenge is answered where each call is given the session that the last one handed back. The calls above see to that:
- * they are these calls, with the session put back in its place.
+ * is an old copy, and whoever answers another challenge from it gives the witness away, of which no compiler warns. If each call
+ * is given the session that the last one handed back, no commitment of Peggy's is answered twice, and at most one challenge is
+ * answered if no call returns. The calls above see to that: they are these calls, with the session put back in its place.
+ * A session of Peggy's has 2,696 bytes, which a call takes and answers by value.
  *
  * A watch is handed in and back in the same way. An old copy of it gives nothing away, but does not know the newest round.
  */
@@ -957,6 +1028,14 @@ DimkhorosProverAnswer dimkhoros_prover_respond(const uint8_t *sheet, size_t shee
 /* The pure form of dimkhoros_drop. The values of its answer are zeros. */
 DIMKHOROS_CHECKED
 DimkhorosProverAnswer dimkhoros_prover_drop(DimkhorosProverSession session);
+
+/* The pure form of dimkhoros_save. The values of its answer are zeros. */
+DIMKHOROS_CHECKED
+DimkhorosProverAnswer dimkhoros_prover_save(DimkhorosProverSession session, uint32_t name);
+
+/* The pure form of dimkhoros_return_to. The values of its answer are zeros. */
+DIMKHOROS_CHECKED
+DimkhorosProverAnswer dimkhoros_prover_return(DimkhorosProverSession session, uint32_t name);
 
 /* The pure form of dimkhoros_take_commitment. */
 DIMKHOROS_CHECKED
@@ -1020,10 +1099,21 @@ static inline uint32_t dimkhoros_prover_step(const DimkhorosProverAnswer *answer
     return answer->refusal;
 }
 
+/* Takes over nonce, commitment and phase of the session after a commit or a drop, which leave its memory as it is. */
+static inline void dimkhoros_prover_take(DimkhorosProverSession *session, const DimkhorosProverSession *after) {
+    dimkhoros_places_copy(session->nonce, after->nonce);
+    dimkhoros_places_copy(session->commitment, after->commitment);
+    session->phase = after->phase;
+}
+
 static inline uint32_t dimkhoros_commit(const uint8_t *sheet, size_t sheet_length, DimkhorosProverSession *session,
                                         const uint32_t nonce[DIMKHOROS_PLACES], uint32_t commitment[DIMKHOROS_PLACES]) {
     DimkhorosProverAnswer answer = dimkhoros_prover_commit(sheet, sheet_length, *session, nonce);
-    return dimkhoros_prover_step(&answer, session, commitment);
+    dimkhoros_prover_take(session, &answer.session);
+    if (answer.refusal == 0) {
+        dimkhoros_places_copy(commitment, answer.values);
+    }
+    return answer.refusal;
 }
 
 static inline uint32_t dimkhoros_respond(const uint8_t *sheet, size_t sheet_length, DimkhorosProverSession *session,
@@ -1050,6 +1140,18 @@ static inline uint32_t dimkhoros_respond_after(const uint8_t *sheet, size_t shee
 
 static inline uint32_t dimkhoros_drop(DimkhorosProverSession *session) {
     DimkhorosProverAnswer answer = dimkhoros_prover_drop(*session);
+    dimkhoros_prover_take(session, &answer.session);
+    return answer.refusal;
+}
+
+static inline uint32_t dimkhoros_save(DimkhorosProverSession *session, uint32_t name) {
+    DimkhorosProverAnswer answer = dimkhoros_prover_save(*session, name);
+    *session = answer.session;
+    return answer.refusal;
+}
+
+static inline uint32_t dimkhoros_return_to(DimkhorosProverSession *session, uint32_t name) {
+    DimkhorosProverAnswer answer = dimkhoros_prover_return(*session, name);
     *session = answer.session;
     return answer.refusal;
 }
@@ -1187,13 +1289,14 @@ static inline uint32_t dimkhoros_stored_get(const uint8_t *bytes) {
     return number;
 }
 
-/* Stores `count` values under a mark of three letters. Version and length are written as one number. */
-static inline void dimkhoros_stored_write(const char *mark, const uint32_t *values, uint32_t count, uint8_t *stored) {
+/* Stores `count` values under a mark of three letters and a version. Version and length are written as one number. */
+static inline void dimkhoros_stored_write(const char *mark, uint32_t version, const uint32_t *values, uint32_t count,
+                                          uint8_t *stored) {
     const uint32_t length = 11 + 4 * count;
     for (int i = 0; i < 3; i++) {
         stored[i] = mark[i] & 0x7F;
     }
-    dimkhoros_stored_put(stored + 3, 0x10000u + length);
+    dimkhoros_stored_put(stored + 3, 0x10000u * version + length);
     for (uint32_t i = 0; i < count; i++) {
         dimkhoros_stored_put(stored + 7 + 4 * i, values[i]);
     }
@@ -1201,47 +1304,91 @@ static inline void dimkhoros_stored_write(const char *mark, const uint32_t *valu
 }
 
 /*
- * Reads the `count` values, a phase last, of which these bytes are the stored form under a mark, and answers 1. Answers 0 for
- * any other bytes: they are compared with what the values are stored as.
+ * Reads the `count` values of which these bytes are the stored form under a mark and a version, and answers 1. Answers 0 for any
+ * other bytes: they are compared with what the values are stored as.
  */
-static inline int dimkhoros_stored_read(const char *mark, const uint8_t *stored, size_t length, uint32_t *values,
-                                        uint32_t count) {
-    uint8_t expected[DIMKHOROS_STORED_OR_PROVER];
+static inline int dimkhoros_stored_read(const char *mark, uint32_t version, const uint8_t *stored, size_t length,
+                                        uint32_t *values, uint32_t count) {
+    uint8_t expected[DIMKHOROS_STORED_PROVER];
     if (length != 11 + 4 * count) {
         return 0;
     }
     for (uint32_t i = 0; i < count; i++) {
         values[i] = dimkhoros_stored_get(stored + 7 + 4 * i);
     }
-    dimkhoros_stored_write(mark, values, count, expected);
+    dimkhoros_stored_write(mark, version, values, count, expected);
     for (size_t i = 0; i < length; i++) {
         if (stored[i] != expected[i]) {
             return 0;
         }
     }
-    return values[count - 1] <= 3;
+    return 1;
 }
 
+/* How many numbers a stored session of Peggy's has, and where its saved states and its listed commitments begin. */
+#define DIMKHOROS_STORED_NUMBERS ((DIMKHOROS_STORED_PROVER - 11) / 4)
+#define DIMKHOROS_STORED_SAVED (2 * DIMKHOROS_PLACES + 1)
+#define DIMKHOROS_STORED_LISTED (DIMKHOROS_STORED_SAVED + DIMKHOROS_SAVED_STATES * (2 * DIMKHOROS_PLACES + 2))
+
 static inline void dimkhoros_prover_store(const DimkhorosProverSession *session, uint8_t stored[DIMKHOROS_STORED_PROVER]) {
-    uint32_t values[2 * DIMKHOROS_PLACES + 1];
-    for (size_t i = 0; i < DIMKHOROS_PLACES; i++) {
-        values[i] = session->nonce[i];
-        values[DIMKHOROS_PLACES + i] = session->commitment[i];
-    }
+    const DimkhorosMemory *memory = &session->memory;
+    uint32_t values[DIMKHOROS_STORED_NUMBERS];
+    dimkhoros_places_copy(values, session->nonce);
+    dimkhoros_places_copy(values + DIMKHOROS_PLACES, session->commitment);
     values[2 * DIMKHOROS_PLACES] = session->phase;
-    dimkhoros_stored_write("PRV", values, 2 * DIMKHOROS_PLACES + 1, stored);
+    for (size_t name = 0; name < DIMKHOROS_SAVED_STATES; name++) {
+        uint32_t *state = values + DIMKHOROS_STORED_SAVED + (2 * DIMKHOROS_PLACES + 2) * name;
+        dimkhoros_places_copy(state, memory->saved[name].nonce);
+        dimkhoros_places_copy(state + DIMKHOROS_PLACES, memory->saved[name].commitment);
+        state[2 * DIMKHOROS_PLACES] = memory->saved[name].phase;
+        state[2 * DIMKHOROS_PLACES + 1] = memory->saved[name].kept;
+    }
+    for (size_t i = 0; i < DIMKHOROS_MOST_ANSWERED; i++) {
+        dimkhoros_places_copy(values + DIMKHOROS_STORED_LISTED + DIMKHOROS_PLACES * i, memory->answered[i].commitment);
+    }
+    values[DIMKHOROS_STORED_NUMBERS - 1] = memory->count;
+    dimkhoros_stored_write("PRV", 2, values, DIMKHOROS_STORED_NUMBERS, stored);
+}
+
+/* Sets what Peggy's session keeps beside its state to what the numbers of a stored session have of it. */
+static inline void dimkhoros_memory_take(DimkhorosMemory *memory, const uint32_t values[DIMKHOROS_STORED_NUMBERS]) {
+    for (size_t name = 0; name < DIMKHOROS_SAVED_STATES; name++) {
+        const uint32_t *state = values + DIMKHOROS_STORED_SAVED + (2 * DIMKHOROS_PLACES + 2) * name;
+        dimkhoros_places_copy(memory->saved[name].nonce, state);
+        dimkhoros_places_copy(memory->saved[name].commitment, state + DIMKHOROS_PLACES);
+        memory->saved[name].phase = state[2 * DIMKHOROS_PLACES];
+        memory->saved[name].kept = state[2 * DIMKHOROS_PLACES + 1];
+    }
+    for (size_t i = 0; i < DIMKHOROS_MOST_ANSWERED; i++) {
+        dimkhoros_places_copy(memory->answered[i].commitment, values + DIMKHOROS_STORED_LISTED + DIMKHOROS_PLACES * i);
+    }
+    memory->count = values[DIMKHOROS_STORED_NUMBERS - 1];
+}
+
+/* Whether calls can have made what a session of Peggy's has for its phases, flags and count. */
+static inline int dimkhoros_prover_made(const DimkhorosProverSession *session) {
+    const DimkhorosMemory *memory = &session->memory;
+    int can = session->phase <= DIMKHOROS_PROVER_DROPPED && memory->count <= DIMKHOROS_MOST_ANSWERED;
+    for (size_t name = 0; name < DIMKHOROS_SAVED_STATES; name++) {
+        can = can && memory->saved[name].phase <= DIMKHOROS_PROVER_DROPPED && memory->saved[name].kept <= 1;
+    }
+    return can;
 }
 
 static inline int dimkhoros_prover_restore_with_nonce(const uint8_t *stored, size_t length, DimkhorosProverSession *session) {
-    uint32_t values[2 * DIMKHOROS_PLACES + 1];
-    if (!dimkhoros_stored_read("PRV", stored, length, values, 2 * DIMKHOROS_PLACES + 1)) {
+    uint32_t values[DIMKHOROS_STORED_NUMBERS];
+    DimkhorosProverSession found;
+    if (!dimkhoros_stored_read("PRV", 2, stored, length, values, DIMKHOROS_STORED_NUMBERS)) {
         return 0;
     }
-    for (size_t i = 0; i < DIMKHOROS_PLACES; i++) {
-        session->nonce[i] = values[i];
-        session->commitment[i] = values[DIMKHOROS_PLACES + i];
+    dimkhoros_places_copy(found.nonce, values);
+    dimkhoros_places_copy(found.commitment, values + DIMKHOROS_PLACES);
+    found.phase = values[2 * DIMKHOROS_PLACES];
+    dimkhoros_memory_take(&found.memory, values);
+    if (!dimkhoros_prover_made(&found)) {
+        return 0;
     }
-    session->phase = values[2 * DIMKHOROS_PLACES];
+    *session = found;
     return 1;
 }
 
@@ -1264,12 +1411,13 @@ static inline void dimkhoros_verifier_store(const DimkhorosVerifierSession *sess
     }
     values[DIMKHOROS_PLACES] = session->challenge;
     values[DIMKHOROS_PLACES + 1] = session->phase;
-    dimkhoros_stored_write("VRF", values, DIMKHOROS_PLACES + 2, stored);
+    dimkhoros_stored_write("VRF", 1, values, DIMKHOROS_PLACES + 2, stored);
 }
 
 static inline int dimkhoros_verifier_restore(const uint8_t *stored, size_t length, DimkhorosVerifierSession *session) {
     uint32_t values[DIMKHOROS_PLACES + 2];
-    if (!dimkhoros_stored_read("VRF", stored, length, values, DIMKHOROS_PLACES + 2)) {
+    if (!dimkhoros_stored_read("VRF", 1, stored, length, values, DIMKHOROS_PLACES + 2) ||
+        values[DIMKHOROS_PLACES + 1] > DIMKHOROS_VERIFIER_JUDGED) {
         return 0;
     }
     for (size_t i = 0; i < DIMKHOROS_PLACES; i++) {
@@ -1290,13 +1438,13 @@ static inline void dimkhoros_or_prover_store(const DimkhorosOrSession *session,
     values[4 * DIMKHOROS_PLACES] = session->challenge;
     values[4 * DIMKHOROS_PLACES + 1] = session->side;
     values[4 * DIMKHOROS_PLACES + 2] = session->phase;
-    dimkhoros_stored_write("ORP", values, 4 * DIMKHOROS_PLACES + 3, stored);
+    dimkhoros_stored_write("ORP", 1, values, 4 * DIMKHOROS_PLACES + 3, stored);
 }
 
 static inline int dimkhoros_or_prover_restore_with_nonce(const uint8_t *stored, size_t length, DimkhorosOrSession *session) {
     uint32_t values[4 * DIMKHOROS_PLACES + 3];
-    if (!dimkhoros_stored_read("ORP", stored, length, values, 4 * DIMKHOROS_PLACES + 3) ||
-        values[4 * DIMKHOROS_PLACES + 1] > 1) {
+    if (!dimkhoros_stored_read("ORP", 1, stored, length, values, 4 * DIMKHOROS_PLACES + 3) ||
+        values[4 * DIMKHOROS_PLACES + 1] > 1 || values[4 * DIMKHOROS_PLACES + 2] > DIMKHOROS_PROVER_DROPPED) {
         return 0;
     }
     dimkhoros_places_copy(session->nonce, values);

@@ -1,9 +1,10 @@
 /*
- * The extractor, a watch, the simulator, rounds that multiply, the OR proof and the game, for a lecture. Two rounds on one
- * nonce give the witness away, so that nobody can make such rounds without knowing it; a watch that is given the rounds of a
- * term tells of such a nonce; rounds can be simulated without the witness, so a round tells Vic nothing about it; rounds of two
- * sheets of one table multiply to rounds of a third; Peggy, who knows a witness of one of two sheets, simulates the other, so a
- * round does not tell which of the two she knows; and on a small sheet all responses are tried, to see which challenges a
+ * The extractor, saved states, a watch, the simulator, rounds that multiply, the OR proof and the game, for a lecture. Two
+ * rounds on one nonce give the witness away, so that nobody can make such rounds without knowing it; a session that returns
+ * to a saved state does not answer the same commitment again; a watch that is given the rounds of a term tells of a nonce
+ * that was used twice; rounds can be simulated without the witness, so a round tells Vic nothing about it; rounds of two
+ * sheets of one table multiply to rounds of a third; Peggy, who knows a witness of one of two sheets, simulates the other, so
+ * a round does not tell which of the two she knows; and on a small sheet all responses are tried, to see which challenges a
  * commitment can answer.
  */
 #include "common.h"
@@ -50,6 +51,35 @@ static void show_extractor(const uint8_t *sheet, size_t length) {
     DimkhorosComputed extracted = dimkhoros_extract(sheet, length, first, second);
     expect(extracted.refusal);
     printf("the two rounds give the witness away: x = %u\n", extracted.values[0]);
+}
+
+/* A session answers this challenge and the round is shown. The session goes on. */
+static void answer_and_go_on(const uint8_t *sheet, size_t length, DimkhorosProverSession *peggy, uint32_t challenge) {
+    DimkhorosRound round = answer(sheet, length, peggy, challenge);
+    DimkhorosJudgement verdict = dimkhoros_judge(sheet, length, round);
+    expect(verdict.refusal);
+    printf("asked %u: t = %u, c = %u, r = %u, %s\n", challenge, round.commitment[0], challenge, round.response[0],
+           verdict.accepted ? "accepted" : "rejected");
+}
+
+/* A demonstrator returns to a committed state, whose commitment is not answered again, and goes on from the new one. */
+static void show_saved_states(const uint8_t *sheet, size_t length) {
+    const uint32_t nonces[2][8] = {{5}, {6}};
+    uint32_t commitment[8], response[8];
+    printf("\nSaved states. A demonstrator saves the new session under 0 and, with the nonce 5, the committed one under 1.\n");
+    DimkhorosProverSession peggy = dimkhoros_prover_new();
+    expect(dimkhoros_save(&peggy, 0));
+    expect(dimkhoros_commit(sheet, length, &peggy, nonces[0], commitment));
+    expect(dimkhoros_save(&peggy, 1));
+    answer_and_go_on(sheet, length, &peggy, 3);
+    expect(dimkhoros_return_to(&peggy, 1));
+    uint32_t refusal = dimkhoros_respond(sheet, length, &peggy, 1, witness, response);
+    printf("back to 1, with the same nonce, and asked 1: refusal %u: %s\n", refusal, dimkhoros_sentence(refusal));
+    expect(dimkhoros_return_to(&peggy, 0));
+    expect(dimkhoros_commit(sheet, length, &peggy, nonces[1], commitment));
+    printf("back to 0, and committed to the nonce 6\n");
+    answer_and_go_on(sheet, length, &peggy, 1);
+    printf("the session has answered %u commitments\n", peggy.memory.count);
 }
 
 /* The rounds of a term. The second is rejected. The nonce of the first comes again with the same challenge, then with another. */
@@ -274,6 +304,7 @@ int main(void) {
     uint8_t sheet[DIMKHOROS_LONGEST_SHEET];
     size_t length = page_a(sheet);
     show_extractor(sheet, length);
+    show_saved_states(sheet, length);
     show_watch(sheet, length);
     show_simulator(sheet, length, 3);
     show_products(sheet, length);

@@ -49,6 +49,8 @@ EXPORTS = {
     "prover_commit": (c.ProverAnswer, [*Given, c.ProverSession, Numbers]),
     "prover_respond": (c.ProverAnswer, [*Given, c.ProverSession, U32, Numbers]),
     "prover_drop": (c.ProverAnswer, [c.ProverSession]),
+    "prover_save": (c.ProverAnswer, [c.ProverSession, U32]),
+    "prover_return": (c.ProverAnswer, [c.ProverSession, U32]),
     "verifier_new": (c.VerifierSession, []),
     "verifier_commitment": (c.VerifierAnswer, [*Given, c.VerifierSession, Numbers]),
     "verifier_challenge": (c.VerifierAnswer, [*Given, c.VerifierSession, U32]),

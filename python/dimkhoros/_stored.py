@@ -5,31 +5,30 @@ from __future__ import annotations
 import struct
 import zlib
 
-_VERSION = 1
-_LAST_PHASE = 3
+LAST_PHASE = 3
 
 
 class Damaged(ValueError):
-    """The bytes are no stored session: they are of another length, mark, version or phase, or the check value is
-    another."""
+    """The bytes are no stored session: they are of another length, mark or version, or the check value is another, or
+    no call makes a session of these numbers."""
 
     def __init__(self) -> None:
         """The error, in a sentence."""
         super().__init__("the bytes are no stored session, or they are damaged")
 
 
-def write(mark: bytes, values: tuple[int, ...]) -> bytes:
-    """The stored form of these values under a mark of three letters."""
-    start = struct.pack(">3sHH", mark, _VERSION, 11 + 4 * len(values))
+def write(mark: bytes, version: int, values: tuple[int, ...]) -> bytes:
+    """The stored form of these values under a mark of three letters and a version."""
+    start = struct.pack(">3sHH", mark, version, 11 + 4 * len(values))
     before = start + struct.pack(f">{len(values)}I", *values)
     return before + struct.pack(">I", zlib.crc32(before))
 
 
-def read(mark: bytes, count: int, stored: bytes) -> tuple[int, ...]:
-    """The values, a phase last, of which these bytes are the stored form under a mark."""
+def read(mark: bytes, version: int, count: int, stored: bytes) -> tuple[int, ...]:
+    """The values of which these bytes are the stored form under a mark and a version."""
     if len(stored) != 11 + 4 * count:
         raise Damaged()
     values = struct.unpack_from(f">{count}I", stored, 7)
-    if write(mark, values) != stored or values[-1] > _LAST_PHASE:
+    if write(mark, version, values) != stored:
         raise Damaged()
     return values

@@ -2,7 +2,7 @@
 
 import ctypes
 
-from ._sizes import ENTRIES, LONGEST_SHEET, MOST_REMEMBERED, PARTS, PLACES
+from ._sizes import ENTRIES, LONGEST_SHEET, MOST_ANSWERED, MOST_REMEMBERED, PARTS, PLACES, SAVED_STATES
 
 U32 = ctypes.c_uint32
 Size = ctypes.c_size_t
@@ -72,10 +72,28 @@ class Judgement(ctypes.Structure):
     _fields_ = [("accepted", U32), ("rows", U32), ("refusal", U32)]
 
 
+class Saved(ctypes.Structure):
+    """A saved state of Peggy's session."""
+
+    _fields_ = [("nonce", Places), ("commitment", Places), ("phase", U32), ("kept", U32)]
+
+
+class Listed(ctypes.Structure):
+    """A commitment that was answered."""
+
+    _fields_ = [("commitment", Places)]
+
+
+class Memory(ctypes.Structure):
+    """What Peggy's session keeps beside its state."""
+
+    _fields_ = [("saved", Saved * SAVED_STATES), ("answered", Listed * MOST_ANSWERED), ("count", U32)]
+
+
 class ProverSession(ctypes.Structure):
     """Peggy's session."""
 
-    _fields_ = [("nonce", Places), ("commitment", Places), ("phase", U32)]
+    _fields_ = [("nonce", Places), ("commitment", Places), ("phase", U32), ("memory", Memory)]
 
 
 class ProverAnswer(ctypes.Structure):

@@ -14,7 +14,8 @@ from .rounds import OrRound, Side
 
 
 class OrProver(ProverSession):
-    """A prover's session of the OR proof, of which the same is proved as of a `Prover`.
+    """A prover's session of the OR proof. It saves nothing: over any chain of calls in which each is made on the
+    session that the last one handed back, at most one challenge is answered. This is proved of the library.
 
     Holders of either witness make exactly the accepted rounds for a challenge, each from a single choice of nonce,
     simulated challenge and simulated response. So a round does not tell which witness is known where these are drawn

@@ -37,6 +37,9 @@ SENTENCES = {
     " for each row",
     30: "a coefficient has to be below the order",
     31: "the sheet is too large for the game, which takes q^n up to 4096, or in a root sheet m up to 4096 and one row",
+    32: "the commitment that the session holds was answered before",
+    33: "the session's list of answered commitments is full: it holds 64",
+    34: "the name of a saved state has to be 0 to 7, and a return needs one that was saved",
 }
 
 
@@ -44,7 +47,7 @@ class Refusal(Exception):
     """A call that was refused. It has changed nothing.
 
     Where several refusals apply, the earliest in the order 23, 24, 1 to 9, 27, 29, 30, 10, 11, 26, 12, 25, 13 to 16,
-    28, 31, 17 to 22 is given."""
+    28, 31, 17 to 21, 32 to 34, 22 is given."""
 
     def __init__(self, number: int) -> None:
         """The refusal of a number."""

@@ -26,7 +26,7 @@ class SessionSpent(RuntimeError):
 
 class NotStored(Exception):
     """The session was not stored, and so the response was not handed out and is gone. `session` is the session as it is
-    after the response: it answers no challenge. `error` is what the storing raised."""
+    after the response: it answers no challenge if no call returns. `error` is what the storing raised."""
 
     def __init__(self, session: Session, error: Exception) -> None:
         """The error, with why the session is not stored."""
@@ -43,8 +43,9 @@ class Session:
 
     __slots__ = ("_held", "_lock")
 
-    # What the stored form begins with.
+    # What the stored form begins with, and its version.
     _MARK: bytes
+    _VERSION = 1
     # The struct of the library.
     _STRUCT: type[ctypes.Structure]
 
@@ -81,17 +82,26 @@ class Session:
         return self._of(self._STRUCT.from_buffer_copy(answer.session)), answer
 
     def to_stored(self) -> bytes:
-        """The session's stored form, as include/dimkhoros.h describes it. Peggy's bytes hold her nonce."""
+        """The session's stored form, as include/dimkhoros.h describes it. Peggy's bytes hold her nonce and every saved
+        one, these also after she has answered or was dropped."""
         held = self._look()
         words = (U32 * (ctypes.sizeof(held) // 4)).from_buffer_copy(held)
-        return _stored.write(self._MARK, tuple(words))
+        return _stored.write(self._MARK, self._VERSION, tuple(words))
 
     @classmethod
     def _read(cls: type[_Self], stored: bytes) -> _Self:
         """The session of a stored form, with all that it holds. Any other bytes are `Damaged`."""
         count = ctypes.sizeof(cls._STRUCT) // 4
-        values = _stored.read(cls._MARK, count, data(stored, "the stored session"))
-        return cls._of(cls._STRUCT.from_buffer_copy((U32 * count)(*values)))
+        values = _stored.read(cls._MARK, cls._VERSION, count, data(stored, "the stored session"))
+        held = cls._STRUCT.from_buffer_copy((U32 * count)(*values))
+        if not cls._is_made(held):
+            raise _stored.Damaged()
+        return cls._of(held)
+
+    @classmethod
+    def _is_made(cls, held: Any) -> bool:
+        """Whether calls can have made a session that holds this."""
+        return bool(held.phase <= _stored.LAST_PHASE)
 
     def _shown(self) -> str:
         """What of a session that is not spent is shown: no secret."""

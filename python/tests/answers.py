@@ -30,7 +30,7 @@ from dimkhoros import (
 )
 
 from .pages import page_a
-from .vectors import NoCall
+from .vectors import NoCall, numbers_of
 
 PROVER_STATES = ["new", "committed", "answered", "dropped"]
 VERIFIER_STATES = ["waiting", "holding", "asked", "judged"]
@@ -45,6 +45,12 @@ SESSIONS = {
         PROVER_STATES,
     ),
 }
+
+# The versions of the stored form that are not 1.
+VERSIONS = {Prover: 2}
+
+# What Peggy's session remembers: how many names there are, and how many commitments a list has. A state has 18 numbers.
+NAMES, LISTED, STATE = 8, 64, 18
 
 # The order in which a line names what a session of the OR proof holds.
 OR_ORDER = ["side", "nonce", "challenge", "response", "commitment0", "commitment1"]
@@ -72,10 +78,63 @@ def found_session(kind, inputs):
     phase = inputs.text("phase")
     if phase not in phases or (kind is OrProver and values[-1] > 1):
         raise NoCall("the module makes no session of a phase or a side that is none")
-    values.append(phases.index(phase))
-    before = struct.pack(f">3sHH{len(values)}I", mark_of, 1, 11 + 4 * len(values), *values)
+    values += [phases.index(phase)]
+    if kind is Prover:
+        values += found_memory(inputs)
+    version, length = VERSIONS.get(kind, 1), 11 + 4 * len(values)
+    before = struct.pack(f">3sHH{len(values)}I", mark_of, version, length, *values)
     read = kind.from_stored if kind is Verifier else kind.from_stored_with_nonce
     return read(before + struct.pack(">I", zlib.crc32(before)))
+
+
+def padded(values, count=8):
+    """The values with zeros behind them, so many in all."""
+    return values + [0] * (count - len(values))
+
+
+def found_states(inputs):
+    """The states that the session of a line has saved, by name."""
+    states = [[0] * STATE for _ in range(NAMES)]
+    for piece in inputs.text("saved").split("/") if inputs.has("saved") else []:
+        name, phase, nonce, commitment, *flag = piece.split(":")
+        number = PROVER_STATES.index(phase) if phase in PROVER_STATES else int(phase)
+        state = padded(numbers_of(nonce)) + padded(numbers_of(commitment)) + [number, *map(int, flag or ["1"])]
+        states[int(name)] = state
+    return states
+
+
+def found_memory(inputs):
+    """What the session of a line remembers, as it is stored: the states by name, the list and its count."""
+    states, listed = found_states(inputs), []
+    for piece in inputs.text("listed").split("/") if inputs.has("listed") else []:
+        values, _, times = piece.partition("*")
+        listed += [padded(numbers_of(values))] * int(times or 1)
+    count = inputs.number("count") if inputs.has("count") else len(listed)
+    if count > LISTED or any(state[16] > 3 or state[17] > 1 for state in states):
+        raise NoCall("the module makes no session of a saved phase, a flag or a count that is none")
+    entries = listed + [[0] * 8] * (LISTED - len(listed))
+    return [*itertools.chain(*states, *entries), count]
+
+
+def shown_states(values):
+    """The states of a memory that are not zeros, each under its name."""
+    shown = []
+    for name in range(NAMES):
+        state = values[STATE * name : STATE * (name + 1)]
+        phase, flag = PROVER_STATES[state[16]], "" if state[17] == 1 else f":{state[17]}"
+        if any(state):
+            shown.append(f"{name}:{phase}:{shortest(state[:8])}:{shortest(state[8:16])}{flag}")
+    return [f"saved={'/'.join(shown)}"] if shown else []
+
+
+def shown_list(values):
+    """The commitments of a list that are counted, and those behind them up to the last that is not zeros. Equal ones
+    that follow each other are one with their number. The count follows if it is another number."""
+    entries, count = [values[8 * place : 8 * place + 8] for place in range(LISTED)], values[-1]
+    last = max([count] + [place + 1 for place, entry in enumerate(entries) if any(entry)])
+    runs = [(text, len(list(run))) for text, run in itertools.groupby(map(shortest, entries[:last]))]
+    words = ["listed=" + "/".join(text if times == 1 else f"{text}*{times}" for text, times in runs)]
+    return (words if last else []) + ([f"count={count}"] if count != last else [])
 
 
 def shown_session(session):
@@ -88,7 +147,10 @@ def shown_session(session):
         places, rest = rest[:count], rest[count:]
         shown[name] = shortest(places)
     order = OR_ORDER if isinstance(session, OrProver) else shown
-    return " ".join([f"phase={phases[rest[0]]}"] + [f"{name}={shown[name]}" for name in order])
+    words = [f"phase={phases[rest[0]]}"] + [f"{name}={shown[name]}" for name in order]
+    if isinstance(session, Prover):
+        words += shown_states(rest[1:]) + shown_list(rest[1 + NAMES * STATE :])
+    return " ".join(words)
 
 
 def stepped(session, call):
@@ -380,6 +442,16 @@ class Answers:
         """A session that is given up."""
         peggy = found_session(Prover, inputs)
         return shown_session(stepped(peggy, peggy.drop))
+
+    def prover_save(self, inputs):
+        """A session that is saved under a name."""
+        peggy, name = found_session(Prover, inputs), inputs.number("name")
+        return shown_session(stepped(peggy, lambda: peggy.save(name)))
+
+    def prover_return(self, inputs):
+        """A session that returns to what was saved under a name."""
+        peggy, name = found_session(Prover, inputs), inputs.number("name")
+        return shown_session(stepped(peggy, lambda: peggy.return_to(name)))
 
     def verifier_new(self, inputs):
         """A new session of Vic's."""

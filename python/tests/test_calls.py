@@ -30,6 +30,7 @@ from dimkhoros import (
     Verdict,
     Verifier,
     Watch,
+    _stored,
     game,
     mark,
     reason,
@@ -56,6 +57,10 @@ class Refusals(unittest.TestCase):
         empty = RoundWriter.start(a).file
         made = {"modulus": 23, "order": 11, "challenges": 11, "values": [2], "statement": [13]}
         peggy, _ = Prover().commit(a, [5])
+        answered, _ = Prover().commit(a, [5])[0].save(1).respond(a, 3, [7])
+        back = answered.return_to(1)
+        held = (5,) + (0,) * 7 + (9,) + (0,) * 7 + (1,)
+        full = Prover.from_stored_with_nonce(_stored.write(b"PRV", 2, held + (0,) * 656 + (64,)))
         given = {
             1: lambda: Instance.from_pattern(Patterns.shipped(), 257, **made),
             2: lambda: Instance.load(changed(0, 0)),
@@ -85,8 +90,11 @@ class Refusals(unittest.TestCase):
             28: lambda: Team(a, [[8], [8]]),
             29: lambda: linear(generators=[2, 3]),
             30: lambda: linear([[[11]]], generators=[2], statement=[1]),
+            32: lambda: back.respond(a, 1, [7]),
+            33: lambda: full.respond(a, 1, [7]),
+            34: lambda: Prover().return_to(0),
         }
-        self.assertEqual(set(range(1, 32)) - set(given), {22, 25, 31})
+        self.assertEqual(set(range(1, 35)) - set(given), {22, 25, 31})
         for number, call in given.items():
             with refused(self, number):
                 call()

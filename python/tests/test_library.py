@@ -46,7 +46,7 @@ class Exports(unittest.TestCase):
     def test_its_name_has_a_number_and_its_stack_is_not_executable(self):
         """The name is the one that programs are linked to."""
         elf = Elf(LIBRARY.read_bytes())
-        self.assertEqual(elf.soname(), "libdimkhoros.so.0")
+        self.assertEqual(elf.soname(), "libdimkhoros.so.1")
         self.assertFalse(elf.has_executable_stack())
 
 

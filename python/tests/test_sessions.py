@@ -34,12 +34,22 @@ def committed():
     return peggy
 
 
+def remembering():
+    """The same session, saved under 3, after it has answered and was returned to 3."""
+    peggy, _ = committed().save(3).respond(page_a(), 3, [7])
+    return peggy.return_to(3)
+
+
 def or_committed():
     """Peggy's session of the OR proof on page A's sheet beside page D's, of which she knows (1, 2). The nonce gives
     2^4 * 3^9, which leaves 12, and the simulated side 2^2 * 13^(-6), which leaves 16."""
     pair = Pair(page_a(), page_d())
     peggy, _ = OrProver().commit(pair, Side.SECOND, [4, 9], 6, [2])
     return pair, peggy
+
+
+# The numbers of a stored session of Peggy's after its phase, if nothing is saved and nothing listed.
+NO_MEMORY = (0,) * 657
 
 
 def whole(kind):
@@ -171,6 +181,49 @@ class Spending(unittest.TestCase):
             self.assertNotIn("7777", str(caught.exception))
 
 
+class Saved(unittest.TestCase):
+    """Saved states, and returns to them."""
+
+    def test_a_commitment_is_not_answered_again(self):
+        """Whatever is returned to. From a new session another round begins."""
+        a = page_a()
+        peggy, _ = Prover().save(0).commit(a, [5])
+        peggy, _ = peggy.save(1).respond(a, 3, [7])
+        phases = [peggy.saved(name) for name in range(3)]
+        self.assertEqual(phases, [ProverPhase.NEW, ProverPhase.COMMITTED, None])
+        peggy = peggy.return_to(1)
+        self.assertEqual((peggy.phase, peggy.commitment), (ProverPhase.COMMITTED, (9,)))
+        with refused(self, 32):
+            peggy.respond(a, 1, [7])
+        peggy, commitment = peggy.return_to(0).commit(a, [6])
+        self.assertEqual((commitment, peggy.respond(a, 1, [7])[0].answered), ((18,), 2))
+
+    def test_a_name_is_0_to_7(self):
+        """And a return needs one that was saved. A refused call spends nothing."""
+        peggy = Prover().save(7)
+        for name in [8, 256, 2**32 - 1]:
+            self.assertIsNone(peggy.saved(name))
+            with refused(self, 34):
+                peggy.save(name)
+            with refused(self, 34):
+                peggy.return_to(name)
+        with refused(self, 34):
+            peggy.return_to(6)
+        for name in [-1, 2**32]:
+            self.assertRaises(ValueError, peggy.save, name)
+        self.assertEqual(peggy.drop().return_to(7).phase, ProverPhase.NEW)
+
+    def test_a_saved_copy_keeps_its_nonce(self):
+        """In the stored bytes too, and shows it to nobody."""
+        peggy, _ = committed().save(3).respond(page_a(), 3, [7])
+        for ended in [peggy, committed().save(3).drop()]:
+            values = _stored.read(b"PRV", 2, 674, ended.to_stored())
+            self.assertEqual((values[0], values[17 + 18 * 3]), (0, 5))
+            self.assertEqual(repr(ended), f"Prover(phase={ended.phase.name}, commitment=(9,))")
+        found, _ = Prover.reopen(peggy.to_stored())
+        self.assertEqual((found.saved(3), found.answered), (ProverPhase.COMMITTED, 1))
+
+
 class Or(unittest.TestCase):
     """The OR proof's session on two sheets of different columns."""
 
@@ -201,7 +254,7 @@ class Storing(unittest.TestCase):
     def sessions(self):
         """A session of each kind."""
         vic = Verifier().take_commitment(page_a(), [9]).take_challenge(page_a(), 3)
-        return [committed(), vic, or_committed()[1]]
+        return [remembering(), vic, or_committed()[1]]
 
     def test_c_reads_the_sessions_and_writes_the_same_bytes(self):
         """The program prints of each session its values, its bytes, and how many damaged forms it takes."""
@@ -210,7 +263,9 @@ class Storing(unittest.TestCase):
         printed = run_c("rust/dimkhoros/tests/c/stored.c", "".join(line + "\n" for line in stored)).splitlines()
         self.assertEqual(printed[1::3], stored)
         zeros = " 0" * 7
-        self.assertEqual(printed[0], f"peggy 5{zeros} 9{zeros} 1")
+        state = f" 5{zeros} 9{zeros} 1"
+        saved = " 0" * (18 * 3) + f"{state} 1" + " 0" * (18 * 4)
+        self.assertEqual(printed[0], f"peggy{state}{saved} 9{zeros}" + " 0" * (8 * 63) + " 1")
         self.assertEqual(printed[3], f"vic 9{zeros} 3 2")
         self.assertEqual(printed[6], f"either 4 9{zeros[2:]} 2{zeros} 16{zeros} 12{zeros} 6 1 1")
 
@@ -221,14 +276,14 @@ class Storing(unittest.TestCase):
         peggy.respond(page_a(), 3, [7])
         old, found = Prover.reopen(copy)
         self.assertEqual((found, old.phase, old.commitment), (Found.COMMITTED, ProverPhase.DROPPED, (9,)))
-        self.assertEqual(old.to_stored(), _stored.write(b"PRV", (0,) * 8 + (9,) + (0,) * 7 + (3,)))
+        self.assertEqual(old.to_stored(), _stored.write(b"PRV", 2, (0,) * 8 + (9,) + (0,) * 7 + (3,) + NO_MEMORY))
         with refused(self, 21):
             old.respond(page_a(), 1, [7])
         pair, either = or_committed()
         old, found = OrProver.reopen(either.to_stored())
         self.assertEqual((found, old.phase, old.commitments), (Found.COMMITTED, ProverPhase.DROPPED, ((16,), (12,))))
         expected = (0,) * 16 + (16,) + (0,) * 7 + (12,) + (0,) * 9 + (3,)
-        self.assertEqual(old.to_stored(), _stored.write(b"ORP", expected))
+        self.assertEqual(old.to_stored(), _stored.write(b"ORP", 1, expected))
         with refused(self, 21):
             old.respond(pair, 1, [7])
 
@@ -263,10 +318,11 @@ class Storing(unittest.TestCase):
             self.assertEqual(whole(type(session))(bytearray(stored)).to_stored(), stored)
 
     def test_damaged_bytes_are_refused(self):
-        """Every byte changed, every cut, a byte behind, and another's session."""
+        """Every bit changed, every cut, a byte behind, and another's session."""
         for session in self.sessions():
             kind, stored = type(session), session.to_stored()
-            changed = [stored[:i] + bytes([stored[i] ^ 1]) + stored[i + 1 :] for i in range(len(stored))]
+            bits = [(i, 1 << bit) for i in range(len(stored)) for bit in range(8)]
+            changed = (stored[:i] + bytes([stored[i] ^ bit]) + stored[i + 1 :] for i, bit in bits)
             cut = [stored[:i] for i in range(len(stored))]
             others = [other.to_stored() for other in self.sessions() if not isinstance(other, kind)]
             for bad in [*changed, *cut, *others, stored + b"\0"]:
@@ -274,20 +330,32 @@ class Storing(unittest.TestCase):
 
     def test_a_phase_or_side_that_is_none_is_refused(self):
         """Though the check value is right."""
-        for values, mark, kind in [(17, b"PRV", Prover), (10, b"VRF", Verifier), (35, b"ORP", OrProver)]:
-            self.assertEqual(whole(kind)(_stored.write(mark, (0,) * values)).to_stored()[:3], mark)
-            bad = _stored.write(mark, (0,) * (values - 1) + (4,))
+        for values, mark, kind in [(10, b"VRF", Verifier), (35, b"ORP", OrProver)]:
+            self.assertEqual(whole(kind)(_stored.write(mark, 1, (0,) * values)).to_stored()[:3], mark)
+            bad = _stored.write(mark, 1, (0,) * (values - 1) + (4,))
             self.assertRaises(Damaged, whole(kind), bad)
-        side = _stored.write(b"ORP", (0,) * 33 + (2, 0))
+        side = _stored.write(b"ORP", 1, (0,) * 33 + (2, 0))
         self.assertRaises(Damaged, OrProver.from_stored_with_nonce, side)
         self.assertEqual(OrProver.reopen(side)[1], Found.DAMAGED)
 
+    def test_what_no_call_makes_of_peggys_session_is_refused(self):
+        """A phase above 3, held or saved, a flag above 1, a count above 64, and version 1."""
+        saved = [bound for name in range(8) for bound in [(33 + 18 * name, 3), (34 + 18 * name, 1)]]
+        for place, last in [(16, 3), *saved, (673, 64)]:
+            for value in [last, last + 1, 256, 2**32 - 1]:
+                values = (0,) * place + (value,) + (0,) * (673 - place)
+                _, found = Prover.reopen(_stored.write(b"PRV", 2, values))
+                self.assertEqual(found == Found.DAMAGED, value > last)
+        for values in [17, 674]:
+            self.assertEqual(Prover.reopen(_stored.write(b"PRV", 1, (0,) * values))[1], Found.DAMAGED)
+
     def test_the_response_comes_after_the_store(self):
-        """What is stored answers no challenge."""
+        """What is stored answers no challenge. It is the whole session, with its saved states and its list."""
         disk = []
-        _, response = committed().respond_after(page_a(), 3, [7], disk.append)
-        self.assertEqual(response, (4,))
+        after, response = committed().save(6).respond_after(page_a(), 3, [7], disk.append)
+        self.assertEqual((response, after.to_stored()), ((4,), disk[0]))
         found, what = Prover.reopen(disk[0])
+        self.assertEqual((found.saved(6), found.answered), (ProverPhase.COMMITTED, 1))
         self.assertEqual((found.phase, what), (ProverPhase.ANSWERED, Found.ANSWERED))
         with refused(self, 21):
             found.respond(page_a(), 1, [7])

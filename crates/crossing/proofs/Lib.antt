@@ -3,5 +3,6 @@ pub mod Phases
 pub mod HandedBack
 pub mod Judgements
 pub mod ProverCrossing
+pub mod SavedCrossing
 pub mod VerifierCrossing
 pub mod SessionsCross

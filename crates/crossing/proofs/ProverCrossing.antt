@@ -14,30 +14,24 @@ use Rattle.lists.specs.Places.{zeros8}
 use Rattle.sigma.proofs.Answer.{unlessRefused-positive}
 use Rattle.runs.specs.Ours.{callProver, proverAfter, proverTrace}
 use Rattle.runs.specs.Prover.{proverState}
-use Rattle.runs.specs.ProverCalls.{ProverCall, Commit, Respond, Drop, answered, Ended}
+use Rattle.runs.specs.ProverCalls.{ProverCall, Commit, Respond, Drop, Save, Return, answered, Ended, NoneReturns}
 use Rattle.runs.specs.Run.{sessionAfter}
+use Rattle.runs.specs.Saving.{proverPhase}
 use Rattle.runs.proofs.OneAnswer.{one-answer, prover-once}
-use Rattle.runs.proofs.ProverCalls.{prover-kept, ended-refuses}
+use Rattle.runs.proofs.ProverCalls.{Steps, prover-kept, ended-refuses}
+use Rattle.runs.proofs.SavedStates.{phase-beyond, phase-of-state}
 use Rattle.crossing.specs.Calls.{answeredProver, answeredTrace, proverRead, readAnswers}
 use Rattle.crossing.specs.OfFour.{ofFour}
-use Rattle.crossing.specs.Provers.{proverPhase, proverOf, proverSession, proverAnswer}
+use Rattle.crossing.specs.Provers.{proverOf, proverSession, proverAnswer}
 use Rattle.crossing.specs.declared.ProverSession.{ProverSession}
 use Rattle.crossing.proofs.HandedBack.{handed-back, handed-on-after, handed-out, handed-out-after, trace-across}
-use Rattle.crossing.proofs.Phases.{ofFour-beyond, ofFour-number}
+use Rattle.crossing.proofs.Phases.{ofFour-number}
 
 -- ---- the session
 
--- a state's number has the state
-pub phase-of-state : (p : ProverPhase) → proverPhase (proverState p) ≡ p
-unfolding proverPhase ofFour proverState
-phase-of-state New = refl
-phase-of-state Committed = refl
-phase-of-state Answered = refl
-phase-of-state Dropped = refl
-
 -- a number below four is that of its state
 pub state-of-phase : (n : ℕ) → n < 4 → proverState (proverPhase n) ≡ n
-unfolding proverPhase proverState
+unfolding proverPhase ofFour proverState
 state-of-phase n few = ofFour-number New Committed Answered Dropped proverState refl refl refl refl n few
 
 -- a session handed out and in again is the same
@@ -87,12 +81,12 @@ module _ (call : ProverCall) (s : ProverSession) where
   unfolding proverAnswer
   told-across = rw handed-on
 
-  -- a number that is no state's allows no call: it is refused, and the session comes back as it was handed in
-  pub unknown-refused : 4 ≤ s .phase → (0 < answeredProver call s .refusal) × (answeredProver call s .session ≡ s)
-  unfolding proverAnswer proverOf proverPhase
-  unknown-refused unknown =
-      let last : proverOf s .phase ≡ Dropped = ofFour-beyond New Committed Answered Dropped (omega arith) in
-      let refused : 0 < answeredProver call s .refusal = ended-refuses call (proverOf s) (inr last) in
+  -- a number that is no state's allows no commit, response or drop: it is refused, and the session comes back as it was handed in
+  pub unknown-refused : Steps call → 4 ≤ s .phase → (0 < answeredProver call s .refusal) × (answeredProver call s .session ≡ s)
+  unfolding proverAnswer proverOf
+  unknown-refused steps unknown =
+      let last : proverOf s .phase ≡ Dropped = phase-beyond (s .phase) (omega arith) in
+      let refused : 0 < answeredProver call s .refusal = ended-refuses call (proverOf s) steps (inr last) in
       (refused, refused-kept refused)
 
 -- after any calls, each given the session that the last one handed back, the session is the one after the calls
@@ -121,25 +115,27 @@ prover-trace-across =
     (λ step. step .refusal) proverOf proverRead told-across (λ a. refl) (λ a. refl)
 
 -- the challenges that were answered are fixed by the calls alone
-answered-read : {A B : Type 0} (read : A → B) (answers : List (ProverCall × A)) → answered (readAnswers read answers) ≡ answered answers
+pub answered-read : {A B : Type 0} (read : A → B) (answers : List (ProverCall × A)) → answered (readAnswers read answers) ≡ answered answers
 unfolding answered readAnswers
 answered-read read [] = refl
 answered-read read ((Commit sheet nonce, a) ∷ later) = answered-read read later
 answered-read read ((Respond sheet c witness, a) ∷ later) = ap (λ (cs : List ℕ). c ∷ cs) (answered-read read later)
 answered-read read ((Drop, a) ∷ later) = answered-read read later
+answered-read read ((Save name, a) ∷ later) = answered-read read later
+answered-read read ((Return name, a) ∷ later) = answered-read read later
 
--- so over any calls, each given the session that the last one handed back, at most one challenge is answered
-pub one-answer-across : (calls : List ProverCall) (s : ProverSession) → length (answered (answeredTrace calls s)) ≤ 1
-one-answer-across calls s =
-    rw (sym (answered-read proverRead (answeredTrace calls s)), prover-trace-across calls s) (one-answer calls (proverOf s))
+-- so over any calls of which none returns, each given the session that the last one handed back, at most one challenge is answered
+pub one-answer-across : (calls : List ProverCall) (s : ProverSession) → NoneReturns calls → length (answered (answeredTrace calls s)) ≤ 1
+one-answer-across calls s none =
+    rw (sym (answered-read proverRead (answeredTrace calls s)), prover-trace-across calls s) (one-answer calls (proverOf s) none)
 
--- a session that the calls have led from New or Committed to Answered or Dropped has a nonce of zeros
-pub wiped-across : (calls : List ProverCall) (s s′ : ProverSession) → s .phase < 2
+-- a session that such calls have led from New or Committed to Answered or Dropped has a nonce of zeros
+pub wiped-across : (calls : List ProverCall) (s s′ : ProverSession) → NoneReturns calls → s .phase < 2
     → sessionAfter answeredProver (λ answer. answer .session) calls s ≡ s′ → 2 ≤ s′ .phase → s′ .nonce ≡ zeros8
 unfolding proverSession proverOf proverAfter
-wiped-across calls s s′ early after late =
+wiped-across calls s s′ none early after late =
     let out = sym after ∙ handed-out-all calls s (omega arith) in
     let number = state-of-phase (s .phase) (omega arith) in
     let started : ¬ Ended (proverOf s) = λ ended. let z = state-ended (proverOf s .phase) .1 ended in omega arith in
     let ended : Ended (proverAfter calls (proverOf s)) = state-ended _ .0 (rw out at late) in
-    rw out (prover-once .wiped calls (proverOf s) started ended)
+    rw out (prover-once .wiped calls (proverOf s) none started ended)

@@ -2,15 +2,16 @@
 -- Assumes nothing.
 use mathlib.Core.Path.{_≡_, refl, sym, ap, _∙_}
 use native.Mathlib.Omega.{arith}
-use Rattle.types.specs.declared.ProverPhase.the-variants.{New, Committed, Answered, Dropped}
 use Rattle.types.specs.declared.Verdict.{Verdict}
 use Rattle.types.specs.declared.VerifierPhase.the-variants.{Waiting, Holding, Asked, Judged}
 use Rattle.sigma.specs.Answer.{outcome}
 use Rattle.sigma.proofs.Answer.{unlessRefused-zero, unlessRefused-positive}
 use Rattle.runs.specs.Prover.{proverState}
+use Rattle.runs.specs.Saving.{proverPhase}
 use Rattle.runs.specs.Verifier.{verifierState}
+use Rattle.runs.proofs.SavedStates.{phase-beyond}
 use Rattle.crossing.specs.OfFour.{ofFour}
-use Rattle.crossing.specs.Provers.{proverPhase, proverOf, proverSession, proverAnswer}
+use Rattle.crossing.specs.Provers.{proverOf, proverSession, proverAnswer}
 use Rattle.crossing.specs.SessionsCross.{SessionsCross}
 use Rattle.crossing.specs.Verdicts.{judgement}
 use Rattle.crossing.specs.Verifiers.{verifierPhase, verifierOf, verifierSession, verifierAnswer, verifierJudgement}
@@ -30,13 +31,13 @@ sessions-cross =
       accepted = refl;
       rejected = λ mask. refl;
       refused = λ n. refl;
-      prover = λ k t. (
+      prover = λ k t m. (
         record { out = refl; into = refl },
         record { out = refl; into = refl },
         record { out = refl; into = refl },
         record { out = refl; into = refl },
       );
-      prover-beyond = λ n k t beyond. rw (ofFour-beyond New Committed Answered Dropped {n = n} (omega arith));
+      prover-beyond = λ n k t m beyond. rw (phase-beyond n (omega arith));
       prover-passed = λ given s p xs same. rw (unlessRefused-zero (proverSession p) given, same);
       prover-refused = λ given p xs n some. rw (unlessRefused-positive (proverSession p) given n some);
       verifier = λ t c. (

@@ -4,6 +4,7 @@
 use Prim.Native.Nat.{ℕ, _<_}
 use mathlib.Core.Path.{_≡_}
 use mathlib.Core.List.{List}
+use Rattle.types.specs.declared.Memory.{Memory}
 use Rattle.types.specs.declared.Prover.{Prover}
 use Rattle.types.specs.declared.ProverPhase.{ProverPhase}
 use Rattle.types.specs.declared.ProverPhase.the-variants.{New, Committed, Answered, Dropped}
@@ -19,10 +20,13 @@ use Rattle.crossing.specs.declared.Judgement.{Judgement}
 use Rattle.crossing.specs.declared.ProverSession.{ProverSession}
 use Rattle.crossing.specs.declared.VerifierSession.{VerifierSession}
 
--- Peggy's session in a state and with the state's number, whatever nonce and commitment it holds
-pub record ProverAs (state : ProverPhase) (n : ℕ) (k t : List ℕ) : Type 0 where
-  pub out : proverSession (record { phase = state; nonce = k; commitment = t }) ≡ record { phase = n; nonce = k; commitment = t }
-  pub into : proverOf (record { phase = n; nonce = k; commitment = t }) ≡ record { phase = state; nonce = k; commitment = t }
+-- Peggy's session in a state and with the state's number, whatever nonce, commitment and memory it holds; the memory is the same
+-- struct on both sides
+pub record ProverAs (state : ProverPhase) (n : ℕ) (k t : List ℕ) (m : Memory) : Type 0 where
+  pub out : proverSession (record { phase = state; nonce = k; commitment = t; memory = m })
+      ≡ record { phase = n; nonce = k; commitment = t; memory = m }
+  pub into : proverOf (record { phase = n; nonce = k; commitment = t; memory = m })
+      ≡ record { phase = state; nonce = k; commitment = t; memory = m }
 
 -- the same of Vic's
 pub record VerifierAs (state : VerifierPhase) (n : ℕ) (t : List ℕ) (c : ℕ) : Type 0 where
@@ -35,9 +39,11 @@ pub record SessionsCross : Type 0 where
   pub rejected : (mask : ℕ) → judgement (Rejected mask) ≡ record { accepted = 0; rows = mask; refusal = 0 }
   pub refused : (n : ℕ) → judgement (Refused n) ≡ record { accepted = 0; rows = 0; refusal = n }
   -- Peggy's session, whose state for every number above 3 is Dropped
-  pub prover : (k t : List ℕ) → ProverAs New 0 k t × ProverAs Committed 1 k t × ProverAs Answered 2 k t × ProverAs Dropped 3 k t
-  pub prover-beyond : (n : ℕ) (k t : List ℕ) → 3 < n
-      → proverOf (record { phase = n; nonce = k; commitment = t }) ≡ record { phase = Dropped; nonce = k; commitment = t }
+  pub prover : (k t : List ℕ) (m : Memory)
+      → ProverAs New 0 k t m × ProverAs Committed 1 k t m × ProverAs Answered 2 k t m × ProverAs Dropped 3 k t m
+  pub prover-beyond : (n : ℕ) (k t : List ℕ) (m : Memory) → 3 < n
+      → proverOf (record { phase = n; nonce = k; commitment = t; memory = m })
+      ≡ record { phase = Dropped; nonce = k; commitment = t; memory = m }
   -- the answer has the call's values and number, and the session after the call, or the one that was given if it is refused
   pub prover-passed : (given s : ProverSession) (p : Prover) (xs : List ℕ) → proverSession p ≡ s
       → proverAnswer given (record { session = p; values = xs; refusal = 0 }) ≡ record { session = s; values = xs; refusal = 0 }

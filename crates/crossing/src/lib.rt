@@ -1,14 +1,12 @@
 // Verdicts and sessions in the forms in which they cross to other languages: structs of numbers with the layout of C, since no
 // enum crosses.
-mod provers; // provers.rt: Peggy's session
+mod provers; // provers.rt: the states of Peggy's session
 mod verdicts; // verdicts.rt: what judging answers
 mod verifiers; // verifiers.rt: Vic's session
 
-pub use provers::prover_answer;
-pub use provers::prover_of;
 pub use provers::prover_phase;
-pub use provers::prover_session;
 pub use provers::prover_state;
+use types::Memory;
 pub use verdicts::judgement_of;
 pub use verifiers::verifier_answer;
 pub use verifiers::verifier_judgement;
@@ -24,13 +22,13 @@ pub struct Judgement {
     pub refusal: u32,
 }
 
-// Peggy's session: the phase is 0 for New, 1 for Committed, 2 for Answered, 3 for Dropped. Any other number is a state that
-// allows no call.
+// Peggy's session: the phase is 0 for New, 1 for Committed, 2 for Answered, 3 for Dropped. Any other number is taken as Dropped.
 #[repr(C)]
 pub struct ProverSession {
     pub nonce: [u32; 8],
     pub commitment: [u32; 8],
     pub phase: u32,
+    pub memory: Memory,
 }
 
 // What a call on Peggy's session answers: the session handed back, and a commitment or a response.

@@ -15,6 +15,8 @@ use Rattle.examples.proofs.Pages.{worked-examples}
 use Rattle.examples.proofs.ProductsPage.{products-page}
 use Rattle.examples.proofs.ReasonPage.{reason-page}
 use Rattle.examples.proofs.RowsPage.{rows-page}
+use Rattle.examples.proofs.SavedCorners.{saved-corners}
+use Rattle.examples.proofs.SavedPage.{saved-page}
 use Rattle.examples.proofs.TeamPage.{team-page}
 use Rattle.examples.proofs.WatchCorners.{watch-corners}
 use Rattle.examples.proofs.WatchPage.{watch-page}
@@ -44,6 +46,7 @@ use Rattle.runs.proofs.Protocol.{protocol}
 use Rattle.runs.proofs.ReadsAlike.{loses-nothing}
 use Rattle.runs.proofs.RunRefusals.{mark-refusals, run-refusals}
 use Rattle.runs.proofs.RunsWhere.{rounds-run}
+use Rattle.runs.proofs.SavedStates.{saved-states}
 use Rattle.runs.proofs.Sessions.{sessions}
 use Rattle.sigma.proofs.Answer.{verdict-outcomes}
 use Rattle.watches.proofs.RunsWhere.{watch-runs}
@@ -110,6 +113,7 @@ holds = record {
     multiply = products-work;
     game = game;
     game-text = game-prints;
+    saved = saved-states;
   };
   patterns = patterns-mean;
   arithmetic = arithmetic;
@@ -134,6 +138,7 @@ evidence = record {
   watch-corners = watch-corners;
   linear-corners = linear-corners;
   game-corners = game-corners;
+  saved-corners = saved-corners;
   reason-page = reason-page;
   or-page = worked-examples .2;
   answer-page = answer-page;
@@ -144,4 +149,5 @@ evidence = record {
   linear-page = linear-page;
   products-page = products-page;
   game-page = game-page;
+  saved-page = saved-page;
 }

@@ -1,4 +1,4 @@
--- The public calls of 01 and of 02's cards 1 to 12, those of each topic together: what any code has to give. No call's definition is
+-- The public calls of 01 and of 02's cards 1 to 13, those of each topic together: what any code has to give. No call's definition is
 -- named.
 -- Assumes nothing.
 use Rattle.disjunctions.specs.OrCalls.{OrCalls}
@@ -15,7 +15,7 @@ use Rattle.watches.specs.WatchCalls.{WatchCalls}
 pub record Calls : Type 0 where
   -- sheets and round files
   pub files : FileCalls
-  -- rounds, Peggy's session and Vic's
+  -- rounds, Peggy's session, with card 13's saved states, and Vic's
   pub runs : RunCalls
   -- the marker's text
   pub marker : MarkerCalls

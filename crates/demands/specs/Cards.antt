@@ -1,6 +1,7 @@
 -- What the cards of 02 ask beyond 01, a field for each card. Card 3, which changes the marker, stands in Refusals and MarksFiles, and
 -- what card 7 changes of 01's calls on round files in Refusals, Layout, Writers, ReadsBack and ReasonsTrue. That card 8's rows rise
--- stands in VerdictOutcomes, Protocol and OneOfTwo, and how they are printed in MarksFiles and ReasonsTrue.
+-- stands in VerdictOutcomes, Protocol and OneOfTwo, and how they are printed in MarksFiles and ReasonsTrue. What card 13's calls and those
+-- of 01's Peggy hand back stands in Sessions.
 -- Assumes nothing.
 use Prim.Native.Nat.{ℕ}
 use mathlib.Core.Path.{_≡_}
@@ -16,6 +17,7 @@ use Rattle.products.specs.RoundsMultiply.{ProductsWork}
 use Rattle.products.specs.TeamWorks.{TeamWorks}
 use Rattle.reasons.specs.ReasonsTrue.{ReasonsTrue}
 use Rattle.runs.specs.ReadsAlike.{LosesNothing}
+use Rattle.runs.specs.SavedStates.{SavedStates}
 use Rattle.watches.specs.WatchesNonces.{WatchWorks}
 use Rattle.demands.specs.AllRows.{AllRows}
 use Rattle.demands.specs.Calls.{Calls}
@@ -58,3 +60,6 @@ pub record Cards (code : Calls) : Type 0 where
   pub game : (sheet : List ℕ) → code .files .load sheet .refusal ≡ 0 → Game (code .runs) sheet
   -- and for round 0's commitment the text has a line for each challenge that it answers, with the smallest response in slot order
   pub game-text : GamePrints (code .files) (code .runs) (code .games)
+  -- 13: over any calls on Peggy's session, each given the record last handed back, no commitment gets two answers; what is saved under a
+  -- name stays, its nonce too, until the name is saved under again, and a return brings exactly it back
+  pub saved : SavedStates (code .runs)

@@ -30,8 +30,8 @@ pub record Demands (code : Calls) : Type 0 where
   pub main-protocol : (sheet : List ℕ) → code .files .load sheet .refusal ≡ 0 → MainProtocol (code .runs) sheet
   -- which is, row by row and slot by slot, what 01 says of commitments, responses and verdicts
   pub protocol : (sheet : List ℕ) → code .files .load sheet .refusal ≡ 0 → Protocol (code .runs) sheet
-  -- in its order of steps: over any list of calls Peggy answers one challenge at most and keeps no nonce after it, and Vic takes
-  -- one commitment, then one challenge, then one response
+  -- in its order of steps: over any list of calls of which none returns Peggy answers one challenge at most and holds no nonce after
+  -- it, and Vic takes one commitment, then one challenge, then one response
   pub sessions : Sessions (code .runs)
   -- where each value stands in the bytes of sheets and round files
   pub layout : Layout (code .files)

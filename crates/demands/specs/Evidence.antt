@@ -16,6 +16,8 @@ use Rattle.examples.specs.ProductsPage.{ProductsPage}
 use Rattle.examples.specs.ReasonPage.{ReasonPage}
 use Rattle.examples.specs.RoundCorners.{RoundCorners}
 use Rattle.examples.specs.RowsPage.{RowsPage}
+use Rattle.examples.specs.SavedCorners.{SavedCorners}
+use Rattle.examples.specs.SavedPage.{SavedPage}
 use Rattle.examples.specs.SessionPage.{SessionPage}
 use Rattle.examples.specs.SheetCorners.{SheetCorners}
 use Rattle.examples.specs.TeamCorners.{TeamCorners}
@@ -38,6 +40,7 @@ pub record Evidence : Type 0 where
   pub watch-corners : WatchCorners
   pub linear-corners : LinearCorners
   pub game-corners : GameCorners
+  pub saved-corners : SavedCorners
   -- the reason's whole line for every number and each of its causes
   pub reason-page : ReasonPage
   -- a worked pair of sheets for the OR proof
@@ -57,3 +60,5 @@ pub record Evidence : Type 0 where
   pub products-page : ProductsPage
   -- worked games
   pub game-page : GamePage
+  -- a worked demonstrator who returns to saved states
+  pub saved-page : SavedPage

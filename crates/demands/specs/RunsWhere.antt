@@ -14,7 +14,7 @@ use Rattle.demands.specs.Calls.{Calls}
 pub record RunsWhere (code : Calls) : Type 0 where
   -- the calls on sheets and round files
   pub files : FilesRun (code .files)
-  -- the calls on rounds, Peggy's session and Vic's
+  -- the calls on rounds, Peggy's session, with card 13's saved states, and Vic's
   pub rounds : RoundsRun (code .files) (code .runs)
   -- card 2: the sheet maker, and the call that writes the shipped file
   pub patterns : MakersRun (code .files) (code .makers)

@@ -6,6 +6,7 @@ use mathlib.Core.List.{List, [], _∷_}
 use mathlib.Core.Logic.{inl, inr}
 use native.Mathlib.Omega.{arith}
 use Rattle.types.specs.declared.Computed.{Computed}
+use Rattle.types.specs.declared.Memory.{Memory}
 use Rattle.types.specs.declared.Prover.{Prover}
 use Rattle.types.specs.declared.ProverPhase.the-variants.{Committed}
 use Rattle.types.specs.declared.ProverStep.{ProverStep}
@@ -83,8 +84,11 @@ module _ {files files′ : FileCalls} {code code′ : RunCalls} {either either�
       (empty .0 ∙ sym (empty′ .0)) (empty .1 ∙ sym (empty′ .1)) (empty .2 ∙ sym (empty′ .2)))
 
   -- what 01's calls give
-  responded : (sheet : List ℕ) (q : Prover) (c : ℕ) (x : List ℕ) → code .respond sheet q c x .values ≡ code′ .respond sheet q c x .values
-  responded sheet q c x = ap (λ (step : ProverStep). step .values) (runs .respond sheet q c x)
+  responded : (sheet : List ℕ) (q : Memory → Prover) (c : ℕ) (x : List ℕ)
+      → code .respond sheet (q (code .newProver .memory)) c x .values ≡ code′ .respond sheet (q (code′ .newProver .memory)) c x .values
+  responded sheet q c x =
+      ap (λ (step : ProverStep). step .values)
+      (ap (λ (p : Prover). code .respond sheet (q (p .memory)) c x) (runs .newProver) ∙ runs .respond sheet (q (code′ .newProver .memory)) c x)
 
   committed : (sheet k : List ℕ)
       → code .commit sheet (code .newProver) k .values ≡ code′ .commit sheet (code′ .newProver) k .values
@@ -109,15 +113,16 @@ module _ {files files′ : FileCalls} {code code′ : RunCalls} {either either�
       let (a, at, w, k) = or-moves either (d .proof .sessions) (OrRespond s s′ c x) p e in
       let (a′, at′, w′, k′) = or-moves either′ (d′ .proof .sessions) (OrRespond s s′ c x) p e′ in
       let session = wiped-same p _ _ (at ∙ sym at′) w w′ k k′ in
+      let held : List ℕ → Memory → Prover = λ t m. record { phase = Committed; nonce = p .nonce; commitment = t; memory = m } in
       sides (p .side) (λ high. own .1 .1 .1 .0 (inr (inl high)))
       (λ known.
       let (c0, v, u) = proof-of d s s′ both .responds-first p c x known e in
       let (c0′, v′, u′) = proof-of d′ s s′ both .responds-first p c x known e′ in
-      step-same _ _ (same-number r r′) session (v ∙ responded s _ _ x ∙ sym v′) (u ∙ sym u′) (c0 ∙ sym c0′))
+      step-same _ _ (same-number r r′) session (v ∙ responded s (λ m. held (p .commitment0) m) _ x ∙ sym v′) (u ∙ sym u′) (c0 ∙ sym c0′))
       (λ known.
       let (c0, v, u) = proof-of d s s′ both .responds-second p c x known e in
       let (c0′, v′, u′) = proof-of d′ s s′ both .responds-second p c x known e′ in
-      step-same _ _ (same-number r r′) session (v ∙ sym v′) (u ∙ responded s′ _ _ x ∙ sym u′) (c0 ∙ sym c0′)))
+      step-same _ _ (same-number r r′) session (v ∙ sym v′) (u ∙ responded s′ (λ m. held (p .commitment1) m) _ x ∙ sym u′) (c0 ∙ sym c0′)))
 
   -- committing: both commitments, by the side that is known
   commitments : (s s′ : List ℕ) → NonePair s s′ → (p : OrProver) (side : ℕ) (k : List ℕ) (c : ℕ) (r : List ℕ)

@@ -16,6 +16,7 @@ use Rattle.numbers.specs.Integer.{power}
 use Rattle.rules.specs.Condition.{Tests}
 use Rattle.rules.specs.Says.{Says}
 use Rattle.rules.proofs.Says.{says-iff, says-less, says-not, says-or}
+use Rattle.runs.specs.Memory.{noMemory}
 use Rattle.runs.specs.Prover.{proverIn}
 use Rattle.runs.proofs.Tests.{says-prover}
 use Rattle.sigma.specs.Image.{image}
@@ -44,7 +45,7 @@ use Rattle.disjunctions.specs.Refusals.{commitOrConditions, dropOrCondit
 -- the session is in a state
 pub says-or-prover : (state : ProverPhase) (p : OrProver) → Says (orProverIn state p) (p .phase ≡ state)
 unfolding orProverIn proverIn
-says-or-prover state p = says-prover state (record { phase = p .phase; nonce = []; commitment = [] })
+says-or-prover state p = says-prover state (record { phase = p .phase; nonce = []; commitment = []; memory = noMemory })
 
 -- the simulated commitment of what is read of r is that of r
 pub simulated-read : {i : Instance} → Valid i → (d : ℕ) (r : List ℕ)

@@ -25,6 +25,7 @@ use Rattle.runs.specs.Calls.{simulateCommitment}
 use Rattle.runs.specs.OnSheet.{Below, readSlots}
 use Rattle.runs.specs.Prover.{commit, newProver, respond}
 use Rattle.runs.proofs.Loaded.{simulate-loaded}
+use Rattle.runs.proofs.Memory.{none-listed, some-room}
 use Rattle.runs.proofs.ProverSteps.{commitAfter-given, commitAfter-runs, respondAfter-given, respondAfter-runs}
 use Rattle.runs.proofs.Witness.{witness-slots}
 use Rattle.sigma.specs.Comparison.{differ}
@@ -205,19 +206,30 @@ module _ (s s′ : List ℕ) (pair : Pair s s′) (p : OrProver) where
             ∙ sym (commit-values s′ (second-loads pair) k slots),
       )
 
-  -- a session of 01 that holds a nonce and its commitment answers a challenge below K with the response
-  answer-values : (sheet : List ℕ) → loadRefusal sheet ≡ 0 → (q : Prover) (e : ℕ) (x : List ℕ) → q .phase ≡ Committed → Below sheet e
+  -- a session of 01 that lists nothing and holds a nonce and its commitment answers a challenge below K with the response
+  answer-values : (sheet : List ℕ) → loadRefusal sheet ≡ 0 → (q : Prover) (e : ℕ) (x : List ℕ) → q .memory ≡ newProver .memory
+      → q .phase ≡ Committed → Below sheet e
       → Coordinates (instanceOf sheet) (readSlots sheet x) → (badWitness (instanceOf sheet) (readSlots sheet x) ≡ false)
       → Coordinates (instanceOf sheet) (readSlots sheet (q .nonce))
       → Agree 8 (pad8 0 (image (tableOf (instanceOf sheet)) (readSlots sheet (q .nonce)))) (q .commitment)
       → respond sheet q e x .values ≡ pad8 0 (response (instanceOf sheet .header) (readSlots sheet (q .nonce)) e (readSlots sheet x))
-  unfolding respond loadRefusal
-  answer-values sheet loads q e x phase below slots carried nonce agree =
+  unfolding respond newProver loadRefusal
+  answer-values sheet loads q e x empty phase below slots carried nonce agree =
       let inst = instanceOf sheet in
       let n = inst .header .columns in
       let witness = witness-slots inst (places n x) (length-places n x) .0 (slots, witness-passes inst (places n x) .0 carried) in
-      let runs = respondAfter-runs (loadRules sheet) inst q e x (load-positive sheet) .1
-      (loads, record { challenge = below; witness = witness; phase = phase; nonce = nonce; commitment = agree }) in
+      let runs = respondAfter-runs (loadRules sheet) inst q e x (load-positive sheet) .1 (
+        loads,
+        record {
+          challenge = below;
+          witness = witness;
+          phase = phase;
+          nonce = nonce;
+          commitment = agree;
+          unlisted = rw empty (none-listed (q .commitment));
+          room = rw empty some-room;
+        },
+      ) in
       ap (λ (step : ProverStep). step .values) (respondAfter-given (loadRules sheet) inst q e x runs)
 
   -- the responses of a side that is known and of the other one
@@ -233,7 +245,7 @@ module _ (s s′ : List ℕ) (pair : Pair s s′) (p : OrProver) where
   pub responds-first : (c : ℕ) (x : List ℕ) → p .side ≡ 0 → respondOr s s′ p c x .refusal ≡ 0
       → (respondOr s s′ p c x .challenge0 ≡ otherChallenge (instanceOf s .header .challenges) c (p .challenge))
       × (respondOr s s′ p c x .values0
-      ≡ respond s (record { phase = Committed; nonce = p .nonce; commitment = p .commitment0 })
+      ≡ respond s (record { phase = Committed; nonce = p .nonce; commitment = p .commitment0; memory = newProver .memory })
       (otherChallenge (instanceOf s .header .challenges) c (p .challenge)) x .values)
       × (respondOr s s′ p c x .values1 ≡ pad8 0 (readSlots s′ (p .response)))
   unfolding own other firstCommitment
@@ -244,7 +256,7 @@ module _ (s s′ : List ℕ) (pair : Pair s s′) (p : OrProver) where
       let (nonce, first, second) = rw side at (unfit-facts s s′ p (facts .2) _ _ refl refl) in
       let left = otherChallenge K c (p .challenge) in
       let given = respond-or-given s s′ p c x e _ _ _ _ _ refl refl refl refl refl in
-      let mine = answer-values s (first-loads pair) (record { phase = Committed; nonce = p .nonce; commitment = p .commitment0 }) left x refl
+      let mine = answer-values s (first-loads pair) (record { phase = Committed; nonce = p .nonce; commitment = p .commitment0; memory = newProver .memory }) left x refl refl
       (other-less K c (p .challenge) (some-challenge s s′ pair)) slots carried nonce first in (
         ap (λ (step : OrStep). step .challenge0) given ∙ ap (λ (n : ℕ). own n left (p .challenge)) side,
         ap (λ (step : OrStep). step .values0) given ∙ ap (λ (n : ℕ). pad8 0 (own n (known n c x) (simulatedSlots n))) side ∙ sym mine,
@@ -256,7 +268,7 @@ module _ (s s′ : List ℕ) (pair : Pair s s′) (p : OrProver) where
       → (respondOr s s′ p c x .challenge0 ≡ p .challenge)
       × (respondOr s s′ p c x .values0 ≡ pad8 0 (readSlots s (p .response)))
       × (respondOr s s′ p c x .values1
-      ≡ respond s′ (record { phase = Committed; nonce = p .nonce; commitment = p .commitment1 })
+      ≡ respond s′ (record { phase = Committed; nonce = p .nonce; commitment = p .commitment1; memory = newProver .memory })
       (otherChallenge (instanceOf s .header .challenges) c (p .challenge)) x .values)
   unfolding own other secondCommitment
   responds-second c x side e =
@@ -266,7 +278,7 @@ module _ (s s′ : List ℕ) (pair : Pair s s′) (p : OrProver) where
       let (nonce, first, second) = rw side at (unfit-facts s s′ p (facts .2) _ _ refl refl) in
       let left = otherChallenge K c (p .challenge) in
       let given = respond-or-given s s′ p c x e _ _ _ _ _ refl refl refl refl refl in
-      let mine = answer-values s′ (second-loads pair) (record { phase = Committed; nonce = p .nonce; commitment = p .commitment1 }) left x refl
+      let mine = answer-values s′ (second-loads pair) (record { phase = Committed; nonce = p .nonce; commitment = p .commitment1; memory = newProver .memory }) left x refl refl
       (rw (sym (pair .one-count)) (other-less K c (p .challenge) (some-challenge s s′ pair))) slots carried nonce second in (
         ap (λ (step : OrStep). step .challenge0) given ∙ ap (λ (n : ℕ). own n left (p .challenge)) side,
         ap (λ (step : OrStep). step .values0) given ∙ ap (λ (n : ℕ). pad8 0 (own n (known n c x) (simulatedSlots n))) side,

@@ -187,19 +187,19 @@ module _ (code : RunCalls) (either : OrCalls) where
     pub commits-second : (p : OrProver) (n : ℕ) (k : List ℕ) (d : ℕ) (r : List ℕ) → commitOr s s′ p (suc n) k d r .refusal ≡ 0
         → (commitOr s s′ p (suc n) k d r .values0 ≡ simulateCommitment s d r .values)
         × (commitOr s s′ p (suc n) k d r .values1 ≡ commit s′ newProver k .values)
-    -- responding answers for the side that is known what 01's respond answers to the challenge that is left, and for the other the
-    -- simulated challenge and response
+    -- responding answers for the side that is known what 01's respond answers to the challenge that is left, in a session that lists
+    -- nothing, and for the other the simulated challenge and response
     pub responds-first : (p : OrProver) (c : ℕ) (x : List ℕ) → p .side ≡ 0 → respondOr s s′ p c x .refusal ≡ 0
         → (respondOr s s′ p c x .challenge0 ≡ otherChallenge (instanceOf s .header .challenges) c (p .challenge))
         × (respondOr s s′ p c x .values0
-        ≡ respond s (record { phase = Committed; nonce = p .nonce; commitment = p .commitment0 })
+        ≡ respond s (record { phase = Committed; nonce = p .nonce; commitment = p .commitment0; memory = newProver .memory })
         (otherChallenge (instanceOf s .header .challenges) c (p .challenge)) x .values)
         × (respondOr s s′ p c x .values1 ≡ pad8 0 (readSlots s′ (p .response)))
     pub responds-second : (p : OrProver) (c : ℕ) (x : List ℕ) → p .side ≡ 1 → respondOr s s′ p c x .refusal ≡ 0
         → (respondOr s s′ p c x .challenge0 ≡ p .challenge)
         × (respondOr s s′ p c x .values0 ≡ pad8 0 (readSlots s (p .response)))
         × (respondOr s s′ p c x .values1
-        ≡ respond s′ (record { phase = Committed; nonce = p .nonce; commitment = p .commitment1 })
+        ≡ respond s′ (record { phase = Committed; nonce = p .nonce; commitment = p .commitment1; memory = newProver .memory })
         (otherChallenge (instanceOf s .header .challenges) c (p .challenge)) x .values)
     -- for each side, each witness of that side's sheet and each c below K, no call on the way is refused
     pub prover-runs : (side c : ℕ) → side < 2 → Below s c → (x : List ℕ) → Witness (instanceOf (own side s s′)) x

@@ -49,9 +49,10 @@ use Rattle.rules.specs.Answer.{unlessRefused}
 use Rattle.rules.specs.Either.{eitherRules}
 use Rattle.rules.specs.Rule.{lowest}
 use Rattle.runs.specs.Calls.{extractWitness, judgeRound, simulateCommitment}
-use Rattle.runs.specs.Ours.{honestRound}
 use Rattle.runs.specs.Level.{badLevel, strongEnough}
 use Rattle.runs.specs.Marker.{failsAt, markRefusal, markRules, markerText, newline, refusedWord, resultLine, roundLine, roundLines, rowWord, verdictLine, verdictOn, verdictText, wordLine}
+use Rattle.runs.specs.Memory.{isFull, isListed, listedAt, listing, noMemory}
+use Rattle.runs.specs.Ours.{honestRound}
 use Rattle.runs.specs.Prover.{commit, commitAfter, commitRules, dropRules, dropSession, newProver, proverIn, proverState, proverStep, respond, respondAfter, respondRules, unfitProver}
 use Rattle.runs.specs.Verifier.{newVerifier, takeChallenge, takeChallengeAfter, takeChallengeRules, takeCommitment, takeCommitmentAfter, takeCommitmentRules, takeResponse, takeResponseAfter, takeResponseRules, unfitCommitment, verifierIn, verifierState, verifierStep}
 use Rattle.sigma.specs.Admission.{badCount, badEntries, badKind, badModulus, badOrder, badSize, badStatement, elementRules, firstDivisor, headerRules}
@@ -101,7 +102,7 @@ unfolding extractOr extractOrAfter extractOrRules extractedOf extractedOr extrac
     extractWitness judgeRound simulateCommitment honestRound badLevel strongEnough failsAt markRefusal markRules
     markerText newline refusedWord resultLine roundLine roundLines rowWord verdictLine verdictOn verdictText wordLine
     commit commitAfter commitRules dropRules dropSession newProver proverIn proverState proverStep respond
-    respondAfter respondRules unfitProver newVerifier takeChallenge takeChallengeAfter takeChallengeRules
+    respondAfter respondRules unfitProver isFull isListed listedAt listing noMemory newVerifier takeChallenge takeChallengeAfter takeChallengeRules
     takeCommitment takeCommitmentAfter takeCommitmentRules takeResponse takeResponseAfter takeResponseRules
     unfitCommitment verifierIn verifierState verifierStep badCount badEntries badKind badModulus badOrder badSize
     badStatement elementRules firstDivisor headerRules computed eightPlaces isAccepted judged outcome rowsOf

@@ -4,10 +4,12 @@ pub mod TeamPage
 pub mod RowsPage
 pub mod WatchPage
 pub mod GamePage
+pub mod SavedPage
 pub mod ReasonPage
 pub mod Corners
 pub mod WatchCorners
 pub mod GameCorners
+pub mod SavedCorners
 pub mod AnswerPage
 pub mod LinearPage
 pub mod LinearCorners

@@ -136,6 +136,7 @@ use Rattle.runs.specs.Marker.{
   refusedWord,
   markerText,
 }
+use Rattle.runs.specs.Memory.{isFull, isListed, listedAt, listing, noMemory}
 use Rattle.runs.specs.Ours.{honestRound}
 use Rattle.runs.specs.Prover.{
   proverState,
@@ -274,7 +275,7 @@ use Rattle.examples.specs.OrPage.{
   fewerChallenges,
   OrPage,
 }
-use Rattle.examples.specs.SessionPage.{orHolds, peggyHolds, vicHolds, SessionPage}
+use Rattle.examples.specs.SessionPage.{orHolds, peggyHolds, peggyListed, vicHolds, SessionPage}
 use Rattle.examples.specs.TwoRows.{eight}
 use Rattle.examples.specs.Pages.{array, smallRound, run, bothWays, judging, repeated, reasonOn, EveryPage}
 use Rattle.examples.specs.Sheets.{
@@ -314,7 +315,7 @@ unfolding euclid gcd residue quotient power bezoutRight bezoutLeft inverse produ
     recordLength recordStart roundAt badFile sheetMark versionOf headerOf entryCount sheetLength zeros64 entriesOf
     statementOf instanceOf short written writtenAtStart judgeRound simulateCommitment extractWitness newline wordLine
     rowWord verdictText verdictLine resultLine verdictOn roundLine roundLines markerText proverState proverIn newProver
-    proverStep commitRules commitAfter unfitProver respondRules respondAfter commit respond verifierState verifierIn
+    proverStep commitRules commitAfter unfitProver respondRules respondAfter commit respond noMemory listedAt isListed isFull listing verifierState verifierIn
     newVerifier verifierStep unfitCommitment takeCommitmentRules takeCommitmentAfter takeChallengeRules
     takeChallengeAfter takeResponseRules takeResponseAfter takeCommitment takeChallenge takeResponse honestRound
     exampleFile exampleText array smallRound run bothWays judging fourBytes sheetBytes smallSheet schnorrSheet madeSheet
@@ -330,7 +331,7 @@ unfolding euclid gcd residue quotient power bezoutRight bezoutLeft inverse produ
     respondOrAfter dropOrRules commitOr respondOr dropOr otherChallenge firstRound secondRound readOr logarithmSheet
     smallOr judgingOr orRun bothWaysOr orJudging orExtracting orPeggy knowsFirst orCommitting orResponding orNumbers
     fewerChallenges unknownVersion emptyRules wideChallenge otherVersion wideRecord converted convertRules convertAfter
-    convert roundsOf fileIn storing starting converting narrowFile eight peggyHolds vicHolds orHolds
+    convert roundsOf fileIn storing starting converting narrowFile eight peggyListed peggyHolds vicHolds orHolds
 worked-examples = (
   record {
     A = refl;

@@ -53,6 +53,7 @@ use Rattle.products.specs.Team.{
 use Rattle.rules.specs.Answer.{unlessRefused}
 use Rattle.rules.specs.Rule.{lowest}
 use Rattle.runs.specs.Calls.{judgeRound}
+use Rattle.runs.specs.Memory.{isFull, isListed, listedAt, listing, noMemory}
 use Rattle.runs.specs.Ours.{honestRound}
 use Rattle.runs.specs.Prover.{
   proverState,
@@ -104,7 +105,7 @@ unfolding euclid gcd product sum find any itemsAt tabulate places pad8 zeros8 ei
     judgeRules judgeAfter responseCoordinate response expectedImage verdict badCommitment badChallenge badCoordinates
     badWitness headerBytes storedEntries sheetOf badStart badLength shapeRules loadRules statementAt sheetMark versionOf
     headerOf entryCount sheetLength zeros64 entriesOf statementOf instanceOf judgeRound proverState proverIn newProver
-    proverStep commitRules commitAfter unfitProver respondRules respondAfter commit respond honestRound array fourBytes
+    proverStep commitRules commitAfter unfitProver respondRules respondAfter commit respond noMemory listedAt isListed isFull listing honestRound array fourBytes
     sheetBytes smallSheet schnorrSheet flatten changed rootBytes multiplyAll joinAll badTeam badImages badProduct
     teamRules commitmentsRules responsesRules multiplyCommitments joinResponses brought each combining pairBytes teamRun
     teamNumbers multiplying joining twoRows

@@ -26,7 +26,7 @@ use Rattle.patterns.specs.Maker.{makeFrom}
 use Rattle.patterns.specs.Table.{shipped, writeShipped}
 use Rattle.runs.specs.Calls.{extractWitness, simulateCommitment}
 use Rattle.runs.specs.Marker.{markRefusal, markerText}
-use Rattle.runs.specs.Prover.{commit, dropSession, respond}
+use Rattle.runs.specs.Prover.{commit, dropSession, newProver, respond}
 use Rattle.runs.specs.Verifier.{takeChallenge, takeCommitment, takeResponse}
 use Rattle.sigma.specs.Answer.{outcome}
 
@@ -146,7 +146,13 @@ simulating sheet c r = simulateCommitment sheet c (array (r ∷ [])) .refusal
 
 -- Peggy in a state, holding a nonce and, for the nonce 5, its commitment 9; the last of eight places is given
 unfoldable pub peggy : ProverPhase → ℕ → ℕ → Prover
-peggy phase k last = record { nonce = array (k ∷ []); commitment = 9 ∷ replicate 6 0 ++ last ∷ []; phase = phase }
+peggy phase k last =
+    record {
+      nonce = array (k ∷ []);
+      commitment = 9 ∷ replicate 6 0 ++ last ∷ [];
+      phase = phase;
+      memory = newProver .memory;
+    }
 
 -- the number that committing to a nonce is refused with
 unfoldable pub committing : List ℕ → ℕ → ProverPhase → ℕ

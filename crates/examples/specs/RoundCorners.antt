@@ -36,7 +36,7 @@ committingOn p k = commit (p .sheet) newProver (array k) .refusal
 
 -- Peggy as she is once committed, with this nonce and this commitment, 0 beyond its places
 unfoldable pub holder : List ℕ → List ℕ → Prover
-holder k t = record { nonce = array k; commitment = pad8 0 t; phase = Committed }
+holder k t = record { nonce = array k; commitment = pad8 0 t; phase = Committed; memory = newProver .memory }
 
 -- responding to 3 with the witness, in a session and on a sheet; and to c with x in the session that committing left
 unfoldable pub respondingIn : List ℕ → Case → Prover → ℕ

@@ -1,9 +1,10 @@
 -- Worked sessions (01, "Sessions"; 02, card 4): page A in Peggy's session and in Vic's, and the worked pair of sheets in that of the OR
 -- proof, with the whole answer to each call, carried out and refused: the state and all that is held, the values and the number.
 -- Assumes nothing.
-use Prim.Native.Nat.{ℕ}
+use Prim.Native.Nat.{ℕ, _-_}
 use mathlib.Core.Path.{_≡_}
-use mathlib.Core.List.{List, [], _∷_}
+use mathlib.Core.List.{List, [], _∷_, _++_, map}
+use lib.ListN.{length, replicate}
 use Rattle.types.specs.declared.Prover.{Prover}
 use Rattle.types.specs.declared.ProverPhase.{ProverPhase}
 use Rattle.types.specs.declared.ProverPhase.the-variants.{New, Committed, Answered, Dropped}
@@ -21,9 +22,25 @@ use Rattle.examples.specs.Pages.{array}
 use Rattle.examples.specs.Sheets.{schnorrSheet}
 use Rattle.examples.specs.TwoRows.{eight}
 
--- Peggy's session in a state, with a nonce and a commitment of one place
+-- Peggy's session in a state, with a nonce and a commitment of one place; nothing is saved, and these commitments were answered
+unfoldable pub peggyListed : List ℕ → ProverPhase → ℕ → ℕ → Prover
+peggyListed ts phase k t =
+    record {
+      nonce = eight (k ∷ []);
+      commitment = eight (t ∷ []);
+      phase = phase;
+      memory =
+          record {
+            saved = replicate 8 (record { nonce = eight []; commitment = eight []; phase = 0; kept = 0 });
+            answered =
+                map (λ u. record { commitment = eight (u ∷ []) }) ts ++ replicate (64 - length ts) (record { commitment = eight [] });
+            count = length ts;
+          };
+    }
+
+-- the same where none was
 unfoldable pub peggyHolds : ProverPhase → ℕ → ℕ → Prover
-peggyHolds phase k t = record { nonce = eight (k ∷ []); commitment = eight (t ∷ []); phase = phase }
+peggyHolds = peggyListed []
 
 -- Vic's in a state, with a commitment of one place and a challenge
 unfoldable pub vicHolds : VerifierPhase → ℕ → ℕ → Verifier
@@ -47,7 +64,7 @@ pub record SessionPage : Type 0 where
   pub committed : commit schnorrSheet newProver (array (5 ∷ []))
       ≡ record { session = peggyHolds Committed 5 9; values = eight (9 ∷ []); refusal = 0 }
   pub answered : respond schnorrSheet (peggyHolds Committed 5 9) 3 (array (7 ∷ []))
-      ≡ record { session = peggyHolds Answered 0 9; values = eight (4 ∷ []); refusal = 0 }
+      ≡ record { session = peggyListed (9 ∷ []) Answered 0 9; values = eight (4 ∷ []); refusal = 0 }
   pub dropped-new : dropSession (peggyHolds New 0 0) ≡ record { session = peggyHolds Dropped 0 0; values = eight (0 ∷ []); refusal = 0 }
   pub dropped : dropSession (peggyHolds Committed 5 9) ≡ record { session = peggyHolds Dropped 0 9; values = eight (0 ∷ []); refusal = 0 }
   -- Vic takes the commitment 9 and the challenge 3, and then the response 4, or 5

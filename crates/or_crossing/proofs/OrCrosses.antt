@@ -2,18 +2,16 @@
 -- Assumes nothing.
 use mathlib.Core.Path.{refl}
 use native.Mathlib.Omega.{arith}
-use Rattle.types.specs.declared.ProverPhase.the-variants.{New, Committed, Answered, Dropped}
 use Rattle.sigma.proofs.Answer.{unlessRefused-zero, unlessRefused-positive}
 use Rattle.runs.specs.Prover.{proverState}
-use Rattle.crossing.specs.OfFour.{ofFour}
-use Rattle.crossing.specs.Provers.{proverPhase}
-use Rattle.crossing.proofs.Phases.{ofFour-beyond}
+use Rattle.runs.specs.Saving.{proverPhase}
+use Rattle.runs.proofs.SavedStates.{phase-beyond}
 use Rattle.or_crossing.specs.OrCrosses.{OrCrosses}
 use Rattle.or_crossing.specs.Provers.{orProverOf, orSession, orAnswer}
 use Rattle.or_crossing.specs.Verdicts.{orJudgement}
 
 pub or-crosses : OrCrosses
-unfolding orJudgement ofFour proverState proverPhase orSession orProverOf orAnswer
+unfolding orJudgement proverState proverPhase orSession orProverOf orAnswer
 or-crosses =
     record {
       accepted = refl;
@@ -25,8 +23,7 @@ or-crosses =
         record { out = refl; into = refl },
         record { out = refl; into = refl },
       );
-      prover-beyond = λ n k r t0 t1 c side beyond.
-          rw (ofFour-beyond New Committed Answered Dropped {n = n} (omega arith));
+      prover-beyond = λ n k r t0 t1 c side beyond. rw (phase-beyond n (omega arith));
       prover-passed = λ given s p xs ys c0 same. rw (unlessRefused-zero (orSession p) given, same);
       prover-refused = λ given p xs ys c0 n some. rw (unlessRefused-positive (orSession p) given n some);
     }

@@ -11,15 +11,14 @@ use Rattle.lists.specs.Places.{zeros8}
 use Rattle.sigma.proofs.Answer.{unlessRefused-positive}
 use Rattle.runs.specs.Run.{sessionAfter, trace}
 use Rattle.runs.proofs.Run.{trace-given}
+use Rattle.runs.proofs.SavedStates.{phase-beyond, phase-of-state}
 use Rattle.disjunctions.specs.Ours.{callOr, orAfter, orTrace}
 use Rattle.disjunctions.specs.declared.OrProver.{OrProver}
 use Rattle.disjunctions.specs.Calls.{OrCall, OrCommit, OrDrop, OrEnded, OrRespond, orAnswered}
 use Rattle.disjunctions.proofs.OrSessions.{or-kept, or-sessions}
 use Rattle.crossing.specs.Calls.{readAnswers}
-use Rattle.crossing.specs.Provers.{proverPhase}
 use Rattle.crossing.proofs.HandedBack.{handed-back, handed-on-after, handed-out, handed-out-after, trace-across}
-use Rattle.crossing.proofs.Phases.{ofFour-beyond}
-use Rattle.crossing.proofs.ProverCrossing.{phase-of-state, state-of-phase, state-ended}
+use Rattle.crossing.proofs.ProverCrossing.{state-of-phase, state-ended}
 use Rattle.or_crossing.specs.Calls.{answeredOr, answeredOrTrace, orRead}
 use Rattle.or_crossing.specs.Provers.{orProverOf, orSession, orAnswer}
 use Rattle.or_crossing.specs.declared.OrSession.{OrSession}
@@ -77,9 +76,9 @@ module _ (call : OrCall) (s : OrSession) where
 
   -- a number that is no state's allows no call: it is refused, and the session comes back as it was handed in
   pub or-unknown-refused : 4 ≤ s .phase → (0 < answeredOr call s .refusal) × (answeredOr call s .session ≡ s)
-  unfolding orAnswer orProverOf proverPhase
+  unfolding orAnswer orProverOf
   or-unknown-refused unknown =
-      let last : orProverOf s .phase ≡ Dropped = ofFour-beyond New Committed Answered Dropped (omega arith) in
+      let last : orProverOf s .phase ≡ Dropped = phase-beyond (s .phase) (omega arith) in
       let refused : 0 < answeredOr call s .refusal = ended-refused call (orProverOf s) (inr last) in
       (refused, or-refused-kept refused)
 

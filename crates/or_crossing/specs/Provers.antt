@@ -2,9 +2,9 @@
 -- Assumes nothing.
 use Rattle.rules.specs.Answer.{unlessRefused}
 use Rattle.runs.specs.Prover.{proverState}
+use Rattle.runs.specs.Saving.{proverPhase}
 use Rattle.disjunctions.specs.declared.OrProver.{OrProver}
 use Rattle.disjunctions.specs.declared.OrStep.{OrStep}
-use Rattle.crossing.specs.Provers.{proverPhase}
 use Rattle.or_crossing.specs.declared.OrAnswer.{OrAnswer}
 use Rattle.or_crossing.specs.declared.OrSession.{OrSession}
 

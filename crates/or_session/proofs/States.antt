@@ -8,6 +8,7 @@ use types.Run.{OneOf}
 use Rattle.types.specs.declared.Prover.{Prover}
 use Rattle.types.specs.declared.ProverPhase.the-variants.{New, Committed}
 use Rattle.types.proofs.ProverPhase.{the-type}
+use Rattle.runs.specs.Memory.{noMemory}
 use Rattle.runs.specs.Prover.{proverIn}
 use Rattle.prover.proofs.States as prover
 use Rattle.disjunctions.specs.declared.OrProver.{OrProver}
@@ -16,7 +17,7 @@ use Rattle.disjunctions.specs.Prover.{orProverIn}
 module _ (p : OrProver) where
   -- a session of 01 in the same state
   abbrev bare : Prover
-  bare = record { phase = p .phase; nonce = []; commitment = [] }
+  bare = record { phase = p .phase; nonce = []; commitment = []; memory = noMemory }
 
   -- not New
   pub not-new : OneOf (1 ∷ 2 ∷ 3 ∷ []) (tagOf the-type (p .phase)) → not (orProverIn New p) ≡ true

@@ -9,7 +9,7 @@ use lib.Dec.{eqb}
 unfoldable pub refusalOrder : List ℕ
 refusalOrder =
     23 ∷ 24 ∷ 1 ∷ 2 ∷ 3 ∷ 4 ∷ 5 ∷ 6 ∷ 7 ∷ 8 ∷ 9 ∷ 27 ∷ 29 ∷ 30 ∷ 10 ∷ 11 ∷ 26 ∷ 12 ∷ 25 ∷ 13 ∷ 14 ∷ 15 ∷ 16 ∷ 28 ∷ 31 ∷ 17 ∷ 18 ∷ 19 ∷
-    20 ∷ 21 ∷ 22 ∷ []
+    20 ∷ 21 ∷ 32 ∷ 33 ∷ 34 ∷ 22 ∷ []
 
 -- the numbers of a sheet that does not load, 2 to 11
 unfoldable pub sheetNumbers : List ℕ

@@ -32,6 +32,7 @@ use Rattle.sigma.proofs.Prover.{honest-accepted}
 use Rattle.sigma.proofs.Verdict.{verdict-accepted}
 use Rattle.sigma.proofs.Values.{length-image, length-response}
 use Rattle.runs.specs.JointRun.{JointRun}
+use Rattle.runs.specs.Memory.{noMemory, listing}
 use Rattle.runs.specs.OnSheet.{readSlots, Below}
 use Rattle.runs.specs.Ours.{honestRound, runCalls}
 use Rattle.runs.specs.Prover.{newProver, commitAfter, commit, respondAfter, respond}
@@ -40,6 +41,7 @@ use Rattle.runs.specs.Verifier.{takeCommitment, takeChallenge, takeRespo
 use Rattle.runs.proofs.After.{commitAfter-clear, respondAfter-clear}
 use Rattle.runs.proofs.After.{takeCommitmentAfter-clear, takeChallengeAfter-clear, takeResponseAfter-clear}
 use Rattle.runs.proofs.Loaded.{sheet-clear}
+use Rattle.runs.proofs.Memory.{none-listed, some-room}
 use Rattle.runs.proofs.ProverSteps.{commitAfter-runs, commitAfter-given, respondAfter-runs, respondAfter-given}
 use Rattle.runs.proofs.VerifierSteps.{takeCommitmentAfter-runs, takeCommitmentAfter-given}
 use Rattle.runs.proofs.VerifierSteps.{takeChallengeAfter-runs, takeChallengeAfter-given}
@@ -72,7 +74,17 @@ responseOf inst x c k = response (inst .header) (readOf inst k) c (readOf inst x
 -- Peggy's session once she has committed to k
 abbrev pub proverCommitted : Instance → List ℕ → Prover
 proverCommitted inst k =
-    record { phase = Committed; nonce = pad8 0 (readOf inst k); commitment = pad8 0 (commitmentOf inst k) }
+    record { phase = Committed; nonce = pad8 0 (readOf inst k); commitment = pad8 0 (commitmentOf inst k); memory = noMemory }
+
+-- and once she has answered
+abbrev pub proverAnswered : Instance → List ℕ → Prover
+proverAnswered inst k =
+    record {
+      phase = Answered;
+      nonce = zeros8;
+      commitment = pad8 0 (commitmentOf inst k);
+      memory = listing (pad8 0 (commitmentOf inst k)) noMemory;
+    }
 
 -- Vic's session in a state, with the commitment to k and a challenge
 abbrev pub verifierHolding : VerifierPhase → Instance → List ℕ → ℕ → Verifier
@@ -118,7 +130,7 @@ module _ (inst : Instance) (x k : List ℕ) (c : ℕ) where
       → respondAfter [] inst (proverCommitted inst k) c x
       ≡ record {
         refusal = 0;
-        session = record { phase = Answered; nonce = zeros8; commitment = pad8 0 (commitmentOf inst k) };
+        session = proverAnswered inst k;
         values = pad8 0 (responseOf inst x c k);
       }
   joint-response witness nonce below =
@@ -133,6 +145,8 @@ module _ (inst : Instance) (x k : List ℕ) (c : ℕ) where
           phase = refl;
           nonce = rw stored (slots-read inst k nonce);
           commitment = λ j h. rw stored;
+          unlisted = none-listed (pad8 0 (commitmentOf inst k));
+          room = some-room;
         },
       )))
 
@@ -196,7 +210,7 @@ module _ (sheet : List ℕ) (loaded : loadRefusal sheet ≡ 0) (x k : List ℕ) 
         answered =
             record {
               refusal = 0;
-              session = record { phase = Answered; nonce = zeros8; commitment = pad8 0 (commitmentOf (instanceOf sheet) k) };
+              session = proverAnswered (instanceOf sheet) k;
               values = pad8 0 (responseOf (instanceOf sheet) x c k);
             };
         told = record { verdict = Accepted; session = verifierHolding Judged (instanceOf sheet) k c };

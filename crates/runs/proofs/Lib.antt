@@ -1,4 +1,5 @@
 -- Laws of the sessions, of every call on a sheet's bytes and of the marker's text.
+pub mod Memory
 pub mod Tests
 pub mod Witness
 pub mod Loaded
@@ -18,6 +19,9 @@ pub mod ProverSteps
 pub mod VerifierSteps
 pub mod Numbers
 pub mod ProverCalls
+pub mod Keys
+pub mod PerCommitment
+pub mod SavedStates
 pub mod OneAnswer
 pub mod VerifierCalls
 pub mod OrderOfSteps

@@ -29,13 +29,16 @@ use Rattle.runs.specs.Refusals.{
   commitConditions,
   respondConditions,
   dropConditions,
+  saveConditions,
+  returnConditions,
   takeCommitmentConditions,
   takeChallengeConditions,
   takeResponseConditions,
 }
+use Rattle.runs.specs.Saving.{returnRules, returnTo, save, saveRules}
 use Rattle.runs.specs.Verifier.{verifierStep, takeCommitmentAfter, takeCommitment, takeChallengeAfter, takeChallenge, takeResponse}
 use Rattle.runs.proofs.Outcome.{judged-number}
-use Rattle.runs.proofs.Refusals.{commit-tests, respond-tests, drop-tests}
+use Rattle.runs.proofs.Refusals.{commit-tests, respond-tests, drop-tests, save-tests, return-tests}
 use Rattle.runs.proofs.Refusals.{takeCommitment-tests, takeChallenge-tests, takeResponse-tests}
 use Rattle.runs.proofs.VerifierSteps.{takeResponseAfter-refusal}
 
@@ -111,3 +114,12 @@ module _ (sheet : List ℕ) where
 pub drop-number : (p : Prover) → Given (dropConditions p) (dropSession p .refusal)
 unfolding dropSession proverStep
 drop-number p = given (dropRules p) (dropConditions p) (drop-tests p)
+
+-- saving and returning, which take none either
+pub save-number : (p : Prover) (name : ℕ) → Given (saveConditions name) (save p name .refusal)
+unfolding save proverStep
+save-number p name = given (saveRules name) (saveConditions name) (save-tests name)
+
+pub return-number : (p : Prover) (name : ℕ) → Given (returnConditions p name) (returnTo p name .refusal)
+unfolding returnTo proverStep
+return-number p name = given (returnRules p name) (returnConditions p name) (return-tests p name)

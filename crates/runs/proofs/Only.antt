@@ -5,7 +5,7 @@ use Rattle.formats.specs.FileCalls.{FileCalls}
 use Rattle.runs.specs.RunCalls.{RunCalls}
 use Rattle.runs.specs.Same.{SameRuns}
 use Rattle.runs.proofs.OnlyRounds.{extract-only, judge-only, simulate-only}
-use Rattle.runs.proofs.OnlySessions.{commit-only, drop-only, respond-only}
+use Rattle.runs.proofs.OnlySessions.{commit-only, drop-only, respond-only, return-only, save-only}
 use Rattle.runs.proofs.OnlySessions.{take-challenge-only, take-commitment-only, take-response-only}
 use Rattle.runs.proofs.RunDemands.{RunDemands}
 
@@ -19,6 +19,8 @@ only-runs d d′ = record {
   commit = commit-only d d′;
   respond = respond-only d d′;
   dropSession = drop-only d d′;
+  save = save-only d d′;
+  returnTo = return-only d d′;
   newVerifier = d .sessions .verifier .new ∙ sym (d′ .sessions .verifier .new);
   takeCommitment = take-commitment-only d d′;
   takeChallenge = take-challenge-only d d′;

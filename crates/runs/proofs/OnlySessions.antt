@@ -18,7 +18,7 @@ use Rattle.formats.specs.Refusals.{loadConditions}
 use Rattle.formats.specs.Sheet.{instanceOf}
 use Rattle.sigma.specs.Reads.{roundOf}
 use Rattle.runs.specs.OnSheet.{readSlots}
-use Rattle.runs.specs.ProverCalls.{Commit, Drop, ProverCall, ProverMoves, Respond, callProver}
+use Rattle.runs.specs.ProverCalls.{Commit, Drop, ProverCall, ProverMoves, Respond, Return, Save, callProver}
 use Rattle.runs.specs.Refusals.{commitConditions, respondConditions, takeResponseConditions}
 use Rattle.runs.specs.Run.{Leads, sessionAfter, trace}
 use Rattle.runs.specs.RunCalls.{RunCalls}
@@ -77,7 +77,7 @@ module _ {files files′ : FileCalls} {code code′ : RunCalls} (d : RunDemands 
       (λ l. w .beyond-rows p k i l ∙ sym (w′ .beyond-rows p k i l))) in
       step-same _ _ (same-number r r′)
       (prover-moves (d .sessions) (Commit sheet k) p e .1
-      ∙ ap (λ (t : List ℕ). record { phase = Committed; nonce = pad8 0 (readSlots sheet k); commitment = t }) values
+      ∙ ap (λ (t : List ℕ). record { phase = Committed; nonce = pad8 0 (readSlots sheet k); commitment = t; memory = p .memory }) values
       ∙ sym (prover-moves (d′ .sessions) (Commit sheet k) p e′ .1)) values)
 
   pub respond-only : (sheet : List ℕ) (p : Prover) (c : ℕ) (x : List ℕ) → code .respond sheet p c x ≡ code′ .respond sheet p c x
@@ -108,6 +108,26 @@ module _ {files files′ : FileCalls} {code code′ : RunCalls} (d : RunDemands 
       (λ e e′ none.
       let m = prover-moves (d .sessions) Drop p e in
       let m′ = prover-moves (d′ .sessions) Drop p e′ in
+      step-same _ _ (same-number r r′) (m .1 ∙ sym (m′ .1)) (m .2 ∙ sym (m′ .2)))
+
+  pub save-only : (p : Prover) (name : ℕ) → code .save p name ≡ code′ .save p name
+  save-only p name =
+      let r = d .refusals .saving p name in
+      let r′ = d′ .refusals .saving p name in
+      refused-or-not r r′ (λ n l l′. step-same _ _ n (l .0 ∙ sym (l′ .0)) (l .1 ∙ sym (l′ .1)))
+      (λ e e′ none.
+      let m = prover-moves (d .sessions) (Save name) p e in
+      let m′ = prover-moves (d′ .sessions) (Save name) p e′ in
+      step-same _ _ (same-number r r′) (m .1 ∙ sym (m′ .1)) (m .2 ∙ sym (m′ .2)))
+
+  pub return-only : (p : Prover) (name : ℕ) → code .returnTo p name ≡ code′ .returnTo p name
+  return-only p name =
+      let r = d .refusals .returning p name in
+      let r′ = d′ .refusals .returning p name in
+      refused-or-not r r′ (λ n l l′. step-same _ _ n (l .0 ∙ sym (l′ .0)) (l .1 ∙ sym (l′ .1)))
+      (λ e e′ none.
+      let m = prover-moves (d .sessions) (Return name) p e in
+      let m′ = prover-moves (d′ .sessions) (Return name) p e′ in
       step-same _ _ (same-number r r′) (m .1 ∙ sym (m′ .1)) (m .2 ∙ sym (m′ .2)))
 
   -- ---- Vic

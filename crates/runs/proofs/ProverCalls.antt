@@ -15,10 +15,13 @@ use Rattle.formats.specs.Sheet.{instanceOf}
 use Rattle.formats.proofs.Positive.{load-positive}
 use Rattle.runs.specs.OnSheet.{readSlots}
 use Rattle.runs.specs.Ours.{callProver}
+use Rattle.runs.specs.Memory.{listing}
 use Rattle.runs.specs.Prover.{commit, respond}
-use Rattle.runs.specs.ProverCalls.{ProverCall, Commit, Respond, Drop, ProverMoves, Ended}
+use Rattle.runs.specs.ProverCalls.{ProverCall, Commit, Respond, Drop, Save, Return, ProverMoves, Ended}
+use Rattle.runs.specs.Saving.{broughtBack, savedState, saving}
 use Rattle.runs.proofs.ProverSteps.{commitAfter-runs, commitAfter-given, commitAfter-kept}
 use Rattle.runs.proofs.ProverSteps.{respondAfter-runs, respondAfter-given, respondAfter-kept, drop-runs, drop-given, drop-kept}
+use Rattle.runs.proofs.ProverSteps.{save-runs, save-given, save-kept, return-runs, return-given, return-kept}
 
 -- ---- a refused call
 
@@ -29,17 +32,19 @@ unfolding callProver commit respond
 prover-kept (Commit sheet nonce) p = commitAfter-kept (loadRules sheet) (instanceOf sheet) p nonce
 prover-kept (Respond sheet c witness) p = respondAfter-kept (loadRules sheet) (instanceOf sheet) p c witness
 prover-kept Drop p = drop-kept p
+prover-kept (Save name) p = save-kept p name
+prover-kept (Return name) p = return-kept p name
 
 -- ---- any other call
 
--- a call that is not refused moves the session as 01 says
+-- a call that is not refused moves the session as 01 and card 13 say
 pub prover-moves : (call : ProverCall) (p : Prover) → callProver call p .refusal ≡ 0 → ProverMoves p call (callProver call p)
-unfolding callProver commit respond
+unfolding callProver commit respond listing saving savedState broughtBack
 prover-moves (Commit sheet nonce) p e =
     let given = commitAfter-given (loadRules sheet) (instanceOf sheet) p nonce e in (
       commitAfter-runs (loadRules sheet) (instanceOf sheet) p nonce (load-positive sheet) .0 e .1 .phase,
       ap (λ (step : ProverStep). step .session) given
-          ∙ ap (λ (t : List ℕ). record { phase = Committed; nonce = pad8 0 (readSlots sheet nonce); commitment = t })
+          ∙ ap (λ (t : List ℕ). record { phase = Committed; nonce = pad8 0 (readSlots sheet nonce); commitment = t; memory = p .memory })
           (sym (ap (λ (step : ProverStep). step .values) given)),
     )
 prover-moves (Respond sheet c witness) p e = (
@@ -49,6 +54,12 @@ prover-moves (Respond sheet c witness) p e = (
 prover-moves Drop p e =
     let given = drop-given p e in
     (drop-runs p .0 e, ap (λ (step : ProverStep). step .session) given, ap (λ (step : ProverStep). step .values) given)
+prover-moves (Save name) p e =
+    let given = save-given p name e in
+    (save-runs p name .0 e, ap (λ (step : ProverStep). step .session) given, ap (λ (step : ProverStep). step .values) given)
+prover-moves (Return name) p e =
+    let given = return-given p name e in
+    (return-runs p name .0 e, ap (λ (step : ProverStep). step .session) given, ap (λ (step : ProverStep). step .values) given)
 
 -- ---- a session that is Answered or Dropped
 
@@ -59,14 +70,24 @@ ended-apart s (inl a) (inr b) = let z : _≡_ {A = ℕ} 0 1 = cc in omega arith
 ended-apart s (inr a) (inl b) = let z : _≡_ {A = ℕ} 0 1 = cc in omega arith
 ended-apart s (inr a) (inr b) = let z : _≡_ {A = ℕ} 0 1 = cc in omega arith
 
--- no call moves it
-pub ended-unmoved : (p : Prover) (call : ProverCall) (step : ProverStep) → Ended p → ProverMoves p call step → ⊥
-ended-unmoved p (Commit sheet nonce) step ended moves = ended-apart (p .phase) ended (inl (moves .0))
-ended-unmoved p (Respond sheet c witness) step ended moves = ended-apart (p .phase) ended (inr (moves .0))
-ended-unmoved p Drop step ended moves = ended-apart (p .phase) ended (moves .0)
+-- a call that neither saves nor returns
+abbrev pub Steps : ProverCall → Type 0
+Steps (Commit sheet nonce) = Unit {0}
+Steps (Respond sheet c witness) = Unit {0}
+Steps Drop = Unit {0}
+Steps (Save name) = ⊥
+Steps (Return name) = ⊥
 
--- so every call on it is refused
-pub ended-refuses : (call : ProverCall) (p : Prover) → Ended p → 0 < callProver call p .refusal
-ended-refuses call p ended =
-    let never : ¬ (callProver call p .refusal ≡ 0) = λ e. ended-unmoved p call _ ended (prover-moves call p e) in
+-- no such call moves it
+pub ended-unmoved : (p : Prover) (call : ProverCall) (step : ProverStep) → Steps call → Ended p → ProverMoves p call step → ⊥
+ended-unmoved p (Commit sheet nonce) step steps ended moves = ended-apart (p .phase) ended (inl (moves .0))
+ended-unmoved p (Respond sheet c witness) step steps ended moves = ended-apart (p .phase) ended (inr (moves .0))
+ended-unmoved p Drop step steps ended moves = ended-apart (p .phase) ended (moves .0)
+ended-unmoved p (Save name) step steps ended moves = steps
+ended-unmoved p (Return name) step steps ended moves = steps
+
+-- so each is refused
+pub ended-refuses : (call : ProverCall) (p : Prover) → Steps call → Ended p → 0 < callProver call p .refusal
+ended-refuses call p steps ended =
+    let never : ¬ (callProver call p .refusal ≡ 0) = λ e. ended-unmoved p call _ steps ended (prover-moves call p e) in
     omega arith

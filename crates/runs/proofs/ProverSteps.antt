@@ -1,11 +1,12 @@
 -- What each call on Peggy's session does (01, "Sessions"): when it is not refused, what it then gives, and that a refused call
 -- hands back the same session.
 -- Assumes nothing.
-use Prim.Native.Nat.{ℕ, _<_}
+use Prim.Native.Nat.{ℕ, _<_, _≤_}
 use mathlib.Core.Path.{_≡_, refl}
-use mathlib.Core.Logic.{_↔_, Iff·rfl, Iff·trans, Iff·and}
+use mathlib.Core.Logic.{_↔_, _≢_, inl, inr, ⊎-elim, Iff·rfl, Iff·trans, Iff·and}
 use mathlib.Core.Bool.{false, not}
 use mathlib.Core.List.{List, _++_}
+use native.Mathlib.Omega.{arith}
 use lib.Dec.{T}
 use lib.ListN.{length}
 use Rattle.types.specs.declared.Prover.{Prover}
@@ -13,7 +14,7 @@ use Rattle.types.specs.declared.ProverPhase.the-variants.{New, Committed, Answe
 use Rattle.lists.specs.Places.{pad8, places, zeros8}
 use Rattle.lists.proofs.Places.{length-places}
 use Rattle.rules.specs.Rule.{Rule, lowest, Clear, allPositive}
-use Rattle.rules.proofs.Says.{says-or}
+use Rattle.rules.proofs.Says.{says-at-most, says-equal, says-false, says-or}
 use Rattle.rules.proofs.Lowest.{lowest-zero, lowest-append-zero}
 use Rattle.sigma.specs.Image.{image}
 use Rattle.sigma.specs.Instance.{Instance, tableOf}
@@ -24,8 +25,11 @@ use Rattle.sigma.proofs.Calculus.{says-passes, both-fail}
 use Rattle.sigma.proofs.Comparison.{differ-false}
 use Rattle.sigma.proofs.Passed.{challenge-passes, coordinates-pass, witness-passes}
 use Rattle.runs.specs.Meaning.{Commits, Responds, Drops}
+use Rattle.runs.specs.Memory.{listing, neverSaved, savedAt}
 use Rattle.runs.specs.Prover.{proverIn, unfitProver, proverStep}
 use Rattle.runs.specs.Prover.{commitRules, commitAfter, respondRules, respondAfter, dropRules, dropSession}
+use Rattle.runs.specs.Saving.{broughtBack, returnRules, returnTo, save, saveRules, saving}
+use Rattle.runs.proofs.Memory.{may-list}
 use Rattle.runs.proofs.Positive.{commit-positive, respond-positive, drop-positive}
 use Rattle.runs.proofs.Outcome.{proverStep-positive, proverStep-given}
 use Rattle.runs.proofs.Tests.{says-prover}
@@ -61,13 +65,16 @@ respond-clear inst p c x l =
     let whole = witness-slots inst x l in
     let state = both-fail (not (proverIn Committed p)) (unfitProver inst p) in
     let phase = says-passes (says-prover Committed p) in
-    let held = unfit-passes inst p in (
-      λ (a, (b, (d, (e, none)))). record {
+    let held = unfit-passes inst p in
+    let listed = may-list (p .memory) (p .commitment) in (
+      λ (a, (b, (d, (e, (f, (g, none)))))). record {
         challenge = below .0 a;
         witness = whole .0 (slots .0 b, image .0 d);
         phase = phase .0 (state .0 e .0);
         nonce = held .0 (state .0 e .1) .0;
         commitment = held .0 (state .0 e .1) .1;
+        unlisted = listed .0 (f, g) .0;
+        room = listed .0 (f, g) .1;
       },
       λ f. (
         below .1 (f .challenge),
@@ -75,7 +82,10 @@ respond-clear inst p c x l =
           slots .1 (whole .1 (f .witness) .0),
           (
             image .1 (whole .1 (f .witness) .1),
-            (state .1 (phase .1 (f .phase), held .1 (f .nonce, f .commitment)), tt),
+            (
+              state .1 (phase .1 (f .phase), held .1 (f .nonce, f .commitment)),
+              (listed .1 (f .unlisted, f .room) .0, (listed .1 (f .unlisted, f .room) .1, tt)),
+            ),
           ),
         ),
       ),
@@ -117,6 +127,7 @@ module _ (before : List Rule) (inst : Instance) (p : Prover) (nonce : List ℕ) 
               phase = Committed;
               nonce = pad8 0 (places (inst .header .columns) nonce);
               commitment = pad8 0 (image (tableOf inst) (places (inst .header .columns) nonce));
+              memory = p .memory;
             };
         values = pad8 0 (image (tableOf inst) (places (inst .header .columns) nonce));
       }
@@ -154,7 +165,8 @@ module _ (before : List Rule) (inst : Instance) (p : Prover) (c : ℕ) (witness 
       → respondAfter before inst p c witness
       ≡ record {
         refusal = 0;
-        session = record { phase = Answered; nonce = zeros8; commitment = p .commitment };
+        session =
+            record { phase = Answered; nonce = zeros8; commitment = p .commitment; memory = listing (p .commitment) (p .memory) };
         values =
             pad8 0
             (response (inst .header) (places (inst .header .columns) (p .nonce)) c (places (inst .header .columns) witness));
@@ -182,7 +194,7 @@ module _ (p : Prover) where
       → dropSession p
       ≡ record {
         refusal = 0;
-        session = record { phase = Dropped; nonce = zeros8; commitment = p .commitment };
+        session = record { phase = Dropped; nonce = zeros8; commitment = p .commitment; memory = p .memory };
         values = zeros8;
       }
   unfolding dropSession pad8 zeros8
@@ -193,3 +205,57 @@ module _ (p : Prover) where
       → dropSession p ≡ record { refusal = dropSession p .refusal; session = p; values = zeros8 }
   unfolding dropSession proverStep
   drop-kept = proverStep-positive _ p _ _
+
+-- ---- saving and returning
+
+module _ (p : Prover) (name : ℕ) where
+  -- saving is not refused exactly for a name from 0 to 7
+  pub save-runs : (save p name .refusal ≡ 0) ↔ (name < 8)
+  unfolding save proverStep saveRules
+  save-runs =
+      Iff·trans (lowest-zero (saveRules name) tt) (
+        λ (a, none). omega (arith, says-false (says-at-most 8 name) .0 a),
+        λ less. (says-false (says-at-most 8 name) .1 (λ more. omega arith), tt),
+      )
+
+  -- it saves the state, nonce and commitment, and changes nothing else
+  pub save-given : save p name .refusal ≡ 0
+      → save p name
+      ≡ record {
+        refusal = 0;
+        session = record { phase = p .phase; nonce = p .nonce; commitment = p .commitment; memory = saving name p };
+        values = zeros8;
+      }
+  unfolding save pad8 zeros8
+  save-given = proverStep-given _ p _ _
+
+  -- a refused call leaves the session
+  pub save-kept : 0 < save p name .refusal → save p name ≡ record { refusal = save p name .refusal; session = p; values = zeros8 }
+  unfolding save proverStep
+  save-kept = proverStep-positive _ p _ _
+
+  -- returning is not refused exactly for a name from 0 to 7 that was saved
+  pub return-runs : (returnTo p name .refusal ≡ 0) ↔ ((name < 8) × (savedAt (p .memory) name .kept ≢ 0))
+  unfolding returnTo proverStep returnRules neverSaved
+  return-runs =
+      let never = says-or (says-at-most 8 name) (says-equal (savedAt (p .memory) name .kept) 0) in
+      Iff·trans (lowest-zero (returnRules p name) tt) (
+        λ (a, none). let neither = says-false never .0 a in (not-le (λ more. neither (inl more)), λ e. neither (inr e)),
+        λ (less, saved). (says-false never .1 (λ either. ⊎-elim (λ more. omega arith) saved either), tt),
+      )
+    where
+      not-le : ¬ (8 ≤ name) → name < 8
+      not-le n = omega arith
+
+  -- it brings back what was saved, and changes nothing else
+  pub return-given : returnTo p name .refusal ≡ 0
+      → returnTo p name
+      ≡ record { refusal = 0; session = broughtBack (savedAt (p .memory) name) (p .memory); values = zeros8 }
+  unfolding returnTo pad8 zeros8
+  return-given = proverStep-given _ p _ _
+
+  -- a refused call leaves the session
+  pub return-kept : 0 < returnTo p name .refusal
+      → returnTo p name ≡ record { refusal = returnTo p name .refusal; session = p; values = zeros8 }
+  unfolding returnTo proverStep
+  return-kept = proverStep-positive _ p _ _

@@ -55,7 +55,7 @@ sessions-read-alone sheet =
       responded = λ p c x. respondAfter-same before inst p c x _ (slots x);
       responded-held = λ p c x.
           respondAfter-held before inst p (readProver sheet p)
-          (record { phase = refl; nonce = slots (p .nonce); commitment = read-agrees 8 (p .commitment) }) c x;
+          (record { phase = refl; nonce = slots (p .nonce); commitment = read-agrees 8 (p .commitment); memory = refl }) c x;
       commitment = λ v t. takeCommitmentAfter-same before inst v t _ (values t);
       challenge-held = λ v c. takeChallengeAfter-held before inst v _ refl (values (v .commitment)) c;
       response = λ v r. takeResponseAfter-same before inst v r _ (slots r);

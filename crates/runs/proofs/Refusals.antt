@@ -11,21 +11,26 @@ use Rattle.types.specs.declared.Verifier.{Verifier}
 use Rattle.types.specs.declared.VerifierPhase.the-variants.{Waiting, Holding, Asked}
 use Rattle.lists.specs.Places.{places}
 use Rattle.rules.specs.Condition.{Tests}
-use Rattle.rules.proofs.Says.{says-not, says-or, says-iff}
+use Rattle.rules.proofs.Says.{says-at-most, says-equal, says-not, says-or, says-iff}
 use Rattle.sigma.specs.Instance.{Instance}
 use Rattle.sigma.specs.Valid.{Valid}
 use Rattle.sigma.proofs.Refusals.{commitment-read, coordinates-read, witness-read}
 use Rattle.sigma.proofs.Tests.{says-badChallenge}
+use Rattle.runs.specs.Memory.{neverSaved, savedAt}
 use Rattle.runs.specs.Prover.{commitRules, respondRules, dropRules}
 use Rattle.runs.specs.Refusals.{
   commitConditions,
   respondConditions,
   dropConditions,
+  saveConditions,
+  returnConditions,
   takeCommitmentConditions,
   takeChallengeConditions,
   takeResponseConditions,
 }
+use Rattle.runs.specs.Saving.{returnRules, saveRules}
 use Rattle.runs.specs.Verifier.{takeCommitmentRules, takeChallengeRules, takeResponseRules}
+use Rattle.runs.proofs.Memory.{says-full, says-listed}
 use Rattle.runs.proofs.Tests.{says-prover, says-verifier}
 use Rattle.runs.proofs.Tests.{says-unfitProver, says-unfitCommitment}
 
@@ -35,7 +40,7 @@ pub commit-tests : (inst : Instance) (p : Prover) (k : List ℕ)
 unfolding commitRules
 commit-tests inst p k = (refl, coordinates-read inst k, (refl, says-not (says-prover New p), tt))
 
--- responding: 15 to 17 and 21
+-- responding: 15 to 17, 21, 32 and 33
 pub respond-tests : {inst : Instance} → Valid inst → (p : Prover) (c : ℕ) (x : List ℕ)
     → Tests (respondRules inst p c (places (inst .header .columns) x)) (respondConditions inst p c x)
 unfolding respondRules
@@ -48,7 +53,11 @@ respond-tests {inst} v p c x = (
     (
       refl,
       witness-read v x,
-      (refl, says-or (says-not (says-prover Committed p)) (says-unfitProver v p), tt),
+      (
+        refl,
+        says-or (says-not (says-prover Committed p)) (says-unfitProver v p),
+        (refl, says-listed (p .memory) (p .commitment), (refl, says-full (p .memory), tt)),
+      ),
     ),
   ),
 )
@@ -60,6 +69,16 @@ drop-tests p =
     let neither : ¬ ((p .phase ≡ New) ⊎ (p .phase ≡ Committed)) ↔ ((p .phase ≢ New) × (p .phase ≢ Committed)) =
     (λ n. (λ e. n (inl e), λ e. n (inr e)), λ n. ⊎-elim (n .0) (n .1)) in
     (refl, says-iff (says-not (says-or (says-prover New p) (says-prover Committed p))) neither, tt)
+
+-- saving: 34
+pub save-tests : (name : ℕ) → Tests (saveRules name) (saveConditions name)
+unfolding saveRules
+save-tests name = (refl, says-at-most 8 name, tt)
+
+-- returning: 34
+pub return-tests : (p : Prover) (name : ℕ) → Tests (returnRules p name) (returnConditions p name)
+unfolding returnRules neverSaved
+return-tests p name = (refl, says-or (says-at-most 8 name) (says-equal (savedAt (p .memory) name .kept) 0), tt)
 
 -- Vic's commitment: 14 and 21
 pub takeCommitment-tests : (inst : Instance) (v : Verifier) (t : List ℕ)

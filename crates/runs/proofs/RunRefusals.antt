@@ -29,10 +29,11 @@ use Rattle.runs.specs.Prover.{commit, respond}
 use Rattle.runs.specs.RunRefusals.{MarkRefusals, OneLine, RunRefusals}
 use Rattle.runs.specs.Verifier.{takeCommitment, takeChallenge, takeResponse}
 use Rattle.runs.proofs.MarkerRefusal.{mark-tests, one-line}
-use Rattle.runs.proofs.Numbers.{judge-number, simulate-number, extract-number, commit-number, respond-number, drop-number}
+use Rattle.runs.proofs.Numbers.{judge-number, simulate-number, extract-number, commit-number, respond-number}
+use Rattle.runs.proofs.Numbers.{drop-number, save-number, return-number}
 use Rattle.runs.proofs.Numbers.{takeCommitment-number, takeChallenge-number, takeResponse-number}
 use Rattle.runs.proofs.Outcome.{judged-kept}
-use Rattle.runs.proofs.ProverSteps.{commitAfter-kept, respondAfter-kept, drop-kept}
+use Rattle.runs.proofs.ProverSteps.{commitAfter-kept, respondAfter-kept, drop-kept, save-kept, return-kept}
 use Rattle.runs.proofs.VerifierSteps.{takeCommitmentAfter-kept, takeChallengeAfter-kept, takeResponseAfter-kept}
 
 -- a step of Peggy that only answers a number hands back the session
@@ -58,6 +59,8 @@ run-refusals = record {
       refuses-given _ _ refl refl _ (respond-number sheet p c x)
       (λ some. step-kept _ p _ (respondAfter-kept (loadRules sheet) (instanceOf sheet) p c x some));
   dropping = λ p. refuses-given _ _ refl refl _ (drop-number p) (λ some. step-kept _ p _ (drop-kept p some));
+  saving = λ p name. refuses-given _ _ refl refl _ (save-number p name) (λ some. step-kept _ p _ (save-kept p name some));
+  returning = λ p name. refuses-given _ _ refl refl _ (return-number p name) (λ some. step-kept _ p _ (return-kept p name some));
   taking-commitment = λ sheet v t.
       refuses-given _ _ refl refl _ (takeCommitment-number sheet v t)
       (λ some. ap (λ (step : VerifierStep). step .session) (takeCommitmentAfter-kept (loadRules sheet) (instanceOf sheet) v t some));

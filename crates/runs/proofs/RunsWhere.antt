@@ -1,15 +1,19 @@
 -- Each call on rounds and sessions is not refused exactly when RoundsRun says so.
 -- Assumes nothing.
-use Prim.Native.Nat.{ℕ}
+use Prim.Native.Nat.{ℕ, _<_}
 use mathlib.Core.Path.{_≡_, refl, sym, ap, _∙_}
 use mathlib.Core.Logic.{_↔_, Iff·rfl, Iff·trans, Iff·and}
 use mathlib.Core.Bool.{not, or-comm}
-use mathlib.Core.List.{List, _++_}
+use mathlib.Core.List.{List, _++_, map}
+use native.Mathlib.Omega.{arith}
 use lib.Dec.{T, eqb}
+use lib.ListN.{getD, List·getD-map}
+use Rattle.types.specs.declared.Memory.{Memory}
 use Rattle.types.specs.declared.Prover.{Prover}
 use Rattle.types.specs.declared.ProverPhase.the-variants.{New, Committed}
 use Rattle.types.specs.declared.ProverStep.{ProverStep}
 use Rattle.types.specs.declared.Round.{Round}
+use Rattle.types.specs.declared.Saved.{Saved}
 use Rattle.types.specs.declared.Verdict.{Verdict}
 use Rattle.types.specs.declared.Verifier.{Verifier}
 use Rattle.types.specs.declared.VerifierPhase.the-variants.{Waiting, Holding, Asked}
@@ -41,16 +45,18 @@ use Rattle.sigma.proofs.Positive.{extract-positive, judge-positive, simulate-po
 use Rattle.sigma.proofs.Unread.{coordinates-agree, elements-agree, fits-same, judgeAfter-same, same-round-of-read, same-round-sym}
 use Rattle.sigma.proofs.Verdict.{verdict-not-refused}
 use Rattle.runs.specs.Calls.{extractWitness, judgeRound, simulateCommitment}
+use Rattle.runs.specs.Memory.{listedAt, savedAt}
 use Rattle.runs.specs.OnSheet.{Below, readSlots, readValues}
 use Rattle.runs.specs.Ours.{Accepts, runCalls, simulatedRound}
 use Rattle.runs.specs.Prover.{commit, newProver, respond}
 use Rattle.runs.specs.RunsWhere.{RoundsRun}
+use Rattle.runs.specs.Saving.{returnTo}
 use Rattle.runs.specs.Verifier.{newVerifier, takeChallenge, takeCommitment, takeResponse}
 use Rattle.runs.proofs.Demand3.{sheet-simulated-rounds}
 use Rattle.runs.proofs.Loaded.{extract-loaded, simulate-loaded}
 use Rattle.runs.proofs.Outcome.{judged-number}
 use Rattle.runs.proofs.Protocol.{sheet-accepted}
-use Rattle.runs.proofs.ProverSteps.{commitAfter-given, commitAfter-runs, drop-runs, respondAfter-runs}
+use Rattle.runs.proofs.ProverSteps.{commitAfter-given, commitAfter-runs, drop-runs, respondAfter-runs, return-runs, save-runs}
 use Rattle.runs.proofs.VerifierSteps.{takeChallengeAfter-runs, takeCommitmentAfter-runs, takeResponseAfter-runs}
 
 -- 18's test of two lists is the same with the lists exchanged
@@ -197,15 +203,16 @@ module _ (sheet : List ℕ) where
   respond-where : (p : Prover) (c : ℕ) (x : List ℕ) → (respond sheet p c x .refusal ≡ 0)
       ↔ ((p .phase ≡ Committed) × (commit sheet newProver (p .nonce) .refusal ≡ 0)
       × Agree 8 (commit sheet newProver (p .nonce) .values) (p .commitment)
-      × Below sheet c × Witness (instanceOf sheet) (readSlots sheet x))
+      × Below sheet c × Witness (instanceOf sheet) (readSlots sheet x)
+      × (p .memory .count < 64) × ((i : ℕ) → i < p .memory .count → ¬ Agree 8 (listedAt (p .memory) i) (p .commitment)))
   unfolding respond newProver loadRefusal
   respond-where p c x =
       let n = instanceOf sheet .header .columns in
       Iff·trans (respondAfter-runs (loadRules sheet) (instanceOf sheet) p c x (load-positive sheet)) (
         λ (loaded, r).
             let e = commit-where newProver (p .nonce) .1 (loaded, refl, each-from _ n _ (length-places n (p .nonce)) (r .nonce)) in
-            (r .phase, e, rw (commit-answers (p .nonce) e) (r .commitment), r .challenge, r .witness),
-        λ (phase, e, agree, below, witness).
+            (r .phase, e, rw (commit-answers (p .nonce) e) (r .commitment), r .challenge, r .witness, r .room, r .unlisted),
+        λ (phase, e, agree, below, witness, room, unlisted).
             let (loaded, new, slots) = commit-where newProver (p .nonce) .0 e in (
               loaded,
               record {
@@ -214,6 +221,8 @@ module _ (sheet : List ℕ) where
                 phase = phase;
                 nonce = each-at _ n _ slots;
                 commitment = rw (commit-answers (p .nonce) e) at agree;
+                unlisted = unlisted;
+                room = room;
               },
             ),
       )
@@ -288,6 +297,20 @@ module _ (sheet : List ℕ) where
             ),
       )
 
+-- ---- saved states
+
+-- the flag of a name
+flag-saved : (m : Memory) (name : ℕ) → getD (map (λ (s : Saved). s .kept) (m .saved)) name 0 ≡ savedAt m name .kept
+unfolding savedAt
+flag-saved m name = List·getD-map (λ (s : Saved). s .kept) (m .saved) name _
+
+-- returning
+return-where : (p : Prover) (name : ℕ) → (returnTo p name .refusal ≡ 0)
+    ↔ ((name < 8) × (0 < getD (map (λ (s : Saved). s .kept) (p .memory .saved)) name 0))
+return-where p name =
+    rw (flag-saved (p .memory) name)
+    (Iff·trans (return-runs p name) (Iff·and Iff·rfl (λ some. omega arith, λ some none. omega arith)))
+
 -- ---- the whole
 
 pub rounds-run : RoundsRun fileCalls runCalls
@@ -300,6 +323,8 @@ rounds-run = record {
   commits = commit-where;
   responds = respond-where;
   drops = drop-runs;
+  saves = save-runs;
+  returns = return-where;
   takes-commitment = take-commitment-where;
   takes-challenge = take-challenge-where;
   takes-response = take-response-where;

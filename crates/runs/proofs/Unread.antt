@@ -1,19 +1,22 @@
 -- A call's outcome depends only on what 01 reads of the arrays and of the session that it is handed.
 -- Assumes nothing.
 use Prim.Native.Nat.{ℕ}
-use mathlib.Core.Path.{_≡_, sym, _∙_}
+use mathlib.Core.Path.{_≡_, ap, sym, _∙_}
+use mathlib.Core.Bool.{not}
 use mathlib.Core.List.{List}
 use Rattle.types.specs.declared.Header.{Header}
 use Rattle.types.specs.declared.Prover.{Prover}
 use Rattle.types.specs.declared.Verifier.{Verifier}
 use Rattle.lists.specs.Places.{places}
 use Rattle.lists.proofs.Places.{getD-places, places-agree}
+use Rattle.numbers.proofs.Search.{any-agree}
 use Rattle.rules.specs.Rule.{Rule}
 use Rattle.rules.proofs.Says.{says-iff, says-same}
 use Rattle.sigma.specs.Comparison.{differ}
 use Rattle.sigma.specs.Instance.{Instance}
 use Rattle.sigma.specs.Reads.{Agree}
 use Rattle.sigma.proofs.Comparison.{says-differ}
+use Rattle.runs.specs.Memory.{isListed, listedAt}
 use Rattle.runs.specs.Prover.{proverIn, proverStep, unfitProver, respondRules, commitAfter, respondAfter}
 use Rattle.runs.specs.Verifier.{verifierIn, verifierStep, unfitCommitment, takeChallengeRules, takeResponseRules}
 use Rattle.runs.specs.Verifier.{takeCommitmentAfter, takeChallengeAfter, takeResponseAfter}
@@ -51,11 +54,12 @@ module _ (before : List Rule) (inst : Instance) where
 
 -- ---- what Peggy holds
 
--- two of Peggy's sessions agree in what is read: the state, n places of the nonce and all eight of the commitment
+-- two of Peggy's sessions agree in what is read: the state, n places of the nonce, all eight of the commitment, and the memory
 pub record SameProver (h : Header) (p p′ : Prover) : Type 0 where
   pub phase : p .phase ≡ p′ .phase
   pub nonce : Agree (h .columns) (p .nonce) (p′ .nonce)
   pub commitment : Agree 8 (p .commitment) (p′ .commitment)
+  pub memory : p .memory ≡ p′ .memory
 
 -- a list's difference from another is that from any list that agrees with the other there
 differ-same : (n : ℕ) (xs ys ys′ : List ℕ) → Agree n ys ys′ → differ n xs ys ≡ differ n xs ys′
@@ -71,15 +75,24 @@ unfitProver-same inst p p′ s =
     let nonce = places-agree (inst .header .columns) (p .nonce) (p′ .nonce) (s .nonce) in
     rw (nonce, differ-same 8 _ (p .commitment) (p′ .commitment) (s .commitment))
 
+-- and whether her commitment is listed
+pub isListed-same : {h : Header} (p p′ : Prover) → SameProver h p p′
+    → isListed (p .memory) (p .commitment) ≡ isListed (p .memory) (p′ .commitment)
+unfolding isListed
+isListed-same p p′ s =
+    any-agree _ _ _ (λ i b. ap not (differ-same 8 (listedAt (p .memory) i) (p .commitment) (p′ .commitment) (s .commitment)))
+
 module _ (before : List Rule) (inst : Instance) (p p′ : Prover) where
-  -- responding reads the state, n places of the nonce and all of the commitment
+  -- responding reads the state, n places of the nonce, all of the commitment and the memory
   pub respondAfter-held : SameProver (inst .header) p p′ → (c : ℕ) (x : List ℕ)
       → (respondAfter before inst p c x .refusal ≡ respondAfter before inst p′ c x .refusal)
       × (respondAfter before inst p c x .values ≡ respondAfter before inst p′ c x .values)
   unfolding respondAfter proverStep respondRules proverIn
   respondAfter-held s c x =
-      let nonce = places-agree (inst .header .columns) (p .nonce) (p′ .nonce) (s .nonce) in
-      (rw (unfitProver-same inst p p′ s, s .phase), rw (unfitProver-same inst p p′ s, nonce, s .phase))
+      let nonce = places-agree (inst .header .columns) (p .nonce) (p′ .nonce) (s .nonce) in (
+        rw (unfitProver-same inst p p′ s, isListed-same p p′ s, s .memory, s .phase),
+        rw (unfitProver-same inst p p′ s, isListed-same p p′ s, s .memory, nonce, s .phase),
+      )
 
 -- ---- what Vic holds
 

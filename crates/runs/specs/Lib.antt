@@ -1,7 +1,9 @@
 -- The calls on a sheet's bytes, the sessions and the marker.
 pub mod Calls
 pub mod OnSheet
+pub mod Memory
 pub mod Prover
+pub mod Saving
 pub mod Verifier
 pub mod Refusals
 pub mod Meaning
@@ -11,6 +13,7 @@ pub mod VerifierCalls
 pub mod JointRun
 pub mod Knowledge
 pub mod Sessions
+pub mod SavedStates
 pub mod Protocol
 pub mod MainProtocol
 pub mod Demand3

@@ -1,9 +1,10 @@
--- What each call on a session asks for (01, "Turned back", 14 to 17 and 21), as facts on what is read.
+-- What each call on a session asks for (01, "Turned back", 14 to 17 and 21; 02, card 13), as facts on what is read.
 -- Assumes nothing.
 use Prim.Native.Nat.{ℕ, _<_}
 use mathlib.Core.Path.{_≡_}
 use mathlib.Core.Logic.{_⊎_}
 use mathlib.Core.List.{List}
+use Rattle.types.specs.declared.Memory.{Memory}
 use Rattle.types.specs.declared.Prover.{Prover}
 use Rattle.types.specs.declared.ProverPhase.the-variants.{New, Committed}
 use Rattle.types.specs.declared.Verifier.{Verifier}
@@ -14,6 +15,11 @@ use Rattle.sigma.specs.Instance.{Instance, tableOf}
 use Rattle.sigma.specs.Knowledge.{Witness}
 use Rattle.sigma.specs.Meaning.{Elements, Coordinates}
 use Rattle.sigma.specs.Reads.{Agree}
+use Rattle.runs.specs.Memory.{listedAt}
+
+-- a commitment is none of those that a memory counts
+abbrev pub Unlisted : Memory → List ℕ → Type 0
+Unlisted m t = (i : ℕ) → i < m .count → ¬ Agree 8 (listedAt m i) t
 
 -- committing to the nonce k
 pub record Commits (inst : Instance) (p : Prover) (k : List ℕ) : Type 0 where
@@ -27,6 +33,8 @@ pub record Responds (inst : Instance) (p : Prover) (c : ℕ) (x : List ℕ) : Ty
   pub phase : p .phase ≡ Committed
   pub nonce : Coordinates inst (places (inst .header .columns) (p .nonce))
   pub commitment : Agree 8 (pad8 0 (image (tableOf inst) (places (inst .header .columns) (p .nonce)))) (p .commitment)
+  pub unlisted : Unlisted (p .memory) (p .commitment)
+  pub room : p .memory .count < 64
 
 -- dropping
 abbrev pub Drops : Prover → Type 0

@@ -16,9 +16,10 @@ readValues sheet t = places (instanceOf sheet .header .rows) t
 abbrev pub readSlots : List ℕ → List ℕ → List ℕ
 readSlots sheet x = places (instanceOf sheet .header .columns) x
 
--- what is read of Peggy's session: the state, n places of the nonce and all eight of the commitment
+-- what is read of Peggy's session: the state, n places of the nonce, all eight of the commitment, and the memory
 abbrev pub readProver : List ℕ → Prover → Prover
-readProver sheet p = record { phase = p .phase; nonce = readSlots sheet (p .nonce); commitment = places 8 (p .commitment) }
+readProver sheet p =
+    record { phase = p .phase; nonce = readSlots sheet (p .nonce); commitment = places 8 (p .commitment); memory = p .memory }
 
 -- what is read of Vic's session: the state, s places of the commitment and the challenge
 abbrev pub readVerifier : List ℕ → Verifier → Verifier

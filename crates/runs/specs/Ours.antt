@@ -16,6 +16,7 @@ use Rattle.runs.specs.Prover.{newProver, commit, respond, dropSession}
 use Rattle.runs.specs.ProverCalls.{ProverCall}
 use Rattle.runs.specs.ProverCalls.{callProver as callProverBy, proverAfter as proverAfterBy, proverTrace as proverTraceBy}
 use Rattle.runs.specs.RunCalls.{RunCalls}
+use Rattle.runs.specs.Saving.{save, returnTo}
 use Rattle.runs.specs.Verifier.{newVerifier, takeCommitment, takeChallenge, takeResponse}
 use Rattle.runs.specs.VerifierCalls.{VerifierCall}
 use Rattle.runs.specs.VerifierCalls.{
@@ -33,6 +34,8 @@ runCalls = record {
   commit = commit;
   respond = respond;
   dropSession = dropSession;
+  save = save;
+  returnTo = returnTo;
   newVerifier = newVerifier;
   takeCommitment = takeCommitment;
   takeChallenge = takeChallenge;

@@ -1,4 +1,5 @@
--- Peggy's session (01, "Sessions"; refusals 15 to 17 and 21). Each call hands back the session with some fields changed.
+-- Peggy's session (01, "Sessions"; refusals 15 to 17, 21, 32 and 33). Each call hands back the session with some fields changed.
+-- Saving it and returning to what was saved stand in Saving.
 -- Assumes nothing.
 use Prim.Native.Nat.{ℕ}
 use mathlib.Core.Bool.{Bool, not, _||_}
@@ -18,6 +19,7 @@ use Rattle.sigma.specs.Comparison.{differ}
 use Rattle.sigma.specs.Image.{image}
 use Rattle.sigma.specs.Instance.{Instance, tableOf}
 use Rattle.sigma.specs.Round.{badChallenge, badCoordinates, badWitness, response}
+use Rattle.runs.specs.Memory.{isFull, isListed, listing, noMemory}
 
 -- a state's place in 01's sentence, from 0
 unfoldable pub proverState : ProverPhase → ℕ
@@ -30,9 +32,9 @@ proverState Dropped = 3
 unfoldable pub proverIn : ProverPhase → Prover → Bool
 proverIn state p = eqb (proverState (p .phase)) (proverState state)
 
--- a new session holds zeros
+-- a new session holds zeros, and has saved and listed nothing
 unfoldable pub newProver : Prover
-newProver = record { phase = New; nonce = zeros8; commitment = zeros8 }
+newProver = record { phase = New; nonce = zeros8; commitment = zeros8; memory = noMemory }
 
 -- the outcome of a call: the changed session and eight values, or the number, the same session and zeros
 unfoldable pub proverStep : ℕ → Prover → Prover → List ℕ → ProverStep
@@ -48,7 +50,8 @@ unfoldable pub commitAfter : List Rule → Instance → Prover → List ℕ → 
 commitAfter before inst p nonce =
     let k : List ℕ = places (inst .header .columns) nonce in
     proverStep (lowest (before ++ commitRules inst p k)) p
-    (record { phase = Committed; nonce = pad8 0 k; commitment = pad8 0 (image (tableOf inst) k) }) (image (tableOf inst) k)
+    (record { phase = Committed; nonce = pad8 0 k; commitment = pad8 0 (image (tableOf inst) k); memory = p .memory })
+    (image (tableOf inst) k)
 
 -- the held nonce has a slot that is no domain slot, or its image, 0 beyond s, is not the held commitment in all eight places
 unfoldable pub unfitProver : Instance → Prover → Bool
@@ -62,14 +65,16 @@ respondRules inst p c x =
     (15 when badChallenge inst c) ∷
     (16 when badCoordinates inst x) ∷
     (17 when badWitness inst x) ∷
-    (21 when (not (proverIn Committed p) || unfitProver inst p)) ∷ []
+    (21 when (not (proverIn Committed p) || unfitProver inst p)) ∷
+    (32 when isListed (p .memory) (p .commitment)) ∷
+    (33 when isFull (p .memory)) ∷ []
 
--- after the rules of the sheet: the response is answered and the nonce set to zeros
+-- after the rules of the sheet: the response is answered, the nonce set to zeros and the commitment listed
 unfoldable pub respondAfter : List Rule → Instance → Prover → ℕ → List ℕ → ProverStep
 respondAfter before inst p c witness =
     let x : List ℕ = places (inst .header .columns) witness in
     proverStep (lowest (before ++ respondRules inst p c x)) p
-    (record { phase = Answered; nonce = zeros8; commitment = p .commitment })
+    (record { phase = Answered; nonce = zeros8; commitment = p .commitment; memory = listing (p .commitment) (p .memory) })
     (response (inst .header) (places (inst .header .columns) (p .nonce)) c x)
 
 -- the rule of the state
@@ -88,4 +93,4 @@ respond sheet p c witness = respondAfter (loadRules sheet) (instanceOf sheet) p 
 unfoldable pub dropSession : Prover → ProverStep
 dropSession p =
     proverStep (lowest (dropRules p)) p
-    (record { phase = Dropped; nonce = zeros8; commitment = p .commitment }) []
+    (record { phase = Dropped; nonce = zeros8; commitment = p .commitment; memory = p .memory }) []

@@ -1,4 +1,4 @@
--- The calls on rounds and on Peggy's and Vic's sessions (01): a field for each call, and no call's definition is named.
+-- The calls on rounds and on Peggy's and Vic's sessions (01; 02, card 13): a field for each call, and no call's definition is named.
 -- Assumes nothing.
 use Prim.Native.Nat.{ℕ}
 use mathlib.Core.List.{List}
@@ -21,6 +21,8 @@ pub record RunCalls : Type 0 where
   pub commit : List ℕ → Prover → List ℕ → ProverStep
   pub respond : List ℕ → Prover → ℕ → List ℕ → ProverStep
   pub dropSession : Prover → ProverStep
+  pub save : Prover → ℕ → ProverStep
+  pub returnTo : Prover → ℕ → ProverStep
   -- Vic
   pub newVerifier : Verifier
   pub takeCommitment : List ℕ → Verifier → List ℕ → VerifierStep

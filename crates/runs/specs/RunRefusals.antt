@@ -21,7 +21,7 @@ use Rattle.sigma.specs.Refusals.{judgeConditions, simulateConditions, extractCo
 use Rattle.formats.specs.Refusals.{RefusesOn}
 use Rattle.runs.specs.Level.{markConditions}
 use Rattle.runs.specs.MarkerCalls.{MarkerCalls}
-use Rattle.runs.specs.Refusals.{commitConditions, respondConditions, dropConditions}
+use Rattle.runs.specs.Refusals.{commitConditions, respondConditions, dropConditions, saveConditions, returnConditions}
 use Rattle.runs.specs.Refusals.{takeCommitmentConditions, takeChallengeConditions, takeResponseConditions}
 use Rattle.runs.specs.RunCalls.{RunCalls}
 
@@ -36,7 +36,7 @@ OneLine number text =
     ((number ≡ 12) × (text ≡ ascii "file 12\n")) ⊎ ((number ≡ 25) × (text ≡ ascii "level 25\n"))
 
 module _ (code : RunCalls) where
-  open RunCalls code using (judgeRound, simulateCommitment, extractWitness, commit, respond, dropSession)
+  open RunCalls code using (judgeRound, simulateCommitment, extractWitness, commit, respond, dropSession, save, returnTo)
   open RunCalls code using (takeCommitment, takeChallenge, takeResponse)
 
   -- every call but the two that make a new session, which take nothing and refuse nothing
@@ -59,9 +59,13 @@ module _ (code : RunCalls) where
         → RefusesOn sheet (16 ∷ 21 ∷ []) (commitConditions (instanceOf sheet) p k)
         (commit sheet p k .refusal) (Unmoved p (commit sheet p k))
     pub responding : (sheet : List ℕ) (p : Prover) (c : ℕ) (x : List ℕ)
-        → RefusesOn sheet (15 ∷ 16 ∷ 17 ∷ 21 ∷ []) (respondConditions (instanceOf sheet) p c x)
+        → RefusesOn sheet (15 ∷ 16 ∷ 17 ∷ 21 ∷ 32 ∷ 33 ∷ []) (respondConditions (instanceOf sheet) p c x)
         (respond sheet p c x .refusal) (Unmoved p (respond sheet p c x))
     pub dropping : (p : Prover) → Refuses (21 ∷ []) (dropConditions p) (dropSession p .refusal) (Unmoved p (dropSession p))
+    -- saving and returning, in every state
+    pub saving : (p : Prover) (name : ℕ) → Refuses (34 ∷ []) (saveConditions name) (save p name .refusal) (Unmoved p (save p name))
+    pub returning : (p : Prover) (name : ℕ)
+        → Refuses (34 ∷ []) (returnConditions p name) (returnTo p name .refusal) (Unmoved p (returnTo p name))
     -- ---- the calls on Vic's session; a refused call hands back the same session
     pub taking-commitment : (sheet : List ℕ) (v : Verifier) (t : List ℕ)
         → RefusesOn sheet (14 ∷ 21 ∷ []) (takeCommitmentConditions (instanceOf sheet) v t)

@@ -18,6 +18,8 @@ pub record SameRuns (code code′ : RunCalls) : Type 0 where
   pub commit : (sheet : List ℕ) (p : Prover) (k : List ℕ) → code .commit sheet p k ≡ code′ .commit sheet p k
   pub respond : (sheet : List ℕ) (p : Prover) (c : ℕ) (x : List ℕ) → code .respond sheet p c x ≡ code′ .respond sheet p c x
   pub dropSession : (p : Prover) → code .dropSession p ≡ code′ .dropSession p
+  pub save : (p : Prover) (name : ℕ) → code .save p name ≡ code′ .save p name
+  pub returnTo : (p : Prover) (name : ℕ) → code .returnTo p name ≡ code′ .returnTo p name
   pub newVerifier : code .newVerifier ≡ code′ .newVerifier
   pub takeCommitment : (sheet : List ℕ) (v : Verifier) (t : List ℕ)
       → code .takeCommitment sheet v t ≡ code′ .takeCommitment sheet v t

@@ -1,16 +1,17 @@
 -- Demand 2's order of steps (00; 01, "Sessions"): what holds of both sessions over any list of calls, with any sheets and any
 -- arguments, each call given the session that the last one handed back.
 -- Assumes nothing.
-use Prim.Native.Nat.{ℕ, _+_, _≤_}
+use Prim.Native.Nat.{_+_, _≤_}
 use mathlib.Core.Path.{_≡_}
 use mathlib.Core.List.{List, []}
-use lib.ListN.{length}
+use lib.ListN.{length, replicate}
 use Rattle.types.specs.declared.Prover.{Prover}
 use Rattle.types.specs.declared.ProverPhase.the-variants.{New}
 use Rattle.types.specs.declared.Verifier.{Verifier}
 use Rattle.types.specs.declared.VerifierPhase.the-variants.{Waiting, Judged}
 use Rattle.lists.specs.Places.{zeros8}
-use Rattle.runs.specs.ProverCalls.{ProverCall, ProverMoves, proverAfter, proverTrace, answered, Ended}
+use Rattle.runs.specs.ProverCalls.{ProverCall, ProverMoves, proverAfter, proverTrace, answered}
+use Rattle.runs.specs.ProverCalls.{Ended, NoneReturns, SameState}
 use Rattle.runs.specs.Run.{Leads}
 use Rattle.runs.specs.RunCalls.{RunCalls}
 use Rattle.runs.specs.Verifier.{verifierState}
@@ -21,17 +22,31 @@ module _ (code : RunCalls) where
 
   -- Peggy's steps
   pub record OneAnswer : Type 0 where
-    -- a new session holds zeros
-    pub new : newProver ≡ record { phase = New; nonce = zeros8; commitment = zeros8 }
-    -- the calls that are carried out lead from the session to the one at the end, each as 01 has it; a refused call changes nothing
+    -- a new session holds zeros everywhere: nothing is saved and nothing is listed
+    pub new : newProver
+        ≡ record {
+          phase = New;
+          nonce = zeros8;
+          commitment = zeros8;
+          memory =
+              record {
+                saved = replicate 8 (record { nonce = zeros8; commitment = zeros8; phase = 0; kept = 0 });
+                answered = replicate 64 (record { commitment = zeros8 });
+                count = 0;
+              };
+        }
+    -- the calls that are carried out lead from the session to the one at the end, each as 01 and card 13 have it; a refused call
+    -- changes nothing
     pub in-order : (calls : List ProverCall) (p : Prover)
         → Leads (λ step. step .session) ProverMoves p (proverTrace code calls p) (proverAfter code calls p)
-    -- at most one challenge is answered
-    pub once : (calls : List ProverCall) (p : Prover) → length (answered (proverTrace code calls p)) ≤ 1
-    -- a session that the calls have led to Answered or Dropped has a nonce of zeros
-    pub wiped : (calls : List ProverCall) (p : Prover) → ¬ Ended p → Ended (proverAfter code calls p) → proverAfter code calls p .nonce ≡ zeros8
-    -- one that is Answered or Dropped carries out no call and stays as it is
-    pub ended : (calls : List ProverCall) (p : Prover) → Ended p → (proverTrace code calls p ≡ []) × (proverAfter code calls p ≡ p)
+    -- where no call returns, at most one challenge is answered
+    pub once : (calls : List ProverCall) (p : Prover) → NoneReturns calls → length (answered (proverTrace code calls p)) ≤ 1
+    -- a session that such calls have led to Answered or Dropped has a nonce of zeros
+    pub wiped : (calls : List ProverCall) (p : Prover) → NoneReturns calls → ¬ Ended p → Ended (proverAfter code calls p)
+        → proverAfter code calls p .nonce ≡ zeros8
+    -- one that is Answered or Dropped keeps its state, nonce and commitment in them, and answers no challenge
+    pub ended : (calls : List ProverCall) (p : Prover) → NoneReturns calls → Ended p
+        → (answered (proverTrace code calls p) ≡ []) × SameState p (proverAfter code calls p)
 
   -- Vic's steps
   pub record StepsInOrder : Type 0 where
@@ -54,7 +69,7 @@ module _ (code : RunCalls) where
 
   -- both sessions
   pub record Sessions : Type 0 where
-    -- Peggy answers one challenge at most
+    -- Peggy answers one challenge at most, where no call returns
     pub prover : OneAnswer
     -- Vic takes a commitment, a challenge and a response, in this order
     pub verifier : StepsInOrder

@@ -25,10 +25,11 @@ fn asked(sheet: &[u8], commitment: [u32; 8], challenge: u32) -> Verifier {
 // commitment, the response and the verdict.
 fn run(label: &[u8], sheet: &[u8], witness: [u32; 8], nonce: [u32; 8], c: u32) {
     let header = load(sheet).header;
-    let committed = prover::commit(sheet, prover::new(), nonce);
+    let committed = prover_session::commit(sheet, prover_session::new(), nonce);
     let t = committed.values;
     let vic = asked(sheet, t, c);
-    let responded = prover::respond(sheet, committed.session, c, witness);
+    let peggy = committed.session;
+    let responded = prover_session::respond(sheet, peggy, c, witness);
     let r = responded.values;
     answer(label, committed.refusal, t, header.rows as usize);
     answer(b", r", responded.refusal, r, header.columns as usize);

@@ -81,11 +81,35 @@ pub enum ProverPhase {
     Dropped,
 }
 
+// A saved state of Peggy's session: kept is 0 where the name was never saved, and phase is a state's number.
+#[repr(C)]
+pub struct Saved {
+    pub nonce: [u32; 8],
+    pub commitment: [u32; 8],
+    pub phase: u32,
+    pub kept: u32,
+}
+
+// A commitment that was answered.
+#[repr(C)]
+pub struct Listed {
+    pub commitment: [u32; 8],
+}
+
+// What Peggy's session keeps beside its state: the saved states by name, the answered commitments, and how many these are.
+#[repr(C)]
+pub struct Memory {
+    pub saved: [Saved; 8],
+    pub answered: [Listed; 64],
+    pub count: u32,
+}
+
 // Peggy's session.
 pub struct Prover {
     pub nonce: [u32; 8],
     pub commitment: [u32; 8],
     pub phase: ProverPhase,
+    pub memory: Memory,
 }
 
 // What a call on Peggy's session answers: the session handed back, and a commitment or a response.

@@ -114,6 +114,7 @@ fn handed(session: &Prover) -> ProverSession {
         },
         nonce: session.nonce,
         commitment: session.commitment,
+        memory: session.memory,
     }
 }
 

@@ -30,6 +30,8 @@ pub enum Call {
     ProverCommit,
     ProverRespond,
     ProverDrop,
+    ProverSave,
+    ProverReturn,
     VerifierNew,
     VerifierCommitment,
     VerifierChallenge,
@@ -90,8 +92,10 @@ const CALLS: &[Entry] = &[
     entry(Call::WatchRound, "watch_round", true, &[14, 15, 16, 21]),
     entry(Call::ProverNew, "prover_new", false, &[]),
     entry(Call::ProverCommit, "prover_commit", true, &[16, 21]),
-    entry(Call::ProverRespond, "prover_respond", true, &[15, 16, 17, 21]),
+    entry(Call::ProverRespond, "prover_respond", true, &[15, 16, 17, 21, 32, 33]),
     entry(Call::ProverDrop, "prover_drop", false, &[21]),
+    entry(Call::ProverSave, "prover_save", false, &[34]),
+    entry(Call::ProverReturn, "prover_return", false, &[34]),
     entry(Call::VerifierNew, "verifier_new", false, &[]),
     entry(Call::VerifierCommitment, "verifier_commitment", true, &[14, 21]),
     entry(Call::VerifierChallenge, "verifier_challenge", true, &[15, 21]),
@@ -112,7 +116,7 @@ pub const CALL_COUNT: usize = CALLS.len();
 /// 02 puts them. Of several that apply the first here is given.
 pub const ORDER: [u32; LAST as usize] = [
     23, 24, 1, 2, 3, 4, 5, 6, 7, 8, 9, 27, 29, 30, 10, 11, 26, 12, 25, 13, 14, 15, 16, 28, 31, 17,
-    18, 19, 20, 21, 22,
+    18, 19, 20, 21, 32, 33, 34, 22,
 ];
 
 /// The numbers that the loading of a sheet can give.

@@ -16,6 +16,7 @@ mod reasons;
 mod rounds;
 mod rows;
 mod sheets;
+mod states;
 mod teams;
 mod unfit_watches;
 mod verifier;
@@ -38,6 +39,7 @@ pub use prover::{prover_commit, prover_drop, prover_new, prover_respond};
 pub use reasons::reason;
 pub use rounds::{judge, simulate};
 pub use sheets::{entries, load};
+pub use states::{prover_return, prover_save};
 #[cfg(test)]
 pub use teams::product;
 pub use teams::{team_commitment, team_response};

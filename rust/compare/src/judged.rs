@@ -10,7 +10,7 @@ use judge::{linear, pattern_file};
 
 use crate::library::{
     Compared, Computed, Counted, Fetched, Forms, Header, Judgement, Loaded, Part, Places, Plan,
-    ProverAnswer, ProverSession, Round, VerifierAnswer, VerifierJudgement, VerifierSession,
+    ProverAnswer, ProverSession, Round, Saved, VerifierAnswer, VerifierJudgement, VerifierSession,
     Written, LONGEST_GAME, LONGEST_REASON, LONGEST_TEXT,
 };
 use sessions::{
@@ -154,7 +154,7 @@ pub fn extract(sheet: &[u8], first: &Round, second: &Round) -> Computed {
 }
 
 pub fn prover_new() -> ProverSession {
-    prover_session(judge::Prover::new())
+    prover_session(&ProverSession::default(), judge::Prover::new())
 }
 
 pub fn prover_commit(sheet: &[u8], given: ProverSession, nonce: &Places) -> ProverAnswer {
@@ -173,6 +173,22 @@ pub fn prover_respond(
 
 pub fn prover_drop(given: ProverSession) -> ProverAnswer {
     let (result, next) = judge::drop_session(prover(&given));
+    prover_answer(given, (result.map(|()| [0; 8]), next))
+}
+
+/// All numbers of the saved state are the judge's, also if it saves what was saved
+/// there: saving writes 1 beside it.
+pub fn prover_save(given: ProverSession, name: u32) -> ProverAnswer {
+    let (result, next) = judge::save(prover(&given), name.into());
+    let mut cleared = given;
+    if let (Ok(()), Some(state)) = (result, cleared.memory.saved.get_mut(name as usize)) {
+        *state = Saved::default();
+    }
+    prover_answer(cleared, (result.map(|()| [0; 8]), next))
+}
+
+pub fn prover_return(given: ProverSession, name: u32) -> ProverAnswer {
+    let (result, next) = judge::return_to(prover(&given), name.into());
     prover_answer(given, (result.map(|()| [0; 8]), next))
 }
 

@@ -4,11 +4,12 @@ use crate::faults::{self, Fault};
 use crate::{judged, proved};
 
 pub use dimkhoros_sys::{
-    phases, Compared, Computed, Counted, Fetched, Header, Judgement, Loaded, Opened, OrAnswer,
-    OrExtracted, OrJudgement, OrRound, OrSession, Part, Parts, Places, ProverAnswer, ProverSession,
-    Round, VerifierAnswer, VerifierJudgement, VerifierSession, Watch, WatchAnswer, Written,
-    LONGEST_FILE, LONGEST_FILE_2, LONGEST_GAME, LONGEST_REASON, LONGEST_SHEET, LONGEST_TEXT,
-    MOST_PLAYERS, MOST_REMEMBERED, MOST_ROUNDS, PARTS, PLACES, SHIPPED_PATTERNS,
+    phases, Compared, Computed, Counted, Fetched, Header, Judgement, Listed, Loaded, Memory,
+    Opened, OrAnswer, OrExtracted, OrJudgement, OrRound, OrSession, Part, Parts, Places,
+    ProverAnswer, ProverSession, Round, Saved, VerifierAnswer, VerifierJudgement, VerifierSession,
+    Watch, WatchAnswer, Written, LONGEST_FILE, LONGEST_FILE_2, LONGEST_GAME, LONGEST_REASON,
+    LONGEST_SHEET, LONGEST_TEXT, MOST_ANSWERED, MOST_PLAYERS, MOST_REMEMBERED, MOST_ROUNDS, PARTS,
+    PLACES, SAVED_STATES, SHIPPED_PATTERNS,
 };
 
 /// The numbers that the sheet maker takes. The pattern number 0 is that of root
@@ -114,6 +115,8 @@ calls! {
         sheet: &[u8], session: ProverSession, challenge: u32, witness: &Places
     ) -> ProverAnswer;
     prover_drop(session: ProverSession) -> ProverAnswer;
+    prover_save(session: ProverSession, name: u32) -> ProverAnswer;
+    prover_return(session: ProverSession, name: u32) -> ProverAnswer;
 
     verifier_new() -> VerifierSession;
     verifier_commitment(

@@ -5,7 +5,8 @@
 //! Both libraries get it, and every field of the answers and every byte of a
 //! lent buffer must be the same. The first difference is printed and ends the
 //! run. Last page K, files at every level and all masks of rows are run in both,
-//! demand 3 and cards 4, 6, 11 and 12 are tried on small sheets, and card 9 in long runs.
+//! demand 3 and cards 4, 6, 11 and 12 are tried on small sheets, and cards 9 and 13 in long
+//! runs.
 //! Exit status: 0 no difference, 1 a difference, something met too seldom or a
 //! program that is missing, 2 wrong words or a place to which nothing can be
 //! written.
@@ -39,6 +40,7 @@ mod printing;
 mod program;
 mod proved;
 mod random;
+mod returning;
 mod run;
 mod search;
 mod shapes;
@@ -124,5 +126,6 @@ fn stages(options: &Options) -> Result<(), String> {
     println!("{}", watching::check(options.other)?);
     println!("{}", multiplying::check(options.other)?);
     println!("{}", games::check(options.other)?);
+    println!("{}", returning::check(options.other)?);
     Ok(())
 }

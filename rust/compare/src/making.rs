@@ -9,6 +9,7 @@ mod games;
 mod inputs;
 mod levels;
 mod marking;
+mod memories;
 mod or_prover;
 mod or_rounds;
 mod or_runs;
@@ -20,6 +21,8 @@ mod reasons;
 mod rounds;
 mod runs;
 mod sheets;
+mod state_runs;
+mod states;
 mod teams;
 mod verifier;
 mod watch_runs;
@@ -35,13 +38,14 @@ pub use games::game_case;
 pub use levels::{needed, HIGHEST};
 pub use marking::{mark_case, mark_file};
 pub use reasons::reason_case;
+pub use state_runs::{of_calls as state_calls, to_the_last as answers_to_the_last};
 pub use watch_runs::of_rounds as watched_rounds;
 
 /// Makes a case of one call or of a run.
 type Maker = fn(&mut Random) -> Box<dyn Case>;
 
 /// How often each maker is asked, among the sum of these.
-const SHARES: [(Maker, usize); 38] = [
+const SHARES: [(Maker, usize); 41] = [
     (sheets::load, 3),
     (sheets::entries, 2),
     (sheets::encode, 4),
@@ -67,8 +71,11 @@ const SHARES: [(Maker, usize); 38] = [
     (watches::round, 6),
     (watch_runs::run, 1),
     (prover::commit, 3),
-    (prover::respond, 7),
+    (prover::respond, 9),
     (prover::give_up, 1),
+    (states::save, 1),
+    (states::return_to, 3),
+    (state_runs::run, 1),
     (verifier::commitment, 3),
     (verifier::challenge, 3),
     (verifier::response, 5),
@@ -79,7 +86,7 @@ const SHARES: [(Maker, usize); 38] = [
     (or_runs::run, 2),
     (marking::mark, 3),
     (reasons::reason, 7),
-    (games::game, 3),
+    (games::game, 4),
 ];
 
 /// The case with this number in a run with this seed.

@@ -9,6 +9,7 @@ mod answers;
 mod bytes;
 mod inputs;
 mod or_answers;
+mod prover_answers;
 mod team_answers;
 mod watch_answers;
 
@@ -20,6 +21,7 @@ use crate::calls::Call;
 use crate::library::Library;
 use inputs::Inputs;
 
+pub use prover_answers::prover;
 pub use watch_answers::watch;
 
 /// What a line is to a reader.

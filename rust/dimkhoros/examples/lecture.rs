@@ -1,9 +1,10 @@
-//! The extractor, a watch, the simulator, rounds that multiply, the OR proof and the game, for a lecture. Two rounds on one
-//! nonce give the witness away, so that nobody can make such rounds without knowing it; a watch that is given the rounds of a
-//! term tells of such a nonce; rounds can be simulated without the witness, so a round tells Vic nothing about it; rounds of
-//! two sheets of one table multiply to rounds of a third; Peggy, who knows a witness of one of two sheets, simulates the other,
-//! so a round does not tell which of the two she knows; and on a small sheet all responses are tried, to see which challenges a
-//! commitment can answer.
+//! The extractor, saved states, a watch, the simulator, rounds that multiply, the OR proof and the game, for a lecture. Two
+//! rounds on one nonce give the witness away, so that nobody can make such rounds without knowing it; a session that returns
+//! to a saved state does not answer the same commitment again; a watch that is given the rounds of a term tells of a nonce
+//! that was used twice; rounds can be simulated without the witness, so a round tells Vic nothing about it; rounds of two
+//! sheets of one table multiply to rounds of a third; Peggy, who knows a witness of one of two sheets, simulates the other,
+//! so a round does not tell which of the two she knows; and on a small sheet all responses are tried, to see which challenges
+//! a commitment can answer.
 
 mod common;
 
@@ -22,11 +23,11 @@ const MODULUS: u32 = 23;
 /// The order of page A's sheet, and so the count of nonces and of responses. It is the challenge count too.
 const ORDER: usize = 11;
 
-/// The round of a committed session that answers this challenge.
-fn answer(instance: &Instance, peggy: Prover, challenge: u32) -> Result<Round, Refusal> {
+/// The round of a committed session that answers this challenge, and the session after it.
+fn answer(instance: &Instance, peggy: Prover, challenge: u32) -> Result<(Prover, Round), Refusal> {
     let commitment = *peggy.commitment();
-    let (_, response) = peggy.respond(instance, challenge, &WITNESS)?;
-    Ok(Round { commitment, challenge, response })
+    let (peggy, response) = peggy.respond(instance, challenge, &WITNESS)?;
+    Ok((peggy, Round { commitment, challenge, response }))
 }
 
 /// A copy of a session answers this challenge and the round is shown.
@@ -35,8 +36,8 @@ fn answer_from_copy(
     parts: &ProverParts,
     challenge: u32,
 ) -> Result<Round, Refusal> {
-    let copy = ProverParts { phase: parts.phase, nonce: parts.nonce, commitment: parts.commitment };
-    let round = answer(instance, Prover::from_parts(copy), challenge)?;
+    let copy = ProverParts { ..*parts };
+    let (_, round) = answer(instance, Prover::from_parts(copy), challenge)?;
     let verdict = instance.judge(&round)?;
     let (t, r) = (round.commitment[0], round.response[0]);
     println!("one copy is asked {challenge}: t = {t}, c = {challenge}, r = {r}, {verdict}");
@@ -52,6 +53,33 @@ fn show_extractor(instance: &Instance) -> Result<(), Refusal> {
     let second = answer_from_copy(instance, &parts, 1)?;
     let witness = instance.extract(&first, &second)?;
     println!("the two rounds give the witness away: x = {}", witness[0]);
+    Ok(())
+}
+
+/// A session answers this challenge and the round is shown. The session goes on.
+fn answer_and_go_on(instance: &Instance, peggy: Prover, challenge: u32) -> Result<Prover, Refusal> {
+    let (peggy, round) = answer(instance, peggy, challenge)?;
+    let (t, r, verdict) = (round.commitment[0], round.response[0], instance.judge(&round)?);
+    println!("asked {challenge}: t = {t}, c = {challenge}, r = {r}, {verdict}");
+    Ok(peggy)
+}
+
+/// A demonstrator returns to a committed state, whose commitment is not answered again, and goes on from the new one.
+fn show_saved_states(instance: &Instance) -> Result<(), Refusal> {
+    println!(
+        "\nSaved states. A demonstrator saves the new session under 0 and, with the nonce 5, the committed one under 1."
+    );
+    let (peggy, _) = Prover::new().save(0)?.commit(instance, &places([5]))?;
+    let peggy = answer_and_go_on(instance, peggy.save(1)?, 3)?;
+    let Err(again) = peggy.return_to(1)?.respond(instance, 1, &WITNESS) else {
+        println!("the commitment is answered again, which no session does");
+        return Ok(());
+    };
+    println!("back to 1, with the same nonce, and asked 1: {}", again.refusal);
+    let (peggy, _) = again.session.return_to(0)?.commit(instance, &places([6]))?;
+    println!("back to 0, and committed to the nonce 6");
+    let peggy = answer_and_go_on(instance, peggy, 1)?;
+    println!("the session has answered {} commitments", peggy.answered());
     Ok(())
 }
 
@@ -86,7 +114,7 @@ fn show_simulator(instance: &Instance, challenge: u32) -> Result<(), Refusal> {
     let mut peggys = [0; ORDER];
     for nonce in 0..ORDER as u32 {
         let (peggy, _) = Prover::new().commit(instance, &places([nonce]))?;
-        let round = answer(instance, peggy, challenge)?;
+        let (_, round) = answer(instance, peggy, challenge)?;
         peggys[round.response[0] as usize] = round.commitment[0];
     }
     let mut same = true;
@@ -273,6 +301,7 @@ fn show_game(instance: &Instance) -> Result<(), Refusal> {
 fn main() -> Result<(), Refusal> {
     let instance = page_a()?;
     show_extractor(&instance)?;
+    show_saved_states(&instance)?;
     show_watch(&instance)?;
     show_simulator(&instance, 3)?;
     show_products(&instance)?;

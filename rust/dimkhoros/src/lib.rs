@@ -22,6 +22,7 @@ mod refused;
 mod round_file;
 mod rows;
 mod stored;
+mod stored_prover;
 mod team;
 mod verdict;
 mod verifier;
@@ -34,9 +35,9 @@ mod authors {}
 
 pub use dimkhoros_sys::{
     EMPTY_FILE, EXPONENT, Header, LONGEST_FILE, LONGEST_FILE_2, LONGEST_GAME, LONGEST_PATTERNS,
-    LONGEST_REASON, LONGEST_SHEET, LONGEST_TEXT, MOST_PATTERNS, MOST_PLAYERS, MOST_REMEMBERED,
-    MOST_ROUNDS, OrRound, PLACES, Places, ROOT, Round, SHIPPED_PATTERNS, Watch as WatchParts,
-    version,
+    LONGEST_REASON, LONGEST_SHEET, LONGEST_TEXT, Listed, MOST_ANSWERED, MOST_PATTERNS,
+    MOST_PLAYERS, MOST_REMEMBERED, MOST_ROUNDS, Memory, OrRound, PLACES, Places, ROOT, Round,
+    SAVED_STATES, SHIPPED_PATTERNS, Saved, Watch as WatchParts, version,
 };
 pub use forms::{Forms, LinearPlan};
 pub use found::Found;

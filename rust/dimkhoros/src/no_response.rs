@@ -27,7 +27,7 @@ pub enum NoResponse<E, S = Prover> {
     Refused(Refused<S>),
     /// The session was not stored, and the response is gone.
     NotStored {
-        /// The session as it is after the response: it answers no challenge.
+        /// The session as it is after the response: it answers no challenge if no call returns.
         session: S,
         /// Why it was not stored.
         error: E,

@@ -7,8 +7,8 @@ use crate::{
 use core::fmt;
 use dimkhoros_sys::{self as sys, OrSession};
 
-/// What a stored session of Peggy's of the OR proof begins with.
-const MARK: &[u8; 3] = b"ORP";
+/// What a stored session of Peggy's of the OR proof begins with: its mark and its version.
+const START: &[u8; 5] = b"ORP\0\x01";
 
 /// How many numbers a stored session has.
 const NUMBERS: usize = 4 * PLACES + 3;
@@ -246,7 +246,7 @@ impl OrProver {
             part.copy_from_slice(held);
         }
         values[4 * PLACES..].copy_from_slice(&[*challenge, *side, *phase]);
-        stored::write(MARK, &values)
+        stored::write(START, &values)
     }
 
     /// Reads a stored session back without nonce, side and simulated values, and tells what was found, as
@@ -292,7 +292,7 @@ impl OrProver {
     /// # Ok::<(), Damaged>(())
     /// ```
     pub fn from_stored_with_nonce(bytes: &[u8]) -> Result<OrProver, Damaged> {
-        let values = stored::read::<STORED_OR_PROVER, NUMBERS>(MARK, bytes)?;
+        let values = stored::read::<STORED_OR_PROVER, NUMBERS>(START, bytes)?;
         let mut session = sys::or_prover_new();
         let OrSession { nonce, response, commitment0, commitment1, .. } = &mut session;
         let places = [nonce, response, commitment0, commitment1];
@@ -302,7 +302,7 @@ impl OrProver {
         session.challenge = values[4 * PLACES];
         session.side = values[4 * PLACES + 1];
         session.phase = values[4 * PLACES + 2];
-        if session.side > Side::Second.number() {
+        if session.side > Side::Second.number() || session.phase > stored::LAST_PHASE {
             return Err(Damaged);
         }
         Ok(OrProver { session })

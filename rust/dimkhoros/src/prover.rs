@@ -1,12 +1,10 @@
 //! Peggy's session.
 
-use crate::{Damaged, Found, Instance, NoResponse, PLACES, Places, Refused, STORED_PROVER, stored};
+use crate::stored_prover;
+use crate::{Damaged, Found, Instance, Memory, NoResponse, Places, Refused, STORED_PROVER};
 use core::fmt;
 use dimkhoros_sys::phases::prover::{ANSWERED, COMMITTED, DROPPED, NEW};
 use dimkhoros_sys::{self as sys, ProverAnswer, ProverSession};
-
-/// What a stored session of Peggy's begins with.
-const MARK: &[u8; 3] = b"PRV";
 
 /// The phases of a prover's session.
 ///
@@ -22,9 +20,9 @@ pub enum ProverPhase {
     New = NEW,
     /// 1: a nonce and its commitment are held.
     Committed = COMMITTED,
-    /// 2: a challenge was answered and the nonce is gone.
+    /// 2: a challenge was answered and the nonce is gone, but for saved copies.
     Answered = ANSWERED,
-    /// 3: the session was given up and the nonce is gone.
+    /// 3: the session was given up and the nonce is gone, but for saved copies.
     Dropped = DROPPED,
 }
 
@@ -59,12 +57,15 @@ impl ProverPhase {
 /// A prover's session.
 ///
 /// Each call takes the session and hands it back, refused calls too, and there is no way to copy it by mistake: it is neither
-/// `Clone` nor `Copy`. Over any chain of calls in which each is given the session that the last one handed back, at most one
-/// challenge is answered: this is proved of the library. It cannot know of copies that are made by
-/// [`to_stored`](Prover::to_stored) and [`from_stored_with_nonce`](Prover::from_stored_with_nonce), or by
+/// `Clone` nor `Copy`. Over any chain of calls in which each is given the session that the last one handed back, no commitment is
+/// answered twice, and at most one challenge is answered if no call returns: this is proved of the library. It cannot know of
+/// copies that are made by [`to_stored`](Prover::to_stored) and [`from_stored_with_nonce`](Prover::from_stored_with_nonce), or by
 /// [`into_parts`](Prover::into_parts) and [`from_parts`](Prover::from_parts). A box that stores its session answers by
 /// [`respond_after`](Prover::respond_after) and reads it back by [`reopen`](Prover::reopen). Nor does the library wipe the
 /// memory that a session was moved out of.
+///
+/// A session can be saved under eight names and returned to: see [`save`](Prover::save). That is for demonstrations, and a box
+/// does not save: a saved copy keeps its nonce, also after the session has answered or was dropped.
 ///
 /// ```
 /// use dimkhoros::{places, Prover, ProverPhase, Refusal};
@@ -104,8 +105,9 @@ pub struct Prover {
     session: ProverSession,
 }
 
+#[allow(clippy::result_large_err, reason = "a refused call hands the session back")]
 impl Prover {
-    /// A new session, which holds zeros.
+    /// A new session, which holds zeros. Nothing is saved in it, and nothing listed as answered.
     ///
     /// ```
     /// use dimkhoros::{Prover, ProverPhase};
@@ -118,7 +120,8 @@ impl Prover {
 
     /// Commits a new session to a nonce, and answers the commitment. Refused with 16 or 21.
     ///
-    /// The nonce is the caller's. It has to be drawn at random from all coordinates, anew for each session.
+    /// The nonce is the caller's. It has to be drawn at random from all coordinates, anew for each commitment. A commitment that
+    /// was answered before is not refused here: responding to it is, with 32.
     ///
     /// ```
     /// use dimkhoros::{places, Prover, ProverPhase};
@@ -139,8 +142,10 @@ impl Prover {
         step(sys::prover_commit(instance.bytes(), self.session, nonce))
     }
 
-    /// Answers the response of a committed session to a challenge, by a witness, and sets the held nonce to zeros. Refused with
-    /// 15 to 17 or 21; a committed session that is refused stays committed and can still answer.
+    /// Answers the response of a committed session to a challenge, by a witness, sets the held nonce to zeros and lists the
+    /// commitment as answered. Saved states stay, with their nonces. Refused with 15 to 17, 21, then 32 if the held commitment is
+    /// listed, compared in all eight places, and 33 if the list holds 64. A committed session that is refused stays committed.
+    /// After 15 to 21 it can still answer; after 32 and 33 it can be dropped or returned from.
     ///
     /// ```
     /// use dimkhoros::{places, Prover, Refusal};
@@ -167,10 +172,11 @@ impl Prover {
     /// Responds as [`respond`](Prover::respond) does, and hands the response out only after `store` has succeeded.
     ///
     /// `store` is given the stored form of the session as it is after the response. It has to write it over the one that was
-    /// stored before, and to answer `Ok` only once it would be found again after the box is switched off. So whatever is
-    /// found when the box starts, no second challenge is answered on a nonce whose response was sent. Where `store` fails,
-    /// the response is gone and the error holds the session, which answers no challenge; where the call is refused, `store`
-    /// is not called.
+    /// stored before, and to answer `Ok` only once it would be found again after the box is switched off. The whole session is
+    /// stored, with its saved states and its list: so what is found when the box starts lists each commitment of this session
+    /// whose response was sent, and does not answer it again. An old copy does not list it: see [`reopen`](Prover::reopen).
+    /// If `store` fails, the response is gone and the error holds the session, which answers no challenge if no call returns; if
+    /// the call is refused, `store` is not called.
     ///
     /// ```
     /// use dimkhoros::{Prover, Refusal, places};
@@ -204,7 +210,7 @@ impl Prover {
         }
     }
 
-    /// Gives up a new or committed session, and sets the held nonce to zeros. Refused with 21.
+    /// Gives up a new or committed session, and sets the held nonce to zeros. Saved states stay, with their nonces. Refused with 21.
     ///
     /// ```
     /// use dimkhoros::{Prover, ProverPhase};
@@ -216,6 +222,77 @@ impl Prover {
     pub fn drop_session(self) -> Result<Prover, Refused<Prover>> {
         let (session, _) = step(sys::prover_drop(self.session))?;
         Ok(session)
+    }
+
+    /// Saves the state, nonce and commitment of a session, in whatever phase, under a name from 0 to 7, in the place of what was
+    /// saved there. Nothing else of the session changes. Refused with 34.
+    ///
+    /// Saving is for demonstrations: a box does not save. The saved copy keeps its nonce until the same name is saved again,
+    /// whatever the session does, and it stands in [`to_stored`](Prover::to_stored) too.
+    ///
+    /// ```
+    /// use dimkhoros::{places, Prover, ProverPhase, Refusal};
+    /// # use dimkhoros::{Instance, Patterns, Plan};
+    /// # let plan = Plan { pattern: 1, modulus: 23, order: 11, challenges: 11, values: &[2], statement: &[13] };
+    /// # let instance = Instance::from_pattern(&Patterns::shipped(), &plan)?;
+    ///
+    /// // A demonstrator saves a committed session, and returns to it for a second answer on the same nonce.
+    /// let (peggy, _) = Prover::new().save(0)?.commit(&instance, &places([5]))?;
+    /// let (peggy, response) = peggy.save(1)?.respond(&instance, 3, &places([7]))?;
+    /// assert_eq!(response, places([4]));
+    /// let again = peggy.return_to(1)?.respond(&instance, 1, &places([7])).unwrap_err();
+    /// assert_eq!(again.refusal, Refusal::Answered);
+    ///
+    /// // With the new session, saved under 0, another round begins, on another nonce.
+    /// let (peggy, _) = again.session.return_to(0)?.commit(&instance, &places([6]))?;
+    /// let (peggy, _) = peggy.respond(&instance, 1, &places([7]))?;
+    /// assert_eq!((peggy.saved(1), peggy.answered()), (Some(ProverPhase::Committed), 2));
+    /// # Ok::<(), Refusal>(())
+    /// ```
+    pub fn save(self, name: u32) -> Result<Prover, Refused<Prover>> {
+        let (session, _) = step(sys::prover_save(self.session, name))?;
+        Ok(session)
+    }
+
+    /// Brings back the state, nonce and commitment that were saved under a name, in whatever phase the session is. Nothing else
+    /// changes: the saved states and the list of answered commitments stay, so that the return can be made again. Refused with 34,
+    /// for a name of 8 or more and for one that was never saved.
+    ///
+    /// ```
+    /// use dimkhoros::{Prover, ProverPhase, Refusal};
+    ///
+    /// let peggy = Prover::new().save(7)?.drop_session()?;
+    /// let never = peggy.return_to(6).unwrap_err();
+    /// assert_eq!(never.refusal, Refusal::Name);
+    /// assert_eq!(never.session.return_to(7)?.phase(), ProverPhase::New);
+    /// # Ok::<(), Refusal>(())
+    /// ```
+    pub fn return_to(self, name: u32) -> Result<Prover, Refused<Prover>> {
+        let (session, _) = step(sys::prover_return(self.session, name))?;
+        Ok(session)
+    }
+
+    /// The phase that is saved under a name, none for a name of 8 or more and for one that was never saved.
+    ///
+    /// ```
+    /// use dimkhoros::{Prover, ProverPhase};
+    ///
+    /// let peggy = Prover::new().save(3)?;
+    /// assert_eq!((peggy.saved(3), peggy.saved(4)), (Some(ProverPhase::New), None));
+    /// # Ok::<(), dimkhoros::Refusal>(())
+    /// ```
+    pub fn saved(&self, name: u32) -> Option<ProverPhase> {
+        let saved = self.session.memory.saved.get(usize::try_from(name).ok()?)?;
+        (saved.kept != 0).then(|| ProverPhase::from_number(saved.phase))
+    }
+
+    /// How many commitments the session has answered, at most 64. A return does not lower it.
+    ///
+    /// ```
+    /// assert_eq!(dimkhoros::Prover::new().answered(), 0);
+    /// ```
+    pub fn answered(&self) -> u32 {
+        self.session.memory.count
     }
 
     /// The session's phase.
@@ -245,29 +322,27 @@ impl Prover {
         &self.session.commitment
     }
 
-    /// The session's stored form, as include/dimkhoros.h describes it: 79 bytes with a mark, a version, a length and a check
-    /// value. They hold the nonce. See [`ProverParts`] for what a box that stores sessions has to see to.
+    /// The session's stored form, as include/dimkhoros.h describes it: 2,707 bytes with a mark, a version, a length and a check
+    /// value. They hold the nonce and every saved nonce, these also after the session has answered or was dropped. See
+    /// [`ProverParts`] for what a box that stores sessions has to see to.
     ///
     /// ```
     /// use dimkhoros::Prover;
     ///
     /// let stored = Prover::new().to_stored();
-    /// assert_eq!(stored[..7], *b"PRV\0\x01\0\x4f");
+    /// assert_eq!(stored[..7], *b"PRV\0\x02\x0a\x93");
     /// ```
     pub fn to_stored(&self) -> [u8; STORED_PROVER] {
-        let mut values = [0; 2 * PLACES + 1];
-        values[..PLACES].copy_from_slice(&self.session.nonce);
-        values[PLACES..2 * PLACES].copy_from_slice(&self.session.commitment);
-        values[2 * PLACES] = self.session.phase;
-        stored::write(MARK, &values)
+        stored_prover::write(self.session)
     }
 
-    /// Reads a stored session back without its nonce, and tells what was found. A session that was Committed is dropped; of
-    /// bytes that are damaged, a new session is handed back. Both have to be stored over these bytes. A session in another
-    /// phase is handed back as it was stored.
+    /// Reads a stored session back without the nonce that it holds, and tells what was found. A session that was Committed is
+    /// dropped; of bytes that are damaged, a new session is handed back. Both have to be stored over these bytes. A session in
+    /// another phase is handed back as it was stored.
     ///
     /// So the session is never Committed. This is rule 1 of docs/BOXES.md: only what this run has drawn is answered. The bytes may
-    /// be an old copy, from a backup or a write that the disk lost, of a session whose challenge was answered long ago.
+    /// be an old copy, from a backup or a write that the disk lost, of a session whose challenge was answered long ago. Saved states
+    /// and the list come back as they were stored: a box must not return to a state that it finds saved, for the same reason.
     ///
     /// ```
     /// use dimkhoros::{Found, Prover, ProverPhase, Refusal, places};
@@ -299,7 +374,7 @@ impl Prover {
     }
 
     /// Reads a stored session back with its nonce. Bytes that are no stored form are [`Damaged`]: a file that was cut, changed
-    /// in a byte, lengthened or emptied, and a session of Vic's.
+    /// in a byte, lengthened or emptied, a session of Vic's, and version 1 of the form, which had no saved states.
     ///
     /// A box must not answer on what this hands back. Rule 1 of docs/BOXES.md: only what this run has drawn is answered, and a
     /// committed session that is found in a file is dropped. If the same nonce was answered before, another answer gives the
@@ -316,12 +391,7 @@ impl Prover {
     /// # Ok::<(), Damaged>(())
     /// ```
     pub fn from_stored_with_nonce(bytes: &[u8]) -> Result<Prover, Damaged> {
-        let values = stored::read::<STORED_PROVER, { 2 * PLACES + 1 }>(MARK, bytes)?;
-        let mut session = sys::prover_new();
-        session.nonce.copy_from_slice(&values[..PLACES]);
-        session.commitment.copy_from_slice(&values[PLACES..2 * PLACES]);
-        session.phase = values[2 * PLACES];
-        Ok(Prover { session })
+        Ok(Prover { session: stored_prover::read(bytes)? })
     }
 
     /// Takes the session apart. [`to_stored`](Prover::to_stored) is for a box that stores it.
@@ -341,6 +411,7 @@ impl Prover {
             phase: self.phase(),
             nonce: self.session.nonce,
             commitment: self.session.commitment,
+            memory: self.session.memory,
         }
     }
 
@@ -358,6 +429,7 @@ impl Prover {
             phase: parts.phase.number(),
             nonce: parts.nonce,
             commitment: parts.commitment,
+            memory: parts.memory,
         };
         Prover { session }
     }
@@ -369,7 +441,7 @@ impl Default for Prover {
     }
 }
 
-/// Shows the phase and the commitment, and never the nonce.
+/// Shows the phase and the commitment, and never a nonce, held or saved.
 impl fmt::Debug for Prover {
     fn fmt(&self, f: &mut fmt::Formatter<'_>) -> fmt::Result {
         f.debug_struct("Prover")
@@ -382,15 +454,17 @@ impl fmt::Debug for Prover {
 /// A prover's session taken apart.
 ///
 /// Parts and stored bytes are the two forms in which a session can be copied, by hand. Whoever answers two challenges on one
-/// nonce gives the witness away, and the library cannot know of copies: what is proved, that one session answers at most one
-/// challenge, is proved of chains of calls in which each is given the session that the last one handed back. So a box that
-/// stores a session stores what a call handed back in the place of what it gave, and does so before it sends the answer:
-/// [`Prover::respond_after`] keeps this order. And it answers on no session that it finds: [`Prover::reopen`] drops it.
+/// nonce gives the witness away, and the library cannot know of copies: what is proved, that one session answers no commitment
+/// twice, and at most one challenge if no call returns, is proved of chains of calls in which each is given the session that the
+/// last one handed back. So a box that stores a session stores what a call handed back in the place of what it gave, and does so
+/// before it sends the answer: [`Prover::respond_after`] keeps this order. It answers on no session that it finds, which
+/// [`Prover::reopen`] drops, and returns to no state that it finds saved.
 ///
 /// ```
-/// use dimkhoros::{Prover, ProverParts, ProverPhase};
+/// use dimkhoros::{Memory, Prover, ProverParts, ProverPhase};
 ///
-/// let parts = ProverParts { phase: ProverPhase::New, nonce: [0; 8], commitment: [0; 8] };
+/// let (phase, memory) = (ProverPhase::New, Memory::default());
+/// let parts = ProverParts { phase, nonce: [0; 8], commitment: [0; 8], memory };
 /// assert!(Prover::new().into_parts() == parts);
 /// ```
 #[derive(PartialEq, Eq)]
@@ -401,9 +475,12 @@ pub struct ProverParts {
     pub nonce: Places,
     /// The commitment.
     pub commitment: Places,
+    /// The saved states, each with its nonce, and the answered commitments.
+    pub memory: Memory,
 }
 
 /// The session of an answer with its values, or the session with why the call was refused.
+#[allow(clippy::result_large_err, reason = "a refused call hands the session back")]
 fn step(answer: ProverAnswer) -> Result<(Prover, Places), Refused<Prover>> {
     let session = Prover { session: answer.session };
     let session = Refused::check(session, answer.refusal)?;

@@ -7,7 +7,7 @@ use core::fmt;
 macro_rules! refusals {
     ($($number:literal, $name:ident, $sentence:literal;)*) => {
         /// Why a call was refused. Where several refusals apply, the earliest in the order 23, 24, 1 to 9, 27, 29, 30, 10, 11,
-        /// 26, 12, 25, 13 to 16, 28, 31, 17 to 22 is given.
+        /// 26, 12, 25, 13 to 16, 28, 31, 17 to 21, 32 to 34, 22 is given.
         ///
         /// ```
         /// use dimkhoros::{Instance, Refusal};
@@ -71,6 +71,9 @@ refusals! {
     29, FormCounts, "there have to be 1 to 8 generators, a coefficient for each row, generator and column, and a statement value for each row";
     30, Coefficient, "a coefficient has to be below the order";
     31, GameSize, "the sheet is too large for the game, which takes q^n up to 4096, or in a root sheet m up to 4096 and one row";
+    32, Answered, "the commitment that the session holds was answered before";
+    33, ListFull, "the session's list of answered commitments is full: it holds 64";
+    34, Name, "the name of a saved state has to be 0 to 7, and a return needs one that was saved";
 }
 
 impl Refusal {

@@ -6,9 +6,9 @@ use core::fmt;
 /// How many bytes a stored session of Peggy's has.
 ///
 /// ```
-/// assert_eq!(dimkhoros::STORED_PROVER, 3 + 2 + 2 + 4 * (8 + 8 + 1) + 4);
+/// assert_eq!(dimkhoros::STORED_PROVER, 3 + 2 + 2 + 4 * (8 + 8 + 1 + 8 * (8 + 8 + 2) + 64 * 8 + 1) + 4);
 /// ```
-pub const STORED_PROVER: usize = 79;
+pub const STORED_PROVER: usize = 2707;
 
 /// How many bytes a stored session of Vic's has.
 ///
@@ -24,7 +24,8 @@ pub const STORED_VERIFIER: usize = 51;
 /// ```
 pub const STORED_OR_PROVER: usize = 151;
 
-/// The bytes are no stored session: they are of another length, mark, version or phase, or the check value is another.
+/// The bytes are no stored session: they are of another length, mark or version, or the check value is another, or no call makes
+/// a session of these numbers.
 ///
 /// ```
 /// use dimkhoros::{Damaged, Verifier};
@@ -48,13 +49,12 @@ const START: usize = 7;
 const CHECK: usize = 4;
 
 /// The last of a session's four phases.
-const LAST_PHASE: u32 = 3;
+pub(crate) const LAST_PHASE: u32 = 3;
 
-/// The stored form of these values under a mark. They fill its `LENGTH` bytes.
-pub(crate) fn write<const LENGTH: usize>(mark: &[u8; 3], values: &[u32]) -> [u8; LENGTH] {
+/// The stored form of these values under a mark and a version. They fill its `LENGTH` bytes.
+pub(crate) fn write<const LENGTH: usize>(start: &[u8; 5], values: &[u32]) -> [u8; LENGTH] {
     let mut stored = [0; LENGTH];
-    stored[..3].copy_from_slice(mark);
-    stored[3..5].copy_from_slice(&1u16.to_be_bytes());
+    stored[..5].copy_from_slice(start);
     stored[5..START].copy_from_slice(&(LENGTH as u16).to_be_bytes());
     for (place, value) in stored[START..].chunks_exact_mut(4).zip(values) {
         place.copy_from_slice(&value.to_be_bytes());
@@ -64,9 +64,9 @@ pub(crate) fn write<const LENGTH: usize>(mark: &[u8; 3], values: &[u32]) -> [u8;
     stored
 }
 
-/// The values, a phase last, of which these bytes are the stored form under a mark.
+/// The values of which these bytes are the stored form under a mark and a version.
 pub(crate) fn read<const LENGTH: usize, const COUNT: usize>(
-    mark: &[u8; 3],
+    start: &[u8; 5],
     bytes: &[u8],
 ) -> Result<[u32; COUNT], Damaged> {
     let stored: &[u8; LENGTH] = bytes.try_into().map_err(|_| Damaged)?;
@@ -74,11 +74,7 @@ pub(crate) fn read<const LENGTH: usize, const COUNT: usize>(
     for (value, place) in values.iter_mut().zip(stored[START..].chunks_exact(4)) {
         *value = place.iter().fold(0, |number, byte| number << 8 | u32::from(*byte));
     }
-    if write(mark, &values) == *stored && values[COUNT - 1] <= LAST_PHASE {
-        Ok(values)
-    } else {
-        Err(Damaged)
-    }
+    if write(start, &values) == *stored { Ok(values) } else { Err(Damaged) }
 }
 
 /// The CRC-32 of IEEE 802.3, reflected: polynomial EDB88320, with all bits changed over at the start and at the end.

@@ -5,8 +5,8 @@ use crate::{Damaged, Instance, PLACES, Places, Refused, STORED_VERIFIER, Verdict
 use dimkhoros_sys::phases::verifier::{ASKED, HOLDING, JUDGED, WAITING};
 use dimkhoros_sys::{self as sys, VerifierAnswer, VerifierSession};
 
-/// What a stored session of Vic's begins with.
-const MARK: &[u8; 3] = b"VRF";
+/// What a stored session of Vic's begins with: its mark and its version.
+const START: &[u8; 5] = b"VRF\0\x01";
 
 /// The phases of a verifier's session, in their order.
 ///
@@ -224,7 +224,7 @@ impl Verifier {
         values[..PLACES].copy_from_slice(&self.session.commitment);
         values[PLACES] = self.session.challenge;
         values[PLACES + 1] = self.session.phase;
-        stored::write(MARK, &values)
+        stored::write(START, &values)
     }
 
     /// The session of a stored form. Any other bytes are [`Damaged`]: a file that was cut, changed in a byte, lengthened or
@@ -239,11 +239,14 @@ impl Verifier {
     /// # Ok::<(), Damaged>(())
     /// ```
     pub fn from_stored(bytes: &[u8]) -> Result<Verifier, Damaged> {
-        let values = stored::read::<STORED_VERIFIER, { PLACES + 2 }>(MARK, bytes)?;
+        let values = stored::read::<STORED_VERIFIER, { PLACES + 2 }>(START, bytes)?;
         let mut session = sys::verifier_new();
         session.commitment.copy_from_slice(&values[..PLACES]);
         session.challenge = values[PLACES];
         session.phase = values[PLACES + 1];
+        if session.phase > stored::LAST_PHASE {
+            return Err(Damaged);
+        }
         Ok(Verifier { session })
     }
 

@@ -1,10 +1,10 @@
 //! A plain judge for proofs of a preimage under a group homomorphism.
 //!
 //! Every call takes any bytes and any numbers. It ends in a result or in one
-//! refusal, a number from 1 to 31. The earliest that applies is given, in the
+//! refusal, a number from 1 to 34. The earliest that applies is given, in the
 //! order 23, 24, then 1 to 9, then 27, 29, 30, 10, 11, 26, 12, 25, then 13 to
-//! 16, then 28, 31 and then 17 to 22. A refused call changes neither a lent
-//! buffer nor a session nor a watch.
+//! 16, then 28, 31, then 17 to 21, then 32, 33, 34 and 22. A refused call
+//! changes neither a lent buffer nor a session nor a watch.
 //!
 //! The cards put 28 and 31 both after 16. No call can give both, so nothing
 //! hangs on which of the two stands first.
@@ -42,8 +42,8 @@ pub use protocol::{extract, judge, simulate, Round, Rows, Verdict};
 pub use reason::reason;
 pub use round_file::{append, check, convert, count, empty, part, read, same_commitment};
 pub use sessions::{
-    commit, drop_session, respond, take_challenge, take_commitment, take_response, Prover,
-    ProverPhase, Verifier, VerifierPhase,
+    commit, drop_session, respond, return_to, save, take_challenge, take_commitment, take_response,
+    Prover, ProverPhase, Saved, Verifier, VerifierPhase, MOST_ANSWERED, NAMES,
 };
 pub use sheet::{encode, load, Sheet};
 pub use team::{join_responses, multiply_commitments};

@@ -4,8 +4,10 @@
 //! refused call hands it back unchanged.
 
 mod prover;
+mod states;
 mod verifier;
 
 pub(crate) use prover::answers;
-pub use prover::{commit, drop_session, respond, Prover, ProverPhase};
+pub use prover::{commit, drop_session, respond, Prover, ProverPhase, MOST_ANSWERED};
+pub use states::{return_to, save, Saved, NAMES};
 pub use verifier::{take_challenge, take_commitment, take_response, Verifier, VerifierPhase};

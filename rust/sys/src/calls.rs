@@ -311,7 +311,7 @@ pub fn prover_new() -> ProverSession {
 #[inline]
 pub fn prover_commit(sheet: &[u8], session: ProverSession, nonce: &Places) -> ProverAnswer {
     // SAFETY: the slice is given by its pointer and length, and `nonce` has 8 numbers.
-    unsafe { dimkhoros_prover_commit(sheet.as_ptr(), sheet.len(), session, nonce.as_ptr()) }
+    unsafe { dimkhoros_prover_commit(sheet.as_ptr(), sheet.len(), Handed(session), nonce.as_ptr()) }
 }
 
 /// Answers the response of Peggy's committed session to a challenge, by a witness.
@@ -324,14 +324,30 @@ pub fn prover_respond(
 ) -> ProverAnswer {
     let (pointer, length) = (sheet.as_ptr(), sheet.len());
     // SAFETY: the slice is given by its pointer and length, and `witness` has 8 numbers.
-    unsafe { dimkhoros_prover_respond(pointer, length, session, challenge, witness.as_ptr()) }
+    unsafe {
+        dimkhoros_prover_respond(pointer, length, Handed(session), challenge, witness.as_ptr())
+    }
 }
 
 /// Gives up a session of Peggy's.
 #[inline]
 pub fn prover_drop(session: ProverSession) -> ProverAnswer {
     // SAFETY: the call takes a struct of numbers alone.
-    unsafe { dimkhoros_prover_drop(session) }
+    unsafe { dimkhoros_prover_drop(Handed(session)) }
+}
+
+/// Saves the state, nonce and commitment of Peggy's session under a name, 0 to 7.
+#[inline]
+pub fn prover_save(session: ProverSession, name: u32) -> ProverAnswer {
+    // SAFETY: the call takes a struct of numbers and a number alone.
+    unsafe { dimkhoros_prover_save(Handed(session), name) }
+}
+
+/// Brings back the state, nonce and commitment that were saved under a name.
+#[inline]
+pub fn prover_return(session: ProverSession, name: u32) -> ProverAnswer {
+    // SAFETY: the call takes a struct of numbers and a number alone.
+    unsafe { dimkhoros_prover_return(Handed(session), name) }
 }
 
 /// A new session of Vic's, with zeros.

@@ -6,6 +6,13 @@ use crate::{
     VerifierJudgement, VerifierSession, Watch, WatchAnswer, Written,
 };
 
+/// Peggy's session as it is handed to an export: by value on the stack, where each argument begins at a multiple of 8 bytes. That
+/// the type says so leaves the call as it is, and the session is then copied by 8 bytes and not by 4, which is much faster.
+#[repr(C, align(8))]
+pub struct Handed(pub ProverSession);
+
+const _: () = assert!(size_of::<Handed>() == size_of::<ProverSession>());
+
 unsafe extern "C" {
     pub fn dimkhoros_version() -> u32;
 
@@ -203,19 +210,23 @@ unsafe extern "C" {
     pub fn dimkhoros_prover_commit(
         sheet: *const u8,
         sheet_length: usize,
-        session: ProverSession,
+        session: Handed,
         nonce: *const u32,
     ) -> ProverAnswer;
 
     pub fn dimkhoros_prover_respond(
         sheet: *const u8,
         sheet_length: usize,
-        session: ProverSession,
+        session: Handed,
         challenge: u32,
         witness: *const u32,
     ) -> ProverAnswer;
 
-    pub fn dimkhoros_prover_drop(session: ProverSession) -> ProverAnswer;
+    pub fn dimkhoros_prover_drop(session: Handed) -> ProverAnswer;
+
+    pub fn dimkhoros_prover_save(session: Handed, name: u32) -> ProverAnswer;
+
+    pub fn dimkhoros_prover_return(session: Handed, name: u32) -> ProverAnswer;
 
     pub fn dimkhoros_verifier_new() -> VerifierSession;
 

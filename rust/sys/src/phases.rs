@@ -6,9 +6,9 @@ pub mod prover {
     pub const NEW: u32 = 0;
     /// A nonce and its commitment are held.
     pub const COMMITTED: u32 = 1;
-    /// A challenge was answered and the nonce is gone.
+    /// A challenge was answered and the nonce is gone, but for saved copies.
     pub const ANSWERED: u32 = 2;
-    /// The session was given up and the nonce is gone.
+    /// The session was given up and the nonce is gone, but for saved copies.
     pub const DROPPED: u32 = 3;
 }
 

@@ -12,7 +12,7 @@ pub const PLACES: usize = 8;
 ///
 /// A sheet of s rows and n columns uses the first s places for commitments and statements and the first n for the others.
 /// The places behind them are not read where a call takes them, and are 0 where a call answers them. A session keeps what
-/// it holds in all eight, and the commitments that a prover's hold are tested in all eight (by refusal 21).
+/// it holds in all eight, and the commitments that a prover's hold are tested in all eight (by refusals 21 and 32).
 ///
 /// ```
 /// # use dimkhoros_sys::{PLACES, Places};
@@ -55,6 +55,22 @@ pub const PARTS: usize = 64;
 /// images[8] = 13; // the second player's value of row 0
 /// ```
 pub type Parts = [u32; PARTS];
+
+/// How many saved states a session of Peggy's has: their names are 0 to 7.
+///
+/// ```
+/// # use dimkhoros_sys::SAVED_STATES;
+/// assert_eq!(SAVED_STATES, 8);
+/// ```
+pub const SAVED_STATES: usize = 8;
+
+/// How many commitments the fullest list of answered ones has.
+///
+/// ```
+/// # use dimkhoros_sys::MOST_ANSWERED;
+/// assert_eq!(MOST_ANSWERED, 64);
+/// ```
+pub const MOST_ANSWERED: usize = 64;
 
 /// How many accepted rounds the fullest watch remembers.
 ///

@@ -1,7 +1,8 @@
 //! The structs that cross, with the layout of C. A refusal is 0 where nothing is refused; beside any other number stand zeros,
 //! or the session or watch as it was given.
 
-use crate::{LONGEST_SHEET, MOST_REMEMBERED, Places};
+use crate::{LONGEST_SHEET, MOST_ANSWERED, MOST_REMEMBERED, Places, SAVED_STATES};
+use core::fmt;
 
 /// The fixed fields of a sheet.
 ///
@@ -187,19 +188,86 @@ pub struct OrExtracted {
     pub refusal: u32,
 }
 
+/// A saved state of Peggy's session: what a return brings back. It keeps its nonce, whatever the session does, and `Debug` does
+/// not show it.
+#[derive(Clone, Copy, Default, PartialEq, Eq, Hash)]
+#[repr(C)]
+pub struct Saved {
+    /// The nonce.
+    pub nonce: Places,
+    /// The commitment.
+    pub commitment: Places,
+    /// The phase, a number of [`phases::prover`](crate::phases::prover). Any other is taken as Dropped.
+    pub phase: u32,
+    /// 0 if nothing was saved under this name, 1 after a save. Any other number is taken as 1.
+    pub kept: u32,
+}
+
+/// Shows all but the nonce.
+impl fmt::Debug for Saved {
+    fn fmt(&self, f: &mut fmt::Formatter<'_>) -> fmt::Result {
+        f.debug_struct("Saved")
+            .field("commitment", &self.commitment)
+            .field("phase", &self.phase)
+            .field("kept", &self.kept)
+            .finish_non_exhaustive()
+    }
+}
+
+/// A commitment that was answered.
+#[derive(Clone, Copy, Debug, Default, PartialEq, Eq, Hash)]
+#[repr(C)]
+pub struct Listed {
+    /// The commitment.
+    pub commitment: Places,
+}
+
+/// What Peggy's session keeps beside its state.
+#[derive(Clone, Copy, Debug, PartialEq, Eq, Hash)]
+#[repr(C)]
+pub struct Memory {
+    /// The saved states, by name.
+    pub saved: [Saved; SAVED_STATES],
+    /// The answered commitments. Those from `count` on are not read.
+    pub answered: [Listed; MOST_ANSWERED],
+    /// How many commitments were answered.
+    pub count: u32,
+}
+
+/// Nothing saved and nothing listed.
+impl Default for Memory {
+    fn default() -> Memory {
+        Memory { saved: Default::default(), answered: [Listed::default(); MOST_ANSWERED], count: 0 }
+    }
+}
+
 /// Peggy's session.
 ///
 /// It is a struct of numbers, and a copy of it is as good as the first: whoever answers two challenges from two copies of one
-/// session gives the witness away.
-#[derive(Clone, Copy, Debug, Default, PartialEq, Eq, Hash)]
+/// session gives the witness away. `Debug` shows no nonce, held or saved.
+#[derive(Clone, Copy, Default, PartialEq, Eq, Hash)]
 #[repr(C)]
 pub struct ProverSession {
     /// The nonce, zeros where none is held.
     pub nonce: Places,
     /// The commitment.
     pub commitment: Places,
-    /// The phase, a number of [`phases::prover`](crate::phases::prover) or any other.
+    /// The phase, a number of [`phases::prover`](crate::phases::prover) or any other. Any other is taken as Dropped: commit,
+    /// respond and drop are refused, and a save writes 3, here too.
     pub phase: u32,
+    /// The saved states and the answered commitments.
+    pub memory: Memory,
+}
+
+/// Shows all but the nonces.
+impl fmt::Debug for ProverSession {
+    fn fmt(&self, f: &mut fmt::Formatter<'_>) -> fmt::Result {
+        f.debug_struct("ProverSession")
+            .field("commitment", &self.commitment)
+            .field("phase", &self.phase)
+            .field("memory", &self.memory)
+            .finish_non_exhaustive()
+    }
 }
 
 /// What a call on Peggy's session answers.

@@ -1,6 +1,6 @@
 //! Peggy's session: new, commit, respond.
 
-use dimkhoros_sys::Places;
+use dimkhoros_sys::{Memory, Places, MOST_ANSWERED};
 
 use super::arithmetic::{places, Arithmetic};
 use super::sheet::{load, Kind, Sheet};
@@ -19,16 +19,18 @@ pub struct Prover {
     pub phase: Phase,
     pub nonce: Places,
     pub commitment: Places,
+    pub memory: Memory,
 }
 
 impl Prover {
-    /// A new session: New, with zeros.
+    /// A new session: New, with zeros, and with nothing saved or listed.
     #[inline(never)]
     pub fn new() -> Prover {
         Prover {
             phase: Phase::New,
             nonce: [0; 8],
             commitment: [0; 8],
+            memory: Memory::default(),
         }
     }
 
@@ -71,10 +73,26 @@ impl Prover {
         if self.phase != Phase::Committed || !self.fits(&sheet) {
             return Err(21);
         }
+        if self.is_listed() {
+            return Err(32);
+        }
+        let at = self.memory.count as usize;
+        if at >= MOST_ANSWERED {
+            return Err(33);
+        }
         let response = sheet.response(&self.nonce, challenge, witness);
         self.phase = Phase::Answered;
         self.nonce = [0; 8];
+        self.memory.answered[at].commitment = self.commitment;
+        self.memory.count += 1;
         Ok(response)
+    }
+
+    /// Whether the held commitment was answered before.
+    fn is_listed(&self) -> bool {
+        let count = (self.memory.count as usize).min(MOST_ANSWERED);
+        let listed = &self.memory.answered[..count];
+        listed.iter().any(|one| one.commitment == self.commitment)
     }
 
     /// Whether the held nonce and commitment are those of this sheet.

@@ -6,7 +6,7 @@ use crate::calls::Call;
 use crate::cases::Case;
 use crate::library::{Header, Library, Places, ProverSession, VerifierSession};
 use crate::outcome::{Answer, Outcome};
-use crate::printing::hex;
+use crate::printing::{hex, prover};
 use crate::sheets;
 
 /// A session of each.
@@ -34,12 +34,14 @@ impl From<VerifierSession> for Sessions {
     }
 }
 
-/// A call with what it brings: the first three are Peggy's, the others Vic's.
+/// A call with what it brings: the first five are Peggy's, the others Vic's.
 #[derive(Clone, Copy, Debug, PartialEq, Eq)]
 pub enum Step {
     Commit { nonce: Places },
     Respond { challenge: u32, witness: Places },
     Drop,
+    Save { name: u32 },
+    Return { name: u32 },
     Commitment { commitment: Places },
     Challenge { challenge: u32 },
     Response { response: Places },
@@ -72,6 +74,8 @@ impl Step {
             Step::Commit { .. } => Call::ProverCommit,
             Step::Respond { .. } => Call::ProverRespond,
             Step::Drop => Call::ProverDrop,
+            Step::Save { .. } => Call::ProverSave,
+            Step::Return { .. } => Call::ProverReturn,
             Step::Commitment { .. } => Call::VerifierCommitment,
             Step::Challenge { .. } => Call::VerifierChallenge,
             Step::Response { .. } => Call::VerifierResponse,
@@ -79,24 +83,28 @@ impl Step {
     }
 
     /// The slots that it brings.
-    fn slots(&self) -> Option<Places> {
+    pub fn slots(&self) -> Option<Places> {
         match self {
             Step::Commit { nonce: slots }
             | Step::Respond { witness: slots, .. }
             | Step::Response { response: slots } => Some(*slots),
-            Step::Drop | Step::Commitment { .. } | Step::Challenge { .. } => None,
+            Step::Drop | Step::Save { .. } | Step::Return { .. } => None,
+            Step::Commitment { .. } | Step::Challenge { .. } => None,
         }
     }
 
     /// Makes the call. The session becomes the one that is handed back.
-    fn take(&self, library: Library, sheet: &[u8], sessions: &mut Sessions) -> Answer {
+    pub fn take(&self, library: Library, sheet: &[u8], sessions: &mut Sessions) -> Answer {
         let Sessions { prover, verifier } = *sessions;
+        let peggys = |answer| Answer::Prover(Box::new(answer));
         let answer = match self {
-            Step::Commit { nonce } => Answer::Prover(library.prover_commit(sheet, prover, nonce)),
+            Step::Commit { nonce } => peggys(library.prover_commit(sheet, prover, nonce)),
             Step::Respond { challenge, witness } => {
-                Answer::Prover(library.prover_respond(sheet, prover, *challenge, witness))
+                peggys(library.prover_respond(sheet, prover, *challenge, witness))
             }
-            Step::Drop => Answer::Prover(library.prover_drop(prover)),
+            Step::Drop => peggys(library.prover_drop(prover)),
+            Step::Save { name } => peggys(library.prover_save(prover, *name)),
+            Step::Return { name } => peggys(library.prover_return(prover, *name)),
             Step::Commitment { commitment } => {
                 Answer::Verifier(library.verifier_commitment(sheet, verifier, commitment))
             }
@@ -122,7 +130,7 @@ impl Case for SessionCase {
         let mut answers = Vec::new();
         let mut sessions = self.made.unwrap_or_else(|| {
             let (prover, verifier) = (library.prover_new(), library.verifier_new());
-            answers.push((Call::ProverNew, Answer::ProverNew(prover)));
+            answers.push((Call::ProverNew, Answer::ProverNew(Box::new(prover))));
             answers.push((Call::VerifierNew, Answer::VerifierNew(verifier)));
             Sessions { prover, verifier }
         });
@@ -152,7 +160,14 @@ impl fmt::Display for SessionCase {
         writeln!(out, "{}", names.join(", "))?;
         write!(out, "    sheet {}", hex(&self.sheet))?;
         match &self.made {
-            Some(made) => write!(out, "\n    {:x?}\n    {:x?}", made.prover, made.verifier)?,
+            Some(made) => {
+                write!(
+                    out,
+                    "\n    {}\n    {:x?}",
+                    prover(&made.prover),
+                    made.verifier
+                )?;
+            }
             None => write!(out, "\n    new sessions")?,
         }
         for step in &self.steps {

@@ -2,13 +2,14 @@
 
 use crate::arithmetic::multiply;
 use crate::faults::rounds::{bad_beyond, slot_bound};
+use crate::faults::states::{self, Asked};
 use crate::faults::Fault;
 use crate::library::phases::prover::{ANSWERED, COMMITTED, DROPPED, NEW};
 use crate::library::Library::Judge;
 use crate::library::{Header, Places, ProverAnswer, ProverSession};
 
 /// A refusal with this number, which hands the session back.
-fn refused(refusal: u32, session: ProverSession) -> ProverAnswer {
+pub fn refused(refusal: u32, session: ProverSession) -> ProverAnswer {
     ProverAnswer {
         refusal,
         session,
@@ -26,7 +27,7 @@ pub fn prover_new(fault: Fault) -> ProverSession {
         }
         _ => {}
     }
-    right
+    states::created(fault, right)
 }
 
 /// The call with a fault in how the phase is taken or handed back.
@@ -59,7 +60,8 @@ pub fn prover_commit(
     nonce: &Places,
 ) -> ProverAnswer {
     with_phase(fault, session, |session| {
-        committed(fault, sheet, session, nonce)
+        let answer = committed(fault, sheet, session, nonce);
+        states::committed(fault, &session, answer)
     })
 }
 
@@ -105,12 +107,19 @@ pub fn prover_respond(
     with_phase(fault, session, |session| {
         let right = Judge.prover_respond(sheet, session, challenge, witness);
         let header = Judge.load(sheet).header;
-        match right.refusal {
+        let answer = match right.refusal {
             0 => answered(fault, &header, session, challenge, witness, right),
             15..=17 => respond_early(fault, sheet, session, challenge, witness, right),
             21 => respond_unfit(fault, sheet, session, challenge, witness, right),
             _ => right,
-        }
+        };
+        let asked = Asked {
+            sheet,
+            session,
+            challenge,
+            witness,
+        };
+        asked.answer(fault, answer)
     })
 }
 
@@ -227,7 +236,9 @@ fn respond_unfit(
 }
 
 pub fn prover_drop(fault: Fault, session: ProverSession) -> ProverAnswer {
-    with_phase(fault, session, |session| dropped(fault, session))
+    with_phase(fault, session, |session| {
+        states::dropped(fault, dropped(fault, session))
+    })
 }
 
 fn dropped(fault: Fault, session: ProverSession) -> ProverAnswer {

@@ -7,6 +7,7 @@ use crate::library::phases::prover::{COMMITTED, NEW};
 use crate::library::ProverSession;
 use crate::making::brought::{change_rows, change_slot, fill_unread, spoil_slots, wrong_challenge};
 use crate::making::inputs::Inputs;
+use crate::making::memories::{any, fill, list, with_room};
 use crate::making::phases::{any_phase, wrong_phase};
 use crate::random::Random;
 
@@ -28,7 +29,7 @@ pub fn commit(random: &mut Random) -> Box<dyn Case> {
     SessionCase::one(inputs.bytes(random), session, Step::Commit { nonce })
 }
 
-/// A case of responding.
+/// A case of responding. Most sessions remember something.
 pub fn respond(random: &mut Random) -> Box<dyn Case> {
     let mut inputs = Inputs::known(random, Call::ProverRespond);
     let mut challenge = inputs.instance.challenge(random);
@@ -49,6 +50,8 @@ pub fn respond(random: &mut Random) -> Box<dyn Case> {
                 instance.sheet.statement = statement;
             }
             21 => spoil_session(random, instance, &mut session),
+            32 => list(random, &mut session.memory, &session.commitment),
+            33 => fill(random, instance, &mut session.memory, &session.commitment),
             _ => {}
         }
     }
@@ -65,7 +68,7 @@ pub fn give_up(random: &mut Random) -> Box<dyn Case> {
     SessionCase::one(Vec::new(), session, Step::Drop)
 }
 
-/// A session that holds a nonce with its commitment.
+/// A session that holds a nonce with its commitment and can answer.
 fn committed(random: &mut Random, instance: &Instance) -> ProverSession {
     let mut nonce = instance.slots(random);
     let commitment = instance.sheet.image(&nonce);
@@ -74,20 +77,24 @@ fn committed(random: &mut Random, instance: &Instance) -> ProverSession {
         phase: COMMITTED,
         nonce,
         commitment,
+        memory: with_room(random, instance, &commitment),
     }
 }
 
-/// A session with any held values.
-fn any_held(random: &mut Random, instance: &Instance) -> ProverSession {
-    match random.below(4) {
-        0 => ProverSession::default(),
+/// A session with any held values and any memory.
+pub fn any_held(random: &mut Random, instance: &Instance) -> ProverSession {
+    let mut session = match random.below(4) {
+        0 => return ProverSession::default(),
         1 => committed(random, instance),
         _ => ProverSession {
             phase: COMMITTED,
             nonce: random.words(),
             commitment: random.words(),
+            ..ProverSession::default()
         },
-    }
+    };
+    session.memory = any(random, instance, &session.commitment);
+    session
 }
 
 /// Makes a session one that does not allow a response on this sheet.

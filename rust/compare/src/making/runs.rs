@@ -96,7 +96,7 @@ fn changed(random: &mut Random, instance: &Instance, mut step: Step) -> Step {
         Step::Challenge { challenge } => {
             *challenge = instance.challenge(random);
         }
-        Step::Drop => {}
+        Step::Drop | Step::Save { .. } | Step::Return { .. } => {}
     }
     step
 }

@@ -47,7 +47,7 @@ pub fn of_rounds(random: &mut Random, rounds: u32) -> (Vec<u8>, Vec<WatchStep>) 
 
 /// Any group. Up to four are tried for one that is not small, so that commitments are
 /// seldom the same by chance.
-fn group(random: &mut Random) -> Group {
+pub fn group(random: &mut Random) -> Group {
     let mut group = Group::any(random);
     for _ in 0..3 {
         if group.modulus > 1000 && group.order > 1000 {

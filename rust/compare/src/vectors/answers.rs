@@ -3,14 +3,15 @@
 //! number, is told apart.
 
 use super::bytes;
-use super::inputs::{Inputs, Phases, PROVER_PHASES, UNREAD, VERIFIER_PHASES};
+use super::inputs::{Inputs, Phases, UNREAD, VERIFIER_PHASES};
 use super::or_answers;
+use super::prover_answers::prover;
 use super::Given;
 use crate::calls::Call;
 use crate::lent::{self, AROUND};
 use crate::library::{
-    Compared, Computed, Counted, Fetched, Judgement, Library, Loaded, Plan, ProverAnswer,
-    ProverSession, VerifierSession, Written, LONGEST_REASON, LONGEST_TEXT,
+    Compared, Computed, Counted, Fetched, Judgement, Library, Loaded, Plan, VerifierSession,
+    Written, LONGEST_REASON, LONGEST_TEXT,
 };
 
 /// A refusal, or the answer of a call that is carried out. `clean` says that a
@@ -36,13 +37,6 @@ pub fn list(places: &[u32], used: usize) -> String {
 pub fn phase(phases: Phases, number: u32) -> String {
     let named = phases.iter().find(|(_, of)| *of == number);
     named.map_or(number.to_string(), |(name, _)| name.to_string())
-}
-
-/// What Peggy's session holds.
-fn prover(session: &ProverSession) -> String {
-    let (nonce, commitment) = (list(&session.nonce, 1), list(&session.commitment, 1));
-    let phase = phase(PROVER_PHASES, session.phase);
-    format!("phase={phase} nonce={nonce} commitment={commitment}")
 }
 
 /// What Vic's session holds.
@@ -96,7 +90,7 @@ pub fn sizes(sheet: &[u8]) -> (usize, usize) {
 
 impl Given {
     /// The rows and the columns of the sheet.
-    fn sizes(&self) -> (usize, usize) {
+    pub fn sizes(&self) -> (usize, usize) {
         sizes(&self.sheet)
     }
 
@@ -124,6 +118,7 @@ impl Given {
             Call::ProverCommit | Call::ProverRespond | Call::ProverDrop => {
                 self.prover_step(library, call, inputs)
             }
+            Call::ProverSave | Call::ProverReturn => self.prover_step(library, call, inputs),
             Call::VerifierNew => Ok(verifier(&library.verifier_new())),
             Call::VerifierCommitment | Call::VerifierChallenge | Call::VerifierResponse => {
                 self.verifier_step(library, call, inputs)
@@ -275,41 +270,6 @@ impl Given {
         let Computed { values, refusal } = computed;
         Ok(told(refusal, values == [0; 8], || {
             format!("{name}={}", list(&values, used))
-        }))
-    }
-
-    fn prover_step(
-        &self,
-        library: Library,
-        call: Call,
-        inputs: &mut Inputs,
-    ) -> Result<String, String> {
-        let (s, n) = self.sizes();
-        let given = inputs.prover()?;
-        let (answer, name, used) = match call {
-            Call::ProverCommit => {
-                let nonce = inputs.brought("k")?;
-                (library.prover_commit(&self.sheet, given, &nonce), "t", s)
-            }
-            Call::ProverRespond => {
-                let (challenge, witness) = (inputs.number("c")?, inputs.brought("x")?);
-                (
-                    library.prover_respond(&self.sheet, given, challenge, &witness),
-                    "r",
-                    n,
-                )
-            }
-            _ => (library.prover_drop(given), "", 0),
-        };
-        let ProverAnswer {
-            session,
-            values,
-            refusal,
-        } = answer;
-        let clean = session == given && values == [0; 8];
-        Ok(told(refusal, clean, || match (name, values) {
-            ("", [0, 0, 0, 0, 0, 0, 0, 0]) => prover(&session),
-            _ => format!("{name}={} {}", list(&values, used), prover(&session)),
         }))
     }
 

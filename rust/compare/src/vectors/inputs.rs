@@ -7,8 +7,8 @@ use std::str::FromStr;
 use super::bytes;
 use crate::library::phases::{prover, verifier};
 use crate::library::{
-    Forms, Header, OrRound, OrSession, Places, ProverSession, Round, VerifierSession, Watch,
-    LONGEST_SHEET, MOST_REMEMBERED,
+    Forms, Header, Listed, Memory, OrRound, OrSession, Places, ProverSession, Round, Saved,
+    VerifierSession, Watch, LONGEST_SHEET, MOST_ANSWERED, MOST_REMEMBERED,
 };
 
 /// What stands in places that no call may read.
@@ -156,13 +156,8 @@ impl<'a> Inputs<'a> {
         })
     }
 
-    /// A phase by name, or any number.
     fn phase(&mut self, phases: Phases) -> Result<u32, String> {
-        let value = self.value("phase")?;
-        match phases.iter().find(|(name, _)| *name == value) {
-            Some((_, number)) => Ok(*number),
-            None => value.parse().map_err(|_| format!("{value} is no phase")),
-        }
+        phase(phases, self.value("phase")?)
     }
 
     pub fn prover(&mut self) -> Result<ProverSession, String> {
@@ -170,7 +165,30 @@ impl<'a> Inputs<'a> {
             phase: self.phase(PROVER_PHASES)?,
             nonce: self.places("nonce", 0)?,
             commitment: self.places("commitment", 0)?,
+            memory: self.memory()?,
         })
+    }
+
+    /// What Peggy's session remembers. The list's count is that of the commitments on the
+    /// line if it does not say otherwise.
+    fn memory(&mut self) -> Result<Memory, String> {
+        let mut memory = Memory::default();
+        if self.has("saved") {
+            for piece in self.value("saved")?.split('/') {
+                let (name, state) = saved(piece)?;
+                let place = memory.saved.get_mut(name);
+                *place.ok_or_else(|| format!("{name} is no name"))? = state;
+            }
+        }
+        if self.has("listed") {
+            let listed = listed(self.value("listed")?)?;
+            fill(&mut memory.answered, &listed)?;
+            memory.count = listed.len() as u32;
+        }
+        if self.has("count") {
+            memory.count = self.number("count")?;
+        }
+        Ok(memory)
     }
 
     pub fn or_prover(&mut self) -> Result<OrSession, String> {
@@ -213,6 +231,47 @@ impl<'a> Inputs<'a> {
         fill(&mut watch.rounds, &rounds(self.value("rounds")?)?)?;
         Ok(watch)
     }
+}
+
+/// A phase by name, or any number.
+fn phase(phases: Phases, word: &str) -> Result<u32, String> {
+    match phases.iter().find(|(name, _)| *name == word) {
+        Some((_, number)) => Ok(*number),
+        None => word.parse().map_err(|_| format!("{word} is no phase")),
+    }
+}
+
+/// A state with its name: name, phase, nonce and commitment with colons between them, and
+/// the flag if it is not 1.
+fn saved(text: &str) -> Result<(usize, Saved), String> {
+    let parts: Vec<&str> = text.split(':').collect();
+    let (name, held, kept) = match parts[..] {
+        [name, phase, nonce, commitment] => (name, [phase, nonce, commitment], 1),
+        [name, phase, nonce, commitment, kept] => (name, [phase, nonce, commitment], number(kept)?),
+        _ => return Err(format!("{text} is no saved state")),
+    };
+    let mut saved = Saved {
+        phase: phase(PROVER_PHASES, held[0])?,
+        kept,
+        ..Saved::default()
+    };
+    fill(&mut saved.nonce, &numbers(held[1])?)?;
+    fill(&mut saved.commitment, &numbers(held[2])?)?;
+    Ok((number(name)?, saved))
+}
+
+/// Listed commitments, with a slash between them. So many times the same is one with its
+/// count.
+fn listed(text: &str) -> Result<Vec<Listed>, String> {
+    let mut all = Vec::new();
+    for piece in text.split('/') {
+        let (values, count) = piece.split_once('*').unwrap_or((piece, "1"));
+        let mut listed = Listed::default();
+        fill(&mut listed.commitment, &numbers(values)?)?;
+        let count = number::<usize>(count)?.min(MOST_ANSWERED + 1);
+        all.extend(repeat_n(listed, count));
+    }
+    Ok(all)
 }
 
 /// The rounds that a watch remembers: t:c:r, with a slash between them. So many times

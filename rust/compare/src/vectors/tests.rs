@@ -129,6 +129,18 @@ fn a_line_that_cannot_be_read_is_named() {
             "watch_round count=0 rounds=- held=00*309 t=9 c=3 r=4 ->",
             "a list is too long",
         ),
+        (
+            "prover_drop phase=new nonce=0 commitment=0 saved=8:new:0:0 ->",
+            "8 is no name",
+        ),
+        (
+            "prover_drop phase=new nonce=0 commitment=0 saved=7:new:0 ->",
+            "7:new:0 is no saved state",
+        ),
+        (
+            "prover_drop phase=new nonce=0 commitment=0 listed=9*65 ->",
+            "a list is too long",
+        ),
     ] {
         let text = format!("# A comment.\n{line}\n");
         assert_eq!(remade(&text, Judge), Err(format!("line 2: {error}")));

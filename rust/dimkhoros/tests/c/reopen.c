@@ -8,7 +8,7 @@
 #include <stdlib.h>
 #include <string.h>
 
-#define MOST 256
+#define MOST 3000
 
 static uint8_t bytes[MOST];
 

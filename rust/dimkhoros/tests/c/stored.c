@@ -1,15 +1,15 @@
 /*
  * Reads lines of bytes in hexadecimal, and prints of each what session it stores: whose, the values, and the bytes that the
  * session is stored as; or that it is refused. Of each session it also prints how many damaged forms were tried, and how many
- * of them were taken: every byte changed to every other value, every cut, every byte behind it, and zeros behind it. A
- * refused call has to leave the session alone.
+ * of them were taken: every byte changed to every other value, or in every bit if there are over 256, every cut, every byte behind
+ * it, and zeros behind it. A refused call has to leave the session alone.
  */
 #include "dimkhoros.h"
 #include <stdio.h>
 #include <stdlib.h>
 #include <string.h>
 
-#define MOST 256
+#define MOST 3000
 
 static uint8_t bytes[MOST];
 
@@ -62,11 +62,11 @@ static int is_taken(Whose whose, size_t length) {
 
 /* Tries every damaged form of the session in the first bytes of `bytes`. */
 static void damage(Whose whose, size_t length) {
-    int tried = 0, taken = 0;
+    int tried = 0, taken = 0, many = length > 256;
     for (size_t place = 0; place < length; place++) {
         uint8_t right = bytes[place];
-        for (int step = 1; step < 256; step++) {
-            bytes[place] = (uint8_t)(right + step);
+        for (int change = 1; change < 256; change = many ? 2 * change : change + 1) {
+            bytes[place] = (uint8_t)(right ^ change);
             taken += is_taken(whose, length);
             tried++;
         }
@@ -107,6 +107,16 @@ static void show_peggy(const DimkhorosProverSession *peggy) {
     print_values(peggy->nonce, 8);
     print_values(peggy->commitment, 8);
     print_values(&peggy->phase, 1);
+    for (int name = 0; name < DIMKHOROS_SAVED_STATES; name++) {
+        print_values(peggy->memory.saved[name].nonce, 8);
+        print_values(peggy->memory.saved[name].commitment, 8);
+        print_values(&peggy->memory.saved[name].phase, 1);
+        print_values(&peggy->memory.saved[name].kept, 1);
+    }
+    for (int i = 0; i < DIMKHOROS_MOST_ANSWERED; i++) {
+        print_values(peggy->memory.answered[i].commitment, 8);
+    }
+    print_values(&peggy->memory.count, 1);
     dimkhoros_prover_store(peggy, stored);
     print_bytes(stored, DIMKHOROS_STORED_PROVER);
     damage(PEGGY, DIMKHOROS_STORED_PROVER);

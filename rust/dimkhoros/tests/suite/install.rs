@@ -42,8 +42,8 @@ const TREE: [&str; 23] = [
     "include/dimkhoros_box.h 644",
     "lib/ 755",
     "lib/libdimkhoros.a 644",
-    "lib/libdimkhoros.so -> libdimkhoros.so.0",
-    "lib/libdimkhoros.so.0 755",
+    "lib/libdimkhoros.so -> libdimkhoros.so.1",
+    "lib/libdimkhoros.so.1 755",
     "lib/pkgconfig/ 755",
     "lib/pkgconfig/dimkhoros.pc 644",
     "lib/python/ 755",
@@ -254,7 +254,7 @@ fn help_is_printed_and_installs_nothing() {
     let usage = "usage: ./install [--] PREFIX\n       ./install --remove [--] PREFIX\n";
     assert!(help.stdout.starts_with(usage));
     for line in TREE.iter().filter(|line| line.starts_with("bin/") || line.starts_with("lib/")) {
-        let name = line.split(' ').next().unwrap().trim_end_matches(".0");
+        let name = line.split(' ').next().unwrap().trim_end_matches(".1");
         let name = if name.starts_with("lib/python/") { "lib/python" } else { name };
         assert!(name.ends_with('/') || help.stdout.contains(name), "the help does not name {name}");
     }

@@ -72,7 +72,7 @@ fn session() -> String {
 
 /// Whether a program asks for the shared library when it is started.
 fn asks_for_library(program: &Path) -> bool {
-    let name = b"\0libdimkhoros.so.0\0";
+    let name = b"\0libdimkhoros.so.1\0";
     fs::read(program).unwrap().windows(name.len()).any(|bytes| bytes == name)
 }
 

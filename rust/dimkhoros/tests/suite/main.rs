@@ -28,6 +28,7 @@ mod repeats;
 mod rounds;
 mod rows;
 mod run;
+mod saved_states;
 mod sessions;
 mod sheets;
 mod stored;

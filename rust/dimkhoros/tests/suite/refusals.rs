@@ -2,8 +2,8 @@
 
 use crate::pages::{MAURER, SCHNORR, made, page_a, round};
 use dimkhoros::{
-    Forms, Instance, LinearPlan, Pair, Patterns, Plan, Prover, Refusal, RoundFile, RoundWriter,
-    Team, places,
+    Forms, Instance, LinearPlan, Memory, Pair, Patterns, Plan, Prover, ProverParts, Refusal,
+    RoundFile, RoundWriter, Team, places,
 };
 
 /// What page A's sheet is refused with once a byte of it is changed.
@@ -23,6 +23,21 @@ fn longer() -> Refusal {
 fn wrong_witness() -> Refusal {
     let (peggy, _) = Prover::new().commit(&page_a(), &places([5])).unwrap();
     peggy.respond(&page_a(), 3, &places([8])).unwrap_err().refusal
+}
+
+/// What a response is refused with after a return to the committed session that has answered.
+fn answered_again() -> Refusal {
+    let (peggy, _) = Prover::new().commit(&page_a(), &places([5])).unwrap();
+    let (peggy, _) = peggy.save(0).unwrap().respond(&page_a(), 3, &places([7])).unwrap();
+    peggy.return_to(0).unwrap().respond(&page_a(), 1, &places([7])).unwrap_err().refusal
+}
+
+/// What a response is refused with if 64 commitments are listed.
+fn full_list() -> Refusal {
+    let (peggy, _) = Prover::new().commit(&page_a(), &places([5])).unwrap();
+    let memory = Memory { count: 64, ..Memory::default() };
+    let peggy = Prover::from_parts(ProverParts { memory, ..peggy.into_parts() });
+    peggy.respond(&page_a(), 3, &places([7])).unwrap_err().refusal
 }
 
 /// What page A's sheet is refused with beside one of another challenge count.
@@ -70,6 +85,9 @@ fn every_number_is_given() {
         Instance::from_forms(&LinearPlan { forms: Forms::of(&[[[11; 4]; 3]; 2]), ..MAURER })
             .unwrap_err(),
         Refusal::GameSize,
+        answered_again(),
+        full_list(),
+        Prover::new().save(8).unwrap_err().refusal,
     ];
     assert_eq!(Refusal::from_number(given.len() as u32 + 1), None);
     for (number, refusal) in (1..).zip(given) {

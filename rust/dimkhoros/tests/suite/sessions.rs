@@ -2,8 +2,8 @@
 
 use crate::pages::page_a;
 use dimkhoros::{
-    Instance, Places, Prover, ProverParts, ProverPhase, Refusal, Refused, Verdict, Verifier,
-    VerifierParts, VerifierPhase, places,
+    Instance, Memory, NoResponse, Places, Prover, ProverParts, ProverPhase, Refusal, Refused,
+    Verdict, Verifier, VerifierParts, VerifierPhase, places,
 };
 
 const NONCE: Places = [5, 0, 0, 0, 0, 0, 0, 0];
@@ -20,7 +20,9 @@ fn both_run_the_session_of_page_a() {
     assert_eq!(r, places([4]));
     let (vic, verdict) = vic.take_response(&a, &r).unwrap();
     assert_eq!(verdict, Verdict::Accepted);
-    let zeros = ProverParts { phase: ProverPhase::Answered, nonce: [0; 8], commitment: t };
+    let mut memory = Memory { count: 1, ..Memory::default() };
+    memory.answered[0].commitment = t;
+    let zeros = ProverParts { phase: ProverPhase::Answered, nonce: [0; 8], commitment: t, memory };
     assert!(peggy.into_parts() == zeros);
     let held = VerifierParts { phase: VerifierPhase::Judged, commitment: t, challenge: 3 };
     assert_eq!(vic.into_parts(), held);
@@ -88,7 +90,8 @@ fn a_refused_call_hands_the_session_back_as_it_was() {
     let a = page_a();
     let phases = [ProverPhase::Answered, ProverPhase::Dropped, ProverPhase::Committed];
     for phase in phases {
-        let parts = || ProverParts { phase, nonce: [1, 2, 3, 4, 5, 6, 7, 8], commitment: [11; 8] };
+        let (nonce, commitment, memory) = ([1, 2, 3, 4, 5, 6, 7, 8], [11; 8], Memory::default());
+        let parts = || ProverParts { phase, nonce, commitment, memory };
         let peggy = || Prover::from_parts(parts());
         assert_eq!(unchanged(peggy().commit(&a, &NONCE), parts()), Refusal::Session);
         assert_eq!(unchanged(peggy().commit(&a, &[11; 8]), parts()), Refusal::Coordinate);
@@ -118,10 +121,9 @@ fn a_session_of_parts_goes_on() {
     let a = page_a();
     let (peggy, _) = Prover::new().commit(&a, &NONCE).unwrap();
     let parts = peggy.into_parts();
-    let numbers = (parts.phase.number(), parts.nonce, parts.commitment);
-    let (phase, nonce, commitment) = numbers;
-    let phase = ProverPhase::from_number(phase);
-    let peggy = Prover::from_parts(ProverParts { phase, nonce, commitment });
+    let ProverParts { phase, nonce, commitment, memory } = parts;
+    let phase = ProverPhase::from_number(phase.number());
+    let peggy = Prover::from_parts(ProverParts { phase, nonce, commitment, memory });
     assert_eq!(peggy.respond(&a, 3, &WITNESS).unwrap().1, places([4]));
 }
 
@@ -133,6 +135,7 @@ fn a_session_that_does_not_fit_the_sheet_is_refused() {
             phase: ProverPhase::Committed,
             nonce: places([nonce]),
             commitment: places([commitment]),
+            memory: Memory::default(),
         };
         let refused = Prover::from_parts(parts).respond(&a, 3, &WITNESS).unwrap_err();
         assert_eq!(refused.refusal, Refusal::Session);
@@ -143,7 +146,15 @@ fn a_session_that_does_not_fit_the_sheet_is_refused() {
 fn no_text_shows_the_nonce() {
     let nonce = places([10]);
     let (peggy, _) = Prover::new().commit(&page_a(), &nonce).unwrap();
+    let peggy = peggy.save(3).unwrap();
     assert!(!format!("{peggy:?}").contains("10"));
     let refused = peggy.commit(&page_a(), &nonce).unwrap_err();
     assert!(!format!("{refused:?} {refused}").contains("10"));
+    let failed =
+        refused.session.respond_after(&page_a(), 3, &WITNESS, |_| Err("full")).unwrap_err();
+    assert!(!format!("{failed:?} {failed}").contains("10"));
+    let NoResponse::NotStored { session, .. } = failed else { panic!("the store fails") };
+    let memory = session.into_parts().memory;
+    assert_eq!(memory.saved[3].nonce, nonce);
+    assert!(!format!("{memory:?} {:?}", memory.saved[3]).contains("10"));
 }

@@ -4,9 +4,9 @@ use crate::cc;
 use crate::pages::page_a;
 
 use dimkhoros::{
-    Damaged, Found, OrProver, OrProverParts, Pair, Places, Prover, ProverParts, ProverPhase,
-    Refusal, STORED_OR_PROVER, STORED_PROVER, STORED_VERIFIER, Side, Verifier, VerifierParts,
-    VerifierPhase, places,
+    Damaged, Found, Listed, Memory, OrProver, OrProverParts, Pair, Places, Prover, ProverParts,
+    ProverPhase, Refusal, STORED_OR_PROVER, STORED_PROVER, STORED_VERIFIER, Saved, Side, Verifier,
+    VerifierParts, VerifierPhase, places,
 };
 use std::fmt::Write;
 
@@ -15,9 +15,27 @@ fn eight(start: u32) -> Places {
     core::array::from_fn(|i| start.wrapping_mul(0x9e37_79b9).rotate_left(4 * i as u32))
 }
 
+/// What Peggy's session keeps beside its state: nothing, or numbers that differ, with 61 to 64 answered commitments.
+fn memory(start: u32) -> Memory {
+    if start == 0 {
+        return Memory::default();
+    }
+    let saved = |i| Saved {
+        nonce: eight(start + 10 * i),
+        commitment: eight(start + 20 * i),
+        phase: (start + i) % 4,
+        kept: (start + i) % 2,
+    };
+    Memory {
+        saved: core::array::from_fn(|i| saved(i as u32)),
+        answered: core::array::from_fn(|i| Listed { commitment: eight(start + 30 * i as u32) }),
+        count: 60 + start,
+    }
+}
+
 fn peggy(phase: u32, start: u32) -> ProverParts {
-    let (nonce, commitment) = (eight(start), eight(3 * start));
-    ProverParts { phase: ProverPhase::from_number(phase), nonce, commitment }
+    let (nonce, commitment, memory) = (eight(start), eight(3 * start), memory(start));
+    ProverParts { phase: ProverPhase::from_number(phase), nonce, commitment, memory }
 }
 
 fn vic(phase: u32, start: u32) -> VerifierParts {
@@ -87,16 +105,28 @@ fn spaced(values: &[u32]) -> String {
     values.iter().fold(String::new(), |text, value| text + &format!(" {value}"))
 }
 
+/// The same of what Peggy's session keeps beside its state.
+fn memory_spaced(memory: &Memory) -> String {
+    let saved = |saved: &Saved| {
+        spaced(&saved.nonce) + &spaced(&saved.commitment) + &spaced(&[saved.phase, saved.kept])
+    };
+    let listed = |listed: &Listed| spaced(&listed.commitment);
+    memory.saved.iter().map(saved).chain(memory.answered.iter().map(listed)).collect::<String>()
+        + &spaced(&[memory.count])
+}
+
 /// How many damaged forms C tries of a session of this length: see the program.
 fn damaged_forms(length: usize) -> usize {
-    length * 255 + length + 256 + (256 - length)
+    let changes = if length > 256 { 8 } else { 255 };
+    length * changes + length + 256 + (3000 - length)
 }
 
 #[test]
 fn the_bytes_are_those_of_the_header() {
     let (phase, places) = ("00000001", |first: &str| format!("{first}{}", "0".repeat(56)));
     let (nonce, commitment) = (places("00000005"), places("00000009"));
-    let committed = format!("505256{}{}{nonce}{commitment}{phase}50ce9f47", "0001", "004f");
+    let zeros = "0".repeat(8 * (8 * 18 + 64 * 8 + 1));
+    let committed = format!("505256{}{}{nonce}{commitment}{phase}{zeros}84169c2b", "0002", "0a93");
     let (peggy, _) = Prover::new().commit(&page_a(), &dimkhoros::places([5])).unwrap();
     assert_eq!(hex(&peggy.to_stored()), committed);
     let asked =
@@ -121,9 +151,10 @@ fn c_and_rust_write_the_same_bytes_and_read_each_other() {
     let (mut input, mut expected) = (String::new(), String::new());
     for (phase, start) in cases() {
         let stored = hex(&stored_peggy(phase, start));
-        let ProverParts { nonce, commitment, .. } = peggy(phase, start);
+        let ProverParts { nonce, commitment, memory, .. } = peggy(phase, start);
         writeln!(input, "{stored}").unwrap();
-        writeln!(expected, "peggy{}{} {phase}", spaced(&nonce), spaced(&commitment)).unwrap();
+        write!(expected, "peggy{}{} {phase}", spaced(&nonce), spaced(&commitment)).unwrap();
+        writeln!(expected, "{}", memory_spaced(&memory)).unwrap();
         writeln!(expected, "{stored}\ndamaged {} taken 0", damaged_forms(STORED_PROVER)).unwrap();
         let stored = hex(&stored_vic(phase, start));
         let VerifierParts { commitment, challenge, .. } = vic(phase, start);
@@ -154,20 +185,24 @@ fn c_and_rust_write_the_same_bytes_and_read_each_other() {
     }
 }
 
-/// Every damaged form of these bytes: each byte changed to each other value, each cut, and each byte or copy behind them.
-fn damaged(stored: &[u8]) -> Vec<Vec<u8>> {
-    let mut forms = Vec::new();
-    for (place, right) in stored.iter().enumerate() {
-        for value in (0..=255).filter(|value| value != right) {
-            let mut bytes = stored.to_vec();
-            bytes[place] = value;
-            forms.push(bytes);
-        }
-        forms.push(stored[..place].to_vec());
-        forms.push([stored, &stored[..=place]].concat());
-    }
-    forms.extend((0..=255).map(|byte| [stored, &[byte]].concat()));
-    forms
+/// These bytes with the byte at a place changed: to each other value, or in each bit if they are many.
+fn changed(stored: &[u8], place: usize) -> impl Iterator<Item = Vec<u8>> {
+    let many = stored.len() > 256;
+    let changes = (1..=255).filter(move |change: &u8| !many || change.is_power_of_two());
+    changes.map(move |change| {
+        let mut bytes = stored.to_vec();
+        bytes[place] ^= change;
+        bytes
+    })
+}
+
+/// Damaged forms of these bytes: each byte changed, each cut, and each byte or copy behind them.
+fn damaged(stored: &[u8]) -> impl Iterator<Item = Vec<u8>> {
+    let at = move |place: usize| {
+        let forms = [stored[..place].to_vec(), [stored, &stored[..=place]].concat()];
+        changed(stored, place).chain(forms)
+    };
+    (0..stored.len()).flat_map(at).chain((0..=255).map(move |byte| [stored, &[byte]].concat()))
 }
 
 #[test]
@@ -177,44 +212,91 @@ fn no_damaged_session_is_taken() {
         assert!(
             Prover::from_stored_with_nonce(&stored).unwrap().into_parts() == peggy(phase, start)
         );
-        assert!(
-            damaged(&stored).iter().all(|bytes| Prover::from_stored_with_nonce(bytes).is_err())
-        );
+        assert!(damaged(&stored).all(|bytes| Prover::from_stored_with_nonce(&bytes).is_err()));
         let stored = stored_vic(phase, start);
         assert_eq!(Verifier::from_stored(&stored).unwrap().into_parts(), vic(phase, start));
-        assert!(damaged(&stored).iter().all(|bytes| Verifier::from_stored(bytes).is_err()));
+        assert!(damaged(&stored).all(|bytes| Verifier::from_stored(&bytes).is_err()));
         let stored = stored_either(phase, start);
         assert!(
             OrProver::from_stored_with_nonce(&stored).unwrap().into_parts() == either(phase, start)
         );
-        assert!(
-            damaged(&stored).iter().all(|bytes| OrProver::from_stored_with_nonce(bytes).is_err())
-        );
+        assert!(damaged(&stored).all(|bytes| OrProver::from_stored_with_nonce(&bytes).is_err()));
     }
 }
 
-/// Bytes that no session is stored as: zeros of every length, and every byte of mark, version, length and state, and of the side
-/// in the OR proof, changed to every other value under a check value that is right.
+/// Stored bytes in which a number is another, under a check value that is right.
+fn with_number(stored: &[u8], number: usize, value: u32) -> Vec<u8> {
+    let mut bytes = stored[..stored.len() - 4].to_vec();
+    bytes[7 + 4 * number..11 + 4 * number].copy_from_slice(&value.to_be_bytes());
+    checked(bytes)
+}
+
+/// The numbers of a session that are below a bound, with it: the phases, flags and count of Peggy's, Vic's phase, and side and
+/// phase of the OR proof.
+fn bounds(length: usize) -> Vec<(usize, u32)> {
+    match length {
+        STORED_PROVER => {
+            let saved = (0..8).flat_map(|name| [(33 + 18 * name, 4), (34 + 18 * name, 2)]);
+            saved.chain([(16, 4), (673, 65)]).collect()
+        }
+        STORED_VERIFIER => vec![(9, 4)],
+        _ => vec![(33, 2), (34, 4)],
+    }
+}
+
+/// Stored sessions of Peggy's, Vic's and the OR proof's.
+fn one_of_each() -> [Vec<u8>; 3] {
+    [stored_peggy(1, 2).to_vec(), stored_vic(2, 3).to_vec(), stored_either(1, 4).to_vec()]
+}
+
+/// Bytes that no session is stored as, under check values that are right: zeros, every byte of mark, version and length changed to
+/// every other value, and every number that has a bound at its bound and beyond it.
 fn others() -> Vec<Vec<u8>> {
-    let mut others: Vec<Vec<u8>> = (0..=200).map(|length| vec![0; length]).collect();
-    for stored in [&stored_peggy(1, 2)[..], &stored_vic(2, 3), &stored_either(1, 4)] {
+    let lengths = (0..=200).chain([STORED_PROVER]);
+    let mut others: Vec<Vec<u8>> = lengths.map(|length| vec![0; length]).collect();
+    for stored in one_of_each() {
         let before = &stored[..stored.len() - 4];
         assert_eq!(checked(before.to_vec()), stored);
-        let side = stored.len() == STORED_OR_PROVER;
-        let state = before.len() - if side { 8 } else { 4 }..before.len();
-        for place in (0..7).chain(state) {
-            for value in 0..=255 {
-                let mut bytes = before.to_vec();
-                bytes[place] = value;
-                let last = place + 1 == bytes.len() && value < 4;
-                let of_side = side && place + 5 == bytes.len() && value < 2;
-                if value != before[place] && !last && !of_side {
-                    others.push(checked(bytes));
-                }
-            }
+        for (place, change) in (0..7).flat_map(|place| (1..=255).map(move |change| (place, change)))
+        {
+            let mut bytes = before.to_vec();
+            bytes[place] ^= change;
+            others.push(checked(bytes));
+        }
+        for (number, bound) in bounds(stored.len()) {
+            let beyond = [bound, bound + 1, 256, 1 << 16, 1 << 24, u32::MAX];
+            others.extend(beyond.map(|value| with_number(&stored, number, value)));
         }
     }
     others
+}
+
+/// Version 1 of Peggy's stored form, which had no memory.
+#[test]
+fn version_1_of_peggys_form_is_damaged() {
+    let values = [0; 4 * 17];
+    let old = checked([b"PRV\0\x01\0\x4f", &values[..]].concat());
+    assert_eq!(old.len(), 79);
+    assert_eq!(Prover::from_stored_with_nonce(&old).unwrap_err(), Damaged);
+    assert_eq!(Prover::reopen(&old).1, Found::Damaged);
+    assert_eq!(cc::run_on("stored.c", &(hex(&old) + "\n")), "refused\n");
+}
+
+#[test]
+fn numbers_below_their_bounds_are_taken() {
+    for stored in one_of_each() {
+        for (number, bound) in bounds(stored.len()) {
+            for value in 0..bound {
+                let bytes = with_number(&stored, number, value);
+                let taken = match stored.len() {
+                    STORED_PROVER => Prover::from_stored_with_nonce(&bytes).is_ok(),
+                    STORED_VERIFIER => Verifier::from_stored(&bytes).is_ok(),
+                    _ => OrProver::from_stored_with_nonce(&bytes).is_ok(),
+                };
+                assert!(taken, "number {number} is {value}");
+            }
+        }
+    }
 }
 
 #[test]
@@ -288,7 +370,7 @@ fn damaged_bytes_are_reopened_as_a_new_session() {
 
 #[test]
 fn c_finds_what_rust_finds() {
-    let mut lines = others();
+    let mut lines: Vec<Vec<u8>> = others().into_iter().step_by(7).collect();
     for (phase, start) in cases() {
         lines.push(stored_peggy(phase, start).to_vec());
         lines.push(stored_vic(phase, start).to_vec());

@@ -21,11 +21,16 @@ fn the_answered_session_is_stored_before_the_response_is_handed_out() {
         stored.push(*bytes);
         Ok(())
     };
-    let (peggy, response) = committed(&a).respond_after(&a, 3, &WITNESS, store).unwrap();
+    let saved = committed(&a).save(6).unwrap();
+    let (peggy, response) = saved.respond_after(&a, 3, &WITNESS, store).unwrap();
     assert_eq!(response, places([4]));
     assert_eq!(stored, [peggy.to_stored()]);
     let parts = peggy.into_parts();
     assert_eq!((parts.phase, parts.nonce), (ProverPhase::Answered, [0; 8]));
+    // The whole session is stored, with its saved states and its list.
+    let read = Prover::from_stored_with_nonce(&stored[0]).unwrap();
+    assert_eq!((read.saved(6), read.answered()), (Some(ProverPhase::Committed), 1));
+    assert!(read.into_parts() == parts);
 }
 
 #[test]

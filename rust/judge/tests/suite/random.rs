@@ -280,9 +280,9 @@ fn try_pattern_files(
     assert_eq!(made(before, number, &mut before.to_vec()), Err(23));
 }
 
-/// A refused call hands the prover's session back, and no other does.
-fn try_prover(shifts: &mut Shifts, sheet: &[u8], challenge: u32, slots: &[u32; 8]) {
-    let prover = Prover {
+/// Any state that could be saved.
+fn any_state(shifts: &mut Shifts) -> Saved {
+    Saved {
         phase: [
             ProverPhase::New,
             ProverPhase::Committed,
@@ -291,12 +291,39 @@ fn try_prover(shifts: &mut Shifts, sheet: &[u8], challenge: u32, slots: &[u32; 8
         ][shifts.below(4) as usize],
         nonce: shifts.edges(),
         commitment: shifts.edges(),
+    }
+}
+
+/// A refused call hands the prover's session back, and no other does.
+fn try_prover(shifts: &mut Shifts, sheet: &[u8], challenge: u32, slots: &[u32; 8]) {
+    let state = any_state(shifts);
+    let prover = Prover {
+        phase: state.phase,
+        nonce: state.nonce,
+        commitment: state.commitment,
+        saved: std::array::from_fn(|_| match shifts.below(2) {
+            0 => None,
+            _ => Some(any_state(shifts)),
+        }),
+        answered: std::array::from_fn(|_| shifts.edges()),
+        count: match shifts.below(2) {
+            0 => shifts.next(),
+            _ => shifts.below(70),
+        },
     };
     let (answer, back) = commit(sheet, prover.clone(), slots);
     assert_eq!(answer.is_err(), back == prover);
     let (answer, back) = respond(sheet, prover.clone(), challenge, slots);
     assert_eq!(answer.is_err(), back == prover);
     let (answer, back) = drop_session(prover.clone());
+    assert_eq!(answer.is_err(), back == prover);
+    let name = match shifts.below(3) {
+        0 => shifts.next(),
+        _ => shifts.below(10),
+    };
+    let (answer, back) = save(prover.clone(), name);
+    assert_eq!(answer.is_err(), back == prover);
+    let (answer, back) = return_to(prover.clone(), name);
     assert_eq!(answer.is_err(), back == prover);
 }
 

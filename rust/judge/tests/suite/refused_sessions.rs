@@ -23,6 +23,7 @@ fn prover(phase: ProverPhase, nonce: [u32; 8], commitment: [u32; 8]) -> Prover {
         phase,
         nonce,
         commitment,
+        ..Prover::new()
     }
 }
 

@@ -74,6 +74,9 @@ fn every_call_with_a_sheet_refuses_it_first() {
             phase: ProverPhase::Answered,
             nonce: [99; 8],
             commitment: [5; 8],
+            answered: [[5; 8]; 64],
+            count: 99,
+            ..Prover::new()
         };
         let (answer, back) = commit(&sheet, prover.clone(), &[99; 8]);
         assert_eq!((answer, &back), (Err(number), &prover));

@@ -9,6 +9,8 @@ fn new_sessions_hold_zeros() {
     let prover = Prover::new();
     assert_eq!(prover.phase, ProverPhase::New);
     assert_eq!((prover.nonce, prover.commitment), ([0; 8], [0; 8]));
+    assert_eq!(prover.saved, [None; 8]);
+    assert_eq!((prover.answered, prover.count), ([[0; 8]; 64], 0));
     assert_eq!(prover, Prover::default());
     let verifier = Verifier::new();
     assert_eq!(verifier.phase, VerifierPhase::Waiting);

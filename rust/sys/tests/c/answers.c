@@ -16,7 +16,7 @@ size_t look(const uint8_t *sheet, size_t length, uint8_t *bytes, uint32_t *eight
     size_t seen = 0;
     DimkhorosHeader header = {1, 23, 11, 11, 1, 1};
     DimkhorosRound round = {{9}, 3, {4}};
-    DimkhorosProverSession peggy = {{0}, {0}, DIMKHOROS_PROVER_NEW};
+    DimkhorosProverSession peggy = {{0}, {0}, DIMKHOROS_PROVER_NEW, {{{{0}, {0}, 0, 0}}, {{{0}}}, 0}};
     DimkhorosVerifierSession vic = {{0}, 0, DIMKHOROS_VERIFIER_WAITING};
     DimkhorosOrRound two = {{9}, {33}, {4}, {6}, 3, 2};
     DimkhorosOrSession either = {{0}, {0}, {0}, {0}, 0, 0, DIMKHOROS_PROVER_NEW};
@@ -34,6 +34,8 @@ size_t look(const uint8_t *sheet, size_t length, uint8_t *bytes, uint32_t *eight
     LOOK(dimkhoros_respond(sheet, length, &peggy, 3, eight, eight), );
     LOOK(dimkhoros_respond_after(sheet, length, &peggy, 3, eight, store, NULL, eight), );
     LOOK(dimkhoros_drop(&peggy), );
+    LOOK(dimkhoros_save(&peggy, 0), );
+    LOOK(dimkhoros_return_to(&peggy, 0), );
     LOOK(dimkhoros_prover_reopen(bytes, length, &peggy), );
     LOOK(dimkhoros_prover_restore_with_nonce(bytes, length, &peggy), != 0);
 
@@ -78,6 +80,8 @@ size_t look(const uint8_t *sheet, size_t length, uint8_t *bytes, uint32_t *eight
     LOOK(dimkhoros_prover_commit(sheet, length, peggy, eight), .refusal);
     LOOK(dimkhoros_prover_respond(sheet, length, peggy, 3, eight), .refusal);
     LOOK(dimkhoros_prover_drop(peggy), .refusal);
+    LOOK(dimkhoros_prover_save(peggy, 0), .refusal);
+    LOOK(dimkhoros_prover_return(peggy, 0), .refusal);
     LOOK(dimkhoros_verifier_commitment(sheet, length, vic, eight), .refusal);
     LOOK(dimkhoros_verifier_challenge(sheet, length, vic, 3), .refusal);
     LOOK(dimkhoros_verifier_response(sheet, length, vic, eight), .verdict.refusal);

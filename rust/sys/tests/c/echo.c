@@ -93,12 +93,56 @@ static void print_prover_session(DimkhorosProverSession a) {
     printf(", phase: %u }", a.phase);
 }
 
-static void print_prover_answer(DimkhorosProverAnswer a) {
+/* The saved states: of those that are the same and follow each other the first, with how many they are. */
+static void print_saved(const DimkhorosSaved saved[8]) {
+    for (size_t i = 0, next; i < 8; i = next) {
+        for (next = i; next < 8 && memcmp(&saved[next], &saved[i], sizeof saved[i]) == 0;) {
+            next++;
+        }
+        printf("%zu of Saved { nonce: ", next - i);
+        print_places(saved[i].nonce);
+        printf(", commitment: ");
+        print_places(saved[i].commitment);
+        printf(", phase: %u, kept: %u }\n", saved[i].phase, saved[i].kept);
+    }
+}
+
+/* The answered commitments in the same way. */
+static void print_listed(const DimkhorosListed listed[64]) {
+    for (size_t i = 0, next; i < 64; i = next) {
+        for (next = i; next < 64 && memcmp(&listed[next], &listed[i], sizeof listed[i]) == 0;) {
+            next++;
+        }
+        printf("%zu of Listed { commitment: ", next - i);
+        print_places(listed[i].commitment);
+        printf(" }\n");
+    }
+}
+
+static void print_memory(const DimkhorosMemory *a) {
+    print_saved(a->saved);
+    print_listed(a->answered);
+    printf("count: %u\n", a->count);
+}
+
+/* What a call on Peggy's session answers, but for the session's memory. */
+static void print_prover_step(const DimkhorosProverAnswer *a) {
     printf("ProverAnswer { session: ");
-    print_prover_session(a.session);
+    print_prover_session(a->session);
     printf(", values: ");
-    print_places(a.values);
-    printf(", refusal: %u }\n", a.refusal);
+    print_places(a->values);
+    printf(", refusal: %u }\n", a->refusal);
+}
+
+static void print_prover_answer(DimkhorosProverAnswer a) {
+    print_prover_step(&a);
+    print_memory(&a.session.memory);
+}
+
+/* What a refused call answers, and whether the session is the given one. */
+static void print_prover_refused(DimkhorosProverAnswer a, const DimkhorosProverSession *given) {
+    print_prover_step(&a);
+    printf("%s\n", memcmp(&a.session, given, sizeof *given) == 0 ? "the same session" : "another session");
 }
 
 static void print_verifier_session(DimkhorosVerifierSession a) {
@@ -380,20 +424,42 @@ static void rounds(void) {
     print_computed(dimkhoros_extract(wide, sizeof wide, honest_round(0, nonce), honest_round(1, nonce)));
 }
 
-static void provers(void) {
-    print_prover_session(dimkhoros_prover_new());
-    printf("\n");
-    DimkhorosProverAnswer step = dimkhoros_prover_commit(wide, sizeof wide, dimkhoros_prover_new(), nonce);
-    print_prover_answer(step);
-    print_prover_answer(dimkhoros_prover_drop(step.session));
-    print_prover_answer(dimkhoros_prover_respond(wide, sizeof wide, step.session, 1, witness));
+/* A session of Peggy's whose numbers all differ. */
+static DimkhorosProverSession odd_prover(void) {
     DimkhorosProverSession odd;
     odd.phase = 77;
     rise(odd.nonce, 401);
     rise(odd.commitment, 501);
-    print_prover_answer(dimkhoros_prover_commit(wide, sizeof wide, odd, nonce));
-    print_prover_answer(dimkhoros_prover_respond(wide, sizeof wide, odd, 1, witness));
-    print_prover_answer(dimkhoros_prover_drop(odd));
+    for (uint32_t i = 0; i < 8; i++) {
+        rise(odd.memory.saved[i].nonce, 1000 + 100 * i);
+        rise(odd.memory.saved[i].commitment, 1020 + 100 * i);
+        odd.memory.saved[i].phase = 1040 + 100 * i;
+        odd.memory.saved[i].kept = 1050 + 100 * i;
+    }
+    for (uint32_t i = 0; i < 64; i++) {
+        rise(odd.memory.answered[i].commitment, 2000 + 10 * i);
+    }
+    odd.memory.count = 88;
+    return odd;
+}
+
+static void provers(void) {
+    const DimkhorosProverSession fresh = dimkhoros_prover_new();
+    print_prover_session(fresh);
+    printf("\n");
+    print_memory(&fresh.memory);
+    DimkhorosProverAnswer step = dimkhoros_prover_commit(wide, sizeof wide, dimkhoros_prover_new(), nonce);
+    print_prover_answer(step);
+    print_prover_answer(dimkhoros_prover_drop(step.session));
+    print_prover_answer(dimkhoros_prover_respond(wide, sizeof wide, step.session, 1, witness));
+    const DimkhorosProverSession odd = odd_prover();
+    print_prover_refused(dimkhoros_prover_commit(wide, sizeof wide, odd, nonce), &odd);
+    print_prover_refused(dimkhoros_prover_respond(wide, sizeof wide, odd, 1, witness), &odd);
+    print_prover_refused(dimkhoros_prover_drop(odd), &odd);
+    print_prover_refused(dimkhoros_prover_save(odd, 8), &odd);
+    print_prover_refused(dimkhoros_prover_return(odd, 9), &odd);
+    print_prover_answer(dimkhoros_prover_save(odd, 6));
+    print_prover_answer(dimkhoros_prover_return(odd, 5));
 }
 
 static void verifiers(void) {

@@ -18,6 +18,10 @@ static const uint32_t challenges[] = {0, 3, 4, 5, 10, 11, UINT32_MAX};
 
 static const uint32_t phases[] = {0, 1, 2, 3, 4, UINT32_MAX};
 
+/* How many commitments are listed, and names, of which 2 is the one that is saved. */
+static const uint32_t counts[] = {0, 1, 64};
+static const uint32_t names[] = {0, 2, 7, 8, UINT32_MAX};
+
 static void make_sheets(void) {
     const uint32_t values[3] = {2, 3, 3};
     const uint32_t schnorr[1] = {13};
@@ -33,6 +37,8 @@ static Seen responds = {"respond", {0}, 0, 0};
 static Seen afters = {"respond_after", {0}, 0, 0};
 static Seen failures = {"respond_after with a store that fails", {0}, 0, 0};
 static Seen drops = {"drop", {0}, 0, 0};
+static Seen saves = {"save", {0}, 0, 0};
+static Seen returns = {"return_to", {0}, 0, 0};
 static Seen commitments = {"take_commitment", {0}, 0, 0};
 static Seen asks = {"take_challenge", {0}, 0, 0};
 static Seen responses = {"take_response", {0}, 0, 0};
@@ -89,18 +95,52 @@ static void try_drop(Lent session) {
     compare(&after, session, &pure.session, sizeof pure.session, refusal, &drops);
 }
 
-/* A session of Peggy's with this nonce, commitment and state. */
-static Lent peggy(const uint32_t nonce[8], const uint32_t commitment[8], uint32_t phase) {
+static void try_save(Lent session, uint32_t name) {
+    Lent after = session;
+    DimkhorosProverAnswer pure = dimkhoros_prover_save(session.lent.peggy, name);
+    uint32_t refusal = dimkhoros_save(&after.lent.peggy, name);
+    count(&saves, refusal, pure.refusal);
+    compare(&after, session, &pure.session, sizeof pure.session, refusal, &saves);
+}
+
+static void try_return_to(Lent session, uint32_t name) {
+    Lent after = session;
+    DimkhorosProverAnswer pure = dimkhoros_prover_return(session.lent.peggy, name);
+    uint32_t refusal = dimkhoros_return_to(&after.lent.peggy, name);
+    count(&returns, refusal, pure.refusal);
+    compare(&after, session, &pure.session, sizeof pure.session, refusal, &returns);
+}
+
+/*
+ * A session of Peggy's with this nonce, commitment and state, which are saved under 2, and with so many listed commitments: its own
+ * if it is one.
+ */
+static Lent peggy(const uint32_t nonce[8], const uint32_t commitment[8], uint32_t phase, uint32_t listed) {
     Lent session = filled(0xDD);
-    memcpy(session.lent.peggy.nonce, nonce, 8 * sizeof nonce[0]);
-    memcpy(session.lent.peggy.commitment, commitment, 8 * sizeof commitment[0]);
-    session.lent.peggy.phase = phase;
+    DimkhorosProverSession *made = &session.lent.peggy;
+    DimkhorosSaved *saved = &made->memory.saved[2];
+    memset(&made->memory, 0, sizeof made->memory);
+    memcpy(made->nonce, nonce, sizeof made->nonce);
+    memcpy(made->commitment, commitment, sizeof made->commitment);
+    made->phase = phase;
+    memcpy(saved->nonce, nonce, sizeof saved->nonce);
+    memcpy(saved->commitment, commitment, sizeof saved->commitment);
+    saved->phase = phase;
+    saved->kept = 1;
+    if (listed == 1) {
+        memcpy(made->memory.answered[0].commitment, commitment, sizeof made->commitment);
+    }
+    made->memory.count = listed;
     return session;
 }
 
 /* All calls on one session of Peggy's and one sheet. */
 static void try_peggy(const Sheet *sheet, Lent session) {
     try_drop(session);
+    for (size_t n = 0; n < COUNT(names); n++) {
+        try_save(session, names[n]);
+        try_return_to(session, names[n]);
+    }
     for (size_t i = 0; i < COUNT(arrays); i++) {
         try_commit(sheet, session, arrays[i]);
         for (size_t c = 0; c < COUNT(challenges); c++) {
@@ -114,12 +154,14 @@ static void try_peggy(const Sheet *sheet, Lent session) {
 static void try_peggys(const Sheet *sheet) {
     for (size_t n = 0; n < COUNT(arrays); n++) {
         for (size_t p = 0; p < COUNT(phases); p++) {
-            try_peggy(sheet, peggy(arrays[n], arrays[(n + 1) % COUNT(arrays)], phases[p]));
+            try_peggy(sheet, peggy(arrays[n], arrays[(n + 1) % COUNT(arrays)], phases[p], 0));
         }
         DimkhorosProverSession fresh = dimkhoros_prover_new();
         DimkhorosProverAnswer committed = dimkhoros_prover_commit(sheet->bytes, sheet->length, fresh, arrays[n]);
         DimkhorosProverSession next = committed.session;
-        try_peggy(sheet, peggy(next.nonce, next.commitment, next.phase));
+        for (size_t c = 0; c < COUNT(counts); c++) {
+            try_peggy(sheet, peggy(next.nonce, next.commitment, next.phase, counts[c]));
+        }
     }
 }
 
@@ -196,6 +238,8 @@ int main(void) {
     print(&afters);
     print(&failures);
     print(&drops);
+    print(&saves);
+    print(&returns);
     print(&commitments);
     print(&asks);
     print(&responses);

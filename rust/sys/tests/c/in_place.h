@@ -34,7 +34,7 @@ static inline void make(Sheet *sheet, uint32_t pattern, uint32_t m, uint32_t l, 
 /* Which numbers a call answered, and by how many comparisons. */
 typedef struct {
     const char *name;
-    int answered[27];
+    int answered[35];
     int accepted, rejected;
 } Seen;
 
@@ -83,7 +83,7 @@ static inline void count(Seen *seen, uint32_t in_place, uint32_t pure) {
 typedef struct {
     int fails;
     int called;
-    uint8_t stored[DIMKHOROS_STORED_OR_PROVER];
+    uint8_t stored[DIMKHOROS_STORED_PROVER]; /* the longest form */
     size_t length;
     const Lent *answer; /* where the answer is put later */
 } Disk;

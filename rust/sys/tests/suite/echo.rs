@@ -218,19 +218,79 @@ fn rounds(text: &mut String) {
     );
 }
 
+/// A saved state with its nonce, which `Debug` does not show.
+fn saved_text(saved: &Saved) -> String {
+    let Saved { nonce, commitment, phase, kept } = saved;
+    format!(
+        "Saved {{ nonce: {nonce:?}, commitment: {commitment:?}, phase: {phase}, kept: {kept} }}"
+    )
+}
+
+/// What a session keeps beside its state: of what is the same and follows each other the first, with how many they are.
+fn memory_lines(memory: &Memory) -> String {
+    let mut text = String::new();
+    for run in memory.saved.chunk_by(|saved, next| saved == next) {
+        writeln!(text, "{} of {}", run.len(), saved_text(&run[0])).unwrap();
+    }
+    for run in memory.answered.chunk_by(|listed, next| listed == next) {
+        writeln!(text, "{} of {:?}", run.len(), run[0]).unwrap();
+    }
+    text + &format!("count: {}\n", memory.count)
+}
+
+/// Peggy's session, but for its memory.
+fn session_text(session: &ProverSession) -> String {
+    let ProverSession { nonce, commitment, phase, .. } = session;
+    format!("ProverSession {{ nonce: {nonce:?}, commitment: {commitment:?}, phase: {phase} }}")
+}
+
+/// What a call on it answers, but for the session's memory.
+fn step_line(answer: &ProverAnswer) -> String {
+    let ProverAnswer { session, values, refusal } = answer;
+    let session = session_text(session);
+    format!("ProverAnswer {{ session: {session}, values: {values:?}, refusal: {refusal} }}\n")
+}
+
+fn answer_lines(answer: ProverAnswer) -> String {
+    step_line(&answer) + &memory_lines(&answer.session.memory)
+}
+
+/// What a refused call answers, and whether the session is the given one.
+fn refused_lines(answer: ProverAnswer, given: &ProverSession) -> String {
+    let same = if answer.session == *given { "the same session" } else { "another session" };
+    step_line(&answer) + same + "\n"
+}
+
+/// A session of Peggy's whose numbers all differ.
+fn odd_prover() -> ProverSession {
+    let saved = |i| Saved {
+        nonce: rise(1000 + 100 * i),
+        commitment: rise(1020 + 100 * i),
+        phase: 1040 + 100 * i,
+        kept: 1050 + 100 * i,
+    };
+    let memory = Memory {
+        saved: core::array::from_fn(|i| saved(i as u32)),
+        answered: core::array::from_fn(|i| Listed { commitment: rise(2000 + 10 * i as u32) }),
+        count: 88,
+    };
+    ProverSession { phase: 77, nonce: rise(401), commitment: rise(501), memory }
+}
+
 fn provers(text: &mut String) {
-    let wide = wide();
-    let committed = || prover_commit(&wide, prover_new(), &NONCE);
-    let odd = || ProverSession { phase: 77, nonce: rise(401), commitment: rise(501) };
-    print!(text:
-        prover_new(),
-        committed(),
-        prover_drop(committed().session),
-        prover_respond(&wide, committed().session, 1, &WITNESS),
-        prover_commit(&wide, odd(), &NONCE),
-        prover_respond(&wide, odd(), 1, &WITNESS),
-        prover_drop(odd()),
-    );
+    let (wide, fresh, odd) = (wide(), prover_new(), odd_prover());
+    let committed = prover_commit(&wide, fresh, &NONCE);
+    text.push_str(&(session_text(&fresh) + "\n" + &memory_lines(&fresh.memory)));
+    text.push_str(&answer_lines(committed));
+    text.push_str(&answer_lines(prover_drop(committed.session)));
+    text.push_str(&answer_lines(prover_respond(&wide, committed.session, 1, &WITNESS)));
+    text.push_str(&refused_lines(prover_commit(&wide, odd, &NONCE), &odd));
+    text.push_str(&refused_lines(prover_respond(&wide, odd, 1, &WITNESS), &odd));
+    text.push_str(&refused_lines(prover_drop(odd), &odd));
+    text.push_str(&refused_lines(prover_save(odd, 8), &odd));
+    text.push_str(&refused_lines(prover_return(odd, 9), &odd));
+    text.push_str(&answer_lines(prover_save(odd, 6)));
+    text.push_str(&answer_lines(prover_return(odd, 5)));
 }
 
 fn verifiers(text: &mut String) {
@@ -474,8 +534,10 @@ fn empty_slices(text: &mut String) {
         judge(&[], &rising_round(1)),
         simulate(&[], 0, &RESPONSE),
         extract(&[], &rising_round(1), &rising_round(2)),
-        prover_commit(&[], prover_new(), &NONCE),
-        prover_respond(&[], prover_new(), 1, &WITNESS),
+    );
+    text.push_str(&answer_lines(prover_commit(&[], prover_new(), &NONCE)));
+    text.push_str(&answer_lines(prover_respond(&[], prover_new(), 1, &WITNESS)));
+    print!(text:
         verifier_commitment(&[], verifier_new(), &COMMITMENT),
         verifier_challenge(&[], verifier_new(), 1),
         verifier_response(&[], verifier_new(), &RESPONSE),
@@ -511,6 +573,25 @@ fn fields_cross_from_rust() {
     games(&mut text);
     empty_slices(&mut text);
     assert_eq!(text, EXPECTED);
+}
+
+/// The nonces of this session are 401 to 408 and, of the saved states, 1000 to 1707, eight from each hundred.
+#[test]
+fn no_text_shows_a_nonce() {
+    let odd = odd_prover();
+    let answer = prover_save(odd, 8);
+    assert_eq!(answer.session, odd);
+    let nonces = odd.memory.saved.map(|saved| saved.nonce);
+    for text in [format!("{odd:?}"), format!("{:?}", odd.memory), format!("{answer:?}")] {
+        let shown: Vec<u32> = text
+            .split(|c: char| !c.is_ascii_digit())
+            .filter_map(|word| word.parse().ok())
+            .collect();
+        assert!([1020, 1720, 2630].iter().all(|commitment| shown.contains(commitment)));
+        for value in nonces.iter().chain([&odd.nonce]).flatten() {
+            assert!(!shown.contains(value), "{value} is shown");
+        }
+    }
 }
 
 #[test]

@@ -9,11 +9,13 @@ use std::fmt::Write;
 use std::fs;
 
 /// The constants of this crate, under their names in C and in the order of the C program.
-const CONSTANTS: [(&str, usize); 26] = [
+const CONSTANTS: [(&str, usize); 28] = [
     ("PLACES", PLACES),
     ("ENTRIES", ENTRIES),
     ("MOST_PLAYERS", MOST_PLAYERS),
     ("PARTS", PARTS),
+    ("SAVED_STATES", SAVED_STATES),
+    ("MOST_ANSWERED", MOST_ANSWERED),
     ("MOST_REMEMBERED", MOST_REMEMBERED),
     ("LONGEST_SHEET", LONGEST_SHEET),
     ("SHIPPED_PATTERNS", SHIPPED_PATTERNS),

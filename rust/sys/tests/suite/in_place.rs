@@ -10,9 +10,9 @@ use std::fs;
 
 #[test]
 fn calls_in_place_are_the_pure_ones() {
-    let expected = "commit 0 2 16 21\nrespond 0 2 15 16 17 21\nrespond_after 0 2 15 16 17 21\n\
-                    respond_after with a store that fails 0 2 15 16 17 21\ndrop 0 21\ntake_commitment 0 2 14 21\n\
-                    take_challenge 0 2 15 21\ntake_response 0 2 16 21 accepted rejected\n";
+    let expected = "commit 0 2 16 21\nrespond 0 2 15 16 17 21 32 33\nrespond_after 0 2 15 16 17 21 32 33\n\
+                    respond_after with a store that fails 0 2 15 16 17 21 32 33\ndrop 0 21\nsave 0 34\n\
+                    return_to 0 34\ntake_commitment 0 2 14 21\ntake_challenge 0 2 15 21\ntake_response 0 2 16 21 accepted rejected\n";
     assert_eq!(cc::run("in_place.c"), expected);
 }
 

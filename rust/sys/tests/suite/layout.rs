@@ -36,7 +36,10 @@ fn every_struct_is_laid_out_as_in_c() {
     describe!(text, Compared { same, refusal });
     describe!(text, Computed { values, refusal });
     describe!(text, Judgement { accepted, rows, refusal });
-    describe!(text, ProverSession { nonce, commitment, phase });
+    describe!(text, Saved { nonce, commitment, phase, kept });
+    describe!(text, Listed { commitment });
+    describe!(text, Memory { saved, answered, count });
+    describe!(text, ProverSession { nonce, commitment, phase, memory });
     describe!(text, ProverAnswer { session, values, refusal });
     describe!(text, VerifierSession { commitment, challenge, phase });
     describe!(text, VerifierAnswer { session, refusal });

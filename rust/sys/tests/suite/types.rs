@@ -60,7 +60,8 @@ fn in_library() -> Calls {
 
 /// The same as this crate declares them.
 fn in_crate() -> Calls {
-    calls(include_str!("../../src/exports.rs"), "pub fn ", |part| vec![part.to_string()])
+    let handed = |part: &str| vec![part.replace("Handed", "ProverSession")];
+    calls(include_str!("../../src/exports.rs"), "pub fn ", handed)
 }
 
 /// A type of C as this crate writes it.

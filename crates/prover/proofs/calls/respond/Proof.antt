@@ -1,24 +1,25 @@
 -- `prover::calls::respond` meets its contract: a refused sheet's number is the answer, else the call is that on the sheet's values.
 -- Assumes nothing.
-use mathlib.Core.Path.{sym}
 use borrow.Author.Needs.{needs}
 use Rattle.runs.specs.Prover.{respond}
 use Rattle.runs.proofs.After.{respondAfter-clear, respondAfter-refused}
 use Rattle.instance.proofs.Answers.{answer-refused, answer-header, answer-valid, answer-call}
+use Rattle.prover.specs.Parts.{answeredStep, proverWith}
+use Rattle.prover.proofs.Steps.{stepWith-refused}
 use Rattle.prover.proofs.calls.respond.Statement.{statement}
 use Rattle.prover.proofs.calls.respond.Tie as tie
 
 load-requires : tie.Need-load-requires
 load-requires c κs = search needs
 
-refused-requires : tie.Need-refused-requires
-refused-requires c κs = search needs
+not-answered-requires : tie.Need-not-answered-requires
+not-answered-requires c κs = search needs
 
 returns : tie.Need-returns
-unfolding respond
-returns c =
+unfolding respond answeredStep
+returns c = λ m bars.
     let (number, some) = answer-refused _ _ (c .before .before .load .ensures) (c .before .if1 .taken) in
-    rw (c .refused .ensures, number) (sym (respondAfter-refused _ _ some _ _ _))
+    rw (c .not-answered .ensures) (stepWith-refused _ _ number some (respondAfter-refused _ _ some _ _ _))
 
 loaded-entries-requires : tie.Need-loaded-entries-requires
 loaded-entries-requires c κs =
@@ -32,19 +33,19 @@ respond-loaded-requires c κs =
 
 returns-2 : tie.Need-returns-2
 unfolding respond
-returns-2 c =
+returns-2 c = λ m bars.
     let passed = c .before .before .before .before in
     let args = passed .before .before .before .args in
     answer-call _ _ (passed .before .load .ensures) (passed .if1 .left)
-    (λ before inst none. respondAfter-clear before inst none (args .session) (args .challenge) (args .witness))
-    (c .before .loaded-entries .ensures) (c .respond-loaded .ensures)
+    (λ before inst none. respondAfter-clear before inst none (proverWith (args .held) m) (args .challenge) (args .witness))
+    (c .before .loaded-entries .ensures) (c .respond-loaded .ensures m bars)
 
 pub respond-spec : {M : Type 1} → statement M
 respond-spec =
     tie.close
     (tie.spec
     load-requires
-    refused-requires
+    not-answered-requires
     returns
     loaded-entries-requires
     respond-loaded-requires

@@ -7,6 +7,7 @@ use borrow.Author.Needs.{needs}
 use Rattle.types.specs.declared.ProverPhase.the-variants.{Committed}
 use Rattle.lists.specs.Places.{pad8}
 use Rattle.runs.specs.Prover.{commitAfter}
+use Rattle.prover.specs.Parts.{committedStep}
 use Rattle.image.proofs.Unread.{image-places}
 use Rattle.prover.proofs.Steps.{step-refused, step-given}
 use Rattle.prover.proofs.loaded.commit_loaded.Statement.{statement}
@@ -15,15 +16,15 @@ use Rattle.prover.proofs.loaded.commit_loaded.Tie as tie
 commit-refusal-requires : tie.Need-commit-refusal-requires
 commit-refusal-requires c κs = search needs
 
-refused-requires : tie.Need-refused-requires
-refused-requires c κs = search needs
+not-committed-requires : tie.Need-not-committed-requires
+not-committed-requires c κs = search needs
 
 returns : tie.Need-returns
-unfolding commitAfter
-returns c =
+unfolding commitAfter committedStep
+returns c = λ m.
     let start = c .before .before .before in
-    let number = c .before .before .commit-refusal .ensures (start .args .entries) (start .args .statement) in
-    step-refused _ _ _ number (c .before .if1 .taken) (c .refused .ensures)
+    let number = c .before .before .commit-refusal .ensures (start .args .entries) (start .args .statement) m in
+    rw (c .not-committed .ensures) (step-refused _ _ _ number (c .before .if1 .taken) _)
 
 cast-first-places : tie.Need-cast-first-places
 cast-first-places c = search needs
@@ -35,21 +36,21 @@ image-requires : tie.Need-image-requires
 image-requires c κs = search needs
 
 returns-2 : tie.Need-returns-2
-unfolding commitAfter
-returns-2 c =
+unfolding commitAfter committedStep
+returns-2 c = λ m.
     let numbered = c .before .before .before in
     let start = numbered .before .before in
-    let number = numbered .before .commit-refusal .ensures (start .args .entries) (start .args .statement) in
+    let number = numbered .before .commit-refusal .ensures (start .args .entries) (start .args .statement) m in
     let read = c .image .ensures ∙ ap (λ (xs : List ℕ). pad8 0 xs) (sym (image-places _ (start .pre .table) _)) in
     step-given _ _ _ number (numbered .if1 .left)
-    (λ j. record { phase = Committed; nonce = c .before .first-places .ensures j; commitment = read j }) read
+    (λ j. record { phase = Committed; nonce = c .before .first-places .ensures j; commitment = read j; memory = m }) read
 
 pub commit-loaded-spec : {M : Type 1} → statement M
 commit-loaded-spec =
     tie.close
     (tie.spec
     commit-refusal-requires
-    refused-requires
+    not-committed-requires
     returns
     cast-first-places
     first-places-requires

@@ -20,7 +20,7 @@ some-non-coordinate-requires c κs = search needs
 
 returns : tie.Need-returns
 unfolding commitRules
-returns c = λ entries statement.
+returns c = λ entries statement m.
     sym (stop 16 _ (coordinates-read _ _ ∙ sym (c .before .some-non-coordinate .ensures) ∙ c .if1 .taken))
 
 enum-told : tie.Need-enum-told
@@ -28,14 +28,14 @@ enum-told c = search needs
 
 returns-2 : tie.Need-returns-2
 unfolding commitRules
-returns-2 c = λ entries statement.
+returns-2 c = λ entries statement m.
     let slots = c .before in
     sym (pass 16 _ (coordinates-read _ _ ∙ sym (slots .before .some-non-coordinate .ensures) ∙ slots .if1 .left)
     ∙ stop 21 _ (not-new _ (c .match .keys2)))
 
 returns-3 : tie.Need-returns-3
 unfolding commitRules
-returns-3 c = λ entries statement.
+returns-3 c = λ entries statement m.
     let slots = c .before .before in
     sym (lowest-clear _ (
       coordinates-read _ _ ∙ sym (slots .before .some-non-coordinate .ensures) ∙ slots .if1 .left,

@@ -1,0 +1,2 @@
+-- Peggy's calls by the parts of her session.
+pub mod Parts

@@ -1,0 +1,4 @@
+-- Laws that the proofs of the functions cite, by topic.
+pub mod Answers
+pub mod Listing
+pub mod Sessions

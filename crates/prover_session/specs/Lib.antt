@@ -1,0 +1,2 @@
+-- The entries of Peggy's list.
+pub mod Entries
