@@ -31,8 +31,9 @@
  * What a call takes. Any bytes and any numbers: every call ends in an answer, and it is proved to be the one that the call's
  * definition gives (docs/promises/exports.md lists the definitions). The caller owes four things. A pointer with a length
  * behind it points to that many bytes or numbers (where the length is 0 it is not used and may be NULL). A pointer written
- * with the size of an array points to that much, one to a session or a round to one, and a store to a function. What a call
- * writes to shares no byte with anything else that the same call is given. And nobody else changes these bytes during the call.
+ * with the size of an array points to that much, one to a session or any other struct to one, and a store to a function. What a
+ * call writes to shares no byte with anything else that the same call is given. And nobody else changes these bytes during the
+ * call.
  *
  * Sheets. A sheet describes a homomorphism, its table, with a statement, and comes as bytes. Each call that takes one tests
  * it from the start and refuses a bad one with 2 to 11. m is the modulus, q the order and e the exponent, K the challenge
@@ -45,9 +46,9 @@
  * session keeps what it holds in all eight, and the commitments that Peggy's hold are tested in all eight (by 21 and 32).
  *
  * Refusals. A call answers a number, or a struct with a field `refusal`: 0, or the number of what was refused. Where several
- * apply it is the earliest in the order 23, 24, 1 to 9, 27, 29, 30, 10, 11, 26, 12, 25, 13 to 16, 28, 31, 17 to 21, 32 to 34, 22.
- * A refused call changes no session, watch, array or buffer, and has 0 in every other field of its answer. Compilers warn of a
- * call whose answer is thrown away.
+ * apply it is the earliest in the order 23, 24, 1 to 9, 27, 29, 30, 10, 11, 26, 37, 35, 36, 12, 25, 13 to 16, 28, 31, 17 to 21,
+ * 32 to 34, 22. A refused call changes no session, watch, ledger, array or buffer, and has 0 in every other field of its answer.
+ * Compilers warn of a call whose answer is thrown away.
  *
  * Random numbers are the caller's: nonces, challenges and simulated responses are handed in. A nonce has to be drawn at
  * random from all coordinates for each session, or the responses give the witness away.
@@ -85,6 +86,7 @@ extern "C" {
 #define DIMKHOROS_SAVED_STATES 8        /* saved states of a session of Peggy's: their names are 0 to 7 */
 #define DIMKHOROS_MOST_ANSWERED 64      /* commitments in the fullest list of answered ones */
 #define DIMKHOROS_MOST_REMEMBERED 63    /* accepted rounds that the fullest watch remembers */
+#define DIMKHOROS_MOST_LINES 64         /* lines of the longest ledger: their numbers are 0 to 63 */
 #define DIMKHOROS_LONGEST_SHEET 308     /* bytes of the longest sheet */
 #define DIMKHOROS_SHIPPED_PATTERNS 34   /* bytes of the pattern file that dimkhoros_patterns writes */
 #define DIMKHOROS_MOST_PATTERNS 32      /* patterns in the fullest pattern file */
@@ -114,6 +116,11 @@ extern "C" {
 #define DIMKHOROS_PATTERN_DIFFIE_HELLMAN 4 /* values h B; rows h and B */
 #define DIMKHOROS_PATTERN_PRODUCT 5        /* values g h B; rows g h 1 and B 1 h */
 
+/* Kinds of a ledger's lines. */
+#define DIMKHOROS_LINE_COMMITMENT 1 /* a commitment */
+#define DIMKHOROS_LINE_SUM 2        /* the sum of two lines above */
+#define DIMKHOROS_LINE_PRODUCT 3    /* the product of two lines above, with a commitment and a round of its own */
+
 /* Phases of Peggy's sessions. In the OR proof the side and the simulated values are held with the nonce, and gone with it. */
 #define DIMKHOROS_PROVER_NEW 0       /* nothing has happened */
 #define DIMKHOROS_PROVER_COMMITTED 1 /* a nonce and its commitment are held */
@@ -135,7 +142,7 @@ extern "C" {
 
 /*
  * Every refusal by its number, with its name and what it says. 23 and 24 are tested before 1, 27, 29 and 30 after 9, 26 after 11,
- * 25 after 12, 28 after 16, 31 after 28, and 32 to 34 after 21, before 22.
+ * then 37, 35 and 36, 25 after 12, 28 after 16, 31 after 28, and 32 to 34 after 21, before 22.
  */
 #define DIMKHOROS_REFUSALS(REFUSAL)                                                                               \
     REFUSAL(1, PATTERN, "the pattern file has no pattern of this number, or it takes another count of values")    \
@@ -154,9 +161,9 @@ extern "C" {
                       " another than 1 and 2")                                                                    \
     REFUSAL(13, ROUND_NUMBER, "the file has no round of this number")                                             \
     REFUSAL(14, COMMITMENT, "a commitment value lies outside the group")                                          \
-    REFUSAL(15, CHALLENGE, "the challenge has to be below the sheet's challenge count, or 65535 at most where it" \
-                           " is written to a round file of version 2")                                            \
-    REFUSAL(16, COORDINATE, "a value of the witness, nonce or response lies outside the domain")                  \
+    REFUSAL(15, CHALLENGE, "the challenge has to be below the challenge count K, or 65535 at most where it is"    \
+                           " written to a round file of version 2")                                               \
+    REFUSAL(16, COORDINATE, "a value of the witness, nonce, response or ledger's entry lies outside the domain")  \
     REFUSAL(17, WITNESS, "the table does not carry the witness to the statement")                                 \
     REFUSAL(18, COMMITMENTS_DIFFER, "the two rounds have different commitments")                                  \
     REFUSAL(19, CHALLENGES_EQUAL, "the two rounds have the same challenge")                                       \
@@ -178,7 +185,10 @@ extern "C" {
                            " m up to 4096 and one row")                                                           \
     REFUSAL(32, ANSWERED, "the commitment that the session holds was answered before")                            \
     REFUSAL(33, LIST_FULL, "the session's list of answered commitments is full: it holds 64")                     \
-    REFUSAL(34, NAME, "the name of a saved state has to be 0 to 7, and a return needs one that was saved")
+    REFUSAL(34, NAME, "the name of a saved state has to be 0 to 7, and a return needs one that was saved")        \
+    REFUSAL(35, LINE_KIND, "the kind of a ledger's line has to be 1, commitment, 2, sum, or 3, product")          \
+    REFUSAL(36, LINE_NOT_ABOVE, "a sum or product of a ledger has to name two lines above its own")               \
+    REFUSAL(37, LEDGER_SIZE, "a ledger has 64 lines at most")
 
 /* The refusals by name: DIMKHOROS_REFUSED_PATTERN is 1, and so on through the list. */
 enum {
@@ -401,6 +411,73 @@ typedef struct {
     uint32_t back;                      /* how many accepted rounds back the named one stands, 1 to 63, or 0 for none */
     DimkhorosJudgement verdict;
 } DimkhorosHeard;
+
+/* What all lines of a ledger share. q need not be prime. */
+typedef struct {
+    uint32_t g;          /* the public value that values are exponents of */
+    uint32_t h;          /* the public value that blinding numbers are exponents of */
+    uint32_t modulus;    /* m */
+    uint32_t order;      /* q */
+    uint32_t challenges; /* K: the challenges are 0 to K - 1 */
+} DimkhorosBase;
+
+/*
+ * A line of a ledger. Its kind says which numbers are used:
+ *
+ *     kind                        first, second    commitment    t, challenge, response
+ *     DIMKHOROS_LINE_COMMITMENT                    used
+ *     DIMKHOROS_LINE_SUM          used
+ *     DIMKHOROS_LINE_PRODUCT      used             used          used
+ *
+ * The others are not read, and are 0 in a ledger that a call makes. A sum's commitment is not stored: it is the two named lines'
+ * commitments multiplied modulo m.
+ */
+typedef struct {
+    uint32_t kind;        /* DIMKHOROS_LINE_COMMITMENT, DIMKHOROS_LINE_SUM or DIMKHOROS_LINE_PRODUCT */
+    uint32_t first;       /* the number of the first line that is added or multiplied */
+    uint32_t second;      /* the number of the second, which may be the same */
+    uint32_t commitment;  /* the line's own commitment */
+    uint32_t t[2];        /* of the round of a product */
+    uint32_t challenge;   /* c of the round */
+    uint32_t response[3]; /* r of the round */
+} DimkhorosLine;
+
+/* A ledger: its lines in order, numbered from 0. It may hold anything: dimkhoros_check_ledger says what it refuses. */
+typedef struct {
+    DimkhorosLine lines[DIMKHOROS_MOST_LINES]; /* those from `count` on are not read, and are zeros in a ledger that a call makes */
+    uint32_t count;                            /* how many lines there are */
+} DimkhorosLedger;
+
+/*
+ * What a checked ledger is found to be. It is accepted only if `accepted` is 1: a refused ledger has 0 there too. `line` is the
+ * first product whose round is rejected, if nothing is refused and `accepted` is 0; else it is 0.
+ */
+typedef struct {
+    uint32_t accepted; /* 1 if the round of every product is accepted, else 0 */
+    uint32_t line;     /* the first line whose round is rejected */
+    uint32_t refusal;
+} DimkhorosChecked;
+
+/*
+ * What a line of a ledger is made of. Its kind says which numbers are used: the value and the blinding number for a commitment,
+ * the two lines for a sum, and the two lines, the blinding number, the nonce and the challenge for a product. The others are not
+ * read. dimkhoros_add_commitment, dimkhoros_add_sum and dimkhoros_add_product set what is used, and the rest to 0.
+ */
+typedef struct {
+    uint32_t kind;      /* DIMKHOROS_LINE_COMMITMENT, DIMKHOROS_LINE_SUM or DIMKHOROS_LINE_PRODUCT */
+    uint32_t first;     /* the number of the first line that is added or multiplied */
+    uint32_t second;    /* the number of the second, which may be the same */
+    uint32_t value;     /* the value that is committed to, below q */
+    uint32_t blinding;  /* the blinding number of the line's own commitment, below q */
+    uint32_t nonce[3];  /* of the round of a product, each below q */
+    uint32_t challenge; /* c of the round, below K */
+} DimkhorosEntry;
+
+/* What all lines of a ledger are made of, in order. Whoever reads it opens every commitment. */
+typedef struct {
+    DimkhorosEntry entries[DIMKHOROS_MOST_LINES]; /* those from `count` on are not read */
+    uint32_t count;                               /* how many lines there are */
+} DimkhorosEntries;
 
 /* --- Sheets --- */
 
@@ -839,6 +916,97 @@ DIMKHOROS_CHECKED
 static inline DimkhorosHeard dimkhoros_hear(const uint8_t *sheet, size_t sheet_length, DimkhorosWatch *watch,
                                             DimkhorosRound round);
 
+/* --- A ledger of committed values --- */
+
+/*
+ * A ledger computes on commitments. g^v * h^b modulo m commits to the value v with the blinding number b. Whoever holds two
+ * commitments multiplies them and has one to the sum of the two values. For a product the holder of the values makes a commitment
+ * of its own, and shows by a round that it is one to the product. A ledger has up to 64 lines over one g, h, m, q and K:
+ * commitments, sums of two lines above, and products of two lines above. This one has 2, 3, 2 + 3 and 2 * 3:
+ *
+ *     const DimkhorosBase base = {2, 3, 23, 11, 11};
+ *     const uint32_t nonce[3] = {1, 2, 3};
+ *     DimkhorosEntries entries = dimkhoros_no_entries();
+ *     DimkhorosLedger ledger;
+ *     uint32_t two = dimkhoros_add_commitment(&entries, 2, 1);
+ *     uint32_t three = dimkhoros_add_commitment(&entries, 3, 0);
+ *     dimkhoros_add_sum(&entries, two, three);
+ *     dimkhoros_add_product(&entries, two, three, 4, nonce, 3);
+ *     uint32_t refusal = dimkhoros_write_ledger(&base, &entries, &ledger);
+ *     .. if it is 0: the ledger can be handed on, the entries must not be ..
+ *     DimkhorosChecked checked = dimkhoros_check_ledger(&base, &ledger);
+ *     .. if checked.accepted is 1: every product is shown ..
+ *
+ * A product's round is one of the sheet of pattern DIMKHOROS_PATTERN_PRODUCT with the values g, h and B and the statement A and E,
+ * where A is the commitment of its first line, B that of its second and E its own. An accepted round is evidence as of any sheet:
+ * if the same t is answered for two challenges, dimkhoros_extract gives the value a of the first line with its blinding number and
+ * a third number, and if B opens to b, E opens to a * b mod q. This is proved. So a nonce must be drawn at random for each product,
+ * and must not be used for two challenges.
+ */
+
+/* What a ledger of no lines is made of. */
+DIMKHOROS_CHECKED
+static inline DimkhorosEntries dimkhoros_no_entries(void);
+
+/*
+ * Adds a commitment to a value with a blinding number. Answers the number of its line, by which later lines name it. Behind the
+ * 64th line nothing is written, here and in the next two calls: the count is then 65, and dimkhoros_write_ledger refuses it.
+ */
+static inline uint32_t dimkhoros_add_commitment(DimkhorosEntries *entries, uint32_t value, uint32_t blinding);
+
+/* Adds the sum of two lines above, which may be the same. Answers the number of its line. */
+static inline uint32_t dimkhoros_add_sum(DimkhorosEntries *entries, uint32_t first, uint32_t second);
+
+/*
+ * Adds the product of two lines above, which may be the same: a commitment to it with this blinding number, and a round with this
+ * nonce and challenge. Answers the number of its line. The round is evidence only if another has drawn the challenge, after t was
+ * fixed.
+ */
+static inline uint32_t dimkhoros_add_product(DimkhorosEntries *entries, uint32_t first, uint32_t second, uint32_t blinding,
+                                             const uint32_t nonce[3], uint32_t challenge);
+
+/*
+ * Makes the ledger of these entries: sets `ledger` to it and answers 0. A sum's value and blinding number are those of its lines
+ * added modulo q, and a product's value is its lines' multiplied modulo q. dimkhoros_check_ledger accepts what this call makes:
+ * this is proved. Refuses 5, 6 and 8 for m, q and K, 10 for g or h, 37 for a count above 64, 35 for an unknown kind, 36 for a line
+ * that is not above, 15 for a challenge of K or more, and 16 for a value, blinding number or nonce of q or more: each asked of all
+ * lines before the next, and only of numbers that a line's kind uses. The number is answered, and `ledger` keeps what it holds.
+ */
+DIMKHOROS_CHECKED
+static inline uint32_t dimkhoros_write_ledger(const DimkhorosBase *base, const DimkhorosEntries *entries,
+                                              DimkhorosLedger *ledger);
+
+/*
+ * Checks a ledger: accepted, or the first product whose round is rejected. A ledger of no lines is accepted. Refuses 5, 6 and 8 for
+ * m, q and K, 10 for g or h, 37 for a count above 64, 35 for an unknown kind, 36 for a line that is not above, 14 for a commitment
+ * or a value of t outside the group, 15 for a challenge of K or more, and 16 for a response of q or more: each asked of all lines
+ * before the next, and all before any round is judged.
+ */
+DIMKHOROS_CHECKED
+static inline DimkhorosChecked dimkhoros_check_ledger(const DimkhorosBase *base, const DimkhorosLedger *ledger);
+
+/*
+ * Gives the commitments of all lines of a ledger, those of sums too: sets all 64 numbers of `commitments`, to 0 behind the last
+ * line, and answers 0. Refuses as dimkhoros_check_ledger does: the number is answered, and `commitments` keeps its numbers. A
+ * round that is rejected is not refused.
+ */
+DIMKHOROS_CHECKED
+static inline uint32_t dimkhoros_line_commitments(const DimkhorosBase *base, const DimkhorosLedger *ledger,
+                                                  uint32_t commitments[DIMKHOROS_MOST_LINES]);
+
+/*
+ * Writes the sheet of the product of this number, from 0, to the start of `buffer`, and answers its length, 52; or 0 if the line of
+ * this number is none. No byte behind the sheet is changed. Refuses as dimkhoros_check_ledger does, and then 22. The rounds of two
+ * ledgers for it, with one t and two challenges, are given to dimkhoros_extract.
+ */
+DIMKHOROS_CHECKED
+static inline DimkhorosWritten dimkhoros_line_sheet(const DimkhorosBase *base, const DimkhorosLedger *ledger, uint32_t line,
+                                                    uint8_t *buffer, size_t buffer_length);
+
+/* The round of a product, as the calls on rounds take it. */
+DIMKHOROS_CHECKED
+static inline DimkhorosRound dimkhoros_line_round(const DimkhorosLine *line);
+
 /* --- Round files --- */
 
 /*
@@ -970,6 +1138,8 @@ uint32_t dimkhoros_version(void);
  * A session of Peggy's has 2,696 bytes, which a call takes and answers by value.
  *
  * A watch is handed in and back in the same way. An old copy of it gives nothing away, but does not know the newest round.
+ *
+ * A ledger is handed in or back by value too. One that is refused when it is made is handed back as zeros.
  */
 
 /* What a call on Peggy's session answers. */
@@ -1013,6 +1183,12 @@ typedef struct {
     uint32_t back;
     DimkhorosJudgement verdict;
 } DimkhorosWatchAnswer;
+
+/* What making a ledger answers. A refused one has a ledger of zeros. */
+typedef struct {
+    DimkhorosLedger ledger;
+    uint32_t refusal;
+} DimkhorosLedgerWritten;
 
 /* The pure form of dimkhoros_commit. */
 DIMKHOROS_CHECKED
@@ -1080,7 +1256,15 @@ DIMKHOROS_CHECKED
 DimkhorosWatchAnswer dimkhoros_watch_round(const uint8_t *sheet, size_t sheet_length, DimkhorosWatch watch,
                                            DimkhorosRound round);
 
-/* --- How the calls on sessions and watches come from the pure form --- */
+/* The pure form of dimkhoros_check_ledger. A ledger has 2,564 bytes, which the call takes by value. */
+DIMKHOROS_CHECKED
+DimkhorosChecked dimkhoros_ledger_check(DimkhorosBase base, DimkhorosLedger ledger);
+
+/* The pure form of dimkhoros_write_ledger. */
+DIMKHOROS_CHECKED
+DimkhorosLedgerWritten dimkhoros_ledger_write(DimkhorosBase base, DimkhorosEntries entries);
+
+/* --- How the calls on sessions, watches and ledgers come from the pure form --- */
 
 /* Puts eight numbers into eight places. */
 static inline void dimkhoros_places_copy(uint32_t to[DIMKHOROS_PLACES], const uint32_t from[DIMKHOROS_PLACES]) {
@@ -1258,6 +1442,105 @@ static inline DimkhorosHeard dimkhoros_hear(const uint8_t *sheet, size_t sheet_l
     heard.back = answer.back;
     heard.verdict = answer.verdict;
     return heard;
+}
+
+static inline DimkhorosEntries dimkhoros_no_entries(void) {
+    const DimkhorosEntry none = {0, 0, 0, 0, 0, {0, 0, 0}, 0};
+    DimkhorosEntries entries;
+    for (size_t i = 0; i < DIMKHOROS_MOST_LINES; i++) {
+        entries.entries[i] = none;
+    }
+    entries.count = 0;
+    return entries;
+}
+
+/* Adds an entry if there is room for it, and counts it. All counts above 64 are 65. */
+static inline uint32_t dimkhoros_add_entry(DimkhorosEntries *entries, const DimkhorosEntry *entry) {
+    const uint32_t line = entries->count < DIMKHOROS_MOST_LINES ? entries->count : DIMKHOROS_MOST_LINES;
+    if (line < DIMKHOROS_MOST_LINES) {
+        entries->entries[line] = *entry;
+    }
+    entries->count = line + 1;
+    return line;
+}
+
+static inline uint32_t dimkhoros_add_commitment(DimkhorosEntries *entries, uint32_t value, uint32_t blinding) {
+    const DimkhorosEntry entry = {DIMKHOROS_LINE_COMMITMENT, 0, 0, value, blinding, {0, 0, 0}, 0};
+    return dimkhoros_add_entry(entries, &entry);
+}
+
+static inline uint32_t dimkhoros_add_sum(DimkhorosEntries *entries, uint32_t first, uint32_t second) {
+    const DimkhorosEntry entry = {DIMKHOROS_LINE_SUM, first, second, 0, 0, {0, 0, 0}, 0};
+    return dimkhoros_add_entry(entries, &entry);
+}
+
+static inline uint32_t dimkhoros_add_product(DimkhorosEntries *entries, uint32_t first, uint32_t second, uint32_t blinding,
+                                             const uint32_t nonce[3], uint32_t challenge) {
+    const DimkhorosEntry entry = {
+        DIMKHOROS_LINE_PRODUCT, first, second, 0, blinding, {nonce[0], nonce[1], nonce[2]}, challenge};
+    return dimkhoros_add_entry(entries, &entry);
+}
+
+static inline uint32_t dimkhoros_write_ledger(const DimkhorosBase *base, const DimkhorosEntries *entries,
+                                              DimkhorosLedger *ledger) {
+    const DimkhorosLedgerWritten written = dimkhoros_ledger_write(*base, *entries);
+    if (written.refusal == 0) {
+        *ledger = written.ledger;
+    }
+    return written.refusal;
+}
+
+static inline DimkhorosChecked dimkhoros_check_ledger(const DimkhorosBase *base, const DimkhorosLedger *ledger) {
+    return dimkhoros_ledger_check(*base, *ledger);
+}
+
+static inline uint32_t dimkhoros_line_commitments(const DimkhorosBase *base, const DimkhorosLedger *ledger,
+                                                  uint32_t commitments[DIMKHOROS_MOST_LINES]) {
+    const DimkhorosChecked checked = dimkhoros_ledger_check(*base, *ledger);
+    if (checked.refusal != 0) {
+        return checked.refusal;
+    }
+    /* Nothing is refused, so that there are 64 lines at most, and a sum names lines above. */
+    for (uint32_t i = 0; i < DIMKHOROS_MOST_LINES; i++) {
+        const DimkhorosLine *line = &ledger->lines[i];
+        commitments[i] = i < ledger->count ? line->commitment : 0;
+        if (i < ledger->count && line->kind == DIMKHOROS_LINE_SUM) {
+            uint64_t product = commitments[line->first];
+            product = product * commitments[line->second] % base->modulus;
+            commitments[i] = product & 0xFFFFFFFFu;
+        }
+    }
+    return 0;
+}
+
+static inline DimkhorosWritten dimkhoros_line_sheet(const DimkhorosBase *base, const DimkhorosLedger *ledger, uint32_t line,
+                                                    uint8_t *buffer, size_t buffer_length) {
+    uint32_t commitments[DIMKHOROS_MOST_LINES], values[3], statement[2];
+    uint8_t patterns[DIMKHOROS_SHIPPED_PATTERNS];
+    DimkhorosWritten written;
+    written.length = 0;
+    written.refusal = dimkhoros_line_commitments(base, ledger, commitments);
+    if (written.refusal != 0 || line >= ledger->count || ledger->lines[line].kind != DIMKHOROS_LINE_PRODUCT) {
+        return written;
+    }
+    values[0] = base->g;
+    values[1] = base->h;
+    values[2] = commitments[ledger->lines[line].second];
+    statement[0] = commitments[ledger->lines[line].first];
+    statement[1] = commitments[line];
+    written = dimkhoros_patterns(patterns, sizeof patterns);
+    return dimkhoros_from_pattern(patterns, written.length, DIMKHOROS_PATTERN_PRODUCT, base->modulus, base->order,
+                                  base->challenges, values, 3, statement, 2, buffer, buffer_length);
+}
+
+static inline DimkhorosRound dimkhoros_line_round(const DimkhorosLine *line) {
+    DimkhorosRound round;
+    for (size_t i = 0; i < DIMKHOROS_PLACES; i++) {
+        round.commitment[i] = i < 2 ? line->t[i] : 0;
+        round.response[i] = i < 3 ? line->response[i] : 0;
+    }
+    round.challenge = line->challenge;
+    return round;
 }
 
 /* --- How sessions are stored --- */

@@ -104,7 +104,7 @@ typedef struct {
     size_t word;                   /* how many letters the word has; 0 if the text is no word with numbers */
     uint32_t numbers[DIMKHOROS_BOX_NUMBERS];
     size_t count; /* how many numbers there are; those after them are 0 */
-} DimkhorosLine;
+} DimkhorosBoxLine;
 
 /*
  * Waits for a line and answers 1, or 0 if the other box has closed its end. It reads no further than the newline, so that the
@@ -112,14 +112,14 @@ typedef struct {
  * 0, and so is one that is too long, whose text is cut.
  */
 DIMKHOROS_CHECKED
-static inline int dimkhoros_box_hear(int wire, DimkhorosLine *line);
+static inline int dimkhoros_box_hear(int wire, DimkhorosBoxLine *line);
 
 /* Takes a text apart that the caller has put into a line, with its length. dimkhoros_box_hear does this by itself. */
-static inline void dimkhoros_box_take_apart(DimkhorosLine *line);
+static inline void dimkhoros_box_take_apart(DimkhorosBoxLine *line);
 
 /* Whether a line has this word and this many numbers. */
 DIMKHOROS_CHECKED
-static inline int dimkhoros_box_is(const DimkhorosLine *line, const char *word, size_t count);
+static inline int dimkhoros_box_is(const DimkhorosBoxLine *line, const char *word, size_t count);
 
 /*
  * Sends a word and two runs of numbers, of at most 16 in all, as one line in one write, so that no part of a line ever goes over
@@ -240,7 +240,7 @@ static inline const char *dimkhoros_box_number(const char *at, uint32_t *number)
     return digits == 0 || digits > 10 || value > 0xFFFFFFFFu ? NULL : at + digits;
 }
 
-static inline void dimkhoros_box_take_apart(DimkhorosLine *line) {
+static inline void dimkhoros_box_take_apart(DimkhorosBoxLine *line) {
     memset(line->numbers, 0, sizeof line->numbers);
     line->word = strspn(line->text, "abcdefghijklmnopqrstuvwxyz");
     line->count = 0;
@@ -263,7 +263,7 @@ static inline int dimkhoros_box_byte(int wire, char *byte) {
     return got == 1;
 }
 
-static inline int dimkhoros_box_hear(int wire, DimkhorosLine *line) {
+static inline int dimkhoros_box_hear(int wire, DimkhorosBoxLine *line) {
     char byte = 0;
     size_t heard = 0;
     line->word = 0;
@@ -285,7 +285,7 @@ static inline int dimkhoros_box_hear(int wire, DimkhorosLine *line) {
     return 1;
 }
 
-static inline int dimkhoros_box_is(const DimkhorosLine *line, const char *word, size_t count) {
+static inline int dimkhoros_box_is(const DimkhorosBoxLine *line, const char *word, size_t count) {
     return line->word == strlen(word) && memcmp(line->text, word, line->word) == 0 && line->count == count;
 }
 

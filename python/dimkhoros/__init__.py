@@ -9,6 +9,7 @@ from ._sizes import EXPONENT, ROOT
 from ._stored import Damaged
 from .forms import Forms
 from .instance import Header, Instance, Values
+from .ledger import Base, Checked, Entries, Ledger, Line, LineKind
 from .marker import game, mark, reason
 from .or_prover import OrProver
 from .pair import Pair
@@ -25,13 +26,19 @@ from .watch import Heard, Reuse, Watch
 __all__ = [
     "EXPONENT",
     "ROOT",
+    "Base",
+    "Checked",
     "Damaged",
+    "Entries",
     "Forms",
     "Found",
     "Header",
     "Heard",
     "Instance",
     "Layout",
+    "Ledger",
+    "Line",
+    "LineKind",
     "NotStored",
     "OrProver",
     "OrRound",

@@ -42,6 +42,8 @@ EXPORTS = {
     "team_response": (c.Computed, [*Given, U32, Numbers, Numbers]),
     "watch_open": (c.Opened, [*Given]),
     "watch_round": (c.WatchAnswer, [*Given, c.Watch, c.Round]),
+    "ledger_check": (c.Checked, [c.Base, c.Ledger]),
+    "ledger_write": (c.LedgerWritten, [c.Base, c.Entries]),
     "mark": (Size, [*Given, *Given, *Given, Bytes]),
     "reason": (Size, [*Given, *Given, Bytes]),
     "game": (Size, [*Given, *Given, Bytes]),

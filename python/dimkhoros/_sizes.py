@@ -1,4 +1,4 @@
-"""The sizes, kinds of sheets and phases of sessions of include/dimkhoros.h."""
+"""The sizes, kinds of sheets and lines, and phases of sessions of include/dimkhoros.h."""
 
 PLACES = 8
 ENTRIES = 64
@@ -7,6 +7,7 @@ PARTS = 64
 SAVED_STATES = 8
 MOST_ANSWERED = 64
 MOST_REMEMBERED = 63
+MOST_LINES = 64
 LONGEST_SHEET = 308
 SHIPPED_PATTERNS = 34
 LONGEST_FILE = 34823
@@ -16,6 +17,10 @@ LONGEST_GAME = 720896
 
 EXPONENT = 1
 ROOT = 2
+
+LINE_COMMITMENT = 1
+LINE_SUM = 2
+LINE_PRODUCT = 3
 
 PROVER_NEW = 0
 PROVER_COMMITTED = 1

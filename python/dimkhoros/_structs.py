@@ -2,13 +2,22 @@
 
 import ctypes
 
-from ._sizes import ENTRIES, LONGEST_SHEET, MOST_ANSWERED, MOST_REMEMBERED, PARTS, PLACES, SAVED_STATES
+from ._sizes import (
+    ENTRIES,
+    LONGEST_SHEET,
+    MOST_ANSWERED,
+    MOST_LINES,
+    MOST_REMEMBERED,
+    PARTS,
+    PLACES,
+    SAVED_STATES,
+)
 
 U32 = ctypes.c_uint32
 Size = ctypes.c_size_t
 
 Places = U32 * PLACES
-Entries = U32 * ENTRIES
+Table = U32 * ENTRIES
 Parts = U32 * PARTS
 
 
@@ -197,3 +206,61 @@ class WatchAnswer(ctypes.Structure):
     """What a watch answers to a round."""
 
     _fields_ = [("watch", Watch), ("witness", Places), ("back", U32), ("verdict", Judgement)]
+
+
+class Base(ctypes.Structure):
+    """What all lines of a ledger share."""
+
+    _fields_ = [("g", U32), ("h", U32), ("modulus", U32), ("order", U32), ("challenges", U32)]
+
+
+class Line(ctypes.Structure):
+    """A line of a ledger."""
+
+    _fields_ = [
+        ("kind", U32),
+        ("first", U32),
+        ("second", U32),
+        ("commitment", U32),
+        ("t", U32 * 2),
+        ("challenge", U32),
+        ("response", U32 * 3),
+    ]
+
+
+class Ledger(ctypes.Structure):
+    """A ledger."""
+
+    _fields_ = [("lines", Line * MOST_LINES), ("count", U32)]
+
+
+class Checked(ctypes.Structure):
+    """What a checked ledger is found to be."""
+
+    _fields_ = [("accepted", U32), ("line", U32), ("refusal", U32)]
+
+
+class Entry(ctypes.Structure):
+    """What a line of a ledger is made of."""
+
+    _fields_ = [
+        ("kind", U32),
+        ("first", U32),
+        ("second", U32),
+        ("value", U32),
+        ("blinding", U32),
+        ("nonce", U32 * 3),
+        ("challenge", U32),
+    ]
+
+
+class Entries(ctypes.Structure):
+    """What all lines of a ledger are made of."""
+
+    _fields_ = [("entries", Entry * MOST_LINES), ("count", U32)]
+
+
+class LedgerWritten(ctypes.Structure):
+    """What making a ledger answers."""
+
+    _fields_ = [("ledger", Ledger), ("refusal", U32)]

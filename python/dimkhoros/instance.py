@@ -60,7 +60,7 @@ class Instance:
         self._bytes = data(sheet, "the sheet")
         loaded = calls.load(*given(self._bytes))
         check(loaded.refusal)
-        table = _structs.Entries()
+        table = _structs.Table()
         check(calls.entries(*given(self._bytes), table))
         header = Header(*(getattr(loaded.header, field.name) for field in fields(Header)))
         shown = header.rows if header.kind == EXPONENT else 0
@@ -143,7 +143,7 @@ class Instance:
         statement = exactly(header.rows, values.statement, "the statement") if fits else ()
         sheet = buffer(LONGEST_SHEET)
         fixed = _structs.Header(*astuple(header))
-        table = _table(values) if fits else _structs.Entries()
+        table = _table(values) if fits else _structs.Table()
         written = calls.encode(fixed, table, places(statement), sheet, len(sheet))
         check(written.refusal)
         return cls(sheet.raw[: written.length])
@@ -223,7 +223,7 @@ def verdict(judged: _structs.Judgement) -> Verdict:
     return Verdict(judged.accepted == 1, rows(judged.rows))
 
 
-def _table(values: Values) -> _structs.Entries:
+def _table(values: Values) -> _structs.Table:
     """The entries of a sheet of at most eight rows and columns, row i and column j at 8 * i + j."""
     header = values.header
     expected = header.rows if header.kind == EXPONENT else 0
@@ -231,7 +231,7 @@ def _table(values: Values) -> _structs.Entries:
         raise ValueError(
             f"the table has to have {counted(expected, 'row')} on this sheet, and has {len(values.entries)}"
         )
-    table = _structs.Entries()
+    table = _structs.Table()
     for row in range(expected):
         entries = exactly(header.columns, values.entries[row], f"row {row} of the table")
         table[PLACES * row : PLACES * row + header.columns] = entries

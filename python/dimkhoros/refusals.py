@@ -18,9 +18,9 @@ SENTENCES = {
     12: "the bytes are no round file of this sheet, the file is full, or the version asked for is another than 1 and 2",
     13: "the file has no round of this number",
     14: "a commitment value lies outside the group",
-    15: "the challenge has to be below the sheet's challenge count, or 65535 at most where it is written to a round"
-    " file of version 2",
-    16: "a value of the witness, nonce or response lies outside the domain",
+    15: "the challenge has to be below the challenge count K, or 65535 at most where it is written to a round file of"
+    " version 2",
+    16: "a value of the witness, nonce, response or ledger's entry lies outside the domain",
     17: "the table does not carry the witness to the statement",
     18: "the two rounds have different commitments",
     19: "the two rounds have the same challenge",
@@ -40,14 +40,17 @@ SENTENCES = {
     32: "the commitment that the session holds was answered before",
     33: "the session's list of answered commitments is full: it holds 64",
     34: "the name of a saved state has to be 0 to 7, and a return needs one that was saved",
+    35: "the kind of a ledger's line has to be 1, commitment, 2, sum, or 3, product",
+    36: "a sum or product of a ledger has to name two lines above its own",
+    37: "a ledger has 64 lines at most",
 }
 
 
 class Refusal(Exception):
     """A call that was refused. It has changed nothing.
 
-    Where several refusals apply, the earliest in the order 23, 24, 1 to 9, 27, 29, 30, 10, 11, 26, 12, 25, 13 to 16,
-    28, 31, 17 to 21, 32 to 34, 22 is given."""
+    Where several refusals apply, the earliest in the order 23, 24, 1 to 9, 27, 29, 30, 10, 11, 26, 37, 35, 36, 12, 25,
+    13 to 16, 28, 31, 17 to 21, 32 to 34, 22 is given."""
 
     def __init__(self, number: int) -> None:
         """The refusal of a number."""

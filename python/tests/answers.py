@@ -1,14 +1,18 @@
 """The answers of the module's calls, in the words of docs/vectors.txt."""
 
+import ctypes
 import itertools
 import struct
 import zlib
 
 from dimkhoros import (
     EXPONENT,
+    Base,
+    Entries,
     Forms,
     Header,
     Instance,
+    Ledger,
     OrProver,
     OrRound,
     Pair,
@@ -199,6 +203,32 @@ def shown_bytes(held):
     kept = bytes(held.sheet)
     shown = kept[: max(len(kept.rstrip(b"\0")), held.length)]
     return f"held={shown.hex() or '-'}"
+
+
+def found_base(inputs):
+    """What the lines of a ledger share."""
+    return Base(*(inputs.number(name) for name in ["g", "h", "m", "l", "K"]))
+
+
+def found_lists(inputs, name, held):
+    """Fills a struct of lists, which go on with zeros, and its count, which a line leaves out if it is as many as there
+    are."""
+    found, fields = inputs.repeated(name), getattr(held, name)
+    for place, values in enumerate(found):
+        ctypes.memmove(ctypes.byref(fields[place]), (ctypes.c_uint32 * len(values))(*values), 4 * len(values))
+    held.count = inputs.number("count") if inputs.has("count") else len(found)
+    return held
+
+
+def shown_lines(held):
+    """The lines of a ledger that are counted, and those behind them up to the last that is not zeros. Equal ones that
+    follow each other are one with their number. The count follows if it is another number."""
+    size = ctypes.sizeof(held.lines[0]) // 4
+    lists = [list((ctypes.c_uint32 * size).from_buffer_copy(line)) for line in held.lines]
+    last = max([min(held.count, len(lists))] + [place + 1 for place, values in enumerate(lists) if any(values)])
+    runs = [(text, len(list(run))) for text, run in itertools.groupby(map(shortest, lists[:last]))]
+    lines = "/".join(text if times == 1 else f"{text}*{times}" for text, times in runs)
+    return f"lines={lines or '-'}" + (f" count={held.count}" if held.count != last else "")
 
 
 def or_round(inputs, behind):
@@ -409,6 +439,17 @@ class Answers:
         words += [f"length={held.length}"] if held.length != len(sheet.bytes) else []
         words += [shown_bytes(held)] if bytes(held.sheet) != sheet.bytes.ljust(308, b"\0") else []
         return " ".join(words)
+
+    def ledger_check(self, inputs):
+        """What a ledger is found to be."""
+        found = Ledger._of(found_base(inputs), found_lists(inputs, "lines", _structs.Ledger())).check()
+        return "accepted" if found else f"rejected {found.line}"
+
+    def ledger_write(self, inputs):
+        """A ledger that is made."""
+        base, entries = found_base(inputs), Entries()
+        found_lists(inputs, "entries", entries._held)
+        return shown_lines(Ledger.write(base, entries)._held)
 
     def mark(self, inputs):
         """The marker's text."""

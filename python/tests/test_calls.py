@@ -9,9 +9,13 @@ import dimkhoros
 from dimkhoros import (
     EXPONENT,
     ROOT,
+    Base,
     Damaged,
+    Entries,
     Header,
     Instance,
+    Ledger,
+    Line,
     OrProver,
     OrRound,
     OrVerdict,
@@ -59,6 +63,7 @@ class Refusals(unittest.TestCase):
         peggy, _ = Prover().commit(a, [5])
         answered, _ = Prover().commit(a, [5])[0].save(1).respond(a, 3, [7])
         back = answered.return_to(1)
+        base = Base(2, 3, 23, 11, 11)
         held = (5,) + (0,) * 7 + (9,) + (0,) * 7 + (1,)
         full = Prover.from_stored_with_nonce(_stored.write(b"PRV", 2, held + (0,) * 656 + (64,)))
         given = {
@@ -93,8 +98,11 @@ class Refusals(unittest.TestCase):
             32: lambda: back.respond(a, 1, [7]),
             33: lambda: full.respond(a, 1, [7]),
             34: lambda: Prover().return_to(0),
+            35: lambda: Ledger(base, [Line(4)]).check(),
+            36: lambda: Entries().sum(0, 0),
+            37: lambda: Ledger(base, [Line.commit(2)] * 65),
         }
-        self.assertEqual(set(range(1, 35)) - set(given), {22, 25, 31})
+        self.assertEqual(set(range(1, 38)) - set(given), {22, 25, 31})
         for number, call in given.items():
             with refused(self, number):
                 call()

@@ -87,16 +87,18 @@ class Pages(unittest.TestCase):
 
 
 class Readme(unittest.TestCase):
-    """The README's lecture."""
+    """The README's lecture and ledger."""
 
-    def test_the_lecture_prints_what_stands_behind_it(self):
-        """It has ten lines and runs as it is printed."""
+    def test_both_print_what_stands_behind_them(self):
+        """They run as they are printed, and the lecture has ten lines."""
         readme = (ROOT / "python" / "README.md").read_text()
-        lecture, printed = re.search(r"```python\n(.*?)```\n.*?```text\n(.*?)```", readme, re.DOTALL).groups()
-        self.assertEqual(len(lecture.splitlines()), 10)
-        command = [sys.executable, "-c", lecture]
-        ended = subprocess.run(command, cwd=ROOT / "python", capture_output=True, text=True, check=True)
-        self.assertEqual(ended.stdout, printed)
+        pieces = re.findall(r"```python\n(.*?)```\n.*?```text\n(.*?)```", readme, re.DOTALL)
+        self.assertEqual(len(pieces), 2)
+        self.assertEqual(len(pieces[0][0].splitlines()), 10)
+        for piece, printed in pieces:
+            command = [sys.executable, "-c", piece]
+            ended = subprocess.run(command, cwd=ROOT / "python", capture_output=True, text=True, check=True)
+            self.assertEqual(ended.stdout, printed)
 
     def test_its_table_has_every_public_name(self):
         """Each is written as code."""

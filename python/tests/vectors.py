@@ -53,6 +53,14 @@ class Inputs:
         text = self.text(name)
         return [] if text == "-" else [numbers_of(row) for row in text.split("/")]
 
+    def repeated(self, name):
+        """Lists of numbers with a slash between them; one may stand so many times, and the empty list alone is none."""
+        text, found = self.text(name), []
+        for piece in text.split("/") if text != "-" else []:
+            words, _, count = piece.partition("*")
+            found += [numbers_of(words)] * int(count or 1)
+        return found
+
     def rounds(self, name):
         """The rounds of a watch, t:c:r each, with a slash between them; one may stand so many times."""
         text, found = self.text(name), []

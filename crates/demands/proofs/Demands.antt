@@ -9,6 +9,8 @@ use Rattle.examples.proofs.AnswerPage.{answer-page}
 use Rattle.examples.proofs.Corners.{every-disjunct}
 use Rattle.examples.proofs.GameCorners.{game-corners}
 use Rattle.examples.proofs.GamePage.{game-page}
+use Rattle.examples.proofs.LedgerCorners.{ledger-corners}
+use Rattle.examples.proofs.LedgerPage.{ledger-page}
 use Rattle.examples.proofs.LinearCorners.{linear-corners}
 use Rattle.examples.proofs.LinearPage.{linear-page}
 use Rattle.examples.proofs.Pages.{worked-examples}
@@ -30,6 +32,9 @@ use Rattle.formats.proofs.Writers.{writers}
 use Rattle.games.proofs.Game.{game}
 use Rattle.games.proofs.Playing.{game-prints, game-refusals}
 use Rattle.games.proofs.RunsWhere.{game-runs}
+use Rattle.ledgers.proofs.LedgerHolds.{ledger-holds}
+use Rattle.ledgers.proofs.LedgerRefusals.{ledger-refusals}
+use Rattle.ledgers.proofs.RunsWhere.{ledger-runs}
 use Rattle.linear_forms.proofs.LinearSheets.{linear-refusals, linear-sheets}
 use Rattle.linear_forms.proofs.RunsWhere.{linear-runs}
 use Rattle.patterns.proofs.Meaning.{patterns-mean}
@@ -80,6 +85,7 @@ holds = record {
     watch = watch-refusals;
     linear = linear-refusals;
     game = game-refusals;
+    ledger = ledger-refusals;
   };
   runs-where = record {
     files = files-run;
@@ -90,6 +96,7 @@ holds = record {
     watch = watch-runs;
     linear = linear-runs;
     game = game-runs;
+    ledger = ledger-runs;
   };
   main-protocol = main-protocol;
   protocol = protocol;
@@ -114,6 +121,7 @@ holds = record {
     game = game;
     game-text = game-prints;
     saved = saved-states;
+    ledger = ledger-holds;
   };
   patterns = patterns-mean;
   arithmetic = arithmetic;
@@ -139,6 +147,7 @@ evidence = record {
   linear-corners = linear-corners;
   game-corners = game-corners;
   saved-corners = saved-corners;
+  ledger-corners = ledger-corners;
   reason-page = reason-page;
   or-page = worked-examples .2;
   answer-page = answer-page;
@@ -150,4 +159,5 @@ evidence = record {
   products-page = products-page;
   game-page = game-page;
   saved-page = saved-page;
+  ledger-page = ledger-page;
 }

@@ -4,6 +4,7 @@ use Rattle.disjunctions.proofs.Only.{only-either}
 use Rattle.disjunctions.proofs.OnlyRounds.{EitherDemands}
 use Rattle.formats.proofs.Only.{FileDemands, only-files}
 use Rattle.games.proofs.Only.{only-games}
+use Rattle.ledgers.proofs.Only.{only-ledgers}
 use Rattle.linear_forms.proofs.Only.{only-linear}
 use Rattle.patterns.proofs.Only.{MakerDemands, only-makers}
 use Rattle.products.proofs.Only.{only-team}
@@ -65,4 +66,5 @@ only code code′ d d′ =
       linear = only-linear (code .linear) (code′ .linear) (d .refusals .linear) (d′ .refusals .linear) (d .cards .linear)
           (d′ .cards .linear);
       games = only-games (d .refusals .game) (d′ .refusals .game) (d .cards .game-text) (d′ .cards .game-text) (files .fetchRound) runs;
+      ledgers = only-ledgers (d .refusals .ledger) (d′ .refusals .ledger) (d .cards .ledger .answers) (d′ .cards .ledger .answers);
     }

@@ -1,9 +1,10 @@
--- The public calls of 01 and of 02's cards 1 to 13, those of each topic together: what any code has to give. No call's definition is
+-- The public calls of 01 and of 02's cards 1 to 14, those of each topic together: what any code has to give. No call's definition is
 -- named.
 -- Assumes nothing.
 use Rattle.disjunctions.specs.OrCalls.{OrCalls}
 use Rattle.formats.specs.FileCalls.{FileCalls}
 use Rattle.games.specs.GameCalls.{GameCalls}
+use Rattle.ledgers.specs.LedgerCalls.{LedgerCalls}
 use Rattle.linear_forms.specs.LinearCalls.{LinearCalls}
 use Rattle.patterns.specs.MakerCalls.{MakerCalls}
 use Rattle.products.specs.TeamCalls.{TeamCalls}
@@ -33,3 +34,5 @@ pub record Calls : Type 0 where
   pub linear : LinearCalls
   -- card 12: Peggy against Vic
   pub games : GameCalls
+  -- card 14: a ledger of committed values
+  pub ledgers : LedgerCalls

@@ -11,6 +11,7 @@ use Rattle.formats.specs.Converts.{Converts}
 use Rattle.formats.specs.WordsCompare.{WordsCompare}
 use Rattle.games.specs.Game.{Game}
 use Rattle.games.specs.Prints.{GamePrints}
+use Rattle.ledgers.specs.LedgerHolds.{LedgerHolds}
 use Rattle.linear_forms.specs.LinearSheets.{LinearSheets}
 use Rattle.patterns.specs.PatternCalls.{PatternCalls}
 use Rattle.products.specs.RoundsMultiply.{ProductsWork}
@@ -63,3 +64,7 @@ pub record Cards (code : Calls) : Type 0 where
   -- 13: over any calls on Peggy's session, each given the record last handed back, no commitment gets two answers; what is saved under a
   -- name stays, its nonce too, until the name is saved under again, and a return brings exactly it back
   pub saved : SavedStates (code .runs)
+  -- 14: the checker of a ledger accepts exactly if 01's judging call accepts each product line's round, and else names the first that it
+  -- rejects; the writer makes commitments to the given values, to their sums and to their products, with honest rounds, and the checker
+  -- accepts them; two accepted rounds of a product line open its first factor, and open it to the two values multiplied
+  pub ledger : LedgerHolds (code .files) (code .runs) (code .makers) (code .ledgers)

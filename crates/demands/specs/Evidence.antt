@@ -6,6 +6,8 @@ use Rattle.examples.specs.Corners.{EveryCorner}
 use Rattle.examples.specs.FileCorners.{FileCorners}
 use Rattle.examples.specs.GameCorners.{GameCorners}
 use Rattle.examples.specs.GamePage.{GamePage}
+use Rattle.examples.specs.LedgerCorners.{LedgerCorners}
+use Rattle.examples.specs.LedgerPage.{LedgerPage}
 use Rattle.examples.specs.LinearCorners.{LinearCorners}
 use Rattle.examples.specs.LinearPage.{LinearPage}
 use Rattle.examples.specs.OrCorners.{OrCorners}
@@ -41,6 +43,7 @@ pub record Evidence : Type 0 where
   pub linear-corners : LinearCorners
   pub game-corners : GameCorners
   pub saved-corners : SavedCorners
+  pub ledger-corners : LedgerCorners
   -- the reason's whole line for every number and each of its causes
   pub reason-page : ReasonPage
   -- a worked pair of sheets for the OR proof
@@ -62,3 +65,5 @@ pub record Evidence : Type 0 where
   pub game-page : GamePage
   -- a worked demonstrator who returns to saved states
   pub saved-page : SavedPage
+  -- worked ledgers
+  pub ledger-page : LedgerPage

@@ -3,6 +3,7 @@
 use Rattle.disjunctions.specs.Ours.{orCalls}
 use Rattle.formats.specs.Ours.{fileCalls}
 use Rattle.games.specs.Ours.{gameCalls}
+use Rattle.ledgers.specs.Ours.{ledgerCalls}
 use Rattle.linear_forms.specs.Ours.{linearCalls}
 use Rattle.patterns.specs.Ours.{makerCalls}
 use Rattle.products.specs.Ours.{teamCalls}
@@ -24,4 +25,5 @@ ours = record {
   watches = watchCalls;
   linear = linearCalls;
   games = gameCalls;
+  ledgers = ledgerCalls;
 }

@@ -10,6 +10,7 @@ use Rattle.formats.specs.Converts.{ConvertRefusals}
 use Rattle.formats.specs.FileRefusals.{FileRefusals}
 use Rattle.formats.specs.WordsCompare.{WordsRefusals}
 use Rattle.games.specs.Prints.{GameRefusals}
+use Rattle.ledgers.specs.LedgerHolds.{LedgerRefusals}
 use Rattle.linear_forms.specs.LinearSheets.{LinearRefusals}
 use Rattle.patterns.specs.PatternCalls.{PatternRefusals}
 use Rattle.products.specs.TeamWorks.{TeamRefusals}
@@ -18,11 +19,11 @@ use Rattle.watches.specs.WatchesNonces.{WatchRefusals}
 use Rattle.demands.specs.Calls.{Calls}
 
 pub record Refusals (code : Calls) : Type 0 where
-  -- the order of the numbers: 01's rise, and 02's cards put 23 and 24 before 1, 27 after 9, 29 and 30 after 27, 26 after 11, 25
-  -- after 12, 28 after 16, 31 after 28, and 32 to 34 after 21; "lowest" is the earliest there
+  -- the order of the numbers: 01's rise, and 02's cards put 23 and 24 before 1, 27 after 9, 29 and 30 after 27, 26 after 11, 37, 35 and 36
+  -- after 26, 25 after 12, 28 after 16, 31 after 28, and 32 to 34 after 21; "lowest" is the earliest there
   pub order : refusalOrder
-      ≡ 23 ∷ 24 ∷ 1 ∷ 2 ∷ 3 ∷ 4 ∷ 5 ∷ 6 ∷ 7 ∷ 8 ∷ 9 ∷ 27 ∷ 29 ∷ 30 ∷ 10 ∷ 11 ∷ 26 ∷ 12 ∷ 25 ∷ 13 ∷ 14 ∷ 15 ∷ 16 ∷ 28 ∷ 31 ∷
-      17 ∷ 18 ∷ 19 ∷ 20 ∷ 21 ∷ 32 ∷ 33 ∷ 34 ∷ 22 ∷ []
+      ≡ 23 ∷ 24 ∷ 1 ∷ 2 ∷ 3 ∷ 4 ∷ 5 ∷ 6 ∷ 7 ∷ 8 ∷ 9 ∷ 27 ∷ 29 ∷ 30 ∷ 10 ∷ 11 ∷ 26 ∷ 37 ∷ 35 ∷ 36 ∷ 12 ∷ 25 ∷ 13 ∷ 14 ∷ 15 ∷
+      16 ∷ 28 ∷ 31 ∷ 17 ∷ 18 ∷ 19 ∷ 20 ∷ 21 ∷ 32 ∷ 33 ∷ 34 ∷ 22 ∷ []
   -- the calls on sheets and round files, with card 7's versions
   pub files : FileRefusals (code .files)
   -- the calls on rounds, Peggy's session, with card 13's saved states, and Vic's
@@ -45,3 +46,5 @@ pub record Refusals (code : Calls) : Type 0 where
   pub linear : LinearRefusals (code .linear)
   -- card 12: the game's text
   pub game : GameRefusals (code .files) (code .games)
+  -- card 14: the checker and the writer of a ledger
+  pub ledger : LedgerRefusals (code .ledgers)

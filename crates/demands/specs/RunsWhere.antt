@@ -4,6 +4,7 @@
 use Rattle.disjunctions.specs.RunsWhere.{EitherRuns}
 use Rattle.formats.specs.RunsWhere.{FilesRun}
 use Rattle.games.specs.RunsWhere.{GameRuns}
+use Rattle.ledgers.specs.RunsWhere.{LedgerRuns}
 use Rattle.linear_forms.specs.RunsWhere.{LinearRuns}
 use Rattle.patterns.specs.RunsWhere.{MakersRun}
 use Rattle.products.specs.RunsWhere.{TeamRuns}
@@ -28,3 +29,5 @@ pub record RunsWhere (code : Calls) : Type 0 where
   pub linear : LinearRuns (code .files) (code .linear)
   -- card 12: the game's text
   pub game : GameRuns (code .files) (code .runs) (code .games)
+  -- card 14: the checker and the writer of a ledger
+  pub ledger : LedgerRuns (code .ledgers)

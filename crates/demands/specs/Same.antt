@@ -6,6 +6,7 @@ use mathlib.Core.List.{List}
 use Rattle.disjunctions.specs.Same.{SameEither}
 use Rattle.formats.specs.Same.{SameFiles}
 use Rattle.games.specs.Same.{SameGames}
+use Rattle.ledgers.specs.Same.{SameLedgers}
 use Rattle.linear_forms.specs.Same.{SameLinear}
 use Rattle.patterns.specs.Same.{SameMakers}
 use Rattle.products.specs.Same.{SameTeam}
@@ -25,3 +26,4 @@ pub record Same (code code′ : Calls) : Type 0 where
   pub watches : SameWatches (code .watches) (code′ .watches)
   pub linear : SameLinear (code .linear) (code′ .linear)
   pub games : SameGames (code .games) (code′ .games)
+  pub ledgers : SameLedgers (code .ledgers) (code′ .ledgers)

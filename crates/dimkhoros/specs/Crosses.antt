@@ -1,7 +1,8 @@
 -- The record `Crosses`, beside `Demands`: what each field of a struct that an export takes or answers stands for. `Demands` speaks of
 -- the calls; by this record the same holds of the exports, whose contracts are equations with the calls in these forms. The structs
 -- `Header`, `Loaded`, `Written`, `Round`, `Counted`, `Part`, `Fetched`, `Computed`, `Compared`, `OrRound`, `OrExtracted`, `Watch`, `Opened`,
--- `Memory`, `Saved` and `Listed` are those of the calls and cross as they are, so that `Demands` itself says what their fields are.
+-- `Memory`, `Saved`, `Listed`, `Base`, `Line`, `Ledger`, `Checked`, `Entry`, `Entries` and `LedgerWritten` are those of the calls and cross
+-- as they are, so that `Demands` itself says what their fields are.
 -- Assumes nothing.
 use Rattle.crossing.specs.SessionsCross.{SessionsCross}
 use Rattle.linear_forms.specs.LinearCrosses.{LinearCrosses}

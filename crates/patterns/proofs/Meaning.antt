@@ -72,7 +72,7 @@ pedersen-product m g h b β a δ =
     cong-mul (cong-pow (cong-mod m (g ^ b * h ^ β)) a) (cong-refl m (h ^ δ)) .same ∙ ap (λ (k : ℕ). k % m) whole
 
 -- a number and ε minus it, mod q, are ε together
-difference : (q n ε : ℕ) → 1 ≤ q → Cong q (n + (ε + (q - n % q)) % q) ε
+pub difference : (q n ε : ℕ) → 1 ≤ q → Cong q (n + (ε + (q - n % q)) % q) ε
 difference q n ε some =
     let below : n % q < q = mod-lt n some in
     let whole : n % q + (ε + (q - n % q)) ≡ ε + q * 1 = omega (arith, mul-one q) in

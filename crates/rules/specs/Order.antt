@@ -8,8 +8,8 @@ use lib.Dec.{eqb}
 -- the numbers in their order (01, "Turned back"; 02's cards put theirs in): the earliest that applies is given
 unfoldable pub refusalOrder : List ℕ
 refusalOrder =
-    23 ∷ 24 ∷ 1 ∷ 2 ∷ 3 ∷ 4 ∷ 5 ∷ 6 ∷ 7 ∷ 8 ∷ 9 ∷ 27 ∷ 29 ∷ 30 ∷ 10 ∷ 11 ∷ 26 ∷ 12 ∷ 25 ∷ 13 ∷ 14 ∷ 15 ∷ 16 ∷ 28 ∷ 31 ∷ 17 ∷ 18 ∷ 19 ∷
-    20 ∷ 21 ∷ 32 ∷ 33 ∷ 34 ∷ 22 ∷ []
+    23 ∷ 24 ∷ 1 ∷ 2 ∷ 3 ∷ 4 ∷ 5 ∷ 6 ∷ 7 ∷ 8 ∷ 9 ∷ 27 ∷ 29 ∷ 30 ∷ 10 ∷ 11 ∷ 26 ∷ 37 ∷ 35 ∷ 36 ∷ 12 ∷ 25 ∷ 13 ∷ 14 ∷ 15 ∷ 16 ∷ 28 ∷ 31 ∷
+    17 ∷ 18 ∷ 19 ∷ 20 ∷ 21 ∷ 32 ∷ 33 ∷ 34 ∷ 22 ∷ []
 
 -- the numbers of a sheet that does not load, 2 to 11
 unfoldable pub sheetNumbers : List ℕ

@@ -22,7 +22,7 @@ typedef struct {
 
 /* Reads the witness from its file, a line of the word `witness` and a number for each column. */
 static void read_witness(Peggy *peggy) {
-    DimkhorosLine line;
+    DimkhorosBoxLine line;
     ssize_t length = dimkhoros_box_find(peggy->base.folder, "witness.txt", line.text, sizeof line.text - 1);
     line.text[length < 0 ? 0 : length] = '\0';
     line.length = strcspn(line.text, "\n");
@@ -134,7 +134,7 @@ static void answer(Peggy *peggy, uint32_t challenge) {
 }
 
 /* Step 5: a challenge is answered only if it names the commitment of the session. */
-static void take_line(Peggy *peggy, const DimkhorosLine *line) {
+static void take_line(Peggy *peggy, const DimkhorosBoxLine *line) {
     const size_t rows = peggy->base.header.rows;
     if (dimkhoros_box_is(line, "ready", 0)) {
         say_commitment(peggy);
@@ -147,7 +147,7 @@ static void take_line(Peggy *peggy, const DimkhorosLine *line) {
 
 int main(int argc, char **argv) {
     Peggy peggy;
-    DimkhorosLine line;
+    DimkhorosBoxLine line;
     if (argc != 2) {
         fprintf(stderr, "usage: peggy FOLDER\n");
         return 2;

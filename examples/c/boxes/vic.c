@@ -93,7 +93,7 @@ static void judge(Vic *vic, const uint32_t *response) {
 }
 
 /* Steps 2 and 5: a response is judged only if it names the commitment of the session. */
-static void take_line(Vic *vic, const DimkhorosLine *line) {
+static void take_line(Vic *vic, const DimkhorosBoxLine *line) {
     const size_t rows = vic->base.header.rows;
     if (dimkhoros_box_is(line, "commitment", rows)) {
         if (holds(vic, line->numbers) || take_commitment(vic, line->numbers)) {
@@ -108,7 +108,7 @@ static void take_line(Vic *vic, const DimkhorosLine *line) {
 
 int main(int argc, char **argv) {
     Vic vic = {0};
-    DimkhorosLine line;
+    DimkhorosBoxLine line;
     if (argc != 3) {
         fprintf(stderr, "usage: vic FOLDER COUNT\n");
         return 2;

@@ -10,7 +10,7 @@ static inline int same(const uint32_t *first, const uint32_t *second, size_t cou
 }
 
 /* Waits for a line and answers 1, or 0 if the other box has closed its end. */
-static inline int hear(const Base *base, DimkhorosLine *line) {
+static inline int hear(const Base *base, DimkhorosBoxLine *line) {
     point("before a receive");
     if (!dimkhoros_box_hear(STDIN_FILENO, line)) {
         return 0;

@@ -26,6 +26,8 @@ pub enum Call {
     TeamResponse,
     WatchOpen,
     WatchRound,
+    LedgerCheck,
+    LedgerWrite,
     ProverNew,
     ProverCommit,
     ProverRespond,
@@ -90,6 +92,8 @@ const CALLS: &[Entry] = &[
     entry(Call::TeamResponse, "team_response", true, &[27, 16, 28]),
     entry(Call::WatchOpen, "watch_open", true, &[]),
     entry(Call::WatchRound, "watch_round", true, &[14, 15, 16, 21]),
+    entry(Call::LedgerCheck, "ledger_check", false, &[5, 6, 8, 10, 37, 35, 36, 14, 15, 16]),
+    entry(Call::LedgerWrite, "ledger_write", false, &[5, 6, 8, 10, 37, 35, 36, 15, 16]),
     entry(Call::ProverNew, "prover_new", false, &[]),
     entry(Call::ProverCommit, "prover_commit", true, &[16, 21]),
     entry(Call::ProverRespond, "prover_respond", true, &[15, 16, 17, 21, 32, 33]),
@@ -115,8 +119,8 @@ pub const CALL_COUNT: usize = CALLS.len();
 /// All numbers in the order in which they are tested, the cards' numbers where
 /// 02 puts them. Of several that apply the first here is given.
 pub const ORDER: [u32; LAST as usize] = [
-    23, 24, 1, 2, 3, 4, 5, 6, 7, 8, 9, 27, 29, 30, 10, 11, 26, 12, 25, 13, 14, 15, 16, 28, 31, 17,
-    18, 19, 20, 21, 32, 33, 34, 22,
+    23, 24, 1, 2, 3, 4, 5, 6, 7, 8, 9, 27, 29, 30, 10, 11, 26, 37, 35, 36, 12, 25, 13, 14, 15, 16,
+    28, 31, 17, 18, 19, 20, 21, 32, 33, 34, 22,
 ];
 
 /// The numbers that the loading of a sheet can give.

@@ -2,6 +2,7 @@
 
 mod files;
 mod games;
+mod ledgers;
 mod or_rounds;
 mod or_sessions;
 mod rounds;
@@ -21,6 +22,7 @@ use crate::outcome::Outcome;
 
 pub use files::{FileCall, FileCase, SameCase};
 pub use games::GameCase;
+pub use ledgers::{LedgerCall, LedgerCase};
 pub use or_rounds::{OrRoundCall, OrRoundCase};
 pub use or_sessions::{OrSessionCase, OrStep};
 pub use rounds::{RoundCall, RoundCase};

@@ -1,5 +1,6 @@
 //! The judge, behind the calls of the library.
 
+mod ledgers;
 mod or_proof;
 mod sessions;
 mod teams;
@@ -18,6 +19,7 @@ use sessions::{
 };
 use values::{computed, judgement, loaded, round, written};
 
+pub use ledgers::{ledger_check, ledger_write};
 pub use or_proof::{
     or_extract, or_judge, or_prover_commit, or_prover_drop, or_prover_new, or_prover_respond,
 };

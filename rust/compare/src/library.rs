@@ -4,12 +4,13 @@ use crate::faults::{self, Fault};
 use crate::{judged, proved};
 
 pub use dimkhoros_sys::{
-    phases, Compared, Computed, Counted, Fetched, Header, Judgement, Listed, Loaded, Memory,
-    Opened, OrAnswer, OrExtracted, OrJudgement, OrRound, OrSession, Part, Parts, Places,
-    ProverAnswer, ProverSession, Round, Saved, VerifierAnswer, VerifierJudgement, VerifierSession,
-    Watch, WatchAnswer, Written, LONGEST_FILE, LONGEST_FILE_2, LONGEST_GAME, LONGEST_REASON,
-    LONGEST_SHEET, LONGEST_TEXT, MOST_ANSWERED, MOST_PLAYERS, MOST_REMEMBERED, MOST_ROUNDS, PARTS,
-    PLACES, SAVED_STATES, SHIPPED_PATTERNS,
+    lines, phases, Base, Checked, Compared, Computed, Counted, Entries, Entry, Fetched, Header,
+    Judgement, Ledger, LedgerWritten, Line, Listed, Loaded, Memory, Opened, OrAnswer, OrExtracted,
+    OrJudgement, OrRound, OrSession, Part, Parts, Places, ProverAnswer, ProverSession, Round,
+    Saved, VerifierAnswer, VerifierJudgement, VerifierSession, Watch, WatchAnswer, Written,
+    LONGEST_FILE, LONGEST_FILE_2, LONGEST_GAME, LONGEST_REASON, LONGEST_SHEET, LONGEST_TEXT,
+    MOST_ANSWERED, MOST_LINES, MOST_PLAYERS, MOST_REMEMBERED, MOST_ROUNDS, PARTS, PLACES,
+    SAVED_STATES, SHIPPED_PATTERNS,
 };
 
 /// The numbers that the sheet maker takes. The pattern number 0 is that of root
@@ -108,6 +109,9 @@ calls! {
 
     watch_open(sheet: &[u8]) -> Opened;
     watch_round(sheet: &[u8], watch: &Watch, round: &Round) -> WatchAnswer;
+
+    ledger_check(base: Base, ledger: &Ledger) -> Checked;
+    ledger_write(base: Base, entries: &Entries) -> LedgerWritten;
 
     prover_new() -> ProverSession;
     prover_commit(sheet: &[u8], session: ProverSession, nonce: &Places) -> ProverAnswer;

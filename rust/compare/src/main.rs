@@ -5,8 +5,8 @@
 //! Both libraries get it, and every field of the answers and every byte of a
 //! lent buffer must be the same. The first difference is printed and ends the
 //! run. Last page K, files at every level and all masks of rows are run in both,
-//! demand 3 and cards 4, 6, 11 and 12 are tried on small sheets, and cards 9 and 13 in long
-//! runs.
+//! demand 3 and cards 4, 6, 11 and 12 are tried on small sheets, cards 9 and 13 in long
+//! runs, and card 14 on ledgers.
 //! Exit status: 0 no difference, 1 a difference, something met too seldom or a
 //! program that is missing, 2 wrong words or a place to which nothing can be
 //! written.
@@ -16,6 +16,7 @@
 mod arithmetic;
 mod calls;
 mod cases;
+mod computing;
 mod damage;
 mod demand_three;
 mod faults;
@@ -24,6 +25,7 @@ mod games;
 mod groups;
 mod instance;
 mod judged;
+mod ledgers;
 mod lent;
 mod levels;
 mod library;
@@ -127,5 +129,6 @@ fn stages(options: &Options) -> Result<(), String> {
     println!("{}", multiplying::check(options.other)?);
     println!("{}", games::check(options.other)?);
     println!("{}", returning::check(options.other)?);
+    println!("{}", computing::check(options.other)?);
     Ok(())
 }

@@ -7,6 +7,7 @@ mod files;
 mod forms;
 mod games;
 mod inputs;
+mod ledgers;
 mod levels;
 mod marking;
 mod memories;
@@ -35,6 +36,7 @@ use crate::random::Random;
 
 pub use brought::change;
 pub use games::game_case;
+pub use ledgers::{base as ledger_base, entries as ledger_entries, reject as reject_line};
 pub use levels::{needed, HIGHEST};
 pub use marking::{mark_case, mark_file};
 pub use reasons::reason_case;
@@ -45,7 +47,7 @@ pub use watch_runs::of_rounds as watched_rounds;
 type Maker = fn(&mut Random) -> Box<dyn Case>;
 
 /// How often each maker is asked, among the sum of these.
-const SHARES: [(Maker, usize); 41] = [
+const SHARES: [(Maker, usize); 43] = [
     (sheets::load, 3),
     (sheets::entries, 2),
     (sheets::encode, 4),
@@ -70,6 +72,8 @@ const SHARES: [(Maker, usize); 41] = [
     (watches::open, 2),
     (watches::round, 6),
     (watch_runs::run, 1),
+    (ledgers::check, 3),
+    (ledgers::write, 2),
     (prover::commit, 3),
     (prover::respond, 9),
     (prover::give_up, 1),

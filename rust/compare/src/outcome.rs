@@ -2,9 +2,9 @@
 
 use crate::calls::Call;
 use crate::library::{
-    Compared, Computed, Counted, Fetched, Judgement, Loaded, Opened, OrAnswer, OrExtracted,
-    OrJudgement, OrSession, Part, ProverAnswer, ProverSession, VerifierAnswer, VerifierJudgement,
-    VerifierSession, WatchAnswer, Written,
+    Checked, Compared, Computed, Counted, Fetched, Judgement, LedgerWritten, Loaded, Opened,
+    OrAnswer, OrExtracted, OrJudgement, OrSession, Part, ProverAnswer, ProverSession,
+    VerifierAnswer, VerifierJudgement, VerifierSession, WatchAnswer, Written,
 };
 
 /// What a call answers.
@@ -28,6 +28,8 @@ pub enum Answer {
     OrExtracted(OrExtracted),
     Opened(Box<Opened>),
     Watched(Box<WatchAnswer>),
+    LedgerChecked(Checked),
+    LedgerWritten(Box<LedgerWritten>),
     ProverNew(Box<ProverSession>),
     Prover(Box<ProverAnswer>),
     VerifierNew(VerifierSession),
@@ -75,6 +77,8 @@ impl Answer {
             Answer::OrExtracted(extracted) => extracted.refusal,
             Answer::Opened(opened) => opened.refusal,
             Answer::Watched(answer) => answer.verdict.refusal,
+            Answer::LedgerChecked(checked) => checked.refusal,
+            Answer::LedgerWritten(written) => written.refusal,
             Answer::Prover(answer) => answer.refusal,
             Answer::Verifier(answer) => answer.refusal,
             Answer::VerifierJudged(answer) => answer.verdict.refusal,

@@ -6,7 +6,7 @@ use std::fmt::{self, Write};
 use crate::lent::Lent;
 use crate::outcome::{Answer, Outcome};
 
-pub use crate::vectors::{prover, watch};
+pub use crate::vectors::{entries, ledger, prover, watch};
 
 /// Bytes in hex.
 pub fn hex(bytes: &[u8]) -> String {
@@ -29,8 +29,8 @@ impl fmt::Display for Lent {
     }
 }
 
-/// An answer with its fields. A watch and Peggy's session are in the words of the
-/// vectors.
+/// An answer with its fields. A watch, a ledger and Peggy's session are in the words of
+/// the vectors.
 fn shown(answer: &Answer) -> String {
     match answer {
         Answer::Opened(opened) => format!("refusal: {} {}", opened.refusal, watch(&opened.watch)),
@@ -38,6 +38,9 @@ fn shown(answer: &Answer) -> String {
             let (verdict, back, witness) = (answer.verdict, answer.back, answer.witness);
             let watch = watch(&answer.watch);
             format!("{verdict:?} back: {back} witness: {witness:?} {watch}")
+        }
+        Answer::LedgerWritten(written) => {
+            format!("refusal: {} {}", written.refusal, ledger(&written.ledger))
         }
         Answer::ProverNew(session) => prover(session),
         Answer::Prover(answer) => {

@@ -2,6 +2,7 @@
 //! shape of sheets and slots was met.
 
 mod games;
+mod ledgers;
 
 use std::fmt;
 
@@ -10,6 +11,7 @@ use crate::cases::Case;
 use crate::outcome::{Answer, Outcome, Verdict};
 use crate::shapes::{Seen, Shapes};
 use games::Games;
+use ledgers::Ledgers;
 
 /// What is counted of a side: each of eight rows that it is rejected in, and in how
 /// many, 1 to 8, it is.
@@ -23,11 +25,12 @@ const VERDICTS: usize = 1 + 2 * OF_SIDE + 3;
 const NAMED: [&str; 4] = ["none", "1 back", "2 to 62 back", "63 back"];
 
 /// A count for each call with each number and with each verdict, for each round that
-/// a watch names, for what games answer, and for each shape.
+/// a watch names, for what ledgers come to, for what games answer, and for each shape.
 pub struct Tally {
     numbers: [[u64; LAST as usize + 1]; CALL_COUNT],
     verdicts: [[u64; VERDICTS]; CALL_COUNT],
     named: [u64; NAMED.len()],
+    ledgers: Ledgers,
     games: Games,
     shapes: Shapes,
 }
@@ -38,6 +41,7 @@ impl Default for Tally {
             numbers: [[0; LAST as usize + 1]; CALL_COUNT],
             verdicts: [[0; VERDICTS]; CALL_COUNT],
             named: [0; NAMED.len()],
+            ledgers: Ledgers::default(),
             games: Games::default(),
             shapes: Shapes::default(),
         }
@@ -126,8 +130,13 @@ impl Tally {
             for place in answer.verdicts().into_iter().flat_map(places) {
                 self.verdicts[*call as usize][place] += 1;
             }
-            if let Answer::Watched(answer) = answer {
-                self.named[named(answer.back)] += u64::from(answer.verdict.accepted);
+            match answer {
+                Answer::Watched(answer) => {
+                    self.named[named(answer.back)] += u64::from(answer.verdict.accepted);
+                }
+                Answer::LedgerChecked(checked) => self.ledgers.add_checked(checked),
+                Answer::LedgerWritten(written) => self.ledgers.add_written(written),
+                _ => {}
             }
             if let (Call::Game, Answer::Told { text, .. }) = (call, answer) {
                 let header = case.header().unwrap_or_default();
@@ -141,7 +150,8 @@ impl Tally {
     fn rows(&self) -> Vec<(&'static str, Vec<(&'static str, u64)>)> {
         let named = NAMED.into_iter().zip(self.named);
         let watch = ("a watch names", named.collect());
-        let games = [watch].into_iter().chain(self.games.rows());
+        let ledgers = [watch].into_iter().chain(self.ledgers.rows());
+        let games = ledgers.chain(self.games.rows());
         games.chain(self.shapes.rows()).collect()
     }
 
@@ -192,7 +202,7 @@ impl Tally {
 
 /// A table with a line for each call and a column for each number, which has a
 /// dot where the call cannot give the number. Then the verdicts, the rounds that a
-/// watch names, what games answer, and the shapes.
+/// watch names, what ledgers come to, what games answer, and the shapes.
 impl fmt::Display for Tally {
     fn fmt(&self, out: &mut fmt::Formatter) -> fmt::Result {
         write!(out, "{:<20}", "number")?;

@@ -8,6 +8,7 @@
 mod answers;
 mod bytes;
 mod inputs;
+mod ledger_answers;
 mod or_answers;
 mod prover_answers;
 mod team_answers;
@@ -21,6 +22,7 @@ use crate::calls::Call;
 use crate::library::Library;
 use inputs::Inputs;
 
+pub use ledger_answers::{entries, ledger};
 pub use prover_answers::prover;
 pub use watch_answers::watch;
 

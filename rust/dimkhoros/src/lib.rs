@@ -3,10 +3,12 @@
 #![deny(missing_docs)]
 #![forbid(unsafe_code)]
 
+mod entries;
 mod forms;
 mod found;
 mod game;
 mod instance;
+mod ledger;
 mod marker;
 mod no_response;
 mod or_prover;
@@ -34,15 +36,18 @@ mod watch;
 mod authors {}
 
 pub use dimkhoros_sys::{
-    EMPTY_FILE, EXPONENT, Header, LONGEST_FILE, LONGEST_FILE_2, LONGEST_GAME, LONGEST_PATTERNS,
-    LONGEST_REASON, LONGEST_SHEET, LONGEST_TEXT, Listed, MOST_ANSWERED, MOST_PATTERNS,
-    MOST_PLAYERS, MOST_REMEMBERED, MOST_ROUNDS, Memory, OrRound, PLACES, Places, ROOT, Round,
-    SAVED_STATES, SHIPPED_PATTERNS, Saved, Watch as WatchParts, version,
+    Base, EMPTY_FILE, EXPONENT, Header, LONGEST_FILE, LONGEST_FILE_2, LONGEST_GAME,
+    LONGEST_PATTERNS, LONGEST_REASON, LONGEST_SHEET, LONGEST_TEXT, Ledger as LedgerParts,
+    Line as LineParts, Listed, MOST_ANSWERED, MOST_LINES, MOST_PATTERNS, MOST_PLAYERS,
+    MOST_REMEMBERED, MOST_ROUNDS, Memory, OrRound, PLACES, Places, ROOT, Round, SAVED_STATES,
+    SHIPPED_PATTERNS, Saved, Watch as WatchParts, version,
 };
+pub use entries::Entries;
 pub use forms::{Forms, LinearPlan};
 pub use found::Found;
 pub use game::game;
 pub use instance::{Instance, Values};
+pub use ledger::{Checked, Ledger, Line, Product};
 pub use marker::mark;
 pub use no_response::NoResponse;
 pub use or_prover::{OrProver, OrProverParts};

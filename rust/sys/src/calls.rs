@@ -10,10 +10,10 @@
 
 use crate::exports::*;
 use crate::{
-    Compared, Computed, Counted, ENTRIES, Fetched, Header, Judgement, LONGEST_GAME, LONGEST_REASON,
-    LONGEST_TEXT, Loaded, Opened, OrAnswer, OrExtracted, OrJudgement, OrRound, OrSession, Part,
-    Parts, Places, ProverAnswer, ProverSession, Round, VerifierAnswer, VerifierJudgement,
-    VerifierSession, Watch, WatchAnswer, Written,
+    Base, Checked, Compared, Computed, Counted, ENTRIES, Entries, Fetched, Header, Judgement,
+    LONGEST_GAME, LONGEST_REASON, LONGEST_TEXT, Ledger, LedgerWritten, Loaded, Opened, OrAnswer,
+    OrExtracted, OrJudgement, OrRound, OrSession, Part, Parts, Places, ProverAnswer, ProverSession,
+    Round, VerifierAnswer, VerifierJudgement, VerifierSession, Watch, WatchAnswer, Written,
 };
 
 /// The version of the archive that is linked, 10000 * major + 100 * minor + patch.
@@ -265,6 +265,20 @@ pub fn watch_open(sheet: &[u8]) -> Opened {
 pub fn watch_round(sheet: &[u8], watch: &Watch, round: &Round) -> WatchAnswer {
     // SAFETY: the slice is given by its pointer and length.
     unsafe { dimkhoros_watch_round(sheet.as_ptr(), sheet.len(), *watch, *round) }
+}
+
+/// Checks a ledger: accepted, or the first product whose round is rejected.
+#[inline]
+pub fn ledger_check(base: Base, ledger: &Ledger) -> Checked {
+    // SAFETY: the call takes structs of numbers alone.
+    unsafe { dimkhoros_ledger_check(base, *ledger) }
+}
+
+/// Makes the ledger of these entries.
+#[inline]
+pub fn ledger_write(base: Base, entries: &Entries) -> LedgerWritten {
+    // SAFETY: the call takes structs of numbers alone.
+    unsafe { dimkhoros_ledger_write(base, *entries) }
 }
 
 /// Writes the marker's text on a sheet, a round file and a level file to the start of `text`, and answers its length.

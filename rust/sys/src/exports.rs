@@ -1,9 +1,10 @@
 //! The exports of the archive, as include/dimkhoros.h declares them.
 
 use crate::{
-    Compared, Computed, Counted, Fetched, Header, Judgement, Loaded, Opened, OrAnswer, OrExtracted,
-    OrJudgement, OrRound, OrSession, Part, ProverAnswer, ProverSession, Round, VerifierAnswer,
-    VerifierJudgement, VerifierSession, Watch, WatchAnswer, Written,
+    Base, Checked, Compared, Computed, Counted, Entries, Fetched, Header, Judgement, Ledger,
+    LedgerWritten, Loaded, Opened, OrAnswer, OrExtracted, OrJudgement, OrRound, OrSession, Part,
+    ProverAnswer, ProverSession, Round, VerifierAnswer, VerifierJudgement, VerifierSession, Watch,
+    WatchAnswer, Written,
 };
 
 /// Peggy's session as it is handed to an export: by value on the stack, where each argument begins at a multiple of 8 bytes. That
@@ -178,6 +179,10 @@ unsafe extern "C" {
         watch: Watch,
         round: Round,
     ) -> WatchAnswer;
+
+    pub fn dimkhoros_ledger_check(base: Base, ledger: Ledger) -> Checked;
+
+    pub fn dimkhoros_ledger_write(base: Base, entries: Entries) -> LedgerWritten;
 
     pub fn dimkhoros_mark(
         sheet: *const u8,

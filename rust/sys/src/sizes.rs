@@ -80,6 +80,14 @@ pub const MOST_ANSWERED: usize = 64;
 /// ```
 pub const MOST_REMEMBERED: usize = 63;
 
+/// How many lines the longest ledger has: their numbers are 0 to 63.
+///
+/// ```
+/// # use dimkhoros_sys::MOST_LINES;
+/// assert_eq!(MOST_LINES, 64);
+/// ```
+pub const MOST_LINES: usize = 64;
+
 /// How many bytes the longest sheet has.
 ///
 /// ```

@@ -1,7 +1,7 @@
 //! The structs that cross, with the layout of C. A refusal is 0 where nothing is refused; beside any other number stand zeros,
 //! or the session or watch as it was given.
 
-use crate::{LONGEST_SHEET, MOST_ANSWERED, MOST_REMEMBERED, Places, SAVED_STATES};
+use crate::{LONGEST_SHEET, MOST_ANSWERED, MOST_LINES, MOST_REMEMBERED, Places, SAVED_STATES};
 use core::fmt;
 
 /// The fixed fields of a sheet.
@@ -392,4 +392,148 @@ pub struct WatchAnswer {
     pub back: u32,
     /// The verdict.
     pub verdict: Judgement,
+}
+
+/// What all lines of a ledger share.
+///
+/// ```
+/// # use dimkhoros_sys::Base;
+/// let base = Base { g: 2, h: 3, modulus: 23, order: 11, challenges: 11 };
+/// assert_eq!(base.order, 11);
+/// ```
+#[derive(Clone, Copy, Debug, Default, PartialEq, Eq, Hash)]
+#[repr(C)]
+pub struct Base {
+    /// The public value that values are exponents of.
+    pub g: u32,
+    /// The public value that blinding numbers are exponents of.
+    pub h: u32,
+    /// The modulus m.
+    pub modulus: u32,
+    /// The order q, which need not be prime.
+    pub order: u32,
+    /// The challenge count K. The challenges are 0 to K - 1.
+    pub challenges: u32,
+}
+
+/// A line of a ledger. Numbers that its kind does not use are not read, and are 0 in a ledger that a call makes.
+///
+/// ```
+/// # use dimkhoros_sys::{Line, lines};
+/// let sum = Line { kind: lines::SUM, first: 0, second: 1, ..Line::default() };
+/// assert_eq!(sum.commitment, 0);
+/// assert_eq!(size_of::<Line>(), 40);
+/// ```
+#[derive(Clone, Copy, Debug, Default, PartialEq, Eq, Hash)]
+#[repr(C)]
+pub struct Line {
+    /// The kind, a number of [`lines`](crate::lines) or any other.
+    pub kind: u32,
+    /// The number of the first line that a sum or product is of.
+    pub first: u32,
+    /// The number of the second, which may be the same.
+    pub second: u32,
+    /// The commitment of a commitment or product. A sum's is not stored.
+    pub commitment: u32,
+    /// t of the round of a product.
+    pub t: [u32; 2],
+    /// The challenge c of the round.
+    pub challenge: u32,
+    /// The response r of the round.
+    pub response: [u32; 3],
+}
+
+/// A ledger: its lines in order, numbered from 0. It may hold anything.
+#[derive(Clone, Copy, Debug, PartialEq, Eq, Hash)]
+#[repr(C)]
+pub struct Ledger {
+    /// The lines. Those from `count` on are not read, and are zeros in a ledger that a call makes.
+    pub lines: [Line; MOST_LINES],
+    /// How many lines there are.
+    pub count: u32,
+}
+
+/// A ledger of no lines.
+impl Default for Ledger {
+    fn default() -> Ledger {
+        Ledger { lines: [Line::default(); MOST_LINES], count: 0 }
+    }
+}
+
+/// What a checked ledger is found to be. It is accepted only if `accepted` is 1: a refused ledger has 0 there too.
+#[derive(Clone, Copy, Debug, Default, PartialEq, Eq, Hash)]
+#[repr(C)]
+pub struct Checked {
+    /// 1 if the round of every product is accepted, else 0.
+    pub accepted: u32,
+    /// The first product whose round is rejected, if nothing is refused and `accepted` is 0; else 0.
+    pub line: u32,
+    /// The refusal.
+    pub refusal: u32,
+}
+
+/// What a line of a ledger is made of. Numbers that its kind does not use are not read. `Debug` shows no value, blinding number or
+/// nonce.
+///
+/// ```
+/// # use dimkhoros_sys::{Entry, lines};
+/// let commitment = Entry { kind: lines::COMMITMENT, value: 2, blinding: 1, ..Entry::default() };
+/// assert_eq!(commitment.nonce, [0; 3]);
+/// ```
+#[derive(Clone, Copy, Default, PartialEq, Eq, Hash)]
+#[repr(C)]
+pub struct Entry {
+    /// The kind, a number of [`lines`](crate::lines) or any other.
+    pub kind: u32,
+    /// The number of the first line that a sum or product is of.
+    pub first: u32,
+    /// The number of the second, which may be the same.
+    pub second: u32,
+    /// The value of a commitment.
+    pub value: u32,
+    /// The blinding number of a commitment or product.
+    pub blinding: u32,
+    /// The nonce of the round of a product.
+    pub nonce: [u32; 3],
+    /// The challenge c of the round.
+    pub challenge: u32,
+}
+
+/// Shows all but the value, the blinding number and the nonce.
+impl fmt::Debug for Entry {
+    fn fmt(&self, f: &mut fmt::Formatter<'_>) -> fmt::Result {
+        f.debug_struct("Entry")
+            .field("kind", &self.kind)
+            .field("first", &self.first)
+            .field("second", &self.second)
+            .field("challenge", &self.challenge)
+            .finish_non_exhaustive()
+    }
+}
+
+/// What all lines of a ledger are made of, in order. Whoever reads it opens every commitment.
+#[derive(Clone, Copy, Debug, PartialEq, Eq, Hash)]
+#[repr(C)]
+pub struct Entries {
+    /// The entries. Those from `count` on are not read.
+    pub entries: [Entry; MOST_LINES],
+    /// How many lines there are.
+    pub count: u32,
+}
+
+/// The entries of a ledger of no lines.
+impl Default for Entries {
+    fn default() -> Entries {
+        Entries { entries: [Entry::default(); MOST_LINES], count: 0 }
+    }
+}
+
+/// What making a ledger answers. A refused one has a ledger of zeros.
+#[derive(Clone, Copy, Debug, Default, PartialEq, Eq, Hash)]
+#[repr(C)]
+pub struct LedgerWritten {
+    /// The ledger.
+    pub ledger: Ledger,
+    /// The refusal.
+    pub refusal: u32,
 }

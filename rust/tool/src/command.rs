@@ -2,8 +2,8 @@
 
 use crate::failure::Outcome;
 use crate::{
-    check, extract, game, grid, lecture, make, mark, or_proof, patterns, reason, rounds, show,
-    simulate, team, watch,
+    check, extract, game, grid, lecture, ledger, make, mark, or_proof, patterns, reason, rounds,
+    show, simulate, team, watch,
 };
 use std::ffi::OsString;
 use std::io::Write;
@@ -62,7 +62,7 @@ const AUTHORS: [Command; 4] = [
 ];
 
 /// The commands of a demonstrator.
-const CLASS: [Command; 8] = [
+const CLASS: [Command; 9] = [
     Command {
         name: "lecture",
         summary: "make a page for the lecture hall",
@@ -110,6 +110,12 @@ const CLASS: [Command; 8] = [
         summary: "join the rounds of a team's players to one round",
         help: team::HELP,
         run: team::run,
+    },
+    Command {
+        name: "ledger",
+        summary: "compute on commitments: make and check a ledger of sums and products",
+        help: ledger::HELP,
+        run: ledger::run,
     },
 ];
 

@@ -121,7 +121,7 @@ fn of_words(words: &Words, out: &mut dyn Write) -> Outcome {
 }
 
 /// Says why two rounds in words give no witness, below their verdicts where they have some.
-fn refused(
+pub fn refused(
     sheet: &Instance,
     rounds: &[Round; 2],
     refusal: Refusal,
@@ -196,7 +196,7 @@ fn refused_numbers(
 }
 
 /// Prints the steps of two rounds with these numbers, which end in the library's witness.
-fn by_hand(
+pub fn by_hand(
     sheet: &Instance,
     [first, second]: &[Round; 2],
     pair: [usize; 2],

@@ -19,6 +19,7 @@ mod game;
 mod grid;
 mod judged;
 mod lecture;
+mod ledger;
 mod levels;
 mod make;
 mod mark;

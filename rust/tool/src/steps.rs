@@ -7,10 +7,11 @@ use crate::notation::{self, coordinate};
 use crate::sheets;
 use crate::table::{self, Set};
 use dimkhoros::{EXPONENT, Instance, Places};
-use numbers::{by_squaring, power_text, powers_text, product, shows_squares, signed};
+pub use numbers::powers_text;
+use numbers::{by_squaring, power_text, product, shows_squares, signed};
 
 /// What stands before each line of a step.
-const INDENT: &str = "       ";
+pub const INDENT: &str = "       ";
 
 /// The steps of two rounds, which have these numbers.
 pub fn text(sheet: &Instance, numbers: [usize; 2], steps: &Steps) -> String {

@@ -4,6 +4,7 @@
 
 use super::bytes;
 use super::inputs::{Inputs, Phases, UNREAD, VERIFIER_PHASES};
+use super::ledger_answers;
 use super::or_answers;
 use super::prover_answers::prover;
 use super::Given;
@@ -127,6 +128,7 @@ impl Given {
             Call::TeamCommitment | Call::TeamResponse => self.team(library, call, inputs),
             Call::WatchOpen => Ok(self.watch_open(library)),
             Call::WatchRound => self.watch_round(library, inputs),
+            Call::LedgerCheck | Call::LedgerWrite => ledger_answers::answer(library, call, inputs),
             Call::OrProverNew => Ok(or_answers::session(&library.or_prover_new())),
             Call::OrProverCommit | Call::OrProverRespond | Call::OrProverDrop => {
                 self.or_prover_step(library, call, inputs)

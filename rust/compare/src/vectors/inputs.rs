@@ -5,10 +5,12 @@ use std::iter::repeat_n;
 use std::str::FromStr;
 
 use super::bytes;
+use crate::ledgers::{entry_of, line_of};
 use crate::library::phases::{prover, verifier};
 use crate::library::{
-    Forms, Header, Listed, Memory, OrRound, OrSession, Places, ProverSession, Round, Saved,
-    VerifierSession, Watch, LONGEST_SHEET, MOST_ANSWERED, MOST_REMEMBERED,
+    Base, Entries, Forms, Header, Ledger, Listed, Memory, OrRound, OrSession, Places,
+    ProverSession, Round, Saved, VerifierSession, Watch, LONGEST_SHEET, MOST_ANSWERED, MOST_LINES,
+    MOST_REMEMBERED,
 };
 
 /// What stands in places that no call may read.
@@ -231,6 +233,48 @@ impl<'a> Inputs<'a> {
         fill(&mut watch.rounds, &rounds(self.value("rounds")?)?)?;
         Ok(watch)
     }
+
+    /// What the lines of a ledger share.
+    pub fn base(&mut self) -> Result<Base, String> {
+        Ok(Base {
+            g: self.number("g")?,
+            h: self.number("h")?,
+            modulus: self.number("m")?,
+            order: self.number("l")?,
+            challenges: self.number("K")?,
+        })
+    }
+
+    /// The lists of this name, and how many they are if the line does not say otherwise.
+    fn counted<const N: usize>(
+        &mut self,
+        name: &str,
+    ) -> Result<([[u32; N]; MOST_LINES], u32), String> {
+        let (found, mut all) = (lists(self.value(name)?)?, [[0; N]; MOST_LINES]);
+        fill(&mut all, &found)?;
+        let count = match self.has("count") {
+            true => self.number("count")?,
+            false => found.len() as u32,
+        };
+        Ok((all, count))
+    }
+
+    pub fn ledger(&mut self) -> Result<Ledger, String> {
+        let (lines, count) = self.counted("lines")?;
+        Ok(Ledger {
+            lines: lines.map(line_of),
+            count,
+        })
+    }
+
+    /// What a ledger is made of.
+    pub fn entries(&mut self) -> Result<Entries, String> {
+        let (entries, count) = self.counted("entries")?;
+        Ok(Entries {
+            entries: entries.map(entry_of),
+            count,
+        })
+    }
 }
 
 /// A phase by name, or any number.
@@ -294,6 +338,20 @@ fn rounds(text: &str) -> Result<Vec<Round>, String> {
         rounds.extend(repeat_n(round, count));
     }
     Ok(rounds)
+}
+
+/// Lists of numbers, which go on with zeros, with a slash between them. So many times the
+/// same is one with its count, and `-` is none.
+fn lists<const N: usize>(text: &str) -> Result<Vec<[u32; N]>, String> {
+    let mut lists = Vec::new();
+    for piece in text.split('/').filter(|_| text != "-") {
+        let (values, count) = piece.split_once('*').unwrap_or((piece, "1"));
+        let mut list = [0; N];
+        fill(&mut list, &numbers(values)?)?;
+        let count = number::<usize>(count)?.min(MOST_LINES + 1);
+        lists.extend(repeat_n(list, count));
+    }
+    Ok(lists)
 }
 
 fn number<T: FromStr>(word: &str) -> Result<T, String> {

@@ -141,6 +141,15 @@ fn a_line_that_cannot_be_read_is_named() {
             "prover_drop phase=new nonce=0 commitment=0 listed=9*65 ->",
             "a list is too long",
         ),
+        (
+            "ledger_check g=2 h=3 m=23 l=11 K=11 lines=1*65 ->",
+            "a list is too long",
+        ),
+        (
+            "ledger_write g=2 h=3 m=23 l=11 K=11 entries=1,0,0,2,1,0,0,0,0,0 ->",
+            "a list is too long",
+        ),
+        ("ledger_check h=3 m=23 l=11 K=11 lines=- ->", "g is missing"),
     ] {
         let text = format!("# A comment.\n{line}\n");
         assert_eq!(remade(&text, Judge), Err(format!("line 2: {error}")));

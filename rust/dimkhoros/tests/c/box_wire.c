@@ -5,7 +5,7 @@
 #define _POSIX_C_SOURCE 200809L
 #include "dimkhoros_box.h"
 
-static void print_line(const DimkhorosLine *line) {
+static void print_line(const DimkhorosBoxLine *line) {
     printf("%ld: word %zu length %zu count %zu", (long)lseek(STDIN_FILENO, 0, SEEK_CUR), line->word, line->length, line->count);
     for (size_t i = 0; i < DIMKHOROS_BOX_NUMBERS && line->word > 0; i++) {
         printf(" %u", line->numbers[i]);
@@ -14,7 +14,7 @@ static void print_line(const DimkhorosLine *line) {
 }
 
 /* Sends a line again, its numbers in two runs. */
-static void send_again(const DimkhorosLine *line) {
+static void send_again(const DimkhorosBoxLine *line) {
     char word[DIMKHOROS_BOX_LINE] = {0};
     memcpy(word, line->text, line->word);
     size_t half = line->count / 2;
@@ -27,7 +27,7 @@ static void send_again(const DimkhorosLine *line) {
 }
 
 int main(void) {
-    DimkhorosLine line;
+    DimkhorosBoxLine line;
     uint32_t numbers[17] = {0};
     memset(&line, 0xEE, sizeof line);
     while (dimkhoros_box_hear(STDIN_FILENO, &line)) {

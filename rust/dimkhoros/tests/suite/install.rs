@@ -31,7 +31,7 @@ const NO_MODULE: [&str; 5] = [
 ];
 
 /// What an install puts under PREFIX, with the modes.
-const TREE: [&str; 23] = [
+const TREE: [&str; 24] = [
     "bin/ 755",
     "bin/dimkhoros 755",
     "bin/game 755",
@@ -54,6 +54,7 @@ const TREE: [&str; 23] = [
     "share/ 755",
     "share/dimkhoros/ 755",
     "share/dimkhoros/installed.txt 644",
+    "share/dimkhoros/ledger.txt 644",
     "share/dimkhoros/patterns.bin 644",
 ];
 
@@ -68,6 +69,7 @@ fn laid_out(test: &str) -> Home {
     home.put("include/dimkhoros.h");
     home.put("include/dimkhoros_box.h");
     home.put("share/patterns.bin");
+    home.put("share/ledger.txt");
     home.put("rust/dimkhoros/Cargo.toml");
     for file in MODULE.iter().chain(&NO_MODULE).chain(&["python/dimkhoros/verbs.py"]) {
         write(&home, file);
@@ -129,6 +131,7 @@ fn all_files_stand_in_their_places() {
         ("lib/libdimkhoros.a", "target/staticlib/libdimkhoros.a"),
         ("lib/libdimkhoros.so", "target/staticlib/libdimkhoros.so"),
         ("share/dimkhoros/patterns.bin", "share/patterns.bin"),
+        ("share/dimkhoros/ledger.txt", "share/ledger.txt"),
         ("lib/python/dimkhoros/verbs.py", "python/dimkhoros/verbs.py"),
     ] {
         let [put, source] = [prefix.join(place), home.0.join(source)].map(fs::read);
@@ -147,7 +150,7 @@ fn the_end_says_what_is_where_and_how_to_use_it() {
     for name in named.iter().flat_map(|line| line[2..34].split(", ")).map(str::trim) {
         assert!(home.0.join("it's").join(name).exists(), "{name} is said to be there");
     }
-    assert_eq!(named.len(), 10);
+    assert_eq!(named.len(), 11);
     let used = format!(
         "{}\necho \"$PATH\n$PKG_CONFIG_PATH\n$LD_LIBRARY_PATH\n$PYTHONPATH\"",
         lines.next().unwrap()

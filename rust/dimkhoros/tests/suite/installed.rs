@@ -38,6 +38,7 @@ fn laid_out() -> Home {
         "include/dimkhoros.h",
         "include/dimkhoros_box.h",
         "share/patterns.bin",
+        "share/ledger.txt",
     ] {
         home.put(file);
     }
@@ -97,6 +98,7 @@ fn what_is_installed_is_what_is_built() {
         ("include/dimkhoros_box.h", cc::root().join("include/dimkhoros_box.h")),
         ("lib/libdimkhoros.a", PathBuf::from(ARCHIVE)),
         ("share/dimkhoros/patterns.bin", cc::root().join("share/patterns.bin")),
+        ("share/dimkhoros/ledger.txt", cc::root().join("share/ledger.txt")),
     ] {
         let [put, source] = [prefix.join(place), source].map(fs::read);
         assert!(put.unwrap() == source.unwrap(), "{place} is not what was built");

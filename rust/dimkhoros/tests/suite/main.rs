@@ -13,6 +13,7 @@ mod games;
 mod home;
 mod install;
 mod installed;
+mod ledgers;
 mod levels;
 mod marks;
 mod or_rounds;

@@ -2,8 +2,8 @@
 
 use crate::pages::{MAURER, SCHNORR, made, page_a, round};
 use dimkhoros::{
-    Forms, Instance, LinearPlan, Memory, Pair, Patterns, Plan, Prover, ProverParts, Refusal,
-    RoundFile, RoundWriter, Team, places,
+    Base, Entries, Forms, Instance, Ledger, Line, LinearPlan, Memory, Pair, Patterns, Plan, Prover,
+    ProverParts, Refusal, RoundFile, RoundWriter, Team, places,
 };
 
 /// What page A's sheet is refused with once a byte of it is changed.
@@ -52,6 +52,7 @@ fn every_number_is_given() {
     let a = page_a();
     let first = round(9, 3, 4);
     let file = b"RND\x00\x01\x00\x00";
+    let base = Base { g: 2, h: 3, modulus: 23, order: 11, challenges: 11 };
     let given = [
         made(&Plan { pattern: 257, ..SCHNORR }).unwrap_err(),
         changed(0, b'h'),
@@ -88,6 +89,9 @@ fn every_number_is_given() {
         answered_again(),
         full_list(),
         Prover::new().save(8).unwrap_err().refusal,
+        Ledger::from_lines(&base, &[Line::Unknown { kind: 4 }]).unwrap().check().unwrap_err(),
+        Entries::new().sum(0, 0).unwrap_err(),
+        Ledger::from_lines(&base, &[Line::Sum { first: 0, second: 0 }; 65]).unwrap_err(),
     ];
     assert_eq!(Refusal::from_number(given.len() as u32 + 1), None);
     for (number, refusal) in (1..).zip(given) {

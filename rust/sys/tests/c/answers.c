@@ -21,6 +21,9 @@ size_t look(const uint8_t *sheet, size_t length, uint8_t *bytes, uint32_t *eight
     DimkhorosOrRound two = {{9}, {33}, {4}, {6}, 3, 2};
     DimkhorosOrSession either = {{0}, {0}, {0}, {0}, 0, 0, DIMKHOROS_PROVER_NEW};
     DimkhorosWatch watch = {{{{0}, 0, {0}}}, {0}, 0, 0};
+    DimkhorosBase base = {2, 3, 23, 11, 11};
+    DimkhorosLedger ledger = {{{1, 0, 0, 12, {0}, 0, {0}}}, 1};
+    DimkhorosEntries entries = {{{1, 0, 0, 2, 1, {0}, 0}}, 1};
 
     LOOK(dimkhoros_load(sheet, length), .refusal);
     LOOK(dimkhoros_entries(sheet, length, table), );
@@ -65,6 +68,13 @@ size_t look(const uint8_t *sheet, size_t length, uint8_t *bytes, uint32_t *eight
     LOOK(dimkhoros_open_watch(sheet, length, &watch), );
     LOOK(dimkhoros_hear(sheet, length, &watch, round), .back);
 
+    LOOK(dimkhoros_no_entries(), .count);
+    LOOK(dimkhoros_write_ledger(&base, &entries, &ledger), );
+    LOOK(dimkhoros_check_ledger(&base, &ledger), .accepted);
+    LOOK(dimkhoros_line_commitments(&base, &ledger, table), );
+    LOOK(dimkhoros_line_sheet(&base, &ledger, 0, bytes, length), .refusal);
+    LOOK(dimkhoros_line_round(&ledger.lines[0]), .challenge);
+
     LOOK(dimkhoros_count(sheet, length, bytes, length), .refusal);
     LOOK(dimkhoros_check(sheet, length, bytes, length, 0), );
     LOOK(dimkhoros_part(sheet, length, bytes, length, 0), .length);
@@ -90,11 +100,16 @@ size_t look(const uint8_t *sheet, size_t length, uint8_t *bytes, uint32_t *eight
     LOOK(dimkhoros_or_prover_drop(either), .refusal);
     LOOK(dimkhoros_watch_open(sheet, length), .refusal);
     LOOK(dimkhoros_watch_round(sheet, length, watch, round), .verdict.refusal);
+    LOOK(dimkhoros_ledger_check(base, ledger), .refusal);
+    LOOK(dimkhoros_ledger_write(base, entries), .refusal);
 
     /* The calls whose answer need not be looked at. */
     dimkhoros_prover_store(&peggy, bytes);
     dimkhoros_verifier_store(&vic, bytes);
     dimkhoros_or_prover_store(&either, bytes);
+    dimkhoros_add_commitment(&entries, 2, 1);
+    dimkhoros_add_sum(&entries, 0, 1);
+    dimkhoros_add_product(&entries, 0, 1, 4, eight, 3);
     dimkhoros_sentence(DIMKHOROS_REFUSED_SESSION);
     dimkhoros_version();
     return seen;

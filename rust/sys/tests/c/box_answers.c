@@ -15,7 +15,7 @@ size_t look(int folder, int wire, const uint8_t *sheet, size_t length, uint8_t *
 
 size_t look(int folder, int wire, const uint8_t *sheet, size_t length, uint8_t *bytes, uint32_t *eight) {
     size_t seen = 0;
-    DimkhorosLine line;
+    DimkhorosBoxLine line;
 
     LOOK(dimkhoros_box_find(folder, DIMKHOROS_BOX_SESSION, bytes, length), >= 0);
     LOOK(dimkhoros_box_store(folder, bytes, length), != 0);

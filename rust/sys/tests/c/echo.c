@@ -227,6 +227,34 @@ static void print_heard(DimkhorosWatchAnswer a) {
     print_judgement(a.verdict);
 }
 
+static void print_line(const DimkhorosLine *a) {
+    printf("Line { kind: %u, first: %u, second: %u, commitment: %u, t: [%u, %u], challenge: %u, response: [%u, %u, %u] }",
+           a->kind, a->first, a->second, a->commitment, a->t[0], a->t[1], a->challenge, a->response[0], a->response[1],
+           a->response[2]);
+}
+
+/* A ledger: of lines that are the same and follow each other the first, with how many they are. */
+static void print_ledger(const DimkhorosLedger *a) {
+    printf("count: %u\n", a->count);
+    for (size_t i = 0, next; i < DIMKHOROS_MOST_LINES; i = next) {
+        for (next = i; next < DIMKHOROS_MOST_LINES && memcmp(&a->lines[next], &a->lines[i], sizeof a->lines[i]) == 0;) {
+            next++;
+        }
+        printf("%zu of ", next - i);
+        print_line(&a->lines[i]);
+        printf("\n");
+    }
+}
+
+static void print_ledger_written(DimkhorosLedgerWritten a) {
+    print_ledger(&a.ledger);
+    printf("refusal: %u\n", a.refusal);
+}
+
+static void print_checked(DimkhorosChecked a) {
+    printf("Checked { accepted: %u, line: %u, refusal: %u }\n", a.accepted, a.line, a.refusal);
+}
+
 /* --- What is called --- */
 
 /* A sheet of 8 rows and 8 columns with 2 on the diagonal and 1 elsewhere: row i's image is 2 to the i-th coordinate. */
@@ -587,6 +615,115 @@ static void watches(void) {
     }
 }
 
+/* What the lines of a ledger share. The order is above K, and is not prime. */
+static const DimkhorosBase base = {4, 9, 143, 30, 2};
+
+/* Entries of all 64 lines, with another number in each field: commitments, then sums, then products. */
+static DimkhorosEntries full_entries(void) {
+    DimkhorosEntries entries;
+    for (uint32_t i = 0; i < 64; i++) {
+        DimkhorosEntry *entry = &entries.entries[i];
+        entry->kind = 1 + i % 3;
+        entry->first = i < 2 ? 0 : i - 2;
+        entry->second = i / 2;
+        entry->value = i % 30;
+        entry->blinding = (7 * i + 1) % 30;
+        entry->nonce[0] = (i + 2) % 30;
+        entry->nonce[1] = 3 * i % 30;
+        entry->nonce[2] = (5 * i + 4) % 30;
+        entry->challenge = i / 3 % 2;
+    }
+    entries.count = 64;
+    return entries;
+}
+
+/* A line of ten numbers that rise from one. */
+static DimkhorosLine rising_line(uint32_t first) {
+    DimkhorosLine line = {first, first + 1, first + 2, first + 3, {first + 4, first + 5}, first + 6, {first + 7, first + 8, first + 9}};
+    return line;
+}
+
+/* A ledger of 64 lines with numbers that differ where they are not read. */
+static DimkhorosLedger full_ledger(void) {
+    DimkhorosLedger ledger = dimkhoros_ledger_write(base, full_entries()).ledger;
+    for (uint32_t i = 0; i < 64; i++) {
+        DimkhorosLine *line = &ledger.lines[i], odd = rising_line(10 * (1000 + i));
+        odd.kind = line->kind;
+        if (line->kind == DIMKHOROS_LINE_COMMITMENT) {
+            odd.commitment = line->commitment;
+            *line = odd;
+        } else if (line->kind == DIMKHOROS_LINE_SUM) {
+            odd.first = line->first;
+            odd.second = line->second;
+            *line = odd;
+        }
+    }
+    return ledger;
+}
+
+/* What is checked and made over another base, one number of which is changed. */
+static void other_bases(void) {
+    DimkhorosBase bases[5] = {base, base, base, base, base};
+    bases[0].g = 5;
+    bases[1].h = 11;
+    bases[2].modulus = 2;
+    bases[3].order = 1;
+    bases[4].challenges = 3;
+    for (int i = 0; i < 5; i++) {
+        print_checked(dimkhoros_ledger_check(bases[i], full_ledger()));
+        print_ledger_written(dimkhoros_ledger_write(bases[i], full_entries()));
+    }
+}
+
+/* One number of a ledger is changed. */
+static void odd_ledgers(void) {
+    for (int i = 0; i < 11; i++) {
+        DimkhorosLedger odd = full_ledger();
+        DimkhorosLine *line = &odd.lines[62];
+        odd.count += i == 0;
+        line->kind = i == 1 ? 4 : line->kind;
+        line->first = i == 2 ? 62 : line->first;
+        line->second = i == 3 ? 63 : line->second;
+        line->commitment = i == 4 ? 0 : line->commitment;
+        line->t[1] = i == 5 ? 143 : line->t[1];
+        line->challenge = i == 6 ? 2 : line->challenge;
+        line->response[2] = i == 7 ? 30 : line->response[2];
+        line->t[0] = i == 8 ? 1 : line->t[0];
+        line->challenge ^= i == 9;
+        odd.lines[5].response[0] ^= i == 10;
+        print_checked(dimkhoros_ledger_check(base, odd));
+    }
+}
+
+/* One number of the entries is changed. */
+static void odd_entries(void) {
+    for (int i = 0; i < 9; i++) {
+        DimkhorosEntries odd = full_entries();
+        DimkhorosEntry *entry = &odd.entries[62];
+        odd.count = i == 0 ? UINT32_MAX : 64;
+        odd.entries[63].kind = i == 1 ? 0 : odd.entries[63].kind;
+        entry->first = i == 2 ? 62 : entry->first;
+        odd.entries[61].second = i == 3 ? 61 : odd.entries[61].second;
+        entry->challenge = i == 4 ? 2 : entry->challenge;
+        odd.entries[63].value = i == 5 ? 30 : odd.entries[63].value;
+        entry->blinding = i == 6 ? 30 : entry->blinding;
+        entry->nonce[0] = i == 7 ? 30 : entry->nonce[0];
+        entry->nonce[2] = i == 8 ? 30 : entry->nonce[2];
+        print_ledger_written(dimkhoros_ledger_write(base, odd));
+    }
+}
+
+static void ledgers(void) {
+    DimkhorosLedger none;
+    memset(&none, 0, sizeof none);
+    print_ledger_written(dimkhoros_ledger_write(base, full_entries()));
+    print_checked(dimkhoros_ledger_check(base, full_ledger()));
+    print_checked(dimkhoros_ledger_check(base, none));
+    other_bases();
+    odd_ledgers();
+    odd_entries();
+}
+
 /* The length of the marker's text on three files, the text, and two bytes behind it, which stay. */
 static void print_mark(const uint8_t *sheet, size_t sheet_length, const uint8_t *file, size_t file_length,
                        const uint8_t *level, size_t level_length) {
@@ -722,6 +859,7 @@ int main(void) {
     or_provers();
     teams();
     watches();
+    ledgers();
     marks();
     reasons();
     games();

@@ -34,7 +34,7 @@ static inline void make(Sheet *sheet, uint32_t pattern, uint32_t m, uint32_t l, 
 /* Which numbers a call answered, and by how many comparisons. */
 typedef struct {
     const char *name;
-    int answered[35];
+    int answered[38];
     int accepted, rejected;
 } Seen;
 

@@ -127,10 +127,49 @@ static void print_watches(void) {
     FIELD(DimkhorosWatchAnswer, verdict);
 }
 
+static void print_ledgers(void) {
+    STRUCT(DimkhorosBase);
+    FIELD(DimkhorosBase, g);
+    FIELD(DimkhorosBase, h);
+    FIELD(DimkhorosBase, modulus);
+    FIELD(DimkhorosBase, order);
+    FIELD(DimkhorosBase, challenges);
+    STRUCT(DimkhorosLine);
+    FIELD(DimkhorosLine, kind);
+    FIELD(DimkhorosLine, first);
+    FIELD(DimkhorosLine, second);
+    FIELD(DimkhorosLine, commitment);
+    FIELD(DimkhorosLine, t);
+    FIELD(DimkhorosLine, challenge);
+    FIELD(DimkhorosLine, response);
+    STRUCT(DimkhorosLedger);
+    FIELD(DimkhorosLedger, lines);
+    FIELD(DimkhorosLedger, count);
+    STRUCT(DimkhorosChecked);
+    FIELD(DimkhorosChecked, accepted);
+    FIELD(DimkhorosChecked, line);
+    FIELD(DimkhorosChecked, refusal);
+    STRUCT(DimkhorosEntry);
+    FIELD(DimkhorosEntry, kind);
+    FIELD(DimkhorosEntry, first);
+    FIELD(DimkhorosEntry, second);
+    FIELD(DimkhorosEntry, value);
+    FIELD(DimkhorosEntry, blinding);
+    FIELD(DimkhorosEntry, nonce);
+    FIELD(DimkhorosEntry, challenge);
+    STRUCT(DimkhorosEntries);
+    FIELD(DimkhorosEntries, entries);
+    FIELD(DimkhorosEntries, count);
+    STRUCT(DimkhorosLedgerWritten);
+    FIELD(DimkhorosLedgerWritten, ledger);
+    FIELD(DimkhorosLedgerWritten, refusal);
+}
+
 int main(void) {
     print_sheets_and_rounds();
     print_answers_and_sessions();
     print_or_proof();
     print_watches();
+    print_ledgers();
     return 0;
 }

@@ -1,4 +1,4 @@
-/* Prints the sizes of the header, its kinds of sheets and its states of sessions. */
+/* Prints the sizes of the header, its kinds of sheets and lines, and its states of sessions. */
 #include "dimkhoros.h"
 #include <stdio.h>
 
@@ -12,6 +12,7 @@ int main(void) {
     PRINT(SAVED_STATES);
     PRINT(MOST_ANSWERED);
     PRINT(MOST_REMEMBERED);
+    PRINT(MOST_LINES);
     PRINT(LONGEST_SHEET);
     PRINT(SHIPPED_PATTERNS);
     PRINT(MOST_PATTERNS);
@@ -25,6 +26,9 @@ int main(void) {
     PRINT(LONGEST_GAME);
     PRINT(EXPONENT);
     PRINT(ROOT);
+    PRINT(LINE_COMMITMENT);
+    PRINT(LINE_SUM);
+    PRINT(LINE_PRODUCT);
     PRINT(PROVER_NEW);
     PRINT(PROVER_COMMITTED);
     PRINT(PROVER_ANSWERED);

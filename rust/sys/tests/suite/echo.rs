@@ -430,6 +430,114 @@ fn watches(text: &mut String) {
     }
 }
 
+/// A ledger: of lines that are the same and follow each other the first, with how many they are.
+fn ledger_lines(ledger: &Ledger) -> String {
+    let mut text = format!("count: {}\n", ledger.count);
+    for run in ledger.lines.chunk_by(|line, next| line == next) {
+        writeln!(text, "{} of {:?}", run.len(), run[0]).unwrap();
+    }
+    text
+}
+
+fn ledger_written_lines(written: LedgerWritten) -> String {
+    format!("{}refusal: {}\n", ledger_lines(&written.ledger), written.refusal)
+}
+
+/// What the lines share. The order is above K, and is not prime.
+const BASE: Base = Base { g: 4, h: 9, modulus: 143, order: 30, challenges: 2 };
+
+/// Entries of all 64 lines, with another number in each field: commitments, then sums, then products.
+fn full_entries() -> Entries {
+    let entry = |i: u32| Entry {
+        kind: 1 + i % 3,
+        first: i.saturating_sub(2),
+        second: i / 2,
+        value: i % 30,
+        blinding: (7 * i + 1) % 30,
+        nonce: [(i + 2) % 30, (3 * i) % 30, (5 * i + 4) % 30],
+        challenge: i / 3 % 2,
+    };
+    Entries { entries: core::array::from_fn(|i| entry(i as u32)), count: 64 }
+}
+
+/// A ledger of 64 lines with numbers that differ where they are not read.
+fn full_ledger() -> Ledger {
+    let mut ledger = ledger_write(BASE, &full_entries()).ledger;
+    for (line, i) in ledger.lines.iter_mut().zip(1000..) {
+        let Line { kind, first, second, commitment, .. } = *line;
+        match kind {
+            lines::COMMITMENT => *line = Line { kind, commitment, ..rising_line(10 * i) },
+            lines::SUM => *line = Line { kind, first, second, ..rising_line(10 * i) },
+            _ => {}
+        }
+    }
+    ledger
+}
+
+/// A line of ten numbers that rise from one.
+fn rising_line(first: u32) -> Line {
+    Line {
+        kind: first,
+        first: first + 1,
+        second: first + 2,
+        commitment: first + 3,
+        t: [first + 4, first + 5],
+        challenge: first + 6,
+        response: [first + 7, first + 8, first + 9],
+    }
+}
+
+/// What is checked and made over another base, one number of which is changed.
+fn other_bases(text: &mut String) {
+    let bases = [
+        Base { g: 5, ..BASE },
+        Base { h: 11, ..BASE },
+        Base { modulus: 2, ..BASE },
+        Base { order: 1, ..BASE },
+        Base { challenges: 3, ..BASE },
+    ];
+    for base in bases {
+        print!(text: ledger_check(base, &full_ledger()));
+        text.push_str(&ledger_written_lines(ledger_write(base, &full_entries())));
+    }
+}
+
+/// One number is changed in each: of a ledger, and of entries.
+fn ledgers(text: &mut String) {
+    let (entries, ledger) = (full_entries(), full_ledger());
+    text.push_str(&ledger_written_lines(ledger_write(BASE, &entries)));
+    print!(text: ledger_check(BASE, &ledger), ledger_check(BASE, &Ledger::default()));
+    other_bases(text);
+    let mut odd = [ledger; 11];
+    odd[0].count = 65;
+    odd[1].lines[62].kind = 4;
+    odd[2].lines[62].first = 62;
+    odd[3].lines[62].second = 63;
+    odd[4].lines[62].commitment = 0;
+    odd[5].lines[62].t[1] = 143;
+    odd[6].lines[62].challenge = 2;
+    odd[7].lines[62].response[2] = 30;
+    odd[8].lines[62].t[0] = 1;
+    odd[9].lines[62].challenge ^= 1;
+    odd[10].lines[5].response[0] ^= 1;
+    for odd in odd {
+        print!(text: ledger_check(BASE, &odd));
+    }
+    let mut odd = [entries; 9];
+    odd[0].count = u32::MAX;
+    odd[1].entries[63].kind = 0;
+    odd[2].entries[62].first = 62;
+    odd[3].entries[61].second = 61;
+    odd[4].entries[62].challenge = 2;
+    odd[5].entries[63].value = 30;
+    odd[6].entries[62].blinding = 30;
+    odd[7].entries[62].nonce[0] = 30;
+    odd[8].entries[62].nonce[2] = 30;
+    for odd in odd {
+        text.push_str(&ledger_written_lines(ledger_write(BASE, &odd)));
+    }
+}
+
 /// The length of the marker's text on three files, the text, and two bytes behind it, which stay.
 fn mark_over(sheet: &[u8], file: &[u8], level: &[u8]) -> String {
     let mut text = [238; LONGEST_TEXT];
@@ -568,6 +676,7 @@ fn fields_cross_from_rust() {
     or_provers(&mut text);
     teams(&mut text);
     watches(&mut text);
+    ledgers(&mut text);
     marks(&mut text);
     reasons(&mut text);
     games(&mut text);

@@ -9,7 +9,7 @@ use std::fmt::Write;
 use std::fs;
 
 /// The constants of this crate, under their names in C and in the order of the C program.
-const CONSTANTS: [(&str, usize); 28] = [
+const CONSTANTS: [(&str, usize); 32] = [
     ("PLACES", PLACES),
     ("ENTRIES", ENTRIES),
     ("MOST_PLAYERS", MOST_PLAYERS),
@@ -17,6 +17,7 @@ const CONSTANTS: [(&str, usize); 28] = [
     ("SAVED_STATES", SAVED_STATES),
     ("MOST_ANSWERED", MOST_ANSWERED),
     ("MOST_REMEMBERED", MOST_REMEMBERED),
+    ("MOST_LINES", MOST_LINES),
     ("LONGEST_SHEET", LONGEST_SHEET),
     ("SHIPPED_PATTERNS", SHIPPED_PATTERNS),
     ("MOST_PATTERNS", MOST_PATTERNS),
@@ -30,6 +31,9 @@ const CONSTANTS: [(&str, usize); 28] = [
     ("LONGEST_GAME", LONGEST_GAME),
     ("EXPONENT", EXPONENT as usize),
     ("ROOT", ROOT as usize),
+    ("LINE_COMMITMENT", lines::COMMITMENT as usize),
+    ("LINE_SUM", lines::SUM as usize),
+    ("LINE_PRODUCT", lines::PRODUCT as usize),
     ("PROVER_NEW", prover::NEW as usize),
     ("PROVER_COMMITTED", prover::COMMITTED as usize),
     ("PROVER_ANSWERED", prover::ANSWERED as usize),

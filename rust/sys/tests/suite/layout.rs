@@ -58,5 +58,12 @@ fn every_struct_is_laid_out_as_in_c() {
     describe!(text, Watch { rounds, sheet, length, count });
     describe!(text, Opened { watch, refusal });
     describe!(text, WatchAnswer { watch, witness, back, verdict });
+    describe!(text, Base { g, h, modulus, order, challenges });
+    describe!(text, Line { kind, first, second, commitment, t, challenge, response });
+    describe!(text, Ledger { lines, count });
+    describe!(text, Checked { accepted, line, refusal });
+    describe!(text, Entry { kind, first, second, value, blinding, nonce, challenge });
+    describe!(text, Entries { entries, count });
+    describe!(text, LedgerWritten { ledger, refusal });
     assert_eq!(text, cc::run("layout.c"));
 }

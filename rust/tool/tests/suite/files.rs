@@ -8,11 +8,12 @@ use std::os::fd::OwnedFd;
 use std::os::unix::net::UnixStream;
 use std::process::{Command, Stdio};
 
-/// The files that are read, with the bytes of page A's sheet, of two of its rounds and of a pattern file.
-const FILES: [(&str, &[u8]); 3] = [
+/// The files that are read, with the bytes of page A's sheet, of two of its rounds, of a pattern file and of a ledger's text.
+const FILES: [(&str, &[u8]); 4] = [
     ("SHEET", b"HOM\0\x01\x01\0\0\0\x17\0\0\0\x0b\0\0\0\x0b\x01\x01\0\0\0\x02\0\0\0\x0d"),
     ("ROUNDS", b"RND\0\x01\0\x02\0\0\0\x09\0\0\0\x03\0\0\0\x04\0\0\0\x09\0\0\0\x01\0\0\0\x01"),
     ("PATTERNS", b"PAT\0\x01\x05\x01\x01\x01\x01\x01\x02\x02\x01\x02\x02\x01\x02\x01\x02\x02\x01\x02\x01\x02\x02\x03\x03\x01\x02\0\x03\0\x02"),
+    ("LEDGER", b"g=2 h=3 m=23 q=11 K=11\ncommitment v=2 b=1\ncommitment v=3 b=0\nsum 0 1\nproduct 0 1 b=4 k=1,2,3 c=5\n"),
 ];
 
 /// A folder with the files under their names, and with a folder of a student.

@@ -1,8 +1,8 @@
 //! Command lines of all commands, in which words in capitals stand for files and values.
 
-/// The lines. SHEET, ROUNDS, PATTERNS and FOLDER are files that are read, GROWN is a round file that is written over, OUT is a
-/// file that is written, X, T and C are values for each column, for each row, and a challenge.
-pub const LINES: [&str; 58] = [
+/// The lines. SHEET, ROUNDS, PATTERNS, LEDGER and FOLDER are files that are read, GROWN is a round file that is written over, OUT
+/// is a file that is written, X, T and C are values for each column, for each row, and a challenge.
+pub const LINES: [&str; 61] = [
     "make 1 --patterns PATTERNS m=23 q=11 h=2 x=7 -o OUT",
     "make 5 --patterns PATTERNS m=23 q=11 h=2,3,3 z=12,9 -o OUT",
     "make root --patterns PATTERNS m=35 e=5 z=32 -o OUT",
@@ -35,6 +35,9 @@ pub const LINES: [&str; 58] = [
     "team SHEET z=T z=T t=T t=T c=C r=X r=X",
     "team SHEET x=X x=X",
     "team SHEET x=X x=X x=X k=X k=X k=X c=C",
+    "ledger LEDGER",
+    "ledger LEDGER --public",
+    "ledger LEDGER extract=3 c=C",
     "rounds make SHEET -o OUT",
     "rounds make SHEET t=T c=C r=X c=C r=X --version 2 -o OUT",
     "rounds make SHEET x=X k=X c=C -o OUT",

@@ -6,6 +6,7 @@ mod examples;
 mod files;
 mod generator;
 mod lecture;
+mod ledgers;
 mod lines;
 mod marks;
 mod markup;

@@ -16,6 +16,8 @@ pub struct Material {
     pub patterns: Vec<u8>,
     /// A level file.
     pub level: Vec<u8>,
+    /// The text of a ledger, with values or without.
+    pub ledger: Vec<u8>,
     /// The rows of the sheet.
     pub rows: usize,
     /// The columns of the sheet.
@@ -36,12 +38,21 @@ impl Material {
             rounds: round_file(&sheet, 1 + random.below(2) as u32, &rounds),
             patterns: Patterns::shipped().bytes().to_vec(),
             level: vec![1 + random.below(8) as u8],
+            ledger: random.pick(&LEDGERS).as_bytes().to_vec(),
             rows: header.rows as usize,
             columns: header.columns as usize,
             sheet: sheet.bytes().to_vec(),
         }
     }
 }
+
+/// Texts of ledgers. The third has a round that is rejected.
+const LEDGERS: [&str; 4] = [
+    "g=2 h=3 m=23 q=11 K=11\ncommitment v=2 b=1\ncommitment v=3 b=0\nsum 0 1\nproduct 0 1 b=4 k=1,2,3 c=3\n",
+    "g=2 h=3 m=23 q=11 K=11\ncommitment C=12\ncommitment C=8\nsum 0 1\nproduct 0 1 C=9 t=18,9 c=3 r=7,5,4\n",
+    "g=2 h=3 m=23 q=11 K=11\ncommitment C=12\ncommitment C=8\nsum 0 1\nproduct 0 1 C=9 t=18,9 c=3 r=7,5,5\n",
+    "K=2 q=2147483646 m=2147483647 g=7 h=3 # large\ncommitment v=9 b=2147483645\nsum 0 0\nsum 1 1\nproduct 2 2 b=1 k=0,5,6 c=1\nproduct 3 2 b=0 k=7,7,7 c=0",
+];
 
 /// How many sheets there are.
 const SHEETS: usize = 9;

@@ -54,6 +54,7 @@ impl Case {
             "SHEET" => &of.sheet,
             "ROUNDS" | "GROWN" => &of.rounds,
             "PATTERNS" => &of.patterns,
+            "LEDGER" => &of.ledger,
             "FOLDER" => {
                 fill(&path, of, random);
                 return name.into();

@@ -1,0 +1,3 @@
+-- Laws that the proofs of the functions cite, by topic.
+pub mod Answers
+pub mod Products

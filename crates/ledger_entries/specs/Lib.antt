@@ -1,0 +1,2 @@
+-- The parts of entries.
+pub mod Parts

@@ -1,0 +1,5 @@
+-- Laws that the proofs of the functions cite, by topic.
+pub mod Answers
+pub mod Making
+pub mod Opening
+pub mod Ready

@@ -1,0 +1,2 @@
+-- The lines that are made.
+pub mod Parts

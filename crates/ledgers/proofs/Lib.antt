@@ -1,0 +1,20 @@
+-- Laws of a ledger of committed values.
+pub mod Tests
+pub mod LedgerRefusals
+pub mod Right
+pub mod RunsWhere
+pub mod Valid
+pub mod Product
+pub mod Commitments
+pub mod Checking
+pub mod Extracts
+pub mod ProductLines
+pub mod Openings
+pub mod Made
+pub mod Writing
+pub mod Honest
+pub mod MadeLedger
+pub mod Only
+pub mod Alone
+pub mod EntriesAlone
+pub mod LedgerHolds
