@@ -1,5 +1,5 @@
-//! The pieces of the repository's README are programs: those in Rust in a crate that names this one by its path as the README
-//! says, and those in C, each in braces of its own, in a program that is compiled as the README says.
+//! The pieces of the pages for callers are programs: those of this crate's README in a crate that names this one by its path as
+//! the README says, and those of docs/C.md, each in braces of its own, in a program that is compiled as the page says.
 
 use crate::cc;
 use crate::pages::page_a;
@@ -10,7 +10,7 @@ use std::env;
 use std::fs;
 use std::process::Command;
 
-/// What the README leaves to its reader in Rust.
+/// What the README leaves to its reader.
 const RUST_FRAME: &str = "use dimkhoros::*;
 use std::fs;
 
@@ -24,7 +24,7 @@ PIECES
 }
 ";
 
-/// What it leaves to its reader in C: page A's sheet and witness, and the box's folder.
+/// What docs/C.md leaves to its reader: page A's sheet and witness, and the box's folder.
 const C_FRAME: &str = "#define _POSIX_C_SOURCE 200809L
 #include \"dimkhoros_box.h\"
 
@@ -52,7 +52,7 @@ fn blocks(text: &str, language: &str, between: &str) -> String {
 
 #[test]
 fn the_pieces_in_rust_run() {
-    let readme = fs::read_to_string(cc::root().join("README.md")).unwrap();
+    let readme = fs::read_to_string(cc::root().join("rust/dimkhoros/README.md")).unwrap();
     let folder = cc::scratch("readme");
     fs::create_dir_all(folder.join("src")).unwrap();
     let crate_path = env!("CARGO_MANIFEST_DIR");
@@ -62,7 +62,7 @@ fn the_pieces_in_rust_run() {
     // The folder stands below a workspace, of which this crate is no part.
     let package = "[package]\nname = \"readme\"\nedition = \"2024\"\n\n[workspace]\n\n";
     fs::write(folder.join("Cargo.toml"), package.to_string() + &dependencies).unwrap();
-    let program = RUST_FRAME.replace("PIECES", &blocks(&readme, "rust", ""));
+    let program = RUST_FRAME.replace("PIECES", &blocks(&readme, "rs", ""));
     fs::write(folder.join("src/main.rs"), program).unwrap();
     let cargo = env::var_os("CARGO").unwrap_or_else(|| "cargo".into());
     let mut command = Command::new(cargo);
@@ -74,9 +74,9 @@ fn the_pieces_in_rust_run() {
     assert_eq!(printed, expected);
 }
 
-/// The words of the README's line that compiles a program in C, with these for the program and the archive.
-fn compile_words(readme: &str, program: &str) -> Vec<String> {
-    let line = readme.lines().find(|line| line.starts_with("    cc ")).unwrap();
+/// The words of the page's line that compiles a program in C, with these for the program and the archive.
+fn compile_words(page: &str, program: &str) -> Vec<String> {
+    let line = page.lines().find(|line| line.starts_with("    cc ")).unwrap();
     let word = |word: &str| match word {
         "program.c" => program.to_string(),
         "target/staticlib/libdimkhoros.a" => ARCHIVE.to_string(),
@@ -87,11 +87,11 @@ fn compile_words(readme: &str, program: &str) -> Vec<String> {
 
 #[test]
 fn the_pieces_in_c_run() {
-    let readme = fs::read_to_string(cc::root().join("README.md")).unwrap();
+    let page = fs::read_to_string(cc::root().join("docs/C.md")).unwrap();
     let source = cc::scratch("readme.c");
     let program = cc::scratch("readme.program");
-    fs::write(&source, C_FRAME.replace("PIECES", &blocks(&readme, "c", "}\n{\n"))).unwrap();
-    let words = compile_words(&readme, source.to_str().unwrap());
+    fs::write(&source, C_FRAME.replace("PIECES", &blocks(&page, "c", "}\n{\n"))).unwrap();
+    let words = compile_words(&page, source.to_str().unwrap());
     let mut command = Command::new(&words[0]);
     command.args(&words[1..]).args(cc::STRICT).arg("-o").arg(&program).current_dir(cc::root());
     cc::succeed(&mut command);
