@@ -35,10 +35,15 @@ pub fn exports() -> Vec<Contract> {
     crates().iter().flat_map(|name| contracts_in(name, "\n#[no_mangle]\n")).collect()
 }
 
+/// The public functions of a crate.
+pub fn public_in(crate_name: &str) -> Vec<Contract> {
+    contracts_in(crate_name, "\npub fn ")
+}
+
 /// The functions over whole files that the programs call, each with its crate.
 pub fn of_programs() -> Vec<(&'static str, Contract)> {
     let found = OF_PROGRAMS.into_iter().map(|(crate_name, name)| {
-        let mut public = contracts_in(crate_name, "\npub fn ").into_iter();
+        let mut public = public_in(crate_name).into_iter();
         (crate_name, public.find(|function| function.name == name))
     });
     found
@@ -62,7 +67,8 @@ fn contracts_of(text: &str, mark: &str) -> Vec<Contract> {
 fn contract_of(function: &str, imports: &BTreeMap<String, Place>) -> Contract {
     let head = function.split("\n{").next().expect("a function has a head");
     let begin = head.split('(').next().expect("a function has a name");
-    let name = begin.rsplit(' ').next().expect("a function has a name");
+    let named_so = begin.split('<').next().expect("a function has a name");
+    let name = named_so.rsplit(' ').next().expect("a function has a name");
     let clauses =
         head.find("\n    requires").or(head.find("\n    ensures")).map_or("", |at| &head[at..]);
     let parts = clauses.split(|c: char| c.is_whitespace() || "(){}.,;[]⌜⌝".contains(c));

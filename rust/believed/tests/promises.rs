@@ -1,0 +1,110 @@
+//! The tables of docs/promises that name functions beside the definitions of their contracts agree with each other and with the
+//! sources.
+
+use std::collections::BTreeMap;
+
+use believed::calls::{Call, ours};
+use believed::contracts::{Contract, exports, public_in};
+use believed::specs::{Specs, files_in, root, stem, text_of};
+
+/// A row of a table: the page, the words in code font of the column that names functions, and those of the column `equation with`.
+struct Row {
+    page: String,
+    functions: Vec<String>,
+    definitions: Vec<String>,
+}
+
+/// The words of a cell in code font.
+fn code(cell: &str) -> Vec<String> {
+    cell.split('`').skip(1).step_by(2).map(str::to_string).collect()
+}
+
+/// The cells of a line of a table.
+fn cells(line: &str) -> Vec<&str> {
+    line.trim().trim_matches('|').split('|').map(str::trim).collect()
+}
+
+/// The rows of the tables of a page that have a column of this name and a column `equation with`.
+fn rows_in(page: &str, text: &str, column: &str) -> Vec<Row> {
+    let (mut found, mut columns) = (Vec::new(), None);
+    for line in text.lines() {
+        if !line.starts_with('|') {
+            columns = None;
+            continue;
+        }
+        let cells = cells(line);
+        let place = |name: &str| cells.iter().position(|cell| *cell == name);
+        match columns {
+            None => columns = Some((place(column), place("equation with"))),
+            Some((Some(function), Some(equation))) => found.push(Row {
+                page: page.to_string(),
+                functions: code(cells[function]),
+                definitions: code(cells[equation]),
+            }),
+            Some(_) => {}
+        }
+    }
+    found
+}
+
+/// Such rows of all pages.
+fn rows(column: &str) -> Vec<Row> {
+    let pages = files_in(&root().join("docs/promises"), "md");
+    pages.iter().flat_map(|page| rows_in(&stem(page), &text_of(page), column)).collect()
+}
+
+/// The definition of a call that stands first in each row on one function, with the function and the page.
+fn told(rows: &[Row], calls: &[Call]) -> Vec<(String, String, String)> {
+    let of_one = rows.iter().filter(|row| row.functions.len() == 1);
+    let first = of_one.filter_map(|row| Some((row, row.definitions.first()?)));
+    let calls = first.filter(|(_, first)| calls.iter().any(|call| call.definition == **first));
+    calls.map(|(row, first)| (row.functions[0].clone(), first.clone(), row.page.clone())).collect()
+}
+
+/// The public function of this path, such as `protocol::judge`.
+fn function(path: &str) -> Option<Contract> {
+    let (crate_name, rest) = path.split_once("::")?;
+    let name = rest.rsplit("::").next()?;
+    public_in(crate_name).into_iter().find(|function| function.name == name)
+}
+
+#[test]
+fn the_pages_give_each_function_one_definition() {
+    let rows = rows("function");
+    let told = told(&rows, &ours(&Specs::read()));
+    assert!(told.len() > 40, "{} rows on calls", told.len());
+    let mut first = BTreeMap::new();
+    for (function, definition, page) in &told {
+        let (known, on) = first.entry(function).or_insert((definition, page));
+        assert_eq!(definition, *known, "{function} on the pages {page} and {on}");
+    }
+}
+
+#[test]
+fn the_contract_of_each_function_on_the_pages_names_its_definition() {
+    for (path, definition, page) in told(&rows("function"), &ours(&Specs::read())) {
+        let Some(function) = function(&path) else {
+            assert!(!path.contains("::"), "{page} names {path}, which is no public function");
+            continue;
+        };
+        assert!(function.named.contains_key(&definition), "{page}: {path} and {definition}");
+    }
+}
+
+#[test]
+fn the_page_of_the_exports_names_the_call_of_each() {
+    let calls = ours(&Specs::read());
+    let exports = exports();
+    let rows = rows("export");
+    assert!(rows.len() > 20, "{} rows on exports", rows.len());
+    for row in &rows {
+        for name in row.functions.iter().filter(|name| name.starts_with("dimkhoros_")) {
+            let export = exports.iter().find(|export| export.name == *name);
+            let export = export.unwrap_or_else(|| panic!("{name} is exported"));
+            let of_call = |word: &String| calls.iter().any(|call| call.definition == *word);
+            let lost =
+                export.named.keys().find(|word| of_call(word) && !row.definitions.contains(word));
+            assert_eq!(lost, None, "a call of {name} that its row does not name");
+        }
+    }
+}
