@@ -45,7 +45,7 @@
  * eight. The places behind these values are not read where a call takes them, and are 0 where a call answers them. A
  * session keeps what it holds in all eight, and the commitments that Peggy's hold are tested in all eight (by 21 and 32).
  *
- * Refusals. A call answers a number, or a struct with a field `refusal`: 0, or the number of what was refused. Where several
+ * Refusals. A call answers a number, or a struct with a field `refusal`: 0, or the number of what was refused. If several
  * apply it is the earliest in the order 23, 24, 1 to 9, 27, 29, 30, 10, 11, 26, 37, 35, 36, 12, 25, 13 to 16, 28, 31, 17 to 21,
  * 32 to 34, 22. A refused call changes no session, watch, ledger, array or buffer, and has 0 in every other field of its answer.
  * Compilers warn of a call whose answer is thrown away.
@@ -141,8 +141,8 @@ extern "C" {
 #define DIMKHOROS_VERIFIER_JUDGED 3  /* a response was judged */
 
 /*
- * Every refusal by its number, with its name and what it says. 23 and 24 are tested before 1, 27, 29 and 30 after 9, 26 after 11,
- * then 37, 35 and 36, 25 after 12, 28 after 16, 31 after 28, and 32 to 34 after 21, before 22.
+ * Every refusal by its number, with its name and what it says. The order in which they are tested stands above, and docs/FORMATS.md
+ * of the repository has the conditions, call by call.
  */
 #define DIMKHOROS_REFUSALS(REFUSAL)                                                                               \
     REFUSAL(1, PATTERN, "the pattern file has no pattern of this number, or it takes another count of values")    \

@@ -9,6 +9,10 @@ use crate::library::Library::{Faulty, Judge, Proved};
 const STORED: &str = include_str!("../../../../docs/vectors.txt");
 const FORMATS: &str = include_str!("../../../../docs/FORMATS.md");
 const AUTHORS: &str = include_str!("../../../../docs/AUTHORS.md");
+/// The page on which refusals, worked pages and cards are looked up.
+const SCOPE: &str = include_str!("../../../../docs/SCOPE.md");
+/// The header for C, which has the refusals and their order too.
+const HEADER: &str = include_str!("../../../../include/dimkhoros.h");
 
 /// The first stored line that this library does not make.
 fn difference(library: Library) -> Option<String> {
@@ -240,7 +244,7 @@ fn the_pages_show_stored_bytes_and_lines() {
                     assert_eq!(other, None, "not stored");
                 }
                 // Tests of the crate `dimkhoros` and of the tool run them.
-                "rust" | "console" if page == AUTHORS => {}
+                "rust" | "console" | "sh" if page == AUTHORS => {}
                 _ => panic!("a block is neither bytes nor lines:\n{block}"),
             }
         }
@@ -364,6 +368,52 @@ fn the_page_has_a_row_for_each_refusal_and_each_call() {
 
 /// What the page's table of the reason tells of each number, but for values of
 /// lists, whose offsets depend on the sheet.
+/// What stands behind the marks of a kind on docs/SCOPE.md, which links lead
+/// to, such as `refusal-`.
+fn marks(kind: &str) -> Vec<&'static str> {
+    let start = format!("<a id=\"{kind}-");
+    let behind = SCOPE.split(&start).skip(1);
+    behind.filter_map(|rest| rest.split('"').next()).collect()
+}
+
+#[test]
+fn the_scope_has_a_place_for_each_refusal_page_and_card() {
+    let mut rising = ORDER;
+    rising.sort();
+    assert_eq!(marks("refusal"), rising.map(|number| number.to_string()));
+    let order = ORDER.map(|number| number.to_string()).join(", ");
+    assert!(SCOPE.contains(&format!(" in this order is given: {order}. ")));
+    let worked: Vec<String> = FORMATS
+        .lines()
+        .filter_map(|line| line.strip_prefix("### ")?.split_once(". "))
+        .map(|(letter, _)| letter.to_lowercase())
+        .collect();
+    assert_eq!(marks("page"), worked);
+    let cards: Vec<String> = (1..=14).map(|card| card.to_string()).collect();
+    assert_eq!(marks("card"), cards);
+}
+
+/// The numbers of a list such as `23, 1 to 3`.
+fn listed(list: &str) -> Vec<u32> {
+    let ends = |part: &str| {
+        let (first, last) = part.split_once(" to ").unwrap_or((part, part));
+        first.parse().unwrap()..=last.parse().unwrap()
+    };
+    list.split(", ").flat_map(ends).collect()
+}
+
+#[test]
+fn the_header_has_the_refusals_in_the_same_order() {
+    let text = HEADER.replace("\n *", "");
+    let order = text.split("it is the earliest in the order ").nth(1);
+    assert_eq!(listed(order.unwrap().split(". ").next().unwrap()), ORDER);
+    let numbers = HEADER.split("    REFUSAL(").skip(1);
+    let numbers: Vec<&str> = numbers.filter_map(|rest| rest.split(',').next()).collect();
+    let mut rising = ORDER;
+    rising.sort();
+    assert_eq!(numbers, rising.map(|number| number.to_string()));
+}
+
 #[test]
 fn the_offsets_of_the_page_are_those_of_the_vectors() {
     let rows = rows(FORMATS, "## The reason's line\n");

@@ -15,6 +15,7 @@ mod install;
 mod installed;
 mod ledgers;
 mod levels;
+mod links;
 mod marks;
 mod or_rounds;
 mod or_sessions;

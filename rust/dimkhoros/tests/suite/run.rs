@@ -179,7 +179,7 @@ fn a_folder_without_a_level_is_not_marked_by_rounds() {
     assert_eq!(home.run(&["game"]), marked(GAME));
 }
 
-/// The README's script is told a pass by the last line. With K = 11 one round passes at the level 3.
+/// The script on the page for authors is told a pass by the last line. With K = 11 one round passes at the level 3.
 #[test]
 fn a_script_tells_a_pass() {
     let home = laid_out("script");
@@ -189,8 +189,8 @@ fn a_script_tells_a_pass() {
     let rounds = b"RND\0\x01\0\x01\0\0\0\x09\0\0\0\x03\0\0\0\x04";
     fs::write(passing.join("rounds.bin"), rounds).unwrap();
     fs::write(passing.join("level.bin"), [3]).unwrap();
-    let readme = fs::read_to_string(cc::root().join("README.md")).unwrap();
-    let script = readme.lines().find(|line| line.contains("= pass ]")).unwrap();
+    let page = fs::read_to_string(cc::root().join("docs/AUTHORS.md")).unwrap();
+    let script = page.lines().find(|line| line.contains("= pass ]")).unwrap();
     for (folder, said) in [("passing", "passing passes\n"), ("crates/marker/data", "")] {
         let mut shell = Command::new("/bin/sh");
         shell.arg("-c").arg(script.replace("FOLDER", folder));
