@@ -1,10 +1,11 @@
 //! The tables of docs/promises that name functions beside the definitions of their contracts agree with each other and with the
-//! sources.
+//! sources, and the page of the theorems has the fields of the demands.
 
 use std::collections::BTreeMap;
 
 use believed::calls::{Call, ours};
 use believed::contracts::{Contract, exports, public_in};
+use believed::page::sections;
 use believed::specs::{Specs, files_in, root, stem, text_of};
 
 /// A row of a table: the page, the words in code font of the column that names functions, and those of the column `equation with`.
@@ -107,4 +108,17 @@ fn the_page_of_the_exports_names_the_call_of_each() {
             assert_eq!(lost, None, "a call of {name} that its row does not name");
         }
     }
+}
+
+#[test]
+fn the_page_of_the_theorems_has_each_field_of_the_demands() {
+    let fields = sections(&Specs::read()).into_iter().map(|section| section.field);
+    let whole = |field: &String| field != "code" && !field.contains(": ");
+    let fields: Vec<String> = fields.filter(whole).collect();
+    let page = text_of(&root().join("docs/THEOREMS.md"));
+    let part = page.split("\n## The demands\n").nth(1).and_then(|part| part.split("\n## ").next());
+    let lines =
+        part.expect("the part on the demands").lines().filter(|line| line.starts_with("| `"));
+    let told: Vec<String> = lines.flat_map(|line| code(cells(line)[0])).collect();
+    assert_eq!(told, fields);
 }
