@@ -2,6 +2,7 @@
 //! the library computes too, it computes alike, and a test holds the two together.
 
 mod arithmetic;
+pub mod steps;
 
 pub use arithmetic::{CALCULATOR, Euclid, Line, Power, euclid, inverse, power, product, rest};
 

@@ -2,48 +2,15 @@
 //!
 //! What it says of sheets and rounds it has from the proved library; it reads and writes files, and lays out what it was told.
 
-mod allowed;
-mod brought;
 mod by_hand;
-mod check;
-mod command;
-mod commitments;
-mod course;
-mod equation;
-mod extract;
-mod failure;
-mod faults;
-mod files;
-mod folder;
-mod game;
-mod grid;
-mod judged;
-mod lecture;
-mod ledger;
-mod levels;
-mod make;
-mod mark;
-mod notation;
-mod or_proof;
-mod output;
-mod patterns;
-mod reason;
-mod round_table;
-mod round_words;
-mod rounds;
+mod command_line;
+mod commands;
 mod sheets;
-mod show;
-mod simulate;
-mod small;
-mod steps;
-mod table;
-mod team;
-mod watch;
-mod words;
 
-use command::Command;
-use failure::{Failure, Outcome};
-use output::Output;
+use command_line::failure::{Failure, Outcome};
+use command_line::files;
+use command_line::output::Output;
+use commands::Command;
 use std::env;
 use std::ffi::OsString;
 use std::io::{BufWriter, Write};
@@ -80,7 +47,7 @@ fn run(name: &OsString, words: Vec<OsString>, out: &mut dyn Write) -> Outcome {
         return Err(Failure::words("no command is named"));
     }
     if is_help(name) || name == "help" && words.is_empty() {
-        out.write_all(command::overview().as_bytes())?;
+        out.write_all(commands::overview().as_bytes())?;
         return Ok(());
     }
     if name == "--version" {
@@ -106,7 +73,7 @@ fn is_help(word: &OsString) -> bool {
 
 /// The command of a name.
 fn found(name: &OsString) -> Outcome<&'static Command> {
-    command::find(name)
+    commands::find(name)
         .ok_or_else(|| Failure::words(format!("there is no command {}", name.to_string_lossy())))
 }
 

@@ -1,14 +1,32 @@
-//! Sheets as commands take them.
+//! Sheets as commands take them, and what is said of them and of their rounds.
 
-use crate::brought::{self, Brought};
-use crate::failure::{Failure, Outcome};
-use crate::notation::counted;
-use crate::words::{Value, Words};
-use crate::{allowed, faults, files};
+pub mod allowed;
+pub mod brought;
+pub mod commitments;
+pub mod course;
+pub mod equation;
+pub mod faults;
+pub mod folder;
+pub mod judged;
+pub mod levels;
+pub mod notation;
+pub mod round_table;
+pub mod round_words;
+pub mod small;
+pub mod witness;
+
+use crate::command_line::failure::{Failure, Outcome};
+use crate::command_line::files;
+use crate::command_line::words::{Value, Words};
+use brought::Brought;
 use dimkhoros::{
     Header, Instance, PLACES, Places, Prover, ROOT, Refusal, Round, RoundFile, Values,
 };
+use notation::counted;
 use std::path::Path;
+
+/// The largest challenge count of all.
+const MOST_CHALLENGES: u32 = 65_536;
 
 /// The sheet in a file. A bad one fails with what is wrong and where.
 pub fn load(path: &Path) -> Outcome<Instance> {
@@ -84,6 +102,24 @@ pub fn order_letter(header: &Header) -> &'static str {
 /// The sheet with a header and with ones for all entries and for the statement, which are elements of every group.
 pub fn with_ones(header: Header) -> Result<Instance, Refusal> {
     Instance::encode(&Values { header, entries: [[1; PLACES]; PLACES], statement: [1; PLACES] })
+}
+
+/// The largest challenge count with which a sheet is not refused for it. What is refused for one is refused for all above.
+pub fn largest(sheet: impl Fn(u32) -> Result<Instance, Refusal>) -> u32 {
+    let (mut taken, mut refused) = (2, MOST_CHALLENGES + 1);
+    while refused - taken > 1 {
+        let middle = taken.midpoint(refused);
+        match sheet(middle) {
+            Err(Refusal::Challenges) => refused = middle,
+            _ => taken = middle,
+        }
+    }
+    taken
+}
+
+/// The largest challenge count that the order or exponent in a header allows.
+pub fn largest_of(header: &Header) -> u32 {
+    largest(|challenges| with_ones(Header { challenges, ..*header }))
 }
 
 /// A value for each row of a sheet.

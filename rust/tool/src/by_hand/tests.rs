@@ -1,8 +1,7 @@
 //! The steps by hand end in what the library computes.
 
 use super::{Column, euclid, inverse, power, sides, steps};
-use crate::make::largest;
-use crate::small;
+use crate::sheets::{largest, small};
 use dimkhoros::{
     EXPONENT, Header, Instance, PLACES, Places, Prover, ROOT, Refusal, Round, Values, Verdict,
     places,

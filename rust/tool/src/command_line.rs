@@ -1,0 +1,7 @@
+//! The command line: the words of a command, the files it names, and what is printed.
+
+pub mod failure;
+pub mod files;
+pub mod output;
+pub mod table;
+pub mod words;

@@ -1,0 +1,90 @@
+//! What is wrong with a word, and what to write in its place.
+
+use super::Grammar;
+use crate::command_line::failure::{Failure, Outcome};
+use crate::sheets::notation::enumerated;
+use std::ffi::OsString;
+
+/// The number of a decimal text.
+pub fn number(text: &str) -> Result<u32, String> {
+    if text.is_empty() {
+        return Err("a number is missing; values have no spaces in them, as in x=1,2".to_string());
+    }
+    if !text.bytes().all(|byte| byte.is_ascii_digit()) {
+        return Err(format!("`{text}` is no number; numbers are written in digits, from 0 on"));
+    }
+    text.parse().map_err(|_| format!("{text} has more than 32 bits"))
+}
+
+/// Fails where a word looks like a value or an option that was typed in another way.
+pub fn check_typed(word: &str) -> Outcome {
+    if word.starts_with('=') {
+        return Err(Failure::words("a value has no spaces in it, as in c=3"));
+    }
+    match word.starts_with(['‐', '‑', '‒', '–', '—', '−']) {
+        true => Err(Failure::words(format!("{word} begins with a long dash; write -"))),
+        false => Ok(()),
+    }
+}
+
+/// Says that a letter is none of the grammar's.
+pub fn no_letter(letter: &str, grammar: &Grammar) -> Failure {
+    let same = grammar.letters.iter().find(|other| other.eq_ignore_ascii_case(letter));
+    let letters: Vec<String> = grammar.letters.iter().map(|letter| format!("{letter}=")).collect();
+    Failure::words(match same {
+        Some(same) => format!("there is no value {letter}= here; write {same}="),
+        None if letters.is_empty() => format!("there is no value {letter}= here"),
+        None => format!("there is no value {letter}= here, but {}", letters.join(", ")),
+    })
+}
+
+/// Says that an option is none of the grammar's.
+pub fn no_option(option: &str, grammar: &Grammar) -> Failure {
+    let all: Vec<&str> = grammar.options.iter().chain(grammar.flags).copied().collect();
+    Failure::words(match all.is_empty() {
+        true => format!("there is no option {option} here"),
+        false => format!("there is no option {option} here, but {}", all.join(", ")),
+    })
+}
+
+/// Says that a plain word is one too many.
+pub fn one_too_many(word: &OsString, grammar: &Grammar) -> Failure {
+    let word = word.to_string_lossy();
+    let is_value = word.bytes().all(|byte| byte.is_ascii_digit() || b",/".contains(&byte));
+    let behind = match grammar.letters.first() {
+        Some(letter) if is_value => {
+            format!("; a value stands behind its letter, as in {letter}={word}")
+        }
+        _ if grammar.letters.contains(&"row") && word.contains('^') => {
+            "; a row has quotes around it, as in row='h1^x3 h2^x1'".to_string()
+        }
+        _ if grammar.options.contains(&"-o") => "; a file to write stands behind -o".to_string(),
+        _ => String::new(),
+    };
+    Failure::words(format!("the word {word} is one too many{behind}"))
+}
+
+/// Says that a letter or an option is there twice.
+pub fn twice(name: &str) -> Failure {
+    Failure::words(format!("{name} is there twice"))
+}
+
+/// What a command is to do, which is its first word and one of these, and the other words.
+pub fn deed(
+    command: &str,
+    deeds: &[&'static str],
+    words: Vec<OsString>,
+) -> Outcome<(&'static str, Vec<OsString>)> {
+    let mut words = words.into_iter();
+    let all = enumerated(deeds, "or");
+    let Some(first) = words.next() else {
+        return Err(Failure::words(format!("the word behind {command} is missing: {all}")));
+    };
+    match deeds.iter().find(|deed| first == **deed) {
+        Some(deed) => Ok((deed, words.collect())),
+        None => {
+            let first = first.to_string_lossy();
+            Err(Failure::words(format!("the word behind {command} is {all}, and not {first}")))
+        }
+    }
+}

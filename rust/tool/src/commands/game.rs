@@ -1,0 +1,191 @@
+//! The command `game`: which challenges a commitment can answer.
+
+use crate::command_line::failure::{Failure, Outcome, refused};
+use crate::command_line::files;
+use crate::command_line::words::{Grammar, Words};
+use crate::sheets::brought::{self, Brought};
+use crate::sheets::course::Course;
+use crate::sheets::folder::Folder;
+use crate::sheets::{self, allowed, notation};
+use dimkhoros::{
+    EXPONENT, Header, Instance, LONGEST_FILE, LONGEST_GAME, Places, Refusal, Round, RoundFile,
+    RoundWriter, game,
+};
+use std::ffi::OsString;
+use std::io::Write;
+
+/// The command's help.
+pub const HELP: &str = "\
+usage: dimkhoros game FOLDER...
+       dimkhoros game SHEET t=VALUE,...
+
+Plays Peggy against Vic on a small sheet: Peggy names a commitment t, Vic names a challenge c, and Peggy answers if she can. For
+the commitment of a file's round 0, whose challenge and response are not looked at, or for t, it prints each challenge that has
+an accepting response, with the smallest one: the text that `./run game FOLDER` prints. Below it stands how many challenges that
+are, and what follows. With a witness of the statement a commitment answers every challenge or none, without one it answers one
+at most.
+
+A sheet is small if q^n is 4096 at most. A root sheet is small if m is 4096 at most and it has one row. If several folders are
+named, a line FOLDER: stands before each text. The exit status is 0 if all folders were read, whatever is said.
+
+    FOLDER       a folder with the sheet in sheet.bin and the round file in rounds.bin
+    SHEET        a sheet
+    t=VALUE,...  a commitment, a value for each row
+
+Example:
+    $ dimkhoros make schnorr m=11 q=5 h=4 x=3 -o sheet.bin
+    sheet.bin has 28 bytes
+    $ dimkhoros game sheet.bin t=5
+    0 2
+    1 0
+    2 3
+    3 1
+    4 4
+
+    The commitment 5 answers all 5 challenges. So the statement has a witness.
+    $ dimkhoros make schnorr m=31 q=15 K=3 h=1 z=2 -o claim.bin
+    claim.bin has 28 bytes
+    $ dimkhoros game claim.bin t=16
+    1 0
+
+    The commitment 16 answers 1 of the 3 challenges. So the statement has no witness.
+    $ dimkhoros game claim.bin t=2
+    none
+
+    The commitment 2 answers none of the 3 challenges. Whether the statement has a witness stays open.
+";
+
+const GRAMMAR: Grammar =
+    Grammar { plain: &["FOLDER..."], optional: 0, letters: &["t"], flags: &[], options: &[] };
+
+/// Runs the command.
+pub fn run(words: Vec<OsString>, out: &mut dyn Write) -> Outcome {
+    let words = Words::sort(words, &GRAMMAR)?;
+    if words.once("t")?.is_some() {
+        return Ok(out.write_all(on_commitment(&words)?.as_bytes())?);
+    }
+    let names = words.plain();
+    if names.len() == 1 {
+        check_folder(&words)?;
+        return Ok(out.write_all(on_folder(&names[0])?.as_bytes())?);
+    }
+    on_folders(names, out)
+}
+
+/// Plays in several folders. Those that cannot be read are named below the others.
+fn on_folders(names: &[OsString], out: &mut dyn Write) -> Outcome {
+    let mut unread = Vec::new();
+    let mut before = "";
+    for name in names {
+        match on_folder(name) {
+            Ok(text) => {
+                write!(out, "{before}{}:\n{text}", files::one_line(name))?;
+                before = "\n";
+            }
+            Err(failure) => unread.push(failure),
+        }
+    }
+    out.flush()?;
+    unread.iter().for_each(|failure| files::note(failure));
+    match unread.len() {
+        0 => Ok(()),
+        1 => Err(Failure::failed("a folder cannot be read")),
+        count => Err(Failure::failed(format!("{count} folders cannot be read"))),
+    }
+}
+
+/// Fails where the one word is a file, beside which a commitment is needed.
+fn check_folder(words: &Words) -> Outcome {
+    let path = words.path(0);
+    match path.is_file() {
+        true => Err(Failure::words(format!(
+            "{} is no folder, and beside SHEET the word t= is missing: a commitment",
+            files::name(&path)
+        ))),
+        false => Ok(()),
+    }
+}
+
+/// The library's text on a sheet and a round file.
+fn lines(sheet: &[u8], rounds: &[u8]) -> String {
+    let mut text: Box<[u8; LONGEST_GAME]> =
+        vec![0; LONGEST_GAME].try_into().expect("the length is the array's");
+    game(sheet, rounds, &mut text).to_string()
+}
+
+/// What a text refuses, if it does.
+fn refusal_of(text: &str) -> Option<Refusal> {
+    let number = text.strip_prefix("refused ")?.trim_end();
+    Refusal::from_number(number.parse().ok()?)
+}
+
+/// The text on a folder, and the same in words.
+fn on_folder(name: &OsString) -> Outcome<String> {
+    let folder = Folder::read(name, &Course { sheet: None, level: None })?;
+    let [sheet, rounds, _] = folder.bytes();
+    let text = lines(sheet, rounds);
+    let said = match (refusal_of(&text), folder.instance()) {
+        (Some(Refusal::GameSize), Some(sheet)) => {
+            format!("Not played: sheet.bin: {}.", too_large(&sheet.values().header))
+        }
+        (Some(refusal), sheet) => {
+            let header = sheet.map(|sheet| sheet.values().header);
+            let allowed = header.map(|header| allowed::by(refusal, &header));
+            format!("Not played: {}{}.", folder.fault(refusal), allowed.unwrap_or_default())
+        }
+        (None, Some(sheet)) => {
+            let round = RoundFile::open(&sheet, rounds).and_then(|file| file.read(0));
+            said(&sheet, &round?.commitment, &text)
+        }
+        (None, None) => String::new(),
+    };
+    Ok(format!("{text}\n{said}\n"))
+}
+
+/// The text on a commitment that the words name, and the same in words.
+fn on_commitment(words: &Words) -> Outcome<String> {
+    if let Some(word) = words.plain().get(1) {
+        let word = word.to_string_lossy();
+        return Err(Failure::words(format!(
+            "the word {word} is one too many: beside t= stands SHEET alone"
+        )));
+    }
+    let sheet = sheets::load(&words.path(0))?;
+    let value = words.needed("t", "a commitment")?;
+    let commitment = sheets::by_row(&sheet, value)?;
+    let mut buffer = vec![0; LONGEST_FILE];
+    let mut writer = RoundWriter::start(&sheet, 1, &mut buffer)?;
+    writer.append(&Round { commitment, ..Round::default() })?;
+    let text = lines(sheet.bytes(), writer.file().bytes());
+    match refusal_of(&text) {
+        None => Ok(format!("{text}\n{}\n", said(&sheet, &commitment, &text))),
+        Some(Refusal::GameSize) => Err(Failure::failed(too_large(&sheet.values().header))),
+        Some(refusal) => {
+            let brought = [Brought::commitment(&sheet, "t", &commitment)];
+            Err(brought::refused(refusal, &brought))
+        }
+    }
+}
+
+/// That a sheet with this header is too large, and by what.
+fn too_large(header: &Header) -> String {
+    let Header { kind, modulus, order, rows, columns, .. } = header;
+    let by = match *kind {
+        EXPONENT => format!("q^n = {order}^{columns}"),
+        _ => format!("m = {modulus} and s = {rows}"),
+    };
+    refused(Refusal::GameSize, by)
+}
+
+/// How many challenges a commitment answers by the library's text, and what follows.
+fn said(sheet: &Instance, commitment: &Places, text: &str) -> String {
+    let (t, all) = (notation::by_row(sheet, commitment), sheet.values().header.challenges);
+    let count = if text == "none\n" { 0 } else { text.lines().count() };
+    // Proved of the game: without a witness a commitment answers one challenge at most, and with one all or none.
+    let (answers, follows) = match count {
+        0 => (format!("none of the {all}"), "Whether the statement has a witness stays open."),
+        1 => (format!("1 of the {all}"), "So the statement has no witness."),
+        _ => (format!("all {all}"), "So the statement has a witness."),
+    };
+    format!("The commitment {t} answers {answers} challenges. {follows}")
+}

@@ -1,0 +1,255 @@
+//! The command `lecture`: a page for the lecture hall.
+
+mod diagram;
+mod extractor;
+mod listing;
+mod or_lists;
+mod or_pair;
+mod or_rounds;
+mod or_run;
+mod or_twice;
+mod page;
+mod rounds;
+mod run;
+mod same_rounds;
+mod squares;
+mod statement;
+mod svg;
+mod text;
+mod witnesses;
+
+use crate::command_line::failure::{Failure, Outcome};
+use crate::command_line::files::{self, Target};
+use crate::command_line::words::{Grammar, Words};
+use crate::commands::or_proof;
+use crate::sheets::round_words::Asked;
+use crate::sheets::{self, brought, notation, small, witness};
+use dimkhoros::{Instance, Pair, Places, Round, Side};
+use or_pair::Shown;
+use or_rounds::Choice;
+use page::Section;
+use std::ffi::OsString;
+use std::io::Write;
+use std::path::Path;
+
+/// The command's help.
+pub const HELP: &str = "\
+usage: dimkhoros lecture SHEET [x=VALUE,...] [k=VALUE,...] [c=CHALLENGE [c=CHALLENGE]] -o PAGE
+       dimkhoros lecture SHEET [c=CHALLENGE] [r=VALUE,...] -o PAGE
+       dimkhoros lecture SHEET SHEET1 [x=VALUE,...] [x1=VALUE,...] [k=VALUE,...] [c=CHALLENGE [c=CHALLENGE]]
+                 [c1=CHALLENGE] [r1=VALUE,...] -o PAGE
+       dimkhoros lecture SHEET SHEET1 [x1=VALUE,...] [k=VALUE,...] [c=CHALLENGE [c=CHALLENGE]]
+                 [c0=CHALLENGE] [r0=VALUE,...] -o PAGE
+
+Makes a page for a projector and for paper that needs nothing else: the statement of SHEET, a run of the protocol, the extractor
+on two rounds with the same commitment, and the honest and the simulated rounds side by side. With SHEET1 the page is on the OR
+proof of the two sheets: both holders' runs, the rounds that both make, and what two rounds on the same commitments give away.
+The second and the fourth line are for a SHEET without a witness.
+
+    x=VALUE,...   a witness of SHEET; found by trying all where they are few and it is left out
+    x1=VALUE,...  a witness of SHEET1
+    k=VALUE,...   the nonce of the run
+    c=CHALLENGE   the challenge of the run, and the second one of the extractor
+    r=VALUE,...   the response to simulate where SHEET has no witness
+    c1=CHALLENGE  the challenge with which the holder of x simulates SHEET1, and r1=VALUE,... the response; c0= and r0= for
+                  SHEET where it has no witness
+    -o PAGE       where the page is written; --force writes over a file that is there
+
+Example:
+    $ dimkhoros make schnorr m=23 q=11 h=2 x=7 -o sheet.bin
+    sheet.bin has 28 bytes
+    $ dimkhoros lecture sheet.bin k=5 c=3 c=1 -o page.html
+    page.html has 43161 bytes
+";
+
+const GRAMMAR: Grammar = Grammar {
+    plain: &["SHEET", "SHEET1"],
+    optional: 1,
+    letters: &["x", "x1", "k", "c", "r", "c0", "r0", "c1", "r1"],
+    flags: &["--force"],
+    options: &["-o"],
+};
+
+/// Runs the command.
+pub fn run(words: Vec<OsString>, out: &mut dyn Write) -> Outcome {
+    let words = Words::sort(words, &GRAMMAR)?;
+    let target = Target::of(&words)?;
+    let page = match words.plain().len() {
+        1 => single(&words, &sheets::load(&words.path(0))?)?,
+        _ => double(&words, &or_proof::rounds::load(&words)?)?,
+    };
+    target.write(page.as_bytes(), out)
+}
+
+/// The name of a sheet's file, without its folders.
+fn file_name(path: &Path) -> String {
+    let name = path.file_name().filter(|name| *name != "-");
+    name.map_or_else(|| files::name(path), |name| name.to_string_lossy().into_owned())
+}
+
+/// The two challenges: those of the words, and others where they are left out.
+fn challenges(words: &Words, sheet: &Instance) -> Outcome<[u32; 2]> {
+    let given = words.all("c");
+    let given = given.iter().map(|value| value.number()).collect::<Outcome<Vec<u32>>>()?;
+    let [first, second] = rounds::default_challenges(sheet);
+    match given[..] {
+        [] => Ok([first, second]),
+        [given] => Ok([given, if given == second { first } else { second }]),
+        [first, second] => Ok([first, second]),
+        _ => Err(Failure::words(
+            "c= is there three times: a run has one challenge, and the extractor a second one",
+        )),
+    }
+}
+
+/// The witness under a letter, or one that is found: none where there is none.
+fn witness(words: &Words, letter: &str, path: &Path, sheet: &Instance) -> Outcome<Option<Places>> {
+    if let Some(value) = words.once(letter)? {
+        let witness = sheets::by_column(sheet, value)?;
+        return match sheets::image(sheet, letter, &witness)? == sheet.values().statement {
+            true => Ok(Some(witness)),
+            false => Err(witness::no_witness(sheet, letter, &witness)),
+        };
+    }
+    let all = small::witnesses(sheet, small::MOST as usize).ok_or_else(|| {
+        let name = files::name(path);
+        Failure::words(format!(
+            "{letter}= is missing: a witness of {name}, which is too large to find one by trying all"
+        ))
+    })?;
+    let telling = all
+        .iter()
+        .find(|witness| witness[..sheets::column_count(sheet)].iter().all(|value| *value > 1));
+    Ok(telling.or(all.first()).copied())
+}
+
+/// The page on one sheet.
+fn single(words: &Words, sheet: &Instance) -> Outcome<String> {
+    words.without(&["x1", "c0", "r0", "c1", "r1"], "without SHEET1")?;
+    let sections = match witness(words, "x", &words.path(0), sheet)? {
+        Some(witness) => known(words, sheet, &witness)?,
+        None => unknown(words, sheet)?,
+    };
+    let title = format!("{}: a proof of knowledge of x with [x] = z", file_name(&words.path(0)));
+    Ok(page::page(&title, &statement::reminder(sheet), &sections))
+}
+
+/// The sections on a sheet with a witness.
+fn known(words: &Words, sheet: &Instance, witness: &Places) -> Outcome<Vec<Section>> {
+    words.without(&["r"], "where there is a witness")?;
+    let challenges = challenges(words, sheet)?;
+    let nonce = match words.once("k")? {
+        Some(value) => sheets::by_column(sheet, value)?,
+        None => rounds::default_nonce(sheet),
+    };
+    let [first, second] = [
+        honest(sheet, witness, &nonce, challenges[0])?,
+        honest(sheet, witness, &nonce, challenges[1])?,
+    ];
+    let extracted = sheet.extract(&first, &second);
+    extracted.map_err(|refusal| brought::of_two(refusal, &[], challenges[0], [false; 2]))?;
+    let verdict = rounds::judged(sheet, &first)?;
+    let all = small::witnesses(sheet, small::MOST as usize).unwrap_or_default();
+    let mut sections = statement::sections(
+        sheet,
+        "Peggy knows $x$ with $[x] = z$",
+        &told(sheet, witness, all.len()),
+    );
+    sections.push(run::section(sheet, &nonce, witness, &first, verdict));
+    let heading = "One commitment, two answers: the extractor";
+    sections.extend(extractor::sections(heading, "", sheet, &[first, second])?);
+    sections.extend(same_rounds::sections(sheet, witness, &first)?);
+    sections.extend(witnesses::several(sheet, &all, witness, &first)?);
+    sections.extend(squares::grid(sheet, &first.commitment, true));
+    Ok(sections)
+}
+
+/// The round of a Peggy. A refusal says by which value it is.
+fn honest(sheet: &Instance, witness: &Places, nonce: &Places, challenge: u32) -> Outcome<Round> {
+    let asked = Asked::Honest { witness: *witness, nonce: *nonce, challenge };
+    asked.round(sheet).map_err(|refusal| asked.refused(sheet, refusal))
+}
+
+/// What is known of the witnesses, of which all were counted, or none where they are too many to try.
+fn told(sheet: &Instance, witness: &Places, count: usize) -> String {
+    let x = notation::by_column(sheet, witness);
+    match count {
+        0 => format!("Peggy knows $x = {x}$"),
+        1 => format!("Peggy knows $x = {x}$; there is no other"),
+        _ => format!("Peggy knows $x = {x}$, one of {count} witnesses"),
+    }
+}
+
+/// The sections on a sheet without a witness.
+fn unknown(words: &Words, sheet: &Instance) -> Outcome<Vec<Section>> {
+    words.without(&["k"], "where there is no witness: nobody can answer with it")?;
+    let [default, _] = rounds::default_challenges(sheet);
+    let challenge = words.number("c")?.unwrap_or(default);
+    let response = match words.once("r")? {
+        Some(value) => sheets::by_column(sheet, value)?,
+        None => rounds::default_response(sheet),
+    };
+    let asked = Asked::Simulated { challenge, response };
+    let round = asked.round(sheet).map_err(|refusal| asked.refused(sheet, refusal))?;
+    let verdict = rounds::judged(sheet, &round)?;
+    let domain = small::domain(sheet, small::MOST as usize).unwrap_or_default();
+    let tried = format!("there is none: all {} choices were tried", domain.len());
+    let mut sections = statement::sections(sheet, "Nobody knows an $x$ with $[x] = z$", &tried);
+    sections.push(run::simulated(sheet, &round, verdict));
+    sections.push(witnesses::none(sheet, &domain, &round)?);
+    sections.extend(squares::grid(sheet, &round.commitment, false));
+    Ok(sections)
+}
+
+/// The page on a pair of sheets.
+fn double(words: &Words, sheets: &[Instance; 2]) -> Outcome<String> {
+    words.without(&["r"], "with SHEET1")?;
+    let pair = or_proof::rounds::pair(words, sheets)?;
+    let [first, second] = sheets;
+    let witnesses = [
+        witness(words, "x", &words.path(0), first)?,
+        witness(words, "x1", &words.path(1), second)?,
+    ];
+    let challenges = challenges(words, first)?;
+    let choice = match witnesses {
+        [Some(witness), _] => choice(words, &pair, Side::First, challenges[0], &witness)?,
+        [None, Some(witness)] => choice(words, &pair, Side::Second, challenges[0], &witness)?,
+        [None, None] => {
+            return Err(Failure::failed(
+                "neither sheet has a witness, so that nobody makes rounds of the two",
+            ));
+        }
+    };
+    let shown = Shown { pair, witnesses, choice, challenges };
+    shown.check()?;
+    let sections = shown.sections()?;
+    let names = [0, 1].map(|place| file_name(&words.path(place))).join(" or ");
+    Ok(page::page(&format!("{names}: the OR proof"), "", &sections))
+}
+
+/// What the holder of a side's witness chooses, by the words and else by default.
+fn choice(
+    words: &Words,
+    pair: &Pair<'_>,
+    side: Side,
+    challenge: u32,
+    witness: &Places,
+) -> Outcome<Choice> {
+    let (letters, unused) = match side {
+        Side::First => (["c1", "r1"], ["c0", "r0"]),
+        Side::Second => (["c0", "r0"], ["c1", "r1"]),
+    };
+    words.without(&unused, "where that side's witness is known")?;
+    let (own, other) = (pair.instance(side), pair.instance(side.other()));
+    let nonce = match words.once("k")? {
+        Some(value) => sheets::by_column(own, value)?,
+        None => rounds::default_nonce(own),
+    };
+    let response = match words.once(letters[1])? {
+        Some(value) => sheets::by_column(other, value)?,
+        None => rounds::default_response(other),
+    };
+    let choice = Choice { side, nonce, challenge: 0, response };
+    let default = or_rounds::default_challenge(pair, &choice, challenge, witness);
+    Ok(Choice { challenge: words.number(letters[0])?.unwrap_or(default), ..choice })
+}

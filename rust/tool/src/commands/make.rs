@@ -1,0 +1,111 @@
+//! The command `make`: a sheet of a pattern, a table or linear forms.
+
+mod asked;
+mod formula;
+mod linear;
+
+use crate::command_line::failure::{Failure, Outcome};
+use crate::command_line::files::Target;
+use crate::command_line::words::{Grammar, Value, Words};
+use crate::sheets::brought::{self, Brought};
+use crate::sheets::{self, allowed};
+use asked::Asked;
+use dimkhoros::{EXPONENT, Header, Instance, ROOT, Refusal};
+use std::ffi::OsString;
+use std::io::Write;
+
+/// The command's help.
+pub const HELP: &str = "\
+usage: dimkhoros make PATTERN m=MODULUS q=ORDER [K=COUNT] h=VALUE,... (z=VALUE,... | x=VALUE,...) -o SHEET
+       dimkhoros make root m=MODULUS e=EXPONENT [K=COUNT] (z=VALUE,... | x=VALUE,...) -o SHEET
+       dimkhoros make table=ENTRY,.../... m=MODULUS q=ORDER [K=COUNT] (z=VALUE,... | x=VALUE,...) -o SHEET
+       dimkhoros make linear m=MODULUS q=ORDER [K=COUNT] h=VALUE,... row=ROW... (z=VALUE,... | x=VALUE,...) -o SHEET
+
+Makes a sheet of a pattern, of a root, of any table or of linear forms over generators. With z the statement is as it stands,
+and whether it has a witness is not tested; with x the statement is computed of this witness, which the sheet does not hold.
+
+    PATTERN          schnorr, okamoto, equality, diffie-hellman or product, or a pattern's number in its file. `dimkhoros
+                     patterns` shows them, and how many public values each takes
+    m=MODULUS        the modulus, 3 or more
+    q=ORDER          the order, of an exponent sheet: an element v of the group has v^q mod m = 1
+    e=EXPONENT       the exponent, of a root sheet
+    K=COUNT          the challenge count; the largest that q or e allows where it is left out
+    h=VALUE,...      the public values of the pattern, in its order; with linear the generators h1, h2, ..., 1 to 8 of them
+    table=ENTRY,...  the entries, with commas within a row and / between rows
+    row=ROW          a row of the statement, in quotes: a product of powers of the generators whose exponents are secrets x1,
+                     x2, ... or linear forms of them, such as 'h1^x3 h2^x1' or 'h1^(x1 + 2x2) h2^(x1 - x2)'. There is one
+                     row= for each row, in their order
+    z=VALUE,...      the statement, a value for each row
+    x=VALUE,...      a witness, a value for each column, of which the statement is computed. A root sheet has as many rows and
+                     columns as z or x has values
+    --patterns FILE  a pattern file; the shipped one where it is left out
+    -o SHEET         where the sheet is written; --force writes over a file that is there
+
+Example:
+    $ dimkhoros make schnorr m=23 q=11 h=2 x=7 -o sheet.bin
+    sheet.bin has 28 bytes
+    $ dimkhoros make root m=35 e=5 z=32 -o root.bin
+    root.bin has 24 bytes
+    $ dimkhoros make table=1,2/2,3 m=23 q=11 K=11 x=4,5 -o elgamal.bin
+    elgamal.bin has 44 bytes
+    $ dimkhoros make linear m=23 q=11 h=2,3,4 row='h1^x3 h2^x1' row='h1^x2 h2^x4 h3^x1' x=1,2,3,4 -o linear.bin
+    linear.bin has 60 bytes. Peggy claims to know (x1, x2, x3, x4) with
+        1 = 2^x3 · 3^x1 mod 23
+        8 = 2^x2 · 3^x4 · 4^x1 mod 23
+";
+
+const GRAMMAR: Grammar = Grammar {
+    plain: &["PATTERN"],
+    optional: 1,
+    letters: &["m", "q", "e", "K", "h", "z", "x", "table", "row"],
+    flags: &["--force"],
+    options: &["-o", "--patterns"],
+};
+
+/// Runs the command.
+pub fn run(words: Vec<OsString>, out: &mut dyn Write) -> Outcome {
+    let words = Words::sort(words, &GRAMMAR)?;
+    let (asked, target) = (Asked::read(&words)?, Target::of(&words)?);
+    let sheet = with_statement(&words, &without_statement(&words, &asked)?)?;
+    target.write_saying(sheet.bytes(), &asked.said(&sheet), out)
+}
+
+/// The statement or the witness that the words have.
+fn stated(words: &Words) -> Outcome<&Value> {
+    let what = "the statement, or a witness of it";
+    words.needed(words.either(["z", "x"], what)?, what)
+}
+
+/// The sheet that is asked for, with ones in the place of the statement.
+fn without_statement(words: &Words, asked: &Asked) -> Outcome<Instance> {
+    let modulus = words.needed("m", "the modulus")?.number()?;
+    let (kind, letter, what, other, when) = match asked {
+        Asked::Root(_) => (ROOT, "e", "the exponent", "q", "for a root sheet"),
+        _ => (EXPONENT, "q", "the order", "e", "for an exponent sheet"),
+    };
+    words.without(&[other], when)?;
+    let order = words.needed(letter, what)?.number()?;
+    let sheet = |challenges| asked.sheet([modulus, order, challenges]);
+    let challenges = words.number("K")?.unwrap_or_else(|| sheets::largest(sheet));
+    sheet(challenges).map_err(|refusal| match refusal {
+        Refusal::Modulus => Failure::refused(refusal, format!("{modulus} in m=")),
+        Refusal::Order => Failure::refused(refusal, format!("{order} in {letter}=")),
+        Refusal::Challenges => {
+            let why = Failure::refused(refusal, format!("{challenges} in K="));
+            let header = Header { kind, modulus, order, challenges, rows: 1, columns: 1 };
+            Failure::failed(format!("{why}{}", allowed::by(refusal, &header)))
+        }
+        _ => asked.refused([modulus, order, challenges], refusal),
+    })
+}
+
+/// The sheet with the statement that the words have, or with that of their witness.
+fn with_statement(words: &Words, sheet: &Instance) -> Outcome<Instance> {
+    let stated = stated(words)?;
+    let statement = match stated.letter {
+        "z" => sheets::by_row(sheet, stated)?,
+        letter => sheets::image(sheet, letter, &sheets::by_column(sheet, stated)?)?,
+    };
+    let brought = [Brought::statement(sheet, "z", &statement)];
+    sheet.with_statement(&statement).map_err(|refusal| brought::refused(refusal, &brought))
+}

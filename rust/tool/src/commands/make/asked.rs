@@ -1,0 +1,174 @@
+//! The table of a sheet that is to be made.
+
+use super::linear::Linear;
+use super::stated;
+use crate::command_line::failure::{Failure, Outcome};
+use crate::command_line::words::Words;
+use crate::commands::patterns;
+use crate::sheets::brought::{self, Brought};
+use crate::sheets::notation::counted;
+use dimkhoros::{EXPONENT, Header, Instance, PLACES, Patterns, Plan, ROOT, Refusal, Values};
+use std::path::Path;
+
+/// The table that is asked for.
+pub enum Asked {
+    /// By a pattern of a file, by its number from 1, over these public values.
+    Pattern(Box<Patterns>, u32, Vec<u32>),
+    /// Of a root sheet with so many rows.
+    Root(usize),
+    /// With these entries, in rows of one length.
+    Table(Vec<Vec<u32>>),
+    /// Of linear forms over generators.
+    Linear(Linear),
+}
+
+impl Asked {
+    /// The table that the words ask for.
+    pub fn read(words: &Words) -> Outcome<Asked> {
+        let pattern = words.plain().first().map(|word| word.to_string_lossy().into_owned());
+        if pattern.as_deref() != Some("linear") && !words.formulas("row").is_empty() {
+            return Err(Failure::words("row= has no meaning without the word linear"));
+        }
+        match (pattern, words.once("table")?) {
+            (Some(_), Some(_)) => Err(Failure::words("a pattern and table= are both there")),
+            (None, None) => Err(Failure::words("PATTERN or table= is missing")),
+            (None, Some(table)) => Asked::by_table(words, &table.rows),
+            (Some(name), None) if name == "linear" => Asked::by_forms(words),
+            (Some(name), None) => Asked::by_pattern(words, &name),
+        }
+    }
+
+    /// The table of linear forms over generators.
+    fn by_forms(words: &Words) -> Outcome<Asked> {
+        without_patterns(words, "for linear forms")?;
+        Ok(Asked::Linear(Linear::read(words)?))
+    }
+
+    /// The table of these entries.
+    fn by_table(words: &Words, rows: &[Vec<u32>]) -> Outcome<Asked> {
+        words.without(&["h"], "for a table")?;
+        without_patterns(words, "for a table")?;
+        match rows.iter().any(|row| row.len() != rows[0].len()) {
+            true => Err(Failure::words("table= has rows of different lengths")),
+            false => Ok(Asked::Table(rows.to_vec())),
+        }
+    }
+
+    /// The table of a pattern, or of a root sheet.
+    fn by_pattern(words: &Words, name: &str) -> Outcome<Asked> {
+        let path = words.option("--patterns").map(Path::new);
+        let number = patterns::number(name, path.is_none())?;
+        let file = patterns::load(path)?;
+        if number == 0 {
+            words.without(&["h"], "for a root sheet")?;
+            return Ok(Asked::Root(stated(words)?.numbers()?.len()));
+        }
+        let values = words.numbers("h")?.unwrap_or_default().to_vec();
+        Ok(Asked::Pattern(Box::new(file), number, values))
+    }
+
+    /// The sheet with this modulus, order and challenge count, with ones for its statement.
+    pub fn sheet(&self, numbers: [u32; 3]) -> Result<Instance, Refusal> {
+        match self {
+            Asked::Pattern(file, number, values) => by_pattern(file, *number, values, numbers),
+            Asked::Root(rows) => by_table(ROOT, [*rows, *rows], &[], numbers),
+            Asked::Table(rows) => by_table(EXPONENT, [rows.len(), rows[0].len()], rows, numbers),
+            Asked::Linear(linear) => linear.sheet(numbers),
+        }
+    }
+
+    /// What is said of the sheet that was made, beside its length.
+    pub fn said(&self, sheet: &Instance) -> String {
+        match self {
+            Asked::Linear(linear) => linear.claim(sheet),
+            _ => String::new(),
+        }
+    }
+
+    /// A refusal of this sheet, with what it is by.
+    pub fn refused(&self, numbers: [u32; 3], refusal: Refusal) -> Failure {
+        let by = match (refusal, self) {
+            (Refusal::Pattern, Asked::Pattern(file, number, values)) => {
+                wrong_count(file, *number, values.len())
+            }
+            (Refusal::Shape, Asked::Root(rows)) => counted(*rows, "row"),
+            (Refusal::Shape, Asked::Table(rows)) => {
+                format!("{} and {}", counted(rows.len(), "row"), counted(rows[0].len(), "column"))
+            }
+            (Refusal::Entry, Asked::Pattern(_, _, values)) => {
+                return outside("h", values, numbers);
+            }
+            (Refusal::Entry, Asked::Table(rows)) => {
+                return outside("table", &rows.concat(), numbers);
+            }
+            (Refusal::Entry, Asked::Linear(linear)) => {
+                return outside("h", &linear.generators, numbers);
+            }
+            (_, Asked::Linear(linear)) => match linear.refused_by(refusal, numbers[1]) {
+                Some(by) => by,
+                None => return refusal.into(),
+            },
+            _ => return refusal.into(),
+        };
+        Failure::refused(refusal, by)
+    }
+}
+
+/// Fails where a pattern file is named, which has no meaning then.
+fn without_patterns(words: &Words, when: &str) -> Outcome {
+    match words.option("--patterns") {
+        Some(_) => Err(Failure::words(format!("--patterns has no meaning {when}"))),
+        None => Ok(()),
+    }
+}
+
+/// What is wrong with a pattern's number, or with the count of its public values.
+fn wrong_count(file: &Patterns, number: u32, found: usize) -> String {
+    match file.layout(number) {
+        None => format!("pattern {number}, where the file has {}", file.count()),
+        Some(layout) => {
+            let found = counted(found, "value");
+            format!("{found} in h=, where the pattern takes {}", layout.values)
+        }
+    }
+}
+
+/// Refuses an entry, public value or generator that is no element.
+fn outside(letter: &str, values: &[u32], numbers: [u32; 3]) -> Failure {
+    match by_table(EXPONENT, [1, 1], &[vec![1]], numbers) {
+        Ok(sheet) => brought::refused(Refusal::Entry, &[Brought::entries(&sheet, letter, values)]),
+        Err(refusal) => refusal.into(),
+    }
+}
+
+/// A pattern's sheet with ones for its statement. The numbers are modulus, order and challenge count.
+fn by_pattern(
+    file: &Patterns,
+    pattern: u32,
+    values: &[u32],
+    numbers: [u32; 3],
+) -> Result<Instance, Refusal> {
+    let [modulus, order, challenges] = numbers;
+    let rows = file.layout(pattern).map_or(0, |layout| layout.rows);
+    let statement = &[1; PLACES][..rows];
+    Instance::from_pattern(file, &Plan { pattern, modulus, order, challenges, values, statement })
+}
+
+/// A sheet of so many rows and columns with ones for its statement. The numbers are modulus, order and challenge count.
+fn by_table(
+    kind: u32,
+    shape: [usize; 2],
+    table: &[Vec<u32>],
+    numbers: [u32; 3],
+) -> Result<Instance, Refusal> {
+    let [modulus, order, challenges] = numbers;
+    // What is beyond the places is refused by the shape.
+    let mut entries = [[0; PLACES]; PLACES];
+    for (places, row) in entries.iter_mut().zip(table) {
+        let count = row.len().min(PLACES);
+        places[..count].copy_from_slice(&row[..count]);
+    }
+    let [rows, columns] = shape.map(|count| u32::try_from(count).unwrap_or(u32::MAX));
+    let header = Header { kind, modulus, order, challenges, rows, columns };
+    Instance::encode(&Values { header, entries, statement: [1; PLACES] })
+}

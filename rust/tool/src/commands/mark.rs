@@ -1,0 +1,121 @@
+//! The command `mark`: folders with a sheet, rounds and a level.
+
+mod checksum;
+mod marks;
+mod notes;
+mod progress;
+mod separated;
+mod warnings;
+
+use crate::command_line::failure::{Failure, Outcome};
+use crate::command_line::files;
+use crate::command_line::table::{self, Set};
+use crate::command_line::words::{Grammar, Words};
+use crate::sheets::course::{self, Course};
+use marks::{Mark, Tally};
+use std::ffi::OsString;
+use std::io::Write;
+
+/// The command's help.
+pub const HELP: &str = "\
+usage: dimkhoros mark [--sheet SHEET] [--level W] [--csv] FOLDER...
+
+Marks the rounds in each folder by the course's sheet and level. A folder passes if every round is accepted and the product of
+one K for each round is at least 2^W. Without --sheet or --level the folder's own sheet.bin or level.bin counts, as in the
+program `marker`. A student can then pass by a small sheet or a low level that he brings along.
+
+There is a line for each folder: pass, fail, or which file is refused, sheet, file (the round file) or level, with the number of
+the refusal; then which rounds are rejected and refused, by their numbers from 0, or what else is wrong; then notes, which are
+also written to standard error and change no mark. `dimkhoros reason FOLDER` says more of one folder. The exit status is 0 if
+all folders were marked, whatever the marks are, and 1 if one cannot be read.
+
+Notes say that a folder's own sheet.bin or level.bin is not the course's; that two folders have the same rounds.bin; that
+rounds have the same commitment and different challenges, so that the nonce was used twice; and that the same round is there
+twice. If --sheet is left out and the folders have different sheets, a warning on standard error says so, and the same holds of
+--level.
+
+    FOLDER         a folder with the round file in rounds.bin, and the sheet in sheet.bin and the level in level.bin, which is
+                   one byte, as printf '\\7' writes it. A folder that is called -dash or k=3 stands after the word --
+    --sheet SHEET  the course's sheet, for all folders
+    --level W      the course's level, a number from 1 to 64, for all folders
+    --csv          comma-separated values in the place of the table, with a line of their names, and no summary: folder; result,
+                   which is pass, fail, sheet, file, level or unread; refusal, the number if a file is refused; rounds and, of
+                   these, accepted, rejected and refused; level; why, as in the table; not_accepted, the numbers of the rounds
+                   that are not; sheet, the checksum that the command cksum prints of it, and its m, l (q or e), K, s (rows),
+                   n (columns) and z; notes. What is not known is empty. A folder's name that a spreadsheet would take for a
+                   formula begins with ./
+
+Example:
+    $ dimkhoros make schnorr m=23 q=11 h=2 x=7 -o course.bin
+    course.bin has 28 bytes
+    $ mkdir anna ben cy
+    $ dimkhoros rounds make course.bin x=7 k=5 c=3 x=7 k=2 c=9 -o anna/rounds.bin
+    anna/rounds.bin has 31 bytes
+    $ dimkhoros rounds make course.bin t=9 c=3 r=4 t=9 c=1 r=2 -o ben/rounds.bin
+    ben/rounds.bin has 31 bytes
+    $ dimkhoros mark --sheet course.bin --level 6 anna ben cy
+    anna  pass     2 rounds
+    ben   fail     rejected 1; nonce used twice: rounds 0 1
+    cy    file 12  there is no rounds.bin
+
+    3 folders: 1 passed, 1 failed, 1 refused
+    dimkhoros: ben: rounds 0 and 1 have the same commitment and different challenges: the nonce was used twice
+";
+
+const GRAMMAR: Grammar = Grammar {
+    plain: &["FOLDER..."],
+    optional: 0,
+    letters: &[],
+    flags: &["--csv"],
+    options: course::OPTIONS,
+};
+
+/// Runs the command.
+pub fn run(words: Vec<OsString>, out: &mut dyn Write) -> Outcome {
+    let words = Words::sort(words, &GRAMMAR)?;
+    let course = Course::of(&words)?;
+    let marks = marked(&words, &course);
+    let text = if words.flag("--csv") { separated::text(&marks) } else { listed(&marks) };
+    out.write_all(text.as_bytes())?;
+    // What is said of the lines stands below them.
+    out.flush()?;
+    tell(&marks, &course);
+    match Tally::of(&marks).unread {
+        0 => Ok(()),
+        1 => Err(Failure::failed("a folder cannot be read")),
+        count => Err(Failure::failed(format!("{count} folders cannot be read"))),
+    }
+}
+
+/// The marks of all folders, with their notes.
+fn marked(words: &Words, course: &Course) -> Vec<Mark> {
+    let mut progress = progress::of(words.plain().len());
+    let mut marks = Vec::new();
+    for name in words.plain() {
+        progress.show(marks.len());
+        marks.push(Mark::of(name, course));
+    }
+    notes::on_copies(&mut marks);
+    progress.end();
+    marks
+}
+
+/// Writes the notes and the warnings to standard error.
+fn tell(marks: &[Mark], course: &Course) {
+    for mark in marks {
+        let whole = mark.notes.iter().filter_map(|note| note.whole.as_ref());
+        whole.for_each(|whole| files::note(&format!("{}: {whole}", mark.name)));
+    }
+    warnings::of(marks, course).iter().for_each(|warning| files::note(warning));
+}
+
+/// The lines of the marks, and the summary.
+fn listed(marks: &[Mark]) -> String {
+    let line = |mark: &Mark| {
+        let said = [mark.why(), mark.noted()];
+        let said: Vec<String> = said.into_iter().filter(|said| !said.is_empty()).collect();
+        vec![mark.name.clone(), mark.result(), said.join("; ")]
+    };
+    let lines: Vec<Vec<String>> = marks.iter().map(line).collect();
+    format!("{}\n{}\n", table::lines("", &[Set::Left; 3], &lines), Tally::of(marks))
+}

@@ -1,0 +1,70 @@
+//! The command `or`: rounds of the OR proof of a witness of one of two sheets.
+
+mod extract;
+mod judge;
+mod make;
+pub mod rounds;
+
+use crate::command_line::failure::Outcome;
+use crate::command_line::words;
+use std::ffi::OsString;
+use std::io::Write;
+
+/// The command's help.
+pub const HELP: &str = "\
+usage: dimkhoros or make SHEET0 SHEET1 x0=VALUE,... k0=VALUE,... c1=CHALLENGE r1=VALUE,... c=CHALLENGE...
+       dimkhoros or make SHEET0 SHEET1 x1=VALUE,... k1=VALUE,... c0=CHALLENGE r0=VALUE,... c=CHALLENGE...
+       dimkhoros or judge SHEET0 SHEET1 ROUND
+       dimkhoros or extract SHEET0 SHEET1 ROUND ROUND
+
+The OR proof shows a witness of one of two sheets, its sides, and not of which. `make` makes the round of a Peggy who knows a
+witness of one side and simulates the other. `judge` writes out the equations of both sides and gives the verdict; a rejected
+round has the exit status 0 too. `extract` gives the witness of two accepted rounds with the same t0 and t1 and another c.
+
+    SHEET0           the sheet of side 0
+    SHEET1           the sheet of side 1, with the same K
+    x0= k0= x1= k1=  witness and nonce of the side that is known, a value for each column
+    c0= r0= c1= r1=  challenge and response of the other side, which is simulated
+    c=CHALLENGE      a challenge, from 0 to K - 1. Where `make` has several, one nonce answers all of them, as no Peggy may
+    ROUND            t0= t1= c= c0= r0= r1=, where side 1 has the challenge (c - c0) mod K. The second round of `extract`
+                     has the first one's t0 and t1 where they are left out
+
+Example:
+    $ dimkhoros make schnorr m=23 q=11 K=5 h=2 x=7 -o schnorr.bin
+    schnorr.bin has 28 bytes
+    $ dimkhoros make root m=35 e=5 z=32 -o root.bin
+    root.bin has 24 bytes
+    $ dimkhoros or make schnorr.bin root.bin x1=2 k1=3 c0=4 r0=10 c=2
+    side 0 is simulated, with c0 = 4 and r0 = 10: t0 = [r0] · z^(-c0) = 16
+    side 1 is known, with the witness 2: t1 = [k1] = [3] = 33
+
+    c1 = (c - c0) mod K = (2 - 4) mod 5 = 3, so r1 = 24
+    t0=16 t1=33 c=2 c0=4 r0=10 r1=24
+    accepted
+    $ dimkhoros or judge schnorr.bin root.bin t0=16 t1=33 c=2 c0=4 r0=10 r1=24
+    c1 = (c - c0) mod K = (2 - 4) mod 5 = 3
+
+    side  row  [r]                  t · z^c
+       0    0  2^10 mod 23 = 12  =  16 · 13^4 mod 23 = 12
+       1    0  24^5 mod 35 = 19  =  33 · 32^3 mod 35 = 19
+
+    accepted
+    $ dimkhoros or extract schnorr.bin root.bin t0=16 t1=33 c=2 c0=4 r0=10 r1=24 c=0 c0=4 r0=10 r1=6
+    round  t0  t1  c  c0  c1  r0  r1  verdict
+        0  16  33  2   4   3  10  24  accepted
+        1  16  33  0   4   1  10   6  accepted
+
+    c differs and c0 is 4 in both, so the c1 differ, 3 and 1: side 1 gives its witness.
+    The rounds (33, 3, 24) and (33, 1, 6) of side 1 give x = 2.
+    [2] = 32 is the statement of side 1: 2 is a witness
+";
+
+/// Runs the command.
+pub fn run(words: Vec<OsString>, out: &mut dyn Write) -> Outcome {
+    let (deed, words) = words::deed("or", &["make", "judge", "extract"], words)?;
+    match deed {
+        "make" => make::run(words, out),
+        "judge" => judge::run(words, out),
+        _ => extract::run(words, out),
+    }
+}

@@ -1,0 +1,86 @@
+//! What holds of a whole round file.
+
+use super::{Asked, By};
+use crate::sheets::judged::Judged;
+use crate::sheets::notation::{and, counted};
+use crate::sheets::{levels, round_table};
+use dimkhoros::{Instance, Refusal, RoundFile};
+
+/// Whether the file passes, and which other rounds are not accepted if no round is asked for.
+pub fn text(asked: &Asked, sheet: &Instance, file: &RoundFile<'_>) -> String {
+    let folder = &asked.folder;
+    let unmarked = || folder.judged_at(&[1]).map(|judged| (said_unmarked(asked, &judged), judged));
+    let marked = folder.judged().map(|judged| (said_marked(&judged), judged));
+    let Ok((said, judged)) = marked.or_else(|_| unmarked()) else {
+        return String::new();
+    };
+    let differences = folder.differences("The folder's").map(|sentence| format!("{sentence}.\n"));
+    let said = format!("{said}\n{}", differences.collect::<String>());
+    let others = judged.not_accepted().into_iter().filter(|number| *number > 0);
+    let others: Vec<usize> = others.filter(|_| asked.round.is_none()).collect();
+    let Some(first) = others.first() else {
+        return said;
+    };
+    let before = if asked.by == By::Folder { "FOLDER" } else { "SHEET ROUNDS" };
+    let more = format!("`dimkhoros reason {before} {first}` tells more of round {first}.");
+    format!("{said}\n{}\n{more}\n", round_table::of_file(sheet, file, others))
+}
+
+/// What is said of a file that is marked at a level.
+fn said_marked(judged: &Judged) -> String {
+    let Judged { level, challenges, .. } = judged;
+    if judged.passed {
+        let needed = levels::needed(*challenges, *level);
+        let accepted = accepted(judged.rounds());
+        return format!("The whole file passes: {accepted}, and level {level} asks for {needed}.");
+    }
+    let bad = not_accepted(judged).map_or_else(String::new, |bad| format!(": {bad}"));
+    let few = judged.too_few().map(|needed| {
+        let (needed, found) = (counted(needed, "round"), judged.rounds());
+        format!(" Level {level} asks for {needed} with K = {challenges}, and the file has {found}.")
+    });
+    format!("The whole file fails{bad}.{}", few.unwrap_or_default())
+}
+
+/// What is said of a file that is not marked, since its level is refused, cannot be read or was not told.
+fn said_unmarked(asked: &Asked, judged: &Judged) -> String {
+    let (rounds, challenges) = (judged.rounds(), judged.challenges);
+    let on_rounds = match (not_accepted(judged), rounds) {
+        (Some(bad), _) => format!("The whole file fails: {bad}."),
+        (None, 0) => "The whole file fails at every level: it has no rounds.".to_string(),
+        (None, _) => format!("In the whole file {}.", accepted(rounds)),
+    };
+    let on_level = match (&asked.folder.unread_level, &asked.by) {
+        (Some(why), _) => format!(" It is not marked: {why}."),
+        (_, By::Folder) => {
+            format!(" The marker answers `level 25`: {}.", asked.folder.fault(Refusal::Level))
+        }
+        (_, By::Names) if judged.accepted == rounds && rounds > 0 => {
+            let level = levels::reached(challenges, rounds);
+            format!(" With K = {challenges} that is enough for a level up to {level}.")
+        }
+        (_, By::Names) => String::new(),
+    };
+    on_rounds + &on_level
+}
+
+/// Which rounds are rejected and which are refused, if there are any.
+fn not_accepted(judged: &Judged) -> Option<String> {
+    let said = |numbers: &[usize], what: &str| match numbers {
+        [] => None,
+        [number] => Some(format!("round {number} is {what}")),
+        _ => Some(format!("rounds {} are {what}", and(numbers))),
+    };
+    match (said(&judged.rejected, "rejected"), said(&judged.refused, "refused")) {
+        (Some(rejected), Some(refused)) => Some(format!("{rejected}, and {refused}")),
+        (rejected, refused) => rejected.or(refused),
+    }
+}
+
+/// That all rounds are accepted.
+fn accepted(count: usize) -> String {
+    match count {
+        1 => "the one round is accepted".to_string(),
+        _ => format!("all {count} rounds are accepted"),
+    }
+}

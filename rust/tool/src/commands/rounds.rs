@@ -1,0 +1,222 @@
+//! The command `rounds`: round files, made, extended, listed and converted.
+
+use crate::command_line::failure::{Failure, Outcome};
+use crate::command_line::files::{self, Target};
+use crate::command_line::table::{self, Set};
+use crate::command_line::words::{self, Grammar, Words};
+use crate::sheets::faults::{Fault, Found};
+use crate::sheets::round_words::{self, Asked};
+use crate::sheets::{self, commitments, notation, round_table};
+use dimkhoros::{Instance, LONGEST_FILE, Refusal, Round, RoundFile, RoundWriter};
+use std::ffi::{OsStr, OsString};
+use std::io::Write;
+use std::path::Path;
+
+/// The command's help.
+pub const HELP: &str = "\
+usage: dimkhoros rounds make SHEET [ROUND...] [--version 2] -o ROUNDS
+       dimkhoros rounds append SHEET ROUNDS ROUND... [-o FILE]
+       dimkhoros rounds list SHEET ROUNDS
+       dimkhoros rounds convert SHEET ROUNDS -o FILE
+       dimkhoros rounds equal SHEET ROUNDS
+
+Makes a round file of 0 to 512 rounds, adds rounds to one, lists one with Vic's verdicts, turns version 1 into 2 or 2 into 1,
+and finds rounds with the same commitment, of which `dimkhoros extract` makes the witness. t, c and r are written as they stand,
+without being tested: `list` shows what Vic says of them.
+
+    SHEET        a sheet
+    ROUNDS       a round file of the sheet
+    ROUND        t= c= r= as it stands; or c= r= simulated, with the commitment that fits them; or x= k= c= as a Peggy with this
+                 witness and nonce makes it. A round is whole before the next one begins
+    --version 2  writes a challenge in 16 bits; version 1, in 32 bits, where it is left out
+    -o FILE      where the file is written; --force writes over a file that is there. `append` without -o adds to ROUNDS itself
+
+Example:
+    $ dimkhoros make schnorr m=23 q=11 h=2 x=7 -o sheet.bin
+    sheet.bin has 28 bytes
+    $ dimkhoros rounds make sheet.bin x=7 k=5 c=3 c=3 r=0 -o rounds.bin
+    rounds.bin has 31 bytes
+    $ dimkhoros rounds append sheet.bin rounds.bin t=9 c=1 r=1 t=9 c=1 r=2
+    rounds.bin has 55 bytes
+    $ dimkhoros rounds list sheet.bin rounds.bin
+    round  t  c  r  verdict
+        0  9  3  4  accepted
+        1  2  3  0  accepted
+        2  9  1  1  accepted
+        3  9  1  2  rejected in row 0
+    $ dimkhoros rounds equal sheet.bin rounds.bin
+    t  rounds  challenges  extractor
+    9  0 2 3   3 1 1       rounds 0 and 2 give a witness
+    $ dimkhoros rounds convert sheet.bin rounds.bin -o narrow.bin
+    narrow.bin has 47 bytes in version 2; rounds.bin has 55 in version 1
+";
+
+/// Runs the command.
+pub fn run(words: Vec<OsString>, out: &mut dyn Write) -> Outcome {
+    let (deed, words) =
+        words::deed("rounds", &["make", "append", "list", "convert", "equal"], words)?;
+    match deed {
+        "make" => make(words, out),
+        "append" => append(words, out),
+        "list" => list(words, out),
+        "convert" => convert(words, out),
+        _ => equal(words, out),
+    }
+}
+
+/// Makes a file.
+fn make(words: Vec<OsString>, out: &mut dyn Write) -> Outcome {
+    let words = Words::sort(
+        words,
+        &Grammar {
+            plain: &["SHEET"],
+            optional: 0,
+            letters: round_words::LETTERS,
+            flags: &["--force"],
+            options: &["-o", "--version"],
+        },
+    )?;
+    let target = Target::of(&words)?;
+    let version = words.option("--version").map_or(Ok(1), version)?;
+    let sheet = sheets::load(&words.path(0))?;
+    let rounds = round_words::asked(&sheet, &words)?;
+    let mut buffer = vec![0; LONGEST_FILE];
+    let started = RoundWriter::start(&sheet, version, &mut buffer);
+    let mut writer =
+        started.map_err(|refusal| Failure::refused(refusal, format!("version {version}")))?;
+    add(&sheet, &mut writer, &rounds)?;
+    target.write(writer.file().bytes(), out)
+}
+
+/// The version that a word asks for.
+fn version(word: &OsStr) -> Outcome<u32> {
+    let word = word.to_string_lossy();
+    word.parse().map_err(|_| Failure::words(format!("--version {word}: a version is 1 or 2")))
+}
+
+/// Adds rounds. A refusal says for which of them it is, and by which value.
+fn add(sheet: &Instance, writer: &mut RoundWriter<'_>, rounds: &[Asked]) -> Outcome {
+    for (number, asked) in rounds.iter().enumerate() {
+        let added = asked.round(sheet).and_then(|round| writer.append(&round));
+        let count = writer.file().count();
+        added.map_err(|refusal| {
+            let why = match refusal {
+                Refusal::File => Failure::refused(
+                    refusal,
+                    format!("the most rounds, {count}, that a file can have"),
+                ),
+                // What the library refuses to make is told by its value, and so is what version 2 cannot hold.
+                _ => asked.refused(sheet, refusal),
+            };
+            Failure::failed(format!("round {number} of the words: {why}"))
+        })?;
+    }
+    Ok(())
+}
+
+/// Adds rounds to a file.
+fn append(words: Vec<OsString>, out: &mut dyn Write) -> Outcome {
+    let words = Words::sort(
+        words,
+        &Grammar {
+            letters: round_words::LETTERS,
+            flags: &["--force"],
+            options: &["-o"],
+            ..TWO_FILES
+        },
+    )?;
+    let target = match words.option("-o") {
+        Some(_) => Target::of(&words)?,
+        None => Target::in_place(&words.path(1))?,
+    };
+    sheets::with_rounds(&words, |sheet, _, file| {
+        let rounds = round_words::asked(sheet, &words)?;
+        if rounds.is_empty() {
+            return Err(Failure::words("no round is there to be added, such as c=3 r=4"));
+        }
+        let used = file.bytes().len();
+        let mut buffer = file.bytes().to_vec();
+        buffer.resize(LONGEST_FILE.max(used), 0);
+        let mut writer = RoundWriter::resume(sheet, &mut buffer, used)?;
+        add(sheet, &mut writer, &rounds)?;
+        target.write(writer.file().bytes(), out)
+    })
+}
+
+/// The words of what reads a sheet and a round file and takes no more.
+const TWO_FILES: Grammar =
+    Grammar { plain: &["SHEET", "ROUNDS"], optional: 0, letters: &[], flags: &[], options: &[] };
+
+/// Lists a file.
+fn list(words: Vec<OsString>, out: &mut dyn Write) -> Outcome {
+    let words = Words::sort(words, &TWO_FILES)?;
+    sheets::with_rounds(&words, |sheet, path, file| match file.count() {
+        0 => Ok(writeln!(out, "{} has no rounds", files::name(path))?),
+        count => Ok(out.write_all(round_table::of_file(sheet, file, 0..count).as_bytes())?),
+    })
+}
+
+/// Converts a file.
+fn convert(words: Vec<OsString>, out: &mut dyn Write) -> Outcome {
+    let words =
+        Words::sort(words, &Grammar { flags: &["--force"], options: &["-o"], ..TWO_FILES })?;
+    let target = Target::of(&words)?;
+    sheets::with_rounds(&words, |sheet, path, file| {
+        let mut buffer = vec![0; LONGEST_FILE];
+        let converted = file
+            .convert_into(&mut buffer)
+            .map_err(|refusal| not_converted(sheet, path, file, refusal))?;
+        let versions = format!(
+            " in version {}; {} has {} in version {}",
+            converted.version(),
+            files::name(path),
+            file.bytes().len(),
+            file.version()
+        );
+        target.write_saying(converted.bytes(), &versions, out)
+    })
+}
+
+/// Why a file is not converted: the first challenge that 16 bits do not hold, where that is why.
+fn not_converted(sheet: &Instance, path: &Path, file: &RoundFile<'_>, refusal: Refusal) -> Failure {
+    let too_large = |round: &Round| round.challenge > u16::MAX.into();
+    let found = file.rounds().enumerate().find(|(_, round)| too_large(round));
+    let Some((number, round)) = found.filter(|_| refusal == Refusal::Challenge) else {
+        return Failure::failed(format!("{}: {refusal}", files::name(path)));
+    };
+    let (rows, columns) = (sheets::row_count(sheet), sheets::column_count(sheet));
+    let offset = dimkhoros::EMPTY_FILE + number * 4 * (rows + 1 + columns) + 4 * rows;
+    let found = Found::Value { offset, value: format!("c = {}", round.challenge) };
+    Failure::failed(format!("{}: {}", files::name(path), Fault { refusal, found }))
+}
+
+/// Lists the rounds with the same commitment.
+fn equal(words: Vec<OsString>, out: &mut dyn Write) -> Outcome {
+    let words = Words::sort(words, &TWO_FILES)?;
+    sheets::with_rounds(&words, |sheet, path, file| {
+        let groups = commitments::groups(file);
+        if groups.is_empty() {
+            return Ok(writeln!(out, "{}", commitments::none(path))?);
+        }
+        let rounds: Vec<Round> = file.rounds().collect();
+        let heading = ["t", "rounds", "challenges", "extractor"].map(str::to_string).to_vec();
+        let lines = groups.iter().map(|group| alike(sheet, &rounds, group));
+        let rows: Vec<Vec<String>> = std::iter::once(heading).chain(lines).collect();
+        let set = [Set::Right, Set::Left, Set::Left, Set::Left];
+        Ok(out.write_all(table::lines("", &set, &rows).as_bytes())?)
+    })
+}
+
+/// A group of rounds with the same commitment as a row of the table.
+fn alike(sheet: &Instance, rounds: &[Round], group: &[usize]) -> Vec<String> {
+    let numbers: Vec<String> = group.iter().map(usize::to_string).collect();
+    let challenges: Vec<String> =
+        group.iter().map(|number| rounds[*number].challenge.to_string()).collect();
+    let pair = commitments::first_pair(sheet, rounds, group);
+    let extractor = match pair {
+        Ok([first, second]) => format!("rounds {first} and {second} give a witness"),
+        Err(why) => why.to_string(),
+    };
+    let commitment = group.first().map(|first| rounds[*first].commitment).unwrap_or_default();
+    vec![notation::by_row(sheet, &commitment), numbers.join(" "), challenges.join(" "), extractor]
+}

@@ -1,0 +1,209 @@
+//! What is wrong with a file, and where.
+
+mod fields;
+mod patterns;
+#[cfg(test)]
+mod tests;
+
+pub use fields::{instead, round_header, sheet_header};
+
+use crate::command_line::failure::refused;
+use crate::sheets::notation::counted;
+use dimkhoros::{
+    EMPTY_FILE, Instance, LONGEST_REASON, PLACES, Pattern, Patterns, Plan, Refusal, Round,
+    RoundFile, RoundWriter, reason,
+};
+use std::fmt;
+
+/// A refusal with what breaks its rule.
+#[derive(Clone, Debug, PartialEq)]
+pub struct Fault {
+    /// The refusal.
+    pub refusal: Refusal,
+    /// What breaks its rule.
+    pub found: Found,
+}
+
+/// What breaks a rule.
+#[derive(Clone, Debug, PartialEq)]
+pub enum Found {
+    /// The length of the file.
+    Length {
+        /// How many bytes it has.
+        found: usize,
+        /// How many it has to have, where the rest of it says so.
+        needed: Option<usize>,
+    },
+    /// The value at an offset.
+    Value {
+        /// The offset of its first byte.
+        offset: usize,
+        /// The value with its field, as it is printed, such as `K = 12`.
+        value: String,
+    },
+}
+
+impl Fault {
+    /// The same fault, with this length if it is by the length.
+    pub fn of_length(mut self, length: usize) -> Fault {
+        if let Found::Length { found, .. } = &mut self.found {
+            *found = length;
+        }
+        self
+    }
+}
+
+impl fmt::Display for Fault {
+    fn fmt(&self, f: &mut fmt::Formatter<'_>) -> fmt::Result {
+        let Fault { refusal, found } = self;
+        f.write_str(&match found {
+            Found::Length { .. } => refused(*refusal, format!("the length of {found}")),
+            Found::Value { .. } => refused(*refusal, found),
+        })
+    }
+}
+
+impl fmt::Display for Found {
+    fn fmt(&self, f: &mut fmt::Formatter<'_>) -> fmt::Result {
+        match self {
+            Found::Length { found, needed: None } => f.write_str(&counted(*found, "byte")),
+            Found::Length { found, needed: Some(needed) } => {
+                write!(f, "{} in place of {needed}", counted(*found, "byte"))
+            }
+            Found::Value { offset, value } => write!(f, "{value} at byte {offset}"),
+        }
+    }
+}
+
+/// What is wrong with a sheet that does not load, in a line.
+pub fn of_sheet(sheet: &[u8]) -> String {
+    in_sheet(sheet).map_or_else(String::new, |fault| fault.to_string())
+}
+
+/// What is wrong with a round file of a sheet, or with its first round, in a line.
+pub fn of_rounds(sheet: &Instance, file: &[u8]) -> String {
+    in_rounds(sheet, file).map_or_else(String::new, |fault| fault.to_string())
+}
+
+/// The fault of a sheet that does not load.
+pub fn in_sheet(sheet: &[u8]) -> Option<Fault> {
+    let told = told(sheet, &[]).filter(|told| told.refusal.number() < Refusal::File.number())?;
+    let needed = (told.refusal == Refusal::SheetLength).then(|| fields::sheet_length(sheet));
+    Some(told.fault(needed.flatten(), |offset| fields::in_sheet(sheet, offset)))
+}
+
+/// The fault of a round file of a sheet, or of its first round.
+pub fn in_rounds(sheet: &Instance, file: &[u8]) -> Option<Fault> {
+    let told = told(sheet.bytes(), file)?;
+    let needed = file_length(sheet, file);
+    Some(told.fault(needed, |offset| fields::in_rounds(sheet, file, offset)))
+}
+
+/// The fault of the header of a round file whose sheet is not known. The library tells it in the same way with every sheet.
+pub fn in_round_header(file: &[u8]) -> Option<Fault> {
+    let plan = Plan {
+        pattern: Pattern::Schnorr.number(),
+        modulus: 3,
+        order: 2,
+        challenges: 2,
+        values: &[1],
+        statement: &[1],
+    };
+    let sheet = Instance::from_pattern(&Patterns::shipped(), &plan).ok()?;
+    let told = in_rounds(&sheet, file).filter(|fault| fault.refusal == Refusal::File)?;
+    // A length that does not fit this sheet may fit another.
+    let of_header = match told.found {
+        Found::Length { found, .. } => found < EMPTY_FILE,
+        Found::Value { .. } => true,
+    };
+    of_header.then_some(told)
+}
+
+/// The fault of a round in a round file. The library tells that of a file's first round, so the round is put alone in a file.
+pub fn in_round(sheet: &Instance, file: &RoundFile<'_>, number: usize) -> Option<Fault> {
+    let mut buffer = [0; LONGEST_ROUND];
+    let alone = alone(sheet, file.version(), &file.read(number).ok()?, &mut buffer).ok()?;
+    let mut fault = in_rounds(sheet, alone)?;
+    if let Found::Value { offset, .. } = &mut fault.found {
+        *offset += number * (alone.len() - EMPTY_FILE);
+    }
+    Some(fault)
+}
+
+/// The library's line on a round of a file as if it were the first one, but with the offset that a value has in this file.
+pub fn line(sheet: &Instance, file: &RoundFile<'_>, number: usize) -> Option<String> {
+    let mut buffer = [0; LONGEST_ROUND];
+    let alone = alone(sheet, file.version(), &file.read(number).ok()?, &mut buffer).ok()?;
+    match in_round(sheet, file, number) {
+        Some(Fault { refusal, found: Found::Value { offset, .. } }) => {
+            Some(format!("refused {} {offset}\n", refusal.number()))
+        }
+        _ => Some(reason(sheet.bytes(), alone, &mut [0; LONGEST_REASON]).to_string()),
+    }
+}
+
+/// The fault of a pattern file. The number is the library's, and the place is found here.
+pub fn in_patterns(file: &[u8]) -> Option<Fault> {
+    let refusal = Patterns::load(file).err()?;
+    let found = match refusal {
+        Refusal::PatternFile => patterns::wrong_shape(file),
+        _ => patterns::wrong_digit(file),
+    };
+    Some(Fault { refusal, found: found? })
+}
+
+/// A refusal as the library's line tells it.
+struct Told {
+    refusal: Refusal,
+    length: bool,
+    number: usize,
+}
+
+/// What the library's line on a sheet and a round file refuses, if it refuses something.
+fn told(sheet: &[u8], file: &[u8]) -> Option<Told> {
+    let mut text = [0; LONGEST_REASON];
+    let mut words = reason(sheet, file, &mut text).split_whitespace();
+    if words.next() != Some("refused") {
+        return None;
+    }
+    let refusal = Refusal::from_number(words.next()?.parse().ok()?)?;
+    let place = words.next()?;
+    let length = place == "length";
+    let number = if length { words.next()? } else { place };
+    Some(Told { refusal, length, number: number.parse().ok()? })
+}
+
+impl Told {
+    /// The fault in a file that has to have so many bytes, and in which this value stands at an offset.
+    fn fault(&self, needed: Option<usize>, value: impl Fn(usize) -> String) -> Fault {
+        let found = match self.length {
+            true => Found::Length { found: self.number, needed },
+            false => Found::Value { offset: self.number, value: value(self.number) },
+        };
+        Fault { refusal: self.refusal, found }
+    }
+}
+
+/// The most bytes of a file of one round.
+const LONGEST_ROUND: usize = EMPTY_FILE + 4 * (2 * PLACES + 1);
+
+/// The file of a version with one round alone.
+fn alone<'a>(
+    sheet: &'a Instance,
+    version: u32,
+    round: &Round,
+    buffer: &'a mut [u8],
+) -> Result<&'a [u8], Refusal> {
+    let mut writer = RoundWriter::start(sheet, version, buffer)?;
+    writer.append(round)?;
+    let length = writer.file().bytes().len();
+    Ok(&buffer[..length])
+}
+
+/// How many bytes a round file of a sheet has to have by the version and the count in its header.
+fn file_length(sheet: &Instance, file: &[u8]) -> Option<usize> {
+    let [version, count] = fields::round_header(file)?;
+    let mut buffer = [0; LONGEST_ROUND];
+    let alone = alone(sheet, version as u32, &Round::default(), &mut buffer).ok()?;
+    Some(EMPTY_FILE + count * (alone.len() - EMPTY_FILE))
+}
