@@ -2,6 +2,8 @@
 
 pub mod failure;
 pub mod files;
+pub mod help;
 pub mod output;
 pub mod table;
 pub mod words;
+pub mod wrap;

@@ -1,13 +1,16 @@
 //! The commands, each with its help.
 
 mod check;
+mod course;
 mod extract;
 mod game;
 mod grid;
 mod lecture;
 mod ledger;
+mod level;
 mod make;
 mod mark;
+mod numbers;
 mod or_proof;
 mod patterns;
 mod reason;
@@ -47,7 +50,7 @@ const GROUPS: [Group; 3] = [
 ];
 
 /// The commands of a course author.
-const AUTHORS: [Command; 4] = [
+const AUTHORS: [Command; 7] = [
     Command {
         name: "make",
         summary: "make a sheet of a pattern, a root, a table or linear forms",
@@ -56,7 +59,7 @@ const AUTHORS: [Command; 4] = [
     },
     Command {
         name: "show",
-        summary: "show a sheet, a round file or a pattern file in words and tables",
+        summary: "show a sheet, a round file, a pattern file or a folder in words and tables",
         help: show::HELP,
         run: show::run,
     },
@@ -65,6 +68,19 @@ const AUTHORS: [Command; 4] = [
         summary: "check whether x is a witness of a sheet",
         help: check::HELP,
         run: check::run,
+    },
+    Command {
+        name: "numbers",
+        summary: "propose m, q, generators and K for a sheet of so many bits",
+        help: numbers::HELP,
+        run: numbers::run,
+    },
+    Command { name: "level", summary: "write a level file", help: level::HELP, run: level::run },
+    Command {
+        name: "course",
+        summary: "make a folder for each student, with a sheet of its own",
+        help: course::HELP,
+        run: course::run,
     },
     Command {
         name: "patterns",
@@ -156,7 +172,12 @@ const MARKERS: [Command; 3] = [
 
 /// The command of a name.
 pub fn find(name: &OsString) -> Option<&'static Command> {
-    GROUPS.iter().flat_map(|(_, commands)| *commands).find(|command| name == command.name)
+    all().find(|command| name == command.name)
+}
+
+/// All commands.
+pub fn all() -> impl Iterator<Item = &'static Command> {
+    GROUPS.iter().flat_map(|(_, commands)| *commands)
 }
 
 /// The help of the whole tool.
@@ -195,7 +216,7 @@ Exit status: 0 done; 1 refused or failed, and a line on standard error says why;
 
 Example:
     $ dimkhoros make schnorr m=23 q=11 h=2 x=7 -o sheet.bin
-    sheet.bin has 28 bytes
+    13 = 2^x mod 23, q = 11, K = 11
     $ dimkhoros check sheet.bin x=7
     [7] = 13 is the statement: 7 is a witness
 ";

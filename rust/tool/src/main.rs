@@ -9,11 +9,14 @@ mod sheets;
 
 use command_line::failure::{Failure, Outcome};
 use command_line::files;
-use command_line::output::Output;
+use command_line::help::Help;
+use command_line::output::{self, Output};
+use command_line::words;
+use command_line::wrap::{HELP, NARROWEST};
 use commands::Command;
 use std::env;
 use std::ffi::OsString;
-use std::io::{BufWriter, Write};
+use std::io::{self, BufWriter, Write};
 use std::process::ExitCode;
 
 /// Runs the command that the words name, and answers its exit status.
@@ -47,23 +50,26 @@ fn run(name: &OsString, words: Vec<OsString>, out: &mut dyn Write) -> Outcome {
         return Err(Failure::words("no command is named"));
     }
     if is_help(name) || name == "help" && words.is_empty() {
-        out.write_all(commands::overview().as_bytes())?;
-        return Ok(());
+        return print_help(&commands::overview(), out);
     }
-    if name == "--version" {
+    if name == "--version" || name == "-V" {
         writeln!(out, "dimkhoros {}", env!("CARGO_PKG_VERSION"))?;
         return Ok(());
     }
     if name == "help" {
-        out.write_all(found(&words[0])?.help.as_bytes())?;
-        return Ok(());
+        return print_help(found(&words[0])?.help, out);
     }
     let command = found(name)?;
     if words.iter().take_while(|word| *word != "--").any(is_help) {
-        out.write_all(command.help.as_bytes())?;
-        return Ok(());
+        return print_help(command.help, out);
     }
     (command.run)(words, out)
+}
+
+/// Prints a help in the columns of the terminal, and in 80 at most.
+fn print_help(help: &str, out: &mut dyn Write) -> Outcome {
+    let width = output::columns(io::stdout()).unwrap_or(HELP).clamp(NARROWEST, HELP);
+    Ok(out.write_all(Help::read(help).print(width).as_bytes())?)
 }
 
 /// Whether a word asks for a help.
@@ -73,8 +79,11 @@ fn is_help(word: &OsString) -> bool {
 
 /// The command of a name.
 fn found(name: &OsString) -> Outcome<&'static Command> {
-    commands::find(name)
-        .ok_or_else(|| Failure::words(format!("there is no command {}", name.to_string_lossy())))
+    commands::find(name).ok_or_else(|| {
+        let name = name.to_string_lossy();
+        let meant = words::meant(&name, commands::all().map(|command| command.name));
+        Failure::words(format!("there is no command {name}{meant}"))
+    })
 }
 
 /// Which help has the words that are right.

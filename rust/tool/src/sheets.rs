@@ -4,12 +4,14 @@ pub mod allowed;
 pub mod brought;
 pub mod commitments;
 pub mod course;
+pub mod draw;
 pub mod equation;
 pub mod faults;
 pub mod folder;
 pub mod judged;
 pub mod levels;
 pub mod notation;
+pub mod proposed;
 pub mod round_table;
 pub mod round_words;
 pub mod small;
@@ -36,27 +38,23 @@ pub fn load(path: &Path) -> Outcome<Instance> {
 /// The sheet in these bytes, which were read from a path. A bad one fails with what is wrong and where.
 pub fn of_bytes(path: &Path, bytes: &[u8]) -> Outcome<Instance> {
     let fault = |refusal| {
-        let (name, fault) = (files::name(path), faults::of_sheet(bytes));
         let allowed = allowed::by(refusal, &faults::sheet_header(bytes));
         let instead = faults::instead(bytes, b"HOM");
-        Failure::failed(format!("{name}: {fault}{allowed}{instead}"))
+        Failure::failed(faults::of_sheet(&files::name(path), bytes, &(allowed + instead)))
     };
     Instance::load(bytes).map_err(fault)
 }
 
 /// The round file of a sheet in these bytes, which were read from a path.
 pub fn rounds<'a>(sheet: &'a Instance, path: &Path, bytes: &'a [u8]) -> Outcome<RoundFile<'a>> {
-    let fault = |_| {
-        let (name, fault) = (files::name(path), faults::of_rounds(sheet, bytes));
-        Failure::failed(format!("{name}: {fault}{}", faults::instead(bytes, b"RND")))
-    };
+    let fault = |_| Failure::failed(faults::of_rounds(&files::name(path), sheet, bytes));
     RoundFile::open(sheet, bytes).map_err(fault)
 }
 
 /// The round of a number in a round file of a name.
 pub fn round(file: &RoundFile<'_>, number: usize, name: &str) -> Outcome<Round> {
-    let by = || format!("{number}, where {name} has {}", counted(file.count(), "round"));
-    file.read(number).map_err(|refusal| Failure::refused(refusal, by()))
+    let what = || format!("{name} has {}, and no round {number}", counted(file.count(), "round"));
+    file.read(number).map_err(|refusal| Failure::cause(refusal, what()))
 }
 
 /// Reads the sheet and the round file that are the first two plain words, and goes on with them and the file's path.

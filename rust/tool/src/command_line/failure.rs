@@ -34,6 +34,11 @@ impl Failure {
         Failure::failed(refused(refusal, by))
     }
 
+    /// The library refuses something, and this is what is wrong.
+    pub fn cause(refusal: Refusal, what: impl fmt::Display) -> Failure {
+        Failure::failed(numbered(refusal, what))
+    }
+
     /// The exit status: 2 for wrong words, else 1.
     pub fn status(&self) -> u8 {
         match self {
@@ -43,9 +48,28 @@ impl Failure {
     }
 }
 
-/// A refusal in a line, with what it is by.
+/// A refusal in a line: what it is by, the rule, and its number in brackets.
 pub fn refused(refusal: Refusal, by: impl fmt::Display) -> String {
-    format!("refusal {}, by {by}: {}", refusal.number(), refusal.sentence())
+    numbered(refusal, format!("{by}: {}", rule(refusal)))
+}
+
+/// What is wrong, with the refusal's number in brackets.
+pub fn numbered(refusal: Refusal, what: impl fmt::Display) -> String {
+    format!("{what} ({})", refusal.number())
+}
+
+/// The rule of a refusal, if a value is named before it: of a number with several causes, the one that a value can be.
+pub fn rule(refusal: Refusal) -> &'static str {
+    match refusal {
+        Refusal::Entry | Refusal::Statement | Refusal::Commitment => {
+            "the value lies outside the group"
+        }
+        Refusal::Challenge => "the challenge has to be below K",
+        Refusal::Coordinate => "the value lies outside the domain",
+        Refusal::RoundRejected => "both rounds have to be accepted",
+        Refusal::File => "this is no round file of the sheet",
+        _ => refusal.sentence(),
+    }
 }
 
 impl fmt::Display for Failure {
@@ -59,7 +83,7 @@ impl fmt::Display for Failure {
 
 impl From<Refusal> for Failure {
     fn from(refusal: Refusal) -> Failure {
-        Failure::failed(refusal)
+        Failure::cause(refusal, rule(refusal))
     }
 }
 

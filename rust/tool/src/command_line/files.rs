@@ -1,7 +1,9 @@
 //! Reading and writing files.
 
 use crate::command_line::failure::{Failure, Outcome};
+use crate::command_line::output;
 use crate::command_line::words::Words;
+use crate::command_line::wrap::{self, NARROWEST, WIDEST};
 use std::ffi::OsStr;
 use std::fmt::Display;
 use std::fs::{self, File, OpenOptions};
@@ -78,12 +80,7 @@ impl Target {
     pub fn of(words: &Words) -> Outcome<Target> {
         let path =
             words.option("-o").ok_or(Failure::words("-o FILE is missing: the file to write"))?;
-        let (path, how) =
-            (PathBuf::from(path), if words.flag("--force") { How::Over } else { How::New });
-        match path.is_dir() && !is_standard(&path) {
-            true => Err(failure(&path, "written", &ErrorKind::IsADirectory.into())),
-            false => Ok(Target { path, how }),
-        }
+        Target::named(PathBuf::from(path), words.flag("--force"))
     }
 
     /// The file that is read, of which nothing gets lost.
@@ -94,6 +91,20 @@ impl Target {
         Ok(Target { path: path.to_path_buf(), how: How::InPlace })
     }
 
+    /// A file of this name, which may be there already if it is forced.
+    pub fn named(path: PathBuf, force: bool) -> Outcome<Target> {
+        let how = if force { How::Over } else { How::New };
+        if path.is_dir() && !is_standard(&path) {
+            return Err(failure(&path, "written", &ErrorKind::IsADirectory.into()));
+        }
+        Ok(Target { path, how })
+    }
+
+    /// Whether the bytes go to standard output.
+    pub fn is_standard(&self) -> bool {
+        is_standard(&self.path)
+    }
+
     /// Writes the bytes, and a line that says so unless the bytes themselves went there.
     pub fn write(&self, bytes: &[u8], out: &mut dyn Write) -> Outcome {
         self.write_saying(bytes, "", out)
@@ -101,6 +112,12 @@ impl Target {
 
     /// Writes the bytes, and a line that says so and more unless the bytes themselves went there.
     pub fn write_saying(&self, bytes: &[u8], more: &str, out: &mut dyn Write) -> Outcome {
+        let line = format!("{} has {} bytes{more}", name(&self.path), bytes.len());
+        self.write_answering(bytes, &line, out)
+    }
+
+    /// Writes the bytes, and this line unless the bytes themselves went there.
+    pub fn write_answering(&self, bytes: &[u8], line: &str, out: &mut dyn Write) -> Outcome {
         if is_standard(&self.path) {
             return Ok(out.write_all(bytes)?);
         }
@@ -110,7 +127,7 @@ impl Target {
             How::InPlace => replace(&self.path, bytes),
         };
         match written {
-            Ok(()) => Ok(writeln!(out, "{} has {} bytes{more}", name(&self.path), bytes.len())?),
+            Ok(()) => Ok(writeln!(out, "{line}")?),
             Err(error) if error.kind() == ErrorKind::AlreadyExists && self.how == How::New => {
                 Err(Failure::failed(format!(
                     "{} is there already; --force writes over it",
@@ -192,7 +209,9 @@ fn is_standard(path: &Path) -> bool {
     path.as_os_str() == "-"
 }
 
-/// A line on standard error. Where that is closed there is nobody to tell.
+/// A line on standard error, in as many lines as its columns ask for. If it is closed, there is nobody to tell.
 pub fn note(line: &dyn Display) {
-    let _ = writeln!(io::stderr(), "dimkhoros: {}", escaped(&line.to_string()));
+    let width = output::columns(io::stderr()).unwrap_or(WIDEST).clamp(NARROWEST, WIDEST);
+    let line = format!("dimkhoros: {}", escaped(&line.to_string()));
+    let _ = writeln!(io::stderr(), "{}", wrap::lines(&line, 4, width));
 }

@@ -2,8 +2,10 @@
 
 #![allow(unsafe_code)]
 
+use std::ffi::{c_int, c_ulong};
 use std::fs;
 use std::io::{self, Write};
+use std::os::fd::{AsFd, AsRawFd};
 use std::sync::atomic::{AtomicBool, Ordering};
 
 /// Whether standard output was closed, or open for reading alone, when the program began.
@@ -30,6 +32,31 @@ fn is_for_reading(told: &str) -> bool {
     let flags = told.lines().find_map(|line| line.strip_prefix("flags:"));
     let flags = flags.and_then(|flags| u32::from_str_radix(flags.trim(), 8).ok());
     flags.is_some_and(|flags| flags & 3 == 0)
+}
+
+/// The size of a terminal, as the system tells it.
+#[repr(C)]
+#[derive(Default)]
+struct Size {
+    rows: u16,
+    columns: u16,
+    width: u16,
+    height: u16,
+}
+
+/// The call by which Linux tells the size of a terminal.
+const TELL_SIZE: c_ulong = 0x5413;
+
+unsafe extern "C" {
+    fn ioctl(file: c_int, call: c_ulong, ...) -> c_int;
+}
+
+/// How many columns a file has, if it is a terminal that tells.
+pub fn columns(file: impl AsFd) -> Option<usize> {
+    let mut size = Size::default();
+    // SAFETY: the file is open, and the call writes a size and nothing else.
+    let told = unsafe { ioctl(file.as_fd().as_raw_fd(), TELL_SIZE, &raw mut size) };
+    (told == 0 && size.columns > 0).then_some(size.columns.into())
 }
 
 /// Standard output, which answers an error if it cannot be written to.

@@ -2,7 +2,7 @@
 
 mod hints;
 
-pub use hints::{deed, twice};
+pub use hints::{deed, meant, twice};
 
 use crate::command_line::failure::{Failure, Outcome};
 use std::ffi::{OsStr, OsString};

@@ -18,7 +18,7 @@ on standard error has refusal 17, and the exit status is 1.
 
 Example:
     $ dimkhoros make schnorr m=23 q=11 h=2 x=7 -o sheet.bin
-    sheet.bin has 28 bytes
+    13 = 2^x mod 23, q = 11, K = 11
     $ dimkhoros check sheet.bin x=7
     [7] = 13 is the statement: 7 is a witness
 ";

@@ -1,7 +1,7 @@
 //! The command `extract`: the witness that rounds with one commitment give away, by hand.
 
 use crate::by_hand::{self, steps};
-use crate::command_line::failure::{Failure, Outcome};
+use crate::command_line::failure::{Failure, Outcome, refused as refused_by};
 use crate::command_line::files;
 use crate::command_line::words::{Grammar, Words};
 use crate::sheets::brought::{self, Brought};
@@ -33,7 +33,7 @@ one round of each commitment are tried. Where no pair gives a witness, the exit 
 
 Example:
     $ dimkhoros make schnorr m=23 q=11 h=2 x=7 -o sheet.bin
-    sheet.bin has 28 bytes
+    13 = 2^x mod 23, q = 11, K = 11
     $ dimkhoros extract sheet.bin t=9 c=3 r=4 c=1 r=1
     x ↦ [x] = 2^x mod 23, z = 13, q = 11, K = 11
 
@@ -152,9 +152,9 @@ fn of_numbers(words: &Words, out: &mut dyn Write) -> Outcome {
         let rounds = [sheets::round(file, pair[0], &name)?, sheets::round(file, pair[1], &name)?];
         if let Err(refusal) = sheet.extract(&rounds[0], &rounds[1]) {
             if let Some(fault) =
-                pair.iter().find_map(|number| in_round(sheet, file, *number, refusal))
+                pair.iter().find_map(|number| in_round(sheet, file, *number, refusal, &name))
             {
-                return Err(Failure::failed(format!("{}: {fault}", files::name(path))));
+                return Err(Failure::failed(fault));
             }
             out.write_all(round_table::of_file(sheet, file, pair).as_bytes())?;
             return Err(refused_numbers(sheet, &rounds, pair, refusal));
@@ -164,15 +164,16 @@ fn of_numbers(words: &Words, out: &mut dyn Write) -> Outcome {
     })
 }
 
-/// The value of a round of a file that a refusal is by, and what the rule allows.
+/// The value of a round of a file of a name that a refusal is by, and what the rule allows.
 fn in_round(
     sheet: &Instance,
     file: &RoundFile<'_>,
     number: usize,
     refusal: Refusal,
+    name: &str,
 ) -> Option<String> {
     let fault = faults::in_round(sheet, file, number).filter(|fault| fault.refusal == refusal)?;
-    Some(format!("{fault}{}", allowed::by(refusal, &sheet.values().header)))
+    Some(fault.told(name, &allowed::by(refusal, &sheet.values().header)))
 }
 
 /// Why two rounds of a file, which have no refused value, give no witness.
@@ -313,7 +314,7 @@ fn further(sheet: &Instance, mut tried: Vec<Tried>, by_hand: &[[usize; 2]]) -> S
             (_, 0) => return None,
             (Ok(_), _) if same(tried) => format!("{} give the same witness", named(&pairs)),
             (Ok(witness), _) => another(sheet, witness, &pairs),
-            (Err(refusal), _) => format!("{}: {refusal}", named(&pairs)),
+            (Err(refusal), _) => refused_by(*refusal, named(&pairs)),
         };
         Some(line + "\n")
     });

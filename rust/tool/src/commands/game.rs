@@ -6,7 +6,7 @@ use crate::command_line::words::{Grammar, Words};
 use crate::sheets::brought::{self, Brought};
 use crate::sheets::course::Course;
 use crate::sheets::folder::Folder;
-use crate::sheets::{self, allowed, notation};
+use crate::sheets::{self, notation};
 use dimkhoros::{
     EXPONENT, Header, Instance, LONGEST_FILE, LONGEST_GAME, Places, Refusal, Round, RoundFile,
     RoundWriter, game,
@@ -34,7 +34,7 @@ named, a line FOLDER: stands before each text. The exit status is 0 if all folde
 
 Example:
     $ dimkhoros make schnorr m=11 q=5 h=4 x=3 -o sheet.bin
-    sheet.bin has 28 bytes
+    9 = 4^x mod 11, q = 5, K = 5
     $ dimkhoros game sheet.bin t=5
     0 2
     1 0
@@ -42,17 +42,20 @@ Example:
     3 1
     4 4
 
-    The commitment 5 answers all 5 challenges. So the statement has a witness.
+    The commitment 5 answers all 5 challenges.
+    So the statement has a witness.
     $ dimkhoros make schnorr m=31 q=15 K=3 h=1 z=2 -o claim.bin
-    claim.bin has 28 bytes
+    2 = 1 mod 31, q = 15, K = 3
     $ dimkhoros game claim.bin t=16
     1 0
 
-    The commitment 16 answers 1 of the 3 challenges. So the statement has no witness.
+    The commitment 16 answers 1 of the 3 challenges.
+    So the statement has no witness.
     $ dimkhoros game claim.bin t=2
     none
 
-    The commitment 2 answers none of the 3 challenges. Whether the statement has a witness stays open.
+    The commitment 2 answers none of the 3 challenges.
+    Whether the statement has a witness stays open.
 ";
 
 const GRAMMAR: Grammar =
@@ -128,11 +131,7 @@ fn on_folder(name: &OsString) -> Outcome<String> {
         (Some(Refusal::GameSize), Some(sheet)) => {
             format!("Not played: sheet.bin: {}.", too_large(&sheet.values().header))
         }
-        (Some(refusal), sheet) => {
-            let header = sheet.map(|sheet| sheet.values().header);
-            let allowed = header.map(|header| allowed::by(refusal, &header));
-            format!("Not played: {}{}.", folder.fault(refusal), allowed.unwrap_or_default())
-        }
+        (Some(refusal), _) => format!("Not played: {}.", folder.fault(refusal)),
         (None, Some(sheet)) => {
             let round = RoundFile::open(&sheet, rounds).and_then(|file| file.read(0));
             said(&sheet, &round?.commitment, &text)
@@ -187,5 +186,5 @@ fn said(sheet: &Instance, commitment: &Places, text: &str) -> String {
         1 => (format!("1 of the {all}"), "So the statement has no witness."),
         _ => (format!("all {all}"), "So the statement has a witness."),
     };
-    format!("The commitment {t} answers {answers} challenges. {follows}")
+    format!("The commitment {t} answers {answers} challenges.\n{follows}")
 }

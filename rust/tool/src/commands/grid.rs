@@ -23,7 +23,7 @@ many challenges each commitment can answer: all of them where the statement has 
 
 Example:
     $ dimkhoros make schnorr m=11 q=5 h=4 x=3 -o sheet.bin
-    sheet.bin has 28 bytes
+    9 = 4^x mod 11, q = 5, K = 5
     $ dimkhoros grid sheet.bin
     x ↦ [x] = 4^x mod 11, z = 9, q = 5, K = 5
 

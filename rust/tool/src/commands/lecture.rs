@@ -57,7 +57,7 @@ The second and the fourth line are for a SHEET without a witness.
 
 Example:
     $ dimkhoros make schnorr m=23 q=11 h=2 x=7 -o sheet.bin
-    sheet.bin has 28 bytes
+    13 = 2^x mod 23, q = 11, K = 11
     $ dimkhoros lecture sheet.bin k=5 c=3 c=1 -o page.html
     page.html has 43161 bytes
 ";

@@ -25,9 +25,9 @@ the statement A and E, where A is the commitment of the first line, B that of th
 
 The first line of the text has g, h, m, q and K, and the others are these, numbered from 0. What follows # is left aside.
 
-        commitment v=VALUE b=BLINDING                       commits to a value
-        sum LINE LINE                                       adds two lines above
-        product LINE LINE b=BLINDING k=N,N,N c=CHALLENGE    multiplies two lines above, with a nonce and a challenge
+        commitment v=VALUE b=BLINDING
+        sum LINE LINE
+        product LINE LINE b=BLINDING k=N,N,N c=CHALLENGE
 
 A ledger of somebody else has commitments and responses in the place of values and nonces, and is checked only:
 
@@ -44,7 +44,8 @@ the cause: it is refused, or its round is rejected. The exit status is then 1.
     r=VALUE,VALUE,VALUE  the response to it, if FILE has no nonce
 
 Example:
-    $ printf 'g=2 h=3 m=23 q=11 K=11\\ncommitment v=2 b=1\\ncommitment v=3 b=0\\nsum 0 1\\n' > lines.txt
+    $ printf 'g=2 h=3 m=23 q=11 K=11\\ncommitment v=2 b=1\\n' > lines.txt
+    $ printf 'commitment v=3 b=0\\nsum 0 1\\n' >> lines.txt
     $ echo 'product 0 1 b=4 k=1,2,3 c=3' >> lines.txt
     $ dimkhoros ledger lines.txt
     A commitment to v with b is 2^v · 3^b mod 23; q = 11, K = 11

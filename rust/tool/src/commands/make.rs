@@ -5,10 +5,11 @@ mod formula;
 mod linear;
 
 use crate::command_line::failure::{Failure, Outcome};
-use crate::command_line::files::Target;
+use crate::command_line::files::{self, Target};
 use crate::command_line::words::{Grammar, Value, Words};
 use crate::sheets::brought::{self, Brought};
-use crate::sheets::{self, allowed};
+use crate::sheets::draw::Generator;
+use crate::sheets::{self, allowed, notation};
 use asked::Asked;
 use dimkhoros::{EXPONENT, Header, Instance, ROOT, Refusal};
 use std::ffi::OsString;
@@ -38,27 +39,29 @@ and whether it has a witness is not tested; with x the statement is computed of 
     z=VALUE,...      the statement, a value for each row
     x=VALUE,...      a witness, a value for each column, of which the statement is computed. A root sheet has as many rows and
                      columns as z or x has values
+    x=random         a witness that the system's generator draws, which is told after the sheet
     --patterns FILE  a pattern file; the shipped one where it is left out
     -o SHEET         where the sheet is written; --force writes over a file that is there
 
 Example:
     $ dimkhoros make schnorr m=23 q=11 h=2 x=7 -o sheet.bin
-    sheet.bin has 28 bytes
+    13 = 2^x mod 23, q = 11, K = 11
     $ dimkhoros make root m=35 e=5 z=32 -o root.bin
-    root.bin has 24 bytes
+    32 = x^5 mod 35, e = 5, K = 5
     $ dimkhoros make table=1,2/2,3 m=23 q=11 K=11 x=4,5 -o elgamal.bin
-    elgamal.bin has 44 bytes
-    $ dimkhoros make linear m=23 q=11 h=2,3,4 row='h1^x3 h2^x1' row='h1^x2 h2^x4 h3^x1' x=1,2,3,4 -o linear.bin
-    linear.bin has 60 bytes. Peggy claims to know (x1, x2, x3, x4) with
-        1 = 2^x3 · 3^x1 mod 23
-        8 = 2^x2 · 3^x4 · 4^x1 mod 23
+    9 = 2^x2 mod 23, 1 = 2^x1 · 3^x2 mod 23, q = 11, K = 11
+    $ dimkhoros make linear m=23 q=11 h=2,3 row='h1^x1 h2^x2' x=4,5 -o l.bin
+    1 = 2^x1 · 3^x2 mod 23, q = 11, K = 11
 ";
+
+/// The word that asks for a witness from the system's generator.
+const RANDOM: &str = "x=random";
 
 const GRAMMAR: Grammar = Grammar {
     plain: &["PATTERN"],
     optional: 1,
     letters: &["m", "q", "e", "K", "h", "z", "x", "table", "row"],
-    flags: &["--force"],
+    flags: &["--force", RANDOM],
     options: &["-o", "--patterns"],
 };
 
@@ -66,14 +69,52 @@ const GRAMMAR: Grammar = Grammar {
 pub fn run(words: Vec<OsString>, out: &mut dyn Write) -> Outcome {
     let words = Words::sort(words, &GRAMMAR)?;
     let (asked, target) = (Asked::read(&words)?, Target::of(&words)?);
-    let sheet = with_statement(&words, &without_statement(&words, &asked)?)?;
-    target.write_saying(sheet.bytes(), &asked.said(&sheet), out)
+    if words.flag(RANDOM) {
+        alone(&words)?;
+    }
+    let without = without_statement(&words, &asked)?;
+    let random = words.flag(RANDOM);
+    let drawn = random.then(|| Generator::open()?.coordinates(&without)).transpose()?;
+    let sheet = match &drawn {
+        Some(witness) => {
+            let statement = sheets::image(&without, "x", witness)?;
+            without.with_statement(&statement)?
+        }
+        None => with_statement(&words, &without)?,
+    };
+    let made = notation::with_numbers(&sheet, &asked.statement(&sheet));
+    let Some(witness) = drawn else {
+        return target.write_answering(sheet.bytes(), &made, out);
+    };
+    let x = notation::by_column(&sheet, &witness);
+    if target.is_standard() {
+        files::note(&format!("the witness is x = {x}"));
+    }
+    target.write_answering(sheet.bytes(), &format!("{made}; x = {x}"), out)
+}
+
+/// Fails if a statement or a witness stands beside the one that is drawn.
+fn alone(words: &Words) -> Outcome {
+    match ["z", "x"].iter().find(|letter| !words.all(letter).is_empty()) {
+        Some(letter) => {
+            Err(Failure::words(format!("{RANDOM} and {letter}= are both there; leave one out")))
+        }
+        None => Ok(()),
+    }
 }
 
 /// The statement or the witness that the words have.
 fn stated(words: &Words) -> Outcome<&Value> {
     let what = "the statement, or a witness of it";
     words.needed(words.either(["z", "x"], what)?, what)
+}
+
+/// How many rows a root sheet has: as many as its statement or witness has values, and one if that is drawn.
+fn root_rows(words: &Words) -> Outcome<usize> {
+    if words.flag(RANDOM) {
+        return Ok(1);
+    }
+    Ok(stated(words)?.numbers()?.len())
 }
 
 /// The sheet that is asked for, with ones in the place of the statement.
@@ -91,9 +132,9 @@ fn without_statement(words: &Words, asked: &Asked) -> Outcome<Instance> {
         Refusal::Modulus => Failure::refused(refusal, format!("{modulus} in m=")),
         Refusal::Order => Failure::refused(refusal, format!("{order} in {letter}=")),
         Refusal::Challenges => {
-            let why = Failure::refused(refusal, format!("{challenges} in K="));
             let header = Header { kind, modulus, order, challenges, rows: 1, columns: 1 };
-            Failure::failed(format!("{why}{}", allowed::by(refusal, &header)))
+            let (rule, allowed) = (refusal.sentence(), allowed::by(refusal, &header));
+            Failure::cause(refusal, format!("{challenges} in K=: {rule}{allowed}"))
         }
         _ => asked.refused([modulus, order, challenges], refusal),
     })

@@ -46,20 +46,19 @@ twice. If --sheet is left out and the folders have different sheets, a warning o
                    formula begins with ./
 
 Example:
-    $ dimkhoros make schnorr m=23 q=11 h=2 x=7 -o course.bin
-    course.bin has 28 bytes
+    $ dimkhoros make schnorr m=23 q=11 h=2 x=7 -o sheet.bin
+    13 = 2^x mod 23, q = 11, K = 11
     $ mkdir anna ben cy
-    $ dimkhoros rounds make course.bin x=7 k=5 c=3 x=7 k=2 c=9 -o anna/rounds.bin
+    $ dimkhoros rounds make sheet.bin x=7 k=5 c=3 x=7 k=2 c=9 -o anna/rounds.bin
     anna/rounds.bin has 31 bytes
-    $ dimkhoros rounds make course.bin t=9 c=3 r=4 t=9 c=1 r=2 -o ben/rounds.bin
+    $ dimkhoros rounds make sheet.bin t=9 c=3 r=4 t=9 c=1 r=2 -o ben/rounds.bin
     ben/rounds.bin has 31 bytes
-    $ dimkhoros mark --sheet course.bin --level 6 anna ben cy
+    $ dimkhoros mark --sheet sheet.bin --level 6 anna ben cy 2>/dev/null
     anna  pass     2 rounds
     ben   fail     rejected 1; nonce used twice: rounds 0 1
     cy    file 12  there is no rounds.bin
 
     3 folders: 1 passed, 1 failed, 1 refused
-    dimkhoros: ben: rounds 0 and 1 have the same commitment and different challenges: the nonce was used twice
 ";
 
 const GRAMMAR: Grammar = Grammar {

@@ -30,18 +30,18 @@ round has the exit status 0 too. `extract` gives the witness of two accepted rou
                      has the first one's t0 and t1 where they are left out
 
 Example:
-    $ dimkhoros make schnorr m=23 q=11 K=5 h=2 x=7 -o schnorr.bin
-    schnorr.bin has 28 bytes
-    $ dimkhoros make root m=35 e=5 z=32 -o root.bin
-    root.bin has 24 bytes
-    $ dimkhoros or make schnorr.bin root.bin x1=2 k1=3 c0=4 r0=10 c=2
+    $ dimkhoros make schnorr m=23 q=11 K=5 h=2 x=7 -o a.bin
+    13 = 2^x mod 23, q = 11, K = 5
+    $ dimkhoros make root m=35 e=5 z=32 -o b.bin
+    32 = x^5 mod 35, e = 5, K = 5
+    $ dimkhoros or make a.bin b.bin x1=2 k1=3 c0=4 r0=10 c=2
     side 0 is simulated, with c0 = 4 and r0 = 10: t0 = [r0] · z^(-c0) = 16
     side 1 is known, with the witness 2: t1 = [k1] = [3] = 33
 
     c1 = (c - c0) mod K = (2 - 4) mod 5 = 3, so r1 = 24
     t0=16 t1=33 c=2 c0=4 r0=10 r1=24
     accepted
-    $ dimkhoros or judge schnorr.bin root.bin t0=16 t1=33 c=2 c0=4 r0=10 r1=24
+    $ dimkhoros or judge a.bin b.bin t0=16 t1=33 c=2 c0=4 r0=10 r1=24
     c1 = (c - c0) mod K = (2 - 4) mod 5 = 3
 
     side  row  [r]                  t · z^c
@@ -49,12 +49,14 @@ Example:
        1    0  24^5 mod 35 = 19  =  33 · 32^3 mod 35 = 19
 
     accepted
-    $ dimkhoros or extract schnorr.bin root.bin t0=16 t1=33 c=2 c0=4 r0=10 r1=24 c=0 c0=4 r0=10 r1=6
+    $ echo t0=16 t1=33 c=2 c0=4 r0=10 r1=24 > round.txt
+    $ dimkhoros or extract a.bin b.bin $(cat round.txt) c=0 c0=4 r0=10 r1=6
     round  t0  t1  c  c0  c1  r0  r1  verdict
         0  16  33  2   4   3  10  24  accepted
         1  16  33  0   4   1  10   6  accepted
 
-    c differs and c0 is 4 in both, so the c1 differ, 3 and 1: side 1 gives its witness.
+    c differs and c0 is 4 in both, so the c1 differ, 3 and 1.
+    So side 1 gives its witness.
     The rounds (33, 3, 24) and (33, 1, 6) of side 1 give x = 2.
     [2] = 32 is the statement of side 1: 2 is a witness
 ";

@@ -40,7 +40,7 @@ Example:
           1   1   2
         (x1, x2) ↦ [x1, x2] = (h1^x2, h1^x1 · h2^x2) mod m
     $ dimkhoros make 2 --patterns own.bin m=23 q=11 h=2,3 x=7,5 -o elgamal.bin
-    elgamal.bin has 44 bytes
+    9 = 2^x2 mod 23, 8 = 2^x1 · 3^x2 mod 23, q = 11, K = 11
 ";
 
 const GRAMMAR: Grammar = Grammar {
@@ -84,7 +84,7 @@ fn make(words: &Words, patterns: &[OsString], out: &mut dyn Write) -> Outcome {
         file.extend(written(pattern)?);
     }
     match faults::in_patterns(&file) {
-        Some(fault) => Err(Failure::failed(format!("the file is not made: {fault}"))),
+        Some(fault) => Err(Failure::failed(fault.told("the file is not made", ""))),
         None => target.write(Patterns::load(&file)?.bytes(), out),
     }
 }
@@ -184,10 +184,11 @@ pub fn load(path: Option<&Path>) -> Outcome<Patterns> {
 /// The patterns in these bytes, which were read from a path. Bad ones fail with what is wrong and where.
 pub fn of_bytes(path: &Path, bytes: &[u8]) -> Outcome<Patterns> {
     let fault = |refusal: Refusal| {
-        let fault = faults::in_patterns(bytes).map(|fault| fault.to_string());
-        let fault = fault.unwrap_or_else(|| refusal.to_string());
         let (name, instead) = (files::name(path), faults::instead(bytes, b"PAT"));
-        Failure::failed(format!("{name}: {fault}{instead}"))
+        match faults::in_patterns(bytes) {
+            Some(fault) => Failure::failed(fault.told(&name, instead)),
+            None => Failure::cause(refusal, format!("{name} is no pattern file{instead}")),
+        }
     };
     Patterns::load(bytes).map_err(fault)
 }

@@ -2,14 +2,14 @@
 
 mod whole;
 
-use crate::command_line::failure::{Failure, Outcome};
+use crate::command_line::failure::{Failure, Outcome, numbered};
 use crate::command_line::files;
 use crate::command_line::words::{Grammar, Words};
 use crate::sheets::course::{self, Course};
 use crate::sheets::faults::{self, Fault};
 use crate::sheets::folder::Folder;
 use crate::sheets::{self, allowed, equation, notation};
-use dimkhoros::{Header, Instance, LONGEST_REASON, Refusal, Round, RoundFile, reason};
+use dimkhoros::{Header, Instance, LONGEST_REASON, Round, RoundFile, reason};
 use std::ffi::OsString;
 use std::io::Write;
 use std::path::Path;
@@ -34,34 +34,38 @@ read.
     --level W      the course's level, a number from 1 to 64, in the place of the folder's own
 
 Example:
-    $ mkdir ben
-    $ dimkhoros make schnorr m=23 q=11 h=2 x=7 -o ben/sheet.bin
-    ben/sheet.bin has 28 bytes
-    $ dimkhoros rounds make ben/sheet.bin t=9 c=3 r=4 t=9 c=1 r=2 -o ben/rounds.bin
-    ben/rounds.bin has 31 bytes
-    $ dimkhoros reason --level 7 ben
+    $ mkdir b
+    $ dimkhoros make schnorr m=23 q=11 h=2 x=7 -o b/sheet.bin
+    13 = 2^x mod 23, q = 11, K = 11
+    $ dimkhoros rounds make b/sheet.bin t=9 c=3 r=4 t=9 c=1 r=2 -o b/rounds.bin
+    b/rounds.bin has 31 bytes
+    $ dimkhoros reason --level 7 b
     accepted
 
-    Round 0 is t = 9, c = 3, r = 4. Vic accepts it, since [r] = t · z^c holds in every row:
+    Round 0 is t = 9, c = 3, r = 4.
+    Vic accepts it, since [r] = t · z^c holds in every row:
 
     row  [r]                 t · z^c
       0  2^4 mod 23 = 16  =  9 · 13^3 mod 23 = 16
 
-    The whole file fails: round 1 is rejected. Level 7 asks for 3 rounds with K = 11, and the file has 2.
+    The whole file fails: round 1 is rejected.
+    Level 7 asks for 3 rounds with K = 11, and the file has 2.
 
     round  t  c  r  verdict
         1  9  1  2  rejected in row 0
 
     `dimkhoros reason FOLDER 1` tells more of round 1.
-    $ dimkhoros reason --level 7 ben 1
+    $ dimkhoros reason --level 7 b 1
     rejected 0 4 2
 
-    Round 1 is t = 9, c = 1, r = 2. Vic rejects it, since [r] = t · z^c does not hold in every row:
+    Round 1 is t = 9, c = 1, r = 2.
+    Vic rejects it, since [r] = t · z^c does not hold in every row:
 
     row  [r]                t · z^c
       0  2^2 mod 23 = 4  ≠  9 · 13^1 mod 23 = 2
 
-    The whole file fails: round 1 is rejected. Level 7 asks for 3 rounds with K = 11, and the file has 2.
+    The whole file fails: round 1 is rejected.
+    Level 7 asks for 3 rounds with K = 11, and the file has 2.
 ";
 
 const GRAMMAR: Grammar = Grammar {
@@ -180,7 +184,7 @@ impl Asked {
         let words = match (fault.map(|fault| fault.of_length(whole)), file) {
             (None, _) => String::new(),
             (Some(Fault { refusal, .. }), None) => {
-                format!("{}There is no {name}.\n", rule(refusal))
+                numbered(refusal, format!("There is no {name}")) + ".\n"
             }
             (Some(fault), _) => broken(&fault, name, &faults::sheet_header(self.folder.bytes()[0])),
         };
@@ -217,15 +221,9 @@ fn no_folder(path: &Path) -> Failure {
     }
 }
 
-/// The rule of a refusal, in a line.
-fn rule(refusal: Refusal) -> String {
-    format!("Refusal {}: {}.\n", refusal.number(), refusal.sentence())
-}
-
 /// A fault of what has a name in words, with what the rule allows on a sheet with this header.
 fn broken(fault: &Fault, name: &str, header: &Header) -> String {
-    let Fault { refusal, found } = fault;
-    format!("{}{name} has {found}{}.\n", rule(*refusal), allowed::by(*refusal, header))
+    fault.told(name, &allowed::by(fault.refusal, header)) + ".\n"
 }
 
 /// The verdict on a round, with both sides of each row.
@@ -238,6 +236,6 @@ fn judged(sheet: &Instance, number: usize, round: &Round) -> Outcome<String> {
     let (c, r) = (round.challenge, notation::by_column(sheet, &round.response));
     let equations = equation::lines(&[(sheet, *round)])?;
     Ok(format!(
-        "Round {number} is t = {t}, c = {c}, r = {r}. Vic {verdict} it, since [r] = t · z^c {holds} in every row:\n\n{equations}"
+        "Round {number} is t = {t}, c = {c}, r = {r}.\nVic {verdict} it, since [r] = t · z^c {holds} in every row:\n\n{equations}"
     ))
 }

@@ -1,13 +1,13 @@
 //! The command `rounds`: round files, made, extended, listed and converted.
 
-use crate::command_line::failure::{Failure, Outcome};
+use crate::command_line::failure::{Failure, Outcome, rule};
 use crate::command_line::files::{self, Target};
 use crate::command_line::table::{self, Set};
 use crate::command_line::words::{self, Grammar, Words};
-use crate::sheets::faults::{Fault, Found};
+use crate::sheets::draw::Generator;
 use crate::sheets::round_words::{self, Asked};
 use crate::sheets::{self, commitments, notation, round_table};
-use dimkhoros::{Instance, LONGEST_FILE, Refusal, Round, RoundFile, RoundWriter};
+use dimkhoros::{Instance, LONGEST_FILE, MOST_ROUNDS, Refusal, Round, RoundFile, RoundWriter};
 use std::ffi::{OsStr, OsString};
 use std::io::Write;
 use std::path::Path;
@@ -15,6 +15,7 @@ use std::path::Path;
 /// The command's help.
 pub const HELP: &str = "\
 usage: dimkhoros rounds make SHEET [ROUND...] [--version 2] -o ROUNDS
+       dimkhoros rounds make SHEET x=VALUE,... --draw COUNT [--version 2] -o ROUNDS
        dimkhoros rounds append SHEET ROUNDS ROUND... [-o FILE]
        dimkhoros rounds list SHEET ROUNDS
        dimkhoros rounds convert SHEET ROUNDS -o FILE
@@ -24,16 +25,17 @@ Makes a round file of 0 to 512 rounds, adds rounds to one, lists one with Vic's 
 and finds rounds with the same commitment, of which `dimkhoros extract` makes the witness. t, c and r are written as they stand,
 without being tested: `list` shows what Vic says of them.
 
-    SHEET        a sheet
-    ROUNDS       a round file of the sheet
-    ROUND        t= c= r= as it stands; or c= r= simulated, with the commitment that fits them; or x= k= c= as a Peggy with this
+    SHEET         a sheet
+    ROUNDS        a round file of the sheet
+    ROUND         t= c= r= as it stands; or c= r= simulated, with the commitment that fits them; or x= k= c= as a Peggy with this
                  witness and nonce makes it. A round is whole before the next one begins
-    --version 2  writes a challenge in 16 bits; version 1, in 32 bits, where it is left out
-    -o FILE      where the file is written; --force writes over a file that is there. `append` without -o adds to ROUNDS itself
+    --draw COUNT  makes so many rounds of a Peggy with the witness x, whose nonces and challenges the system's generator draws
+    --version 2   writes a challenge in 16 bits; version 1, in 32 bits, where it is left out
+    -o FILE       where the file is written; --force writes over a file that is there. `append` without -o adds to ROUNDS itself
 
 Example:
     $ dimkhoros make schnorr m=23 q=11 h=2 x=7 -o sheet.bin
-    sheet.bin has 28 bytes
+    13 = 2^x mod 23, q = 11, K = 11
     $ dimkhoros rounds make sheet.bin x=7 k=5 c=3 c=3 r=0 -o rounds.bin
     rounds.bin has 31 bytes
     $ dimkhoros rounds append sheet.bin rounds.bin t=9 c=1 r=1 t=9 c=1 r=2
@@ -73,19 +75,40 @@ fn make(words: Vec<OsString>, out: &mut dyn Write) -> Outcome {
             optional: 0,
             letters: round_words::LETTERS,
             flags: &["--force"],
-            options: &["-o", "--version"],
+            options: &["-o", "--version", "--draw"],
         },
     )?;
     let target = Target::of(&words)?;
     let version = words.option("--version").map_or(Ok(1), version)?;
     let sheet = sheets::load(&words.path(0))?;
-    let rounds = round_words::asked(&sheet, &words)?;
+    let rounds = match words.option("--draw") {
+        Some(count) => drawn(&sheet, &words, count)?,
+        None => round_words::asked(&sheet, &words)?,
+    };
     let mut buffer = vec![0; LONGEST_FILE];
     let started = RoundWriter::start(&sheet, version, &mut buffer);
-    let mut writer =
-        started.map_err(|refusal| Failure::refused(refusal, format!("version {version}")))?;
+    let mut writer = started.map_err(|refusal| {
+        Failure::cause(refusal, format!("--version {version}: a version is 1 or 2"))
+    })?;
     add(&sheet, &mut writer, &rounds)?;
     target.write(writer.file().bytes(), out)
+}
+
+/// So many rounds of a Peggy, with nonces and challenges that the system's generator draws.
+fn drawn(sheet: &Instance, words: &Words, count: &OsStr) -> Outcome<Vec<Asked>> {
+    words.without(&["t", "c", "r", "k"], "beside --draw")?;
+    let word = count.to_string_lossy();
+    let count = word.parse().ok().filter(|count| (1..=MOST_ROUNDS).contains(count));
+    let wrong = || format!("--draw takes a number from 1 to {MOST_ROUNDS}, and not {word}");
+    let count = count.ok_or_else(|| Failure::words(wrong()))?;
+    let x = words.needed("x", "the witness of the rounds that are drawn")?;
+    let (witness, challenges) = (sheets::by_column(sheet, x)?, sheet.values().header.challenges);
+    let mut generator = Generator::open()?;
+    let round = |_| {
+        let (nonce, challenge) = (generator.coordinates(sheet)?, generator.below(challenges)?);
+        Ok(Asked::Honest { witness, nonce, challenge })
+    };
+    (0..count).map(round).collect()
 }
 
 /// The version that a word asks for.
@@ -101,11 +124,9 @@ fn add(sheet: &Instance, writer: &mut RoundWriter<'_>, rounds: &[Asked]) -> Outc
         let count = writer.file().count();
         added.map_err(|refusal| {
             let why = match refusal {
-                Refusal::File => Failure::refused(
-                    refusal,
-                    format!("the most rounds, {count}, that a file can have"),
-                ),
-                // What the library refuses to make is told by its value, and so is what version 2 cannot hold.
+                Refusal::File => {
+                    Failure::cause(refusal, format!("the file has {count} rounds and is full"))
+                }
                 _ => asked.refused(sheet, refusal),
             };
             Failure::failed(format!("round {number} of the words: {why}"))
@@ -182,12 +203,13 @@ fn not_converted(sheet: &Instance, path: &Path, file: &RoundFile<'_>, refusal: R
     let too_large = |round: &Round| round.challenge > u16::MAX.into();
     let found = file.rounds().enumerate().find(|(_, round)| too_large(round));
     let Some((number, round)) = found.filter(|_| refusal == Refusal::Challenge) else {
-        return Failure::failed(format!("{}: {refusal}", files::name(path)));
+        return Failure::cause(refusal, format!("{}: {}", files::name(path), rule(refusal)));
     };
     let (rows, columns) = (sheets::row_count(sheet), sheets::column_count(sheet));
     let offset = dimkhoros::EMPTY_FILE + number * 4 * (rows + 1 + columns) + 4 * rows;
-    let found = Found::Value { offset, value: format!("c = {}", round.challenge) };
-    Failure::failed(format!("{}: {}", files::name(path), Fault { refusal, found }))
+    let (name, challenge) = (files::name(path), round.challenge);
+    let what = format!("{name}: c = {challenge} at byte {offset}: version 2 has 65535 at most");
+    Failure::cause(refusal, what)
 }
 
 /// Lists the rounds with the same commitment.

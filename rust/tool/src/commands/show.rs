@@ -1,5 +1,6 @@
 //! The command `show`: a sheet, round file or pattern file in words and tables.
 
+mod folder;
 mod forms;
 pub mod patterns;
 pub mod rounds;
@@ -18,18 +19,20 @@ pub const HELP: &str = "\
 usage: dimkhoros show SHEET
        dimkhoros show SHEET ROUNDS
        dimkhoros show PATTERNS
+       dimkhoros show FOLDER
 
-Shows a sheet, a round file of a sheet, or a pattern file: its fields, its tables and its formulas. A file that is refused is
+Shows a sheet, a round file of a sheet, a pattern file, or the files of a student's folder: its fields, its tables and its formulas. A file that is refused is
 told on standard error, with the number of the refusal, the byte and the value that is wrong, and the exit status is 1. Rounds
 that are rejected or refused are shown with the others.
 
     SHEET     a sheet, which begins with HOM
     ROUNDS    a round file of the sheet, which begins with RND
     PATTERNS  a pattern file, which begins with PAT
+    FOLDER    a folder with the sheet in sheet.bin, the round file in rounds.bin and the level in level.bin
 
 Example:
     $ dimkhoros make schnorr m=23 q=11 h=2 x=7 -o sheet.bin
-    sheet.bin has 28 bytes
+    13 = 2^x mod 23, q = 11, K = 11
     $ dimkhoros show sheet.bin
     sheet.bin is a sheet of 28 bytes.
 
@@ -74,6 +77,9 @@ const GRAMMAR: Grammar =
 pub fn run(words: Vec<OsString>, out: &mut dyn Write) -> Outcome {
     let words = Words::sort(words, &GRAMMAR)?;
     let path = words.path(0);
+    if path.is_dir() && words.plain().len() == 1 {
+        return folder::show(&path, out);
+    }
     let bytes = files::read(&path)?;
     let text = match words.plain().get(1).map(Path::new) {
         None => of_file(&path, &bytes)?,

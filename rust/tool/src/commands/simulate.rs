@@ -21,7 +21,7 @@ all responses are taken in turn, where there are 512 at most.
 
 Example:
     $ dimkhoros make schnorr m=23 q=11 h=2 x=7 -o sheet.bin
-    sheet.bin has 28 bytes
+    13 = 2^x mod 23, q = 11, K = 11
     $ dimkhoros simulate sheet.bin c=3 r=0
     t  c  r  verdict
     2  3  0  accepted

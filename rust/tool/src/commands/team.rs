@@ -33,7 +33,7 @@ witness and the joined nonce.
 
 Example:
     $ dimkhoros make schnorr m=23 q=11 h=2 x=7 -o sheet.bin
-    sheet.bin has 28 bytes
+    13 = 2^x mod 23, q = 11, K = 11
     $ dimkhoros team sheet.bin z=8 z=6 z=18 t=4 t=16 t=12 c=3 r=0 r=9 r=6
     player   z   t  r  verdict
          0   8   4  0  accepted
@@ -45,7 +45,8 @@ Example:
     t: 4 · 16 · 12 mod 23 = 9
     r: (0 + 9 + 6) mod 11 = 4
 
-    The team's round is (9, 3, 4). All players' rounds are accepted, and so is the team's.
+    The team's round is (9, 3, 4).
+    All players' rounds are accepted, and so is the team's.
     $ dimkhoros team sheet.bin x=3 x=9 x=6 k=2 k=4 k=10 c=3
     player  x   z   k   t  r  verdict
          0  3   8   2   4  0  accepted
@@ -59,8 +60,9 @@ Example:
     t: 4 · 16 · 12 mod 23 = 9
     r: (0 + 9 + 6) mod 11 = 4
 
-    The team's round is (9, 3, 4). All players' rounds are accepted, and so is the team's.
-    A single Peggy with the witness 7 and the nonce 5 sends the same round: (9, 3, 4).
+    The team's round is (9, 3, 4).
+    All players' rounds are accepted, and so is the team's.
+    A single Peggy with witness 7 and nonce 5 sends the same round: (9, 3, 4).
 ";
 
 const GRAMMAR: Grammar = Grammar {
@@ -90,7 +92,7 @@ pub fn run(words: Vec<OsString>, out: &mut dyn Write) -> Outcome {
     }
     if let (Some(round), Some((team, players))) = (round, verdicts.split_last()) {
         let (round_text, decided) = (notation::round(&sheet, &round), decided(players, *team));
-        writeln!(out, "\nThe team's round is {round_text}. {decided}")?;
+        writeln!(out, "\nThe team's round is {round_text}.\n{decided}")?;
         out.write_all(alone(&sheet, &columns, &round)?.as_bytes())?;
     }
     Ok(())
@@ -144,7 +146,7 @@ fn alone(sheet: &Instance, columns: &[Column<'_>], round: &Round) -> Outcome<Str
         return Err(Failure::failed("a single Peggy sends another round than the team"));
     }
     Ok(format!(
-        "A single Peggy with the witness {} and the nonce {} sends the same round: {}.\n",
+        "A single Peggy with witness {} and nonce {} sends the same round: {}.\n",
         notation::by_column(sheet, &witness),
         notation::by_column(sheet, &nonce),
         notation::round(sheet, &hers)

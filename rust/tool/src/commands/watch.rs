@@ -20,7 +20,7 @@ commitment as an earlier accepted one and another challenge. The two rounds give
 
 There is a line for each: the file of the round, its number from 0 and its challenge; the same of the earlier round; back, how
 many accepted rounds back that one stands, 1 being the accepted round just before; the commitment t of both; and the witness x.
-Of several earlier rounds the nearest is named. Rounds that are rejected or refused are left aside. The last line counts all.
+Of several earlier rounds the nearest is named. Rounds that are rejected or refused are left aside. Below it stands the count of all.
 
 The watch remembers the last 63 accepted rounds. So uses that are more than 63 accepted rounds apart are not seen.
 
@@ -32,16 +32,17 @@ The exit status is then 1, and else 0, whether there are reuses or not.
 
 Example:
     $ dimkhoros make schnorr m=23 q=11 h=2 x=7 -o sheet.bin
-    sheet.bin has 28 bytes
+    13 = 2^x mod 23, q = 11, K = 11
     $ dimkhoros rounds make sheet.bin x=7 k=5 c=3 x=7 k=2 c=9 -o monday.bin
     monday.bin has 31 bytes
-    $ dimkhoros rounds make sheet.bin x=7 k=8 c=2 t=9 c=1 r=2 x=7 k=5 c=1 -o friday.bin
-    friday.bin has 43 bytes
+    $ dimkhoros rounds make sheet.bin t=9 c=1 r=2 x=7 k=5 c=1 -o friday.bin
+    friday.bin has 31 bytes
     $ dimkhoros watch sheet.bin monday.bin friday.bin
     file        round  c  earlier file  earlier round  earlier c  back  t  x
-    friday.bin      2  1  monday.bin                0          3     3  9  7
+    friday.bin      1  1  monday.bin                0          3     2  9  7
 
-    5 rounds in 2 files: 4 accepted, 1 rejected, 0 refused; 1 reuse (uses more than 63 accepted rounds apart are not seen)
+    4 rounds in 2 files: 3 accepted, 1 rejected, 0 refused; 1 reuse
+    Uses that are more than 63 accepted rounds apart are not seen.
 ";
 
 const GRAMMAR: Grammar =
@@ -171,14 +172,14 @@ impl<'a> Term<'a> {
         format!("{}\n{}", table::lines("", &set, &rows), self.summary())
     }
 
-    /// The line that counts all, and says what is not seen.
+    /// The line that counts all, and one that says what is not seen.
     fn summary(&self) -> String {
         let (accepted, rejected, refused) = (self.accepted.len(), self.rejected, self.refused);
         let rounds = counted(accepted + rejected + refused, "round");
         let (files, reuses) = (counted(self.files, "file"), counted(self.reused.len(), "reuse"));
         format!(
-            "{rounds} in {files}: {accepted} accepted, {rejected} rejected, {refused} refused; {reuses} \
-             (uses more than {MOST_REMEMBERED} accepted rounds apart are not seen)\n"
+            "{rounds} in {files}: {accepted} accepted, {rejected} rejected, {refused} refused; {reuses}\n\
+             Uses that are more than {MOST_REMEMBERED} accepted rounds apart are not seen.\n"
         )
     }
 }

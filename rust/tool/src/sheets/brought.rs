@@ -1,6 +1,6 @@
 //! The values that a command hands to the library, and by which of them a call is refused.
 
-use crate::command_line::failure::Failure;
+use crate::command_line::failure::{Failure, rule};
 use crate::sheets::{allowed, column_count, row_count};
 use dimkhoros::{Instance, PLACES, Places, Refusal, Round};
 
@@ -79,8 +79,8 @@ pub fn by<'a>(refusal: Refusal, brought: &[Brought<'a>]) -> Option<(String, &'a 
 pub fn refused(refusal: Refusal, brought: &[Brought<'_>]) -> Failure {
     match by(refusal, brought) {
         Some((by, sheet)) => {
-            let why = Failure::refused(refusal, by);
-            Failure::failed(format!("{why}{}", allowed::by(refusal, &sheet.values().header)))
+            let allowed = allowed::by(refusal, &sheet.values().header);
+            Failure::cause(refusal, format!("{by}: {}{allowed}", rule(refusal)))
         }
         None => refusal.into(),
     }

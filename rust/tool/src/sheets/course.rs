@@ -20,7 +20,11 @@ pub struct Course {
 impl Course {
     /// What the words name.
     pub fn of(words: &Words) -> Outcome<Course> {
-        let level = words.option("--level").map(|word| level(&word.to_string_lossy()));
+        let level = words.option("--level").map(|word| {
+            let word = word.to_string_lossy();
+            let wrong = || format!("--level takes a number from 1 to {HIGHEST}, not {word}");
+            level(&word).ok_or_else(|| Failure::words(wrong()))
+        });
         let level = level.transpose()?;
         let sheet = words.option("--sheet").map(|path| sheets::load(Path::new(path)));
         let sheet = sheet.transpose()?.map(|sheet| sheet.bytes().to_vec());
@@ -28,10 +32,8 @@ impl Course {
     }
 }
 
-/// The level in a word.
-fn level(word: &str) -> Outcome<u8> {
+/// The level in a word, if it has one.
+pub fn level(word: &str) -> Option<u8> {
     let level = word.parse().ok().filter(|level| (1..=HIGHEST).contains(level));
-    let wrong =
-        || Failure::words(format!("--level takes a number from 1 to {HIGHEST}, not {word}"));
-    level.filter(|_| word.bytes().all(|byte| byte.is_ascii_digit())).ok_or_else(wrong)
+    level.filter(|_| word.bytes().all(|byte| byte.is_ascii_digit()))
 }

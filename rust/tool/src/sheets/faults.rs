@@ -2,12 +2,13 @@
 
 mod fields;
 mod patterns;
+mod rules;
 #[cfg(test)]
 mod tests;
 
 pub use fields::{instead, round_header, sheet_header};
 
-use crate::command_line::failure::refused;
+use crate::command_line::failure::numbered;
 use crate::sheets::notation::counted;
 use dimkhoros::{
     EMPTY_FILE, Instance, LONGEST_REASON, PLACES, Pattern, Patterns, Plan, Refusal, Round,
@@ -31,8 +32,8 @@ pub enum Found {
     Length {
         /// How many bytes it has.
         found: usize,
-        /// How many it has to have, where the rest of it says so.
-        needed: Option<usize>,
+        /// How many it has to have, and why, such as `3 rounds of this sheet make 43`.
+        needed: String,
     },
     /// The value at an offset.
     Value {
@@ -53,49 +54,64 @@ impl Fault {
     }
 }
 
-impl fmt::Display for Fault {
-    fn fmt(&self, f: &mut fmt::Formatter<'_>) -> fmt::Result {
+impl Fault {
+    /// What is wrong with the file of a name, what the rule allows, and the number of the refusal, in a line.
+    pub fn told(&self, name: &str, allowed: &str) -> String {
         let Fault { refusal, found } = self;
-        f.write_str(&match found {
-            Found::Length { .. } => refused(*refusal, format!("the length of {found}")),
-            Found::Value { .. } => refused(*refusal, found),
-        })
+        let rule = match found {
+            Found::Length { .. } => {
+                return numbered(*refusal, format!("{name} has {found}{allowed}"));
+            }
+            Found::Value { offset, value } => rules::of(*refusal, *offset, value),
+        };
+        numbered(*refusal, format!("{name}: {found}: {rule}{allowed}"))
     }
 }
 
 impl fmt::Display for Found {
     fn fmt(&self, f: &mut fmt::Formatter<'_>) -> fmt::Result {
         match self {
-            Found::Length { found, needed: None } => f.write_str(&counted(*found, "byte")),
-            Found::Length { found, needed: Some(needed) } => {
-                write!(f, "{} in place of {needed}", counted(*found, "byte"))
+            Found::Length { found, needed } => {
+                write!(f, "{}, and {needed}", counted(*found, "byte"))
             }
             Found::Value { offset, value } => write!(f, "{value} at byte {offset}"),
         }
     }
 }
 
-/// What is wrong with a sheet that does not load, in a line.
-pub fn of_sheet(sheet: &[u8]) -> String {
-    in_sheet(sheet).map_or_else(String::new, |fault| fault.to_string())
+/// What is wrong with a sheet of a name that does not load, in a line that also says what is allowed.
+pub fn of_sheet(name: &str, sheet: &[u8], allowed: &str) -> String {
+    in_sheet(sheet).map_or_else(String::new, |fault| fault.told(name, allowed))
 }
 
-/// What is wrong with a round file of a sheet, or with its first round, in a line.
-pub fn of_rounds(sheet: &Instance, file: &[u8]) -> String {
-    in_rounds(sheet, file).map_or_else(String::new, |fault| fault.to_string())
+/// What is wrong with a round file of a name and a sheet, or with its first round, in a line.
+pub fn of_rounds(name: &str, sheet: &Instance, file: &[u8]) -> String {
+    let allowed = instead(file, b"RND");
+    in_rounds(sheet, file).map_or_else(String::new, |fault| fault.told(name, allowed))
 }
 
 /// The fault of a sheet that does not load.
 pub fn in_sheet(sheet: &[u8]) -> Option<Fault> {
     let told = told(sheet, &[]).filter(|told| told.refusal.number() < Refusal::File.number())?;
-    let needed = (told.refusal == Refusal::SheetLength).then(|| fields::sheet_length(sheet));
-    Some(told.fault(needed.flatten(), |offset| fields::in_sheet(sheet, offset)))
+    let length = fields::sheet_length(sheet).filter(|_| told.refusal == Refusal::SheetLength);
+    let needed = match length {
+        Some(length) => format!("its header asks for {length}"),
+        None => format!("the header of a sheet has {}", fields::SHEET_HEADER),
+    };
+    Some(told.fault(needed, |offset| fields::in_sheet(sheet, offset)))
 }
 
 /// The fault of a round file of a sheet, or of its first round.
 pub fn in_rounds(sheet: &Instance, file: &[u8]) -> Option<Fault> {
     let told = told(sheet.bytes(), file)?;
-    let needed = file_length(sheet, file);
+    let needed = match file_length(sheet, file) {
+        Some((count, length)) => {
+            let (rounds, make) =
+                (counted(count, "round"), if count == 1 { "makes" } else { "make" });
+            format!("{rounds} of this sheet {make} {length}")
+        }
+        None => format!("the header of a round file has {EMPTY_FILE}"),
+    };
     Some(told.fault(needed, |offset| fields::in_rounds(sheet, file, offset)))
 }
 
@@ -174,8 +190,8 @@ fn told(sheet: &[u8], file: &[u8]) -> Option<Told> {
 }
 
 impl Told {
-    /// The fault in a file that has to have so many bytes, and in which this value stands at an offset.
-    fn fault(&self, needed: Option<usize>, value: impl Fn(usize) -> String) -> Fault {
+    /// The fault in a file that has to have as many bytes as this says, and in which this value stands at an offset.
+    fn fault(&self, needed: String, value: impl Fn(usize) -> String) -> Fault {
         let found = match self.length {
             true => Found::Length { found: self.number, needed },
             false => Found::Value { offset: self.number, value: value(self.number) },
@@ -200,10 +216,10 @@ fn alone<'a>(
     Ok(&buffer[..length])
 }
 
-/// How many bytes a round file of a sheet has to have by the version and the count in its header.
-fn file_length(sheet: &Instance, file: &[u8]) -> Option<usize> {
+/// How many rounds a round file has by its header, and how many bytes these make by its version.
+fn file_length(sheet: &Instance, file: &[u8]) -> Option<(usize, usize)> {
     let [version, count] = fields::round_header(file)?;
     let mut buffer = [0; LONGEST_ROUND];
     let alone = alone(sheet, version as u32, &Round::default(), &mut buffer).ok()?;
-    Some(EMPTY_FILE + count * (alone.len() - EMPTY_FILE))
+    Some((count, EMPTY_FILE + count * (alone.len() - EMPTY_FILE)))
 }

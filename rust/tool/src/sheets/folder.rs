@@ -1,7 +1,8 @@
 //! A folder with a sheet, rounds and a level, and the library's text on it.
 
-use crate::command_line::failure::{Failure, Outcome};
+use crate::command_line::failure::{Failure, Outcome, numbered, rule};
 use crate::command_line::files;
+use crate::sheets::allowed;
 use crate::sheets::course::Course;
 use crate::sheets::faults::{self, Fault, Found};
 use crate::sheets::judged::Judged;
@@ -121,9 +122,15 @@ impl Folder {
         };
         match (files::too_long(bytes), self.found(refusal)) {
             (Some(why), _) => format!("{name} {why}"),
-            (_, Some(fault)) => format!("{name}: {fault}"),
-            _ => format!("{name}: {refusal}"),
+            (_, Some(fault)) => fault.told(name, &self.allowed(refusal)),
+            _ => numbered(refusal, format!("{name}: {}", rule(refusal))),
         }
+    }
+
+    /// What the rule of a refusal allows on the sheet, if it loads.
+    fn allowed(&self, refusal: Refusal) -> String {
+        let header = self.instance().map(|sheet| sheet.values().header);
+        header.map_or_else(String::new, |header| allowed::by(refusal, &header))
     }
 
     /// The fault behind a refusal.
@@ -154,6 +161,6 @@ fn entered(folder: &Path) -> Outcome<[u64; 2]> {
 fn of_level(level: &[u8]) -> Found {
     match level {
         [level] => Found::Value { offset: 0, value: format!("w = {level}") },
-        _ => Found::Length { found: level.len(), needed: Some(1) },
+        _ => Found::Length { found: level.len(), needed: "a level has 1".to_string() },
     }
 }

@@ -101,6 +101,18 @@ pub fn headline(sheet: &Instance) -> String {
     format!("{map}, z = {z}, {letter} = {order}, K = {challenges}")
 }
 
+/// The statement with the sheet's other numbers in a line, such as `13 = 2^x mod 23, q = 11, K = 11`.
+pub fn line(sheet: &Instance) -> String {
+    with_numbers(sheet, &statement(sheet))
+}
+
+/// These rows of the statement with the sheet's other numbers in a line.
+pub fn with_numbers(sheet: &Instance, rows: &[String]) -> String {
+    let header = sheet.values().header;
+    let (letter, order, challenges) = (order_letter(&header), header.order, header.challenges);
+    format!("{}, {letter} = {order}, K = {challenges}", rows.join(", "))
+}
+
 /// The statement row by row, such as `13 = 2^x mod 23`.
 pub fn statement(sheet: &Instance) -> Vec<String> {
     let values = sheet.values();

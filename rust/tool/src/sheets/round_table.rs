@@ -1,5 +1,6 @@
 //! Rounds in a table, with what Vic says of them.
 
+use crate::command_line::failure::rule;
 use crate::command_line::table::{self, Set};
 use crate::sheets::brought::{self, Brought};
 use crate::sheets::{allowed, faults, notation};
@@ -80,7 +81,10 @@ fn lines(sheet: &Instance, heading: &[&str], rows: Vec<Row>) -> String {
     let cells = rows.into_iter().map(|row| row.cells);
     let all: Vec<Vec<String>> = std::iter::once(heading).chain(cells).collect();
     let header = sheet.values().header;
-    let sentence = |refusal: Refusal| format!("{refusal}{}\n", allowed::by(refusal, &header));
+    let sentence = |refusal: Refusal| {
+        let (number, allowed) = (refusal.number(), allowed::by(refusal, &header));
+        format!("refusal {number}: {}{allowed}\n", rule(refusal))
+    };
     let sentences: String = refusals.into_iter().map(sentence).collect();
     let between = if sentences.is_empty() { "" } else { "\n" };
     table::lines("", &set, &all) + between + &sentences

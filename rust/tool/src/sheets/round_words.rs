@@ -91,6 +91,11 @@ impl Asked {
     /// A refusal of the round, with the value that it is by.
     pub fn refused(&self, sheet: &Instance, refusal: Refusal) -> Failure {
         match self {
+            // What stands is written without being tested, but for a challenge that version 2 cannot hold.
+            Asked::Stands(Round { challenge, .. }) if refusal == Refusal::Challenge => {
+                let what = format!("{challenge} in c=: version 2 has 65535 at most");
+                Failure::cause(refusal, what)
+            }
             Asked::Stands(round) => brought::refused(refusal, &Brought::round(sheet, round)),
             Asked::Simulated { challenge, response } => {
                 let c = Brought::challenge(sheet, "c", *challenge);

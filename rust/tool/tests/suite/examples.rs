@@ -61,7 +61,7 @@ fn every_help_has_one_form() {
         names(&overview).into_iter().map(|name| desk.print(&format!("dimkhoros {name} -h")));
     for help in helps.chain([overview.clone()]) {
         let widest = help.lines().max_by_key(|line| line.chars().count()).unwrap();
-        assert!(widest.chars().count() <= 128, "this line is too wide:\n{widest}");
+        assert!(widest.chars().count() <= 80, "this line is too wide:\n{widest}");
         let columns = columns(&help);
         assert!(columns.windows(2).all(|pair| pair[0] == pair[1]), "{columns:?} in\n{help}");
         assert!(help.starts_with("usage: dimkhoros ") && help.contains("\n\nExample:\n"), "{help}");

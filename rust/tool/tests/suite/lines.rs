@@ -2,12 +2,13 @@
 
 /// The lines. SHEET, ROUNDS, PATTERNS, LEDGER and FOLDER are files that are read, GROWN is a round file that is written over, OUT
 /// is a file that is written, X, T and C are values for each column, for each row, and a challenge.
-pub const LINES: [&str; 61] = [
+pub const LINES: [&str; 62] = [
     "make 1 --patterns PATTERNS m=23 q=11 h=2 x=7 -o OUT",
     "make 5 --patterns PATTERNS m=23 q=11 h=2,3,3 z=12,9 -o OUT",
     "make root --patterns PATTERNS m=35 e=5 z=32 -o OUT",
     "make table=X/X m=23 q=11 x=X -o OUT",
     "make linear m=23 q=11 h=2,3,4 row=h1^x3*h2^x1 row=h1^x2*h2^x4*h3^x1 z=1,8 -o OUT",
+    "numbers bits=8",
     "patterns",
     "patterns PATTERNS",
     "patterns make 1 12 120/302 -o OUT",

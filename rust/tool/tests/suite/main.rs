@@ -2,6 +2,7 @@
 
 mod browser;
 mod desk;
+mod draws;
 mod examples;
 mod files;
 mod generator;

@@ -89,7 +89,8 @@ impl Case {
         );
         assert!(matches!(status, Some(0..=2)), "{told}");
         assert!(!text.contains("panicked"), "{told}");
-        assert!(text.lines().all(|line| line.starts_with("dimkhoros: ")), "{told}");
+        let goes_on = |line: &str| line.starts_with("dimkhoros: ") || line.starts_with("    ");
+        assert!(text.lines().all(goes_on), "{told}");
         assert!(status == Some(0) || !text.is_empty(), "{told}");
         let changed = before.iter().any(|(path, bytes)| after.get(path) != Some(bytes));
         assert!(!changed, "{told}\nchanges a file that it has to leave alone");

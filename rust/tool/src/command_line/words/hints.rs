@@ -78,13 +78,63 @@ pub fn deed(
     let mut words = words.into_iter();
     let all = enumerated(deeds, "or");
     let Some(first) = words.next() else {
-        return Err(Failure::words(format!("the word behind {command} is missing: {all}")));
+        return Err(Failure::words(format!("the word after {command} is missing: {all}")));
     };
     match deeds.iter().find(|deed| first == **deed) {
         Some(deed) => Ok((deed, words.collect())),
         None => {
             let first = first.to_string_lossy();
-            Err(Failure::words(format!("the word behind {command} is {all}, and not {first}")))
+            let meant = meant(&first, deeds.iter().copied());
+            Err(Failure::words(format!(
+                "the word after {command} is {all}, and not {first}{meant}"
+            )))
         }
+    }
+}
+
+/// A question whether a word stands for the name that is most like it, if one is like it.
+pub fn meant<'a>(word: &str, names: impl Iterator<Item = &'a str>) -> String {
+    let near = names.map(|name| (steps_between(word, name), name)).min();
+    match near {
+        Some((steps, name)) if steps <= 2 && steps < name.len() && steps < word.chars().count() => {
+            format!("; did you mean {name}?")
+        }
+        _ => String::new(),
+    }
+}
+
+/// How many letters are to be left out, put in or changed, or neighbours swapped, to make one word of another.
+fn steps_between(one: &str, other: &str) -> usize {
+    let [one, other] = [one, other].map(|word| word.chars().collect::<Vec<char>>());
+    // The steps between the beginnings of the words, by the lengths of these.
+    let mut steps: Vec<Vec<usize>> = vec![(0..=other.len()).collect()];
+    for (i, letter) in one.iter().enumerate() {
+        let mut row = vec![i + 1];
+        for (j, wanted) in other.iter().enumerate() {
+            let changed = steps[i][j] + usize::from(letter != wanted);
+            let swapped = match i > 0 && j > 0 && *letter == other[j - 1] && one[i - 1] == *wanted {
+                true => steps[i - 1][j - 1] + 1,
+                false => usize::MAX,
+            };
+            row.push(changed.min(swapped).min(row[j] + 1).min(steps[i][j + 1] + 1));
+        }
+        steps.push(row);
+    }
+    steps[one.len()][other.len()]
+}
+
+#[cfg(test)]
+mod tests {
+    use super::meant;
+
+    #[test]
+    fn a_word_stands_for_the_name_that_is_most_like_it() {
+        let names = || ["make", "mark", "rounds", "or"].into_iter();
+        assert_eq!(meant("mrak", names()), "; did you mean mark?");
+        assert_eq!(meant("round", names()), "; did you mean rounds?");
+        assert_eq!(meant("maek", names()), "; did you mean make?");
+        assert_eq!(meant("lecture", names()), "");
+        assert_eq!(meant("x", names()), "");
+        assert_eq!(meant("é", names()), "");
     }
 }

@@ -3,7 +3,7 @@
 use super::made::Made;
 use super::text::{Given, Text};
 use crate::by_hand;
-use crate::command_line::failure::{Failure, Outcome, refused as by};
+use crate::command_line::failure::{Failure, Outcome, rule};
 use crate::sheets::allowed;
 use dimkhoros::{Base, EXPONENT, Header, Ledger, Line, MOST_LINES, Refusal, Verdict};
 
@@ -13,22 +13,23 @@ pub fn refused(text: &Text, refusal: Refusal) -> Failure {
     if let Some(value) = of_base(&text.base, refusal) {
         let (name, place) = (&text.name, text.base_at);
         let allowed = allowed::by(refusal, &header);
-        return Failure::failed(format!("{name}:{place}: {}{allowed}", by(refusal, value)));
+        let rule = rule(refusal);
+        return Failure::cause(refusal, format!("{name}:{place}: {value}: {rule}{allowed}"));
     }
     let mut lines = text.lines.iter().enumerate();
     let found = lines.find_map(|(number, (place, given))| {
         Some((number, *place, of_line(&text.base, number, given, refusal)?))
     });
     let Some((number, place, value)) = found else {
-        return Failure::failed(format!("{}: {refusal}", text.name));
+        return Failure::refused(refusal, &text.name);
     };
     let allowed = match refusal {
         Refusal::LineNotAbove if number == 0 => "; no line is above line 0".to_string(),
         Refusal::LineNotAbove => format!("; the lines above are 0 to {}", number - 1),
         _ => allowed::by(refusal, &header),
     };
-    let why = by(refusal, value);
-    Failure::failed(format!("{}:{place}: line {number}: {why}{allowed}", text.name))
+    let (name, rule) = (&text.name, rule(refusal));
+    Failure::cause(refusal, format!("{name}:{place}: line {number}: {value}: {rule}{allowed}"))
 }
 
 /// The numbers of a sheet over a base, for what is allowed on it.

@@ -1,12 +1,12 @@
 //! The table of a sheet that is to be made.
 
 use super::linear::Linear;
-use super::stated;
+use super::root_rows;
 use crate::command_line::failure::{Failure, Outcome};
 use crate::command_line::words::Words;
 use crate::commands::patterns;
 use crate::sheets::brought::{self, Brought};
-use crate::sheets::notation::counted;
+use crate::sheets::notation::{self, counted};
 use dimkhoros::{EXPONENT, Header, Instance, PLACES, Patterns, Plan, ROOT, Refusal, Values};
 use std::path::Path;
 
@@ -61,7 +61,7 @@ impl Asked {
         let file = patterns::load(path)?;
         if number == 0 {
             words.without(&["h"], "for a root sheet")?;
-            return Ok(Asked::Root(stated(words)?.numbers()?.len()));
+            return Ok(Asked::Root(root_rows(words)?));
         }
         let values = words.numbers("h")?.unwrap_or_default().to_vec();
         Ok(Asked::Pattern(Box::new(file), number, values))
@@ -77,11 +77,11 @@ impl Asked {
         }
     }
 
-    /// What is said of the sheet that was made, beside its length.
-    pub fn said(&self, sheet: &Instance) -> String {
+    /// The statement of the sheet that was made, row by row.
+    pub fn statement(&self, sheet: &Instance) -> Vec<String> {
         match self {
-            Asked::Linear(linear) => linear.claim(sheet),
-            _ => String::new(),
+            Asked::Linear(linear) => linear.statement(sheet),
+            _ => notation::statement(sheet),
         }
     }
 
@@ -89,7 +89,7 @@ impl Asked {
     pub fn refused(&self, numbers: [u32; 3], refusal: Refusal) -> Failure {
         let by = match (refusal, self) {
             (Refusal::Pattern, Asked::Pattern(file, number, values)) => {
-                wrong_count(file, *number, values.len())
+                return Failure::cause(refusal, wrong_count(file, *number, values.len()));
             }
             (Refusal::Shape, Asked::Root(rows)) => counted(*rows, "row"),
             (Refusal::Shape, Asked::Table(rows)) => {
@@ -125,10 +125,14 @@ fn without_patterns(words: &Words, when: &str) -> Outcome {
 /// What is wrong with a pattern's number, or with the count of its public values.
 fn wrong_count(file: &Patterns, number: u32, found: usize) -> String {
     match file.layout(number) {
-        None => format!("pattern {number}, where the file has {}", file.count()),
+        None => {
+            format!("the file has {}, and no pattern {number}", counted(file.count(), "pattern"))
+        }
         Some(layout) => {
-            let found = counted(found, "value");
-            format!("{found} in h=, where the pattern takes {}", layout.values)
+            format!(
+                "the pattern takes {} in h=, and there are {found}",
+                counted(layout.values, "value")
+            )
         }
     }
 }

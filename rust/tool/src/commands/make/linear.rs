@@ -3,7 +3,7 @@
 use super::formula::{self, Power, Term, place};
 use crate::command_line::failure::{Failure, Outcome};
 use crate::command_line::words::Words;
-use crate::sheets::notation::{self, counted, numbered};
+use crate::sheets::notation::{counted, numbered};
 use dimkhoros::{Forms, Instance, LinearPlan, PLACES, Refusal};
 
 /// The statement that is asked for.
@@ -102,14 +102,11 @@ impl Linear {
         numbered("x", self.columns, place(term.secret))
     }
 
-    /// What Peggy claims by the sheet, as the paper writes it, row by row.
-    pub fn claim(&self, sheet: &Instance) -> String {
-        let values = sheet.values();
-        let (x, m) = (notation::names(sheet, "x"), values.header.modulus);
-        let row =
-            |(row, z): (&Vec<Power>, u32)| format!("\n    {z} = {} mod {m}", self.product(row));
-        let rows: String = self.rows.iter().zip(values.statement).map(row).collect();
-        format!(". Peggy claims to know {x} with{rows}")
+    /// The statement row by row, as the paper writes it.
+    pub fn statement(&self, sheet: &Instance) -> Vec<String> {
+        let (values, m) = (sheet.values(), sheet.values().header.modulus);
+        let row = |(row, z): (&Vec<Power>, u32)| format!("{z} = {} mod {m}", self.product(row));
+        self.rows.iter().zip(values.statement).map(row).collect()
     }
 
     /// A row as a product of powers of the generators' values, such as `2^x3 · 3^(x1 + 2x2)`.

@@ -95,7 +95,7 @@ fn explained(
     }
     let checked = witness::is_witness(sheet, &witness.values, &format!("the statement of {side}"));
     Ok(format!(
-        "{why}, {c} and {d}: {side} gives its witness.\n\
+        "{why}, {c} and {d}.\nSo {side} gives its witness.\n\
          The rounds {first} and {second} of {side} give x = {x}.\n{checked}\n"
     ))
 }

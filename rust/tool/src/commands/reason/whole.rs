@@ -37,7 +37,9 @@ fn said_marked(judged: &Judged) -> String {
     let bad = not_accepted(judged).map_or_else(String::new, |bad| format!(": {bad}"));
     let few = judged.too_few().map(|needed| {
         let (needed, found) = (counted(needed, "round"), judged.rounds());
-        format!(" Level {level} asks for {needed} with K = {challenges}, and the file has {found}.")
+        format!(
+            "\nLevel {level} asks for {needed} with K = {challenges}, and the file has {found}."
+        )
     });
     format!("The whole file fails{bad}.{}", few.unwrap_or_default())
 }

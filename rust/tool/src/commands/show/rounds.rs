@@ -51,7 +51,7 @@ fn repeats(sheet: &Instance, file: &RoundFile<'_>) -> String {
 pub fn header(path: &Path, bytes: &[u8]) -> Outcome<String> {
     let name = files::name(path);
     if let Some(fault) = faults::in_round_header(bytes) {
-        return Err(Failure::failed(format!("{name}: {fault}")));
+        return Err(Failure::failed(fault.told(&name, "")));
     }
     let [version, count] = faults::round_header(bytes).unwrap_or_default();
     Ok(format!(

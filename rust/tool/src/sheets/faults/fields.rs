@@ -5,7 +5,7 @@ use crate::sheets::{order_letter, row_count, with_ones};
 use dimkhoros::{EMPTY_FILE, Header, Instance, ROOT};
 
 /// How many bytes stand before the entries of a sheet.
-const SHEET_HEADER: usize = 20;
+pub const SHEET_HEADER: usize = 20;
 
 /// The number of so many bytes at an offset, high byte first. Bytes that are not there are none.
 pub fn number(bytes: &[u8], offset: usize, width: usize) -> usize {

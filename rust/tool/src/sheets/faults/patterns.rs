@@ -15,7 +15,8 @@ const SIZES: usize = 3;
 pub fn wrong_shape(file: &[u8]) -> Option<Found> {
     let count = number(file, 5, 1);
     if file.len() < HEADER {
-        return Some(Found::Length { found: file.len(), needed: None });
+        let needed = format!("the header of a pattern file has {HEADER}");
+        return Some(Found::Length { found: file.len(), needed });
     }
     if !file.starts_with(b"PAT") {
         return Some(Found::Value { offset: 0, value: mark(file) });
@@ -31,7 +32,11 @@ pub fn wrong_shape(file: &[u8]) -> Option<Found> {
     match end {
         Err(found) => Some(found),
         Ok(end) if end == file.len() => None,
-        Ok(end) => Some(Found::Length { found: file.len(), needed: Some(end) }),
+        Ok(end) => {
+            let patterns = counted(count, "pattern");
+            let needed = format!("its {patterns} with these sizes make {end}");
+            Some(Found::Length { found: file.len(), needed })
+        }
     }
 }
 
@@ -40,7 +45,8 @@ fn end(file: &[u8], offset: usize, pattern: usize) -> Result<usize, Found> {
     for (place, thing) in ["row", "column", "value"].into_iter().enumerate() {
         let offset = offset + place;
         let Some(size) = file.get(offset).copied().map(usize::from) else {
-            return Err(Found::Length { found: file.len(), needed: None });
+            let needed = format!("pattern {pattern} begins after these");
+            return Err(Found::Length { found: file.len(), needed });
         };
         if !(1..=PLACES).contains(&size) {
             let value = format!("{} of pattern {pattern}", counted(size, thing));

@@ -83,9 +83,9 @@ fn a_fault_of_a_pattern_file_names_its_value() {
     assert_eq!(found(&own, 22, 4), value(22, "digit 4 in row 1 and column x3 of pattern 2"));
     let unnamed = "2 values of pattern 1, of which no digit names value 2,";
     assert_eq!(found(&three, 8, 2), value(8, unnamed));
-    let length = |needed| Some(Found::Length { found: 24, needed });
-    assert_eq!(found(&own, 14, 3), length(Some(22)));
-    assert_eq!(found(&own, 5, 3), length(None));
+    let length = |needed: &str| Some(Found::Length { found: 24, needed: needed.to_string() });
+    assert_eq!(found(&own, 14, 3), length("its 2 patterns with these sizes make 22"));
+    assert_eq!(found(&own, 5, 3), length("pattern 3 begins after these"));
 }
 
 /// Sheets of both kinds, of one and of several rows and columns.
@@ -132,7 +132,10 @@ fn a_sheet_that_is_cut_or_extended_is_told_how_long_it_has_to_be() {
     let damaged = |sheet| cut_and_extended(Instance::bytes(sheet)).map(move |cut| (sheet, cut));
     for (sheet, damaged) in sheets.iter().flat_map(damaged) {
         let fault = in_sheet(&damaged).unwrap();
-        let needed = (damaged.len() >= 20).then_some(sheet.bytes().len());
+        let needed = match damaged.len() >= 20 {
+            true => format!("its header asks for {}", sheet.bytes().len()),
+            false => "the header of a sheet has 20".to_string(),
+        };
         assert_eq!(fault.found, Found::Length { found: damaged.len(), needed });
         assert_eq!(Some(fault.refusal), Instance::load(&damaged).err());
     }
@@ -191,7 +194,10 @@ fn a_round_file_that_is_cut_or_extended_is_told_how_long_it_has_to_be() {
         cut.map(|damaged| (sheet.clone(), file.len(), damaged)).collect::<Vec<_>>()
     };
     for (sheet, length, damaged) in files.iter().flat_map(damaged) {
-        let needed = (damaged.len() >= 7).then_some(length);
+        let needed = match damaged.len() >= 7 {
+            true => format!("3 rounds of this sheet make {length}"),
+            false => "the header of a round file has 7".to_string(),
+        };
         let found = Found::Length { found: damaged.len(), needed };
         assert_eq!(in_rounds(&sheet, &damaged).map(|fault| fault.found), Some(found));
     }
