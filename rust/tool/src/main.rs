@@ -5,6 +5,7 @@
 mod by_hand;
 mod command_line;
 mod commands;
+mod pages;
 mod sheets;
 
 use command_line::failure::{Failure, Outcome};
@@ -55,6 +56,9 @@ fn run(name: &OsString, words: Vec<OsString>, out: &mut dyn Write) -> Outcome {
     if name == "--version" || name == "-V" {
         writeln!(out, "dimkhoros {}", env!("CARGO_PKG_VERSION"))?;
         return Ok(());
+    }
+    if name == "--pages" {
+        return pages::write(&words, out);
     }
     if name == "help" {
         return print_help(found(&words[0])?.help, out);

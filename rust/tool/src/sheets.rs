@@ -1,6 +1,7 @@
 //! Sheets as commands take them, and what is said of them and of their rounds.
 
 pub mod allowed;
+pub mod as_json;
 pub mod brought;
 pub mod commitments;
 pub mod course;

@@ -127,7 +127,7 @@ impl Target {
             How::InPlace => replace(&self.path, bytes),
         };
         match written {
-            Ok(()) => Ok(writeln!(out, "{line}")?),
+            Ok(()) => Ok(writeln!(out, "{}", wrap::lines(line, 4, WIDEST))?),
             Err(error) if error.kind() == ErrorKind::AlreadyExists && self.how == How::New => {
                 Err(Failure::failed(format!(
                     "{} is there already; --force writes over it",

@@ -1,8 +1,11 @@
 //! The command `extract`: the witness that rounds with one commitment give away, by hand.
 
+mod as_json;
+
 use crate::by_hand::{self, steps};
 use crate::command_line::failure::{Failure, Outcome, refused as refused_by};
 use crate::command_line::files;
+use crate::command_line::json::Json;
 use crate::command_line::words::{Grammar, Words};
 use crate::sheets::brought::{self, Brought};
 use crate::sheets::commitments::{self, Tried};
@@ -14,8 +17,8 @@ use std::io::Write;
 
 /// The command's help.
 pub const HELP: &str = "\
-usage: dimkhoros extract SHEET ROUNDS [--all]
-       dimkhoros extract SHEET ROUNDS NUMBER NUMBER
+usage: dimkhoros extract SHEET ROUNDS [--all | --json]
+       dimkhoros extract SHEET ROUNDS NUMBER NUMBER [--json]
        dimkhoros extract SHEET t=VALUE,... c=CHALLENGE r=VALUE,... [t=VALUE,...] c=CHALLENGE r=VALUE,...
 
 Takes the pairs of accepted rounds with the same commitment and different challenges, of a round file or of two rounds in words,
@@ -27,6 +30,8 @@ one round of each commitment are tried. Where no pair gives a witness, the exit 
     ROUNDS       a round file of the sheet
     NUMBER       the number of a round of the file, from 0: these two rounds are worked out
     --all        works out every pair that gives a witness, up to 64 besides the first one of each commitment
+    --json       prints JSON: a list with an object for each pair, with rounds, t, x and refusal, of which the last two are null
+                 where they are not
     t=VALUE,...  a commitment, a value for each row; the second round has the first one's where it is left out
     c=CHALLENGE  a challenge, from 0 to K - 1
     r=VALUE,...  a response, a value for each column
@@ -68,7 +73,7 @@ const GRAMMAR: Grammar = Grammar {
     plain: &["SHEET", "ROUNDS", "NUMBER", "NUMBER"],
     optional: 3,
     letters: &["t", "c", "r"],
-    flags: &["--all"],
+    flags: &["--all", "--json"],
     options: &[],
 };
 
@@ -115,6 +120,9 @@ fn of_words(words: &Words, out: &mut dyn Write) -> Outcome {
         }
         _ => return Err(not_two()),
     };
+    if words.flag("--json") {
+        return print_pair(&sheet, [0, 1], &rounds, out);
+    }
     if let Err(refusal) = sheet.extract(&rounds[0], &rounds[1]) {
         return refused(&sheet, &rounds, refusal, out);
     }
@@ -139,6 +147,18 @@ pub fn refused(
     Err(brought::of_two(refusal, &[("t", t)], rounds[0].challenge, rejected(sheet, rounds)))
 }
 
+/// Prints what two rounds with these numbers give as JSON.
+fn print_pair(
+    sheet: &Instance,
+    pair: [usize; 2],
+    rounds: &[Round; 2],
+    out: &mut dyn Write,
+) -> Outcome {
+    let answer = sheet.extract(&rounds[0], &rounds[1]);
+    let pair = as_json::of_pair(sheet, pair, &rounds[0], answer);
+    Ok(writeln!(out, "{}", Json::List(vec![pair]))?)
+}
+
 /// Which of two rounds are rejected.
 fn rejected(sheet: &Instance, rounds: &[Round; 2]) -> [bool; 2] {
     rounds.map(|round| sheet.judge(&round).is_ok_and(|verdict| !verdict.is_accepted()))
@@ -150,6 +170,9 @@ fn of_numbers(words: &Words, out: &mut dyn Write) -> Outcome {
     sheets::with_rounds(words, |sheet, path, file| {
         let name = files::name(path);
         let rounds = [sheets::round(file, pair[0], &name)?, sheets::round(file, pair[1], &name)?];
+        if words.flag("--json") {
+            return print_pair(sheet, pair, &rounds, out);
+        }
         if let Err(refusal) = sheet.extract(&rounds[0], &rounds[1]) {
             if let Some(fault) =
                 pair.iter().find_map(|number| in_round(sheet, file, *number, refusal, &name))
@@ -220,6 +243,9 @@ pub fn by_hand(
 fn of_file(words: &Words, out: &mut dyn Write) -> Outcome {
     sheets::with_rounds(words, |sheet, path, file| {
         let groups = commitments::groups(file);
+        if words.flag("--json") {
+            return Ok(writeln!(out, "{}", as_json::of_file(sheet, file))?);
+        }
         if groups.is_empty() {
             return Err(Failure::failed(commitments::none(path)));
         }

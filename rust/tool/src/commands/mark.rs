@@ -1,5 +1,6 @@
 //! The command `mark`: folders with a sheet, rounds and a level.
 
+mod as_json;
 mod checksum;
 mod marks;
 mod notes;
@@ -18,7 +19,7 @@ use std::io::Write;
 
 /// The command's help.
 pub const HELP: &str = "\
-usage: dimkhoros mark [--sheet SHEET] [--level W] [--csv] FOLDER...
+usage: dimkhoros mark [--sheet SHEET] [--level W] [--csv | --json] FOLDER...
 
 Marks the rounds in each folder by the course's sheet and level. A folder passes if every round is accepted and the product of
 one K for each round is at least 2^W. Without --sheet or --level the folder's own sheet.bin or level.bin counts, as in the
@@ -44,6 +45,8 @@ twice. If --sheet is left out and the folders have different sheets, a warning o
                    that are not; sheet, the checksum that the command cksum prints of it, and its m, l (q or e), K, s (rows),
                    n (columns) and z; notes. What is not known is empty. A folder's name that a spreadsheet would take for a
                    formula begins with ./
+    --json         JSON in the place of the table: a list with an object for each folder, with folder, result, refusal, rounds,
+                   accepted, rejected and refused (the numbers of the rounds), level, why and notes. What is not known is null
 
 Example:
     $ dimkhoros make schnorr m=23 q=11 h=2 x=7 -o sheet.bin
@@ -65,7 +68,7 @@ const GRAMMAR: Grammar = Grammar {
     plain: &["FOLDER..."],
     optional: 0,
     letters: &[],
-    flags: &["--csv"],
+    flags: &["--csv", "--json"],
     options: course::OPTIONS,
 };
 
@@ -74,7 +77,12 @@ pub fn run(words: Vec<OsString>, out: &mut dyn Write) -> Outcome {
     let words = Words::sort(words, &GRAMMAR)?;
     let course = Course::of(&words)?;
     let marks = marked(&words, &course);
-    let text = if words.flag("--csv") { separated::text(&marks) } else { listed(&marks) };
+    let text = match [words.flag("--csv"), words.flag("--json")] {
+        [true, true] => return Err(Failure::words("--csv and --json are both there")),
+        [true, false] => separated::text(&marks),
+        [false, true] => as_json::text(&marks),
+        [false, false] => listed(&marks),
+    };
     out.write_all(text.as_bytes())?;
     // What is said of the lines stands below them.
     out.flush()?;

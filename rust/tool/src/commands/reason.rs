@@ -4,6 +4,7 @@ mod whole;
 
 use crate::command_line::failure::{Failure, Outcome, numbered};
 use crate::command_line::files;
+use crate::command_line::json::Json;
 use crate::command_line::words::{Grammar, Words};
 use crate::sheets::course::{self, Course};
 use crate::sheets::faults::{self, Fault};
@@ -16,8 +17,8 @@ use std::path::Path;
 
 /// The command's help.
 pub const HELP: &str = "\
-usage: dimkhoros reason [--sheet SHEET] [--level W] FOLDER [ROUND]
-       dimkhoros reason [--level W] SHEET ROUNDS [ROUND]
+usage: dimkhoros reason [--sheet SHEET] [--level W] [--json] FOLDER [ROUND]
+       dimkhoros reason [--level W] [--json] SHEET ROUNDS [ROUND]
 
 Says why a student's rounds fail. The first line is the one that `./run reason FOLDER` prints: it is on the sheet, the round
 file and the file's round 0. Then comes the same in words: which value at which byte breaks which rule, or both sides of each
@@ -32,6 +33,7 @@ read.
     ROUNDS         a round file of the sheet
     --sheet SHEET  the course's sheet, in the place of the folder's own
     --level W      the course's level, a number from 1 to 64, in the place of the folder's own
+    --json         prints JSON: an object with sheet, rounds, round, verdict, which is the first word of the line, line and words
 
 Example:
     $ mkdir b
@@ -72,7 +74,7 @@ const GRAMMAR: Grammar = Grammar {
     plain: &["FOLDER", "ROUNDS", "ROUND"],
     optional: 2,
     letters: &[],
-    flags: &[],
+    flags: &["--json"],
     options: course::OPTIONS,
 };
 
@@ -84,7 +86,11 @@ pub fn run(words: Vec<OsString>, out: &mut dyn Write) -> Outcome {
         true => Asked::of_folder(&words, &course)?,
         false => Asked::of_files(&words, &course)?,
     };
-    Ok(out.write_all(asked.text()?.as_bytes())?)
+    let text = asked.text()?;
+    if words.flag("--json") {
+        return Ok(writeln!(out, "{}", asked.json(&text))?);
+    }
+    Ok(out.write_all(text.as_bytes())?)
 }
 
 /// What is asked for.
@@ -167,6 +173,20 @@ impl Asked {
             _ => self.on_round(&sheet, &file)?,
         };
         Ok(format!("{on_round}\n{}", whole::text(self, &sheet, &file)))
+    }
+
+    /// A text as JSON: the line, of which the first word is the verdict, and the words.
+    fn json(&self, text: &str) -> Json {
+        let (line, words) = text.split_once('\n').unwrap_or((text, ""));
+        let [sheet, rounds] = self.names.each_ref().map(|name| name.as_str().into());
+        Json::Object(vec![
+            ("sheet", sheet),
+            ("rounds", rounds),
+            ("round", self.round.unwrap_or(0).into()),
+            ("verdict", line.split(' ').next().into()),
+            ("line", line.into()),
+            ("words", words.trim().into()),
+        ])
     }
 
     /// The library's line on the two files, which begins with round 0.

@@ -6,7 +6,7 @@ use crate::command_line::table::{self, Set};
 use crate::command_line::words::{self, Grammar, Words};
 use crate::sheets::draw::Generator;
 use crate::sheets::round_words::{self, Asked};
-use crate::sheets::{self, commitments, notation, round_table};
+use crate::sheets::{self, as_json, commitments, notation, round_table};
 use dimkhoros::{Instance, LONGEST_FILE, MOST_ROUNDS, Refusal, Round, RoundFile, RoundWriter};
 use std::ffi::{OsStr, OsString};
 use std::io::Write;
@@ -17,7 +17,7 @@ pub const HELP: &str = "\
 usage: dimkhoros rounds make SHEET [ROUND...] [--version 2] -o ROUNDS
        dimkhoros rounds make SHEET x=VALUE,... --draw COUNT [--version 2] -o ROUNDS
        dimkhoros rounds append SHEET ROUNDS ROUND... [-o FILE]
-       dimkhoros rounds list SHEET ROUNDS
+       dimkhoros rounds list SHEET ROUNDS [--json]
        dimkhoros rounds convert SHEET ROUNDS -o FILE
        dimkhoros rounds equal SHEET ROUNDS
 
@@ -31,6 +31,7 @@ without being tested: `list` shows what Vic says of them.
                  witness and nonce makes it. A round is whole before the next one begins
     --draw COUNT  makes so many rounds of a Peggy with the witness x, whose nonces and challenges the system's generator draws
     --version 2   writes a challenge in 16 bits; version 1, in 32 bits, where it is left out
+    --json        `list` prints JSON: the rounds with their verdicts
     -o FILE       where the file is written; --force writes over a file that is there. `append` without -o adds to ROUNDS itself
 
 Example:
@@ -170,8 +171,11 @@ const TWO_FILES: Grammar =
 
 /// Lists a file.
 fn list(words: Vec<OsString>, out: &mut dyn Write) -> Outcome {
-    let words = Words::sort(words, &TWO_FILES)?;
+    let words = Words::sort(words, &Grammar { flags: &["--json"], ..TWO_FILES })?;
     sheets::with_rounds(&words, |sheet, path, file| match file.count() {
+        _ if words.flag("--json") => {
+            Ok(writeln!(out, "{}", as_json::rounds(&files::name(path), sheet, file))?)
+        }
         0 => Ok(writeln!(out, "{} has no rounds", files::name(path))?),
         count => Ok(out.write_all(round_table::of_file(sheet, file, 0..count).as_bytes())?),
     })

@@ -8,18 +8,19 @@ mod sheet;
 
 use crate::command_line::failure::{Failure, Outcome};
 use crate::command_line::files;
+use crate::command_line::json::Json;
 use crate::command_line::words::{Grammar, Words};
-use crate::sheets;
+use crate::sheets::{self, as_json};
 use std::ffi::OsString;
 use std::io::Write;
 use std::path::Path;
 
 /// The command's help.
 pub const HELP: &str = "\
-usage: dimkhoros show SHEET
-       dimkhoros show SHEET ROUNDS
-       dimkhoros show PATTERNS
-       dimkhoros show FOLDER
+usage: dimkhoros show SHEET [--json]
+       dimkhoros show SHEET ROUNDS [--json]
+       dimkhoros show PATTERNS [--json]
+       dimkhoros show FOLDER [--json]
 
 Shows a sheet, a round file of a sheet, a pattern file, or the files of a student's folder: its fields, its tables and its formulas. A file that is refused is
 told on standard error, with the number of the refusal, the byte and the value that is wrong, and the exit status is 1. Rounds
@@ -28,6 +29,7 @@ that are rejected or refused are shown with the others.
     SHEET     a sheet, which begins with HOM
     ROUNDS    a round file of the sheet, which begins with RND
     PATTERNS  a pattern file, which begins with PAT
+    --json    prints JSON: an object with the file's numbers
     FOLDER    a folder with the sheet in sheet.bin, the round file in rounds.bin and the level in level.bin
 
 Example:
@@ -70,22 +72,48 @@ Example:
     Accepted: 0 of 1.
 ";
 
-const GRAMMAR: Grammar =
-    Grammar { plain: &["SHEET", "ROUNDS"], optional: 1, letters: &[], flags: &[], options: &[] };
+const GRAMMAR: Grammar = Grammar {
+    plain: &["SHEET", "ROUNDS"],
+    optional: 1,
+    letters: &[],
+    flags: &["--json"],
+    options: &[],
+};
 
 /// Runs the command.
 pub fn run(words: Vec<OsString>, out: &mut dyn Write) -> Outcome {
     let words = Words::sort(words, &GRAMMAR)?;
     let path = words.path(0);
     if path.is_dir() && words.plain().len() == 1 {
-        return folder::show(&path, out);
+        return match words.flag("--json") {
+            true => folder::show_json(&path, out),
+            false => folder::show(&path, out),
+        };
     }
     let bytes = files::read(&path)?;
+    if words.flag("--json") {
+        return Ok(writeln!(out, "{}", json(&path, &bytes, words.plain().get(1).map(Path::new))?)?);
+    }
     let text = match words.plain().get(1).map(Path::new) {
         None => of_file(&path, &bytes)?,
         Some(rounds) => of_rounds(&path, &bytes, rounds)?,
     };
     Ok(out.write_all(text.as_bytes())?)
+}
+
+/// A file as JSON, or a round file of a sheet.
+fn json(path: &Path, bytes: &[u8], rounds: Option<&Path>) -> Outcome<Json> {
+    let name = files::name(path);
+    match (bytes.get(..3), rounds) {
+        (_, Some(rounds)) => {
+            let (sheet, bytes) = (sheets::of_bytes(path, bytes)?, files::read(rounds)?);
+            let file = sheets::rounds(&sheet, rounds, &bytes)?;
+            Ok(as_json::rounds(&files::name(rounds), &sheet, &file))
+        }
+        (Some(b"PAT"), _) => Ok(as_json::patterns(&name, &super::patterns::of_bytes(path, bytes)?)),
+        (Some(b"RND"), _) => rounds::header_json(path, bytes),
+        _ => Ok(as_json::sheet(&name, &sheets::of_bytes(path, bytes)?)),
+    }
 }
 
 /// The text on a file, whose mark says what it is.

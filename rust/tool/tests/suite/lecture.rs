@@ -599,7 +599,7 @@ fn eight_rows_and_columns_fit() {
     let entries = ["2,3,4,6,8,9,12,13"; 8].join("/");
     let x = "x=1,2,3,4,5,6,7,8";
     let made = desk.print(&format!("dimkhoros make table={entries} m=23 q=11 {x} -o eight.bin"));
-    assert!(made.starts_with("eight.bin has"), "{made}");
+    assert!(made.starts_with("12 = 2^x1 · 3^x2") && made.ends_with("q = 11, K = 11\n"), "{made}");
     let page = read(&desk, &format!("eight.bin {x}"));
     for id in ["statement", "sheet", "run", "extractor", "extractor-columns", "rounds"] {
         assert!(sections(&page).contains(&id.to_string()), "{id}");

@@ -89,7 +89,7 @@ impl Case {
         );
         assert!(matches!(status, Some(0..=2)), "{told}");
         assert!(!text.contains("panicked"), "{told}");
-        let goes_on = |line: &str| line.starts_with("dimkhoros: ") || line.starts_with("    ");
+        let goes_on = |line: &str| line.starts_with("dimkhoros:") || line.starts_with("    ");
         assert!(text.lines().all(goes_on), "{told}");
         assert!(status == Some(0) || !text.is_empty(), "{told}");
         let changed = before.iter().any(|(path, bytes)| after.get(path) != Some(bytes));

@@ -3,10 +3,11 @@
 use super::{rounds, sheet};
 use crate::command_line::failure::{Failure, Outcome};
 use crate::command_line::files;
+use crate::command_line::json::Json;
 use crate::sheets::course::Course;
 use crate::sheets::folder::Folder;
 use crate::sheets::notation::counted;
-use crate::sheets::{self, levels};
+use crate::sheets::{self, as_json, levels};
 use dimkhoros::{Instance, Refusal};
 use std::io::Write;
 use std::path::Path;
@@ -31,6 +32,25 @@ pub fn show(path: &Path, out: &mut dyn Write) -> Outcome {
         }
     }
     Ok(writeln!(out, "\n{}", level(&name, &folder, &instance)?)?)
+}
+
+/// The sheet, the rounds and the level of a folder as JSON. What is not there is null.
+pub fn show_json(path: &Path, out: &mut dyn Write) -> Outcome {
+    let folder = Folder::read(path.as_os_str(), &Course { sheet: None, level: None })?;
+    let (name, own) = (files::name(path), path.join("sheet.bin"));
+    let missing = || Failure::failed(format!("{name} has no sheet.bin"));
+    let sheet = sheets::of_bytes(&own, folder.sheet.as_ref().ok_or_else(missing)?)?;
+    let rounds = path.join("rounds.bin");
+    let file = folder.rounds.as_ref().map(|bytes| sheets::rounds(&sheet, &rounds, bytes));
+    let file = file.transpose()?.map(|file| as_json::rounds(&files::name(&rounds), &sheet, &file));
+    level(&name, &folder, &sheet)?;
+    let value = Json::Object(vec![
+        ("folder", name.as_str().into()),
+        ("sheet", as_json::sheet(&files::name(&own), &sheet)),
+        ("rounds", file.unwrap_or(Json::Null)),
+        ("level", folder.level().into()),
+    ]);
+    Ok(writeln!(out, "{value}")?)
 }
 
 /// What the level asks for, in a sentence.

@@ -2,6 +2,7 @@
 
 use crate::command_line::failure::{Failure, Outcome};
 use crate::command_line::files;
+use crate::command_line::json::Json;
 use crate::sheets::notation::{self, counted};
 use crate::sheets::{commitments, faults, round_table};
 use dimkhoros::{Instance, Round, RoundFile};
@@ -45,6 +46,18 @@ fn repeats(sheet: &Instance, file: &RoundFile<'_>) -> String {
         format!("Rounds {} have the same commitment {commitment}.{away}\n", notation::and(&group))
     };
     commitments::groups(file).into_iter().map(line).collect()
+}
+
+/// What the header of a round file says whose sheet is not known, as JSON.
+pub fn header_json(path: &Path, bytes: &[u8]) -> Outcome<Json> {
+    header(path, bytes)?;
+    let [version, count] = faults::round_header(bytes).unwrap_or_default();
+    Ok(Json::Object(vec![
+        ("file", files::name(path).into()),
+        ("type", "rounds".into()),
+        ("version", version.into()),
+        ("count", count.into()),
+    ]))
 }
 
 /// The text on a round file whose sheet is not known: what its header says.
