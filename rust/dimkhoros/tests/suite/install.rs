@@ -1,5 +1,5 @@
-//! The script `./install`: what it puts where, what it builds before, and how it fails. The tool, the archive, the shared library and
-//! the Python module are files of a few bytes here, which the script copies; `installed.rs` uses those that are built.
+//! The script `./install`: what it puts where, what it builds before, and how it fails. The archive, the shared library and the
+//! Python module are files of a few bytes here, which the script copies, and the tool is a script that writes pages; `installed.rs` uses those that are built.
 
 use crate::home::{Ended, Home, built, ended};
 use crate::tree::{tree, untried};
@@ -31,7 +31,7 @@ const NO_MODULE: [&str; 5] = [
 ];
 
 /// What an install puts under PREFIX, with the modes.
-const TREE: [&str; 24] = [
+const TREE: [&str; 44] = [
     "bin/ 755",
     "bin/dimkhoros 755",
     "bin/game 755",
@@ -52,11 +52,41 @@ const TREE: [&str; 24] = [
     "lib/python/dimkhoros/__init__.py 644",
     "lib/python/dimkhoros/verbs.py 644",
     "share/ 755",
+    "share/bash-completion/ 755",
+    "share/bash-completion/completions/ 755",
+    "share/bash-completion/completions/dimkhoros 644",
     "share/dimkhoros/ 755",
     "share/dimkhoros/installed.txt 644",
     "share/dimkhoros/ledger.txt 644",
     "share/dimkhoros/patterns.bin 644",
+    "share/doc/ 755",
+    "share/doc/dimkhoros/ 755",
+    "share/doc/dimkhoros/README.md 644",
+    "share/doc/dimkhoros/docs/ 755",
+    "share/doc/dimkhoros/docs/AUTHORS.md 644",
+    "share/doc/dimkhoros/examples/ 755",
+    "share/doc/dimkhoros/examples/team.c 644",
+    "share/fish/ 755",
+    "share/fish/vendor_completions.d/ 755",
+    "share/fish/vendor_completions.d/dimkhoros.fish 644",
+    "share/man/ 755",
+    "share/man/man1/ 755",
+    "share/man/man1/dimkhoros-make.1 644",
+    "share/man/man1/dimkhoros.1 644",
+    "share/zsh/ 755",
+    "share/zsh/site-functions/ 755",
+    "share/zsh/site-functions/_dimkhoros 644",
 ];
+
+/// What the tool's pages leave out where there is no tool.
+const OF_TOOL: [&str; 5] =
+    ["bin/dimkhoros", "share/bash-completion", "share/fish", "share/man", "share/zsh"];
+
+/// A tool that writes pages.
+const TOOL: &str = "#!/bin/sh
+mkdir -p \"$2\" && cd \"$2\" || exit 1
+for page in dimkhoros.1 dimkhoros-make.1 dimkhoros.bash _dimkhoros dimkhoros.fish; do echo $page >$page; done
+";
 
 /// What is said where the tool is old or missing, and cargo is not there.
 const NO_CARGO: &str =
@@ -78,7 +108,12 @@ fn laid_out(test: &str) -> Home {
     home.put_programs();
     write(&home, "target/staticlib/libdimkhoros.a");
     write(&home, "target/staticlib/libdimkhoros.so");
-    write(&home, "rust/target/release/dimkhoros");
+    for file in ["README.md", "docs/AUTHORS.md", "examples/team.c"] {
+        write(&home, file);
+    }
+    let tool = home.0.join("rust/target/release/dimkhoros");
+    fs::write(&tool, TOOL).unwrap();
+    fs::set_permissions(&tool, fs::Permissions::from_mode(0o755)).unwrap();
     home
 }
 
@@ -150,7 +185,7 @@ fn the_end_says_what_is_where_and_how_to_use_it() {
     for name in named.iter().flat_map(|line| line[2..34].split(", ")).map(str::trim) {
         assert!(home.0.join("it's").join(name).exists(), "{name} is said to be there");
     }
-    assert_eq!(named.len(), 11);
+    assert_eq!(named.len(), 13);
     let used = format!(
         "{}\necho \"$PATH\n$PKG_CONFIG_PATH\n$LD_LIBRARY_PATH\n$PYTHONPATH\"",
         lines.next().unwrap()
@@ -341,12 +376,13 @@ fn an_install_replaces_an_earlier_one() {
     install(&home, "prefix");
     let program = home.0.join("prefix/bin/dimkhoros");
     let open = File::open(&program).unwrap();
-    fs::write(home.0.join("rust/target/release/dimkhoros"), "another").unwrap();
+    let another = format!("{TOOL}# another\n");
+    fs::write(home.0.join("rust/target/release/dimkhoros"), &another).unwrap();
     fs::remove_file(home.0.join("python/dimkhoros/verbs.py")).unwrap();
     install(&home, "prefix");
-    assert_eq!(fs::read_to_string(&program).unwrap(), "another");
+    assert_eq!(fs::read_to_string(&program).unwrap(), another);
     assert_eq!(open.metadata().unwrap().nlink(), 0);
-    assert_eq!(io::read_to_string(open).unwrap(), "rust/target/release/dimkhoros");
+    assert_eq!(io::read_to_string(open).unwrap(), TOOL);
     let gone = ["lib/python/dimkhoros/verbs.py"];
     assert_eq!(tree(&home.0.join("prefix")), without(&gone));
 }
@@ -397,7 +433,7 @@ fn without_cargo_the_tool_is_left_out() {
         let run = home.run(&[prefix]);
         assert_eq!((run.status, run.stderr.as_str()), (Some(1), NO_CARGO));
         assert!(!run.stdout.contains("bin/dimkhoros"));
-        assert_eq!(tree(&home.0.join(prefix)), without(&["bin/dimkhoros"]));
+        assert_eq!(tree(&home.0.join(prefix)), without(&OF_TOOL));
     }
 }
 
@@ -422,7 +458,7 @@ fn the_tool_is_built_by_cargo() {
     home.date("rust/target/release/dimkhoros", false);
     home.put_tool(
         "cargo",
-        "pwd >>../asked; echo \"$@\" >>../asked; echo built >target/release/dimkhoros",
+        "pwd >>../asked; echo \"$@\" >>../asked; echo '# built' >>target/release/dimkhoros",
     );
     let run = home.run(&["prefix"]);
     assert_eq!(run.status, Some(0));
@@ -430,7 +466,7 @@ fn the_tool_is_built_by_cargo() {
     assert_eq!(run.stderr.lines().count(), 1);
     let words = "build --offline --release -p dimkhoros-tool --target-dir target";
     assert_eq!(home.text("asked"), format!("{}\n{words}\n", path(&home, "rust")));
-    assert_eq!(home.text("prefix/bin/dimkhoros"), "built\n");
+    assert_eq!(home.text("prefix/bin/dimkhoros"), format!("{TOOL}# built\n"));
     install(&home, "prefix");
 }
 
@@ -447,7 +483,7 @@ fn a_tool_that_cannot_be_built_is_left_out() {
             "install: bin/dimkhoros is not installed: cargo cannot build it; its whole output is in {log}"
         );
         assert_eq!((run.status, run.stderr.lines().last()), (Some(1), Some(last.as_str())));
-        assert_eq!(tree(&home.0.join("prefix")), without(&["bin/dimkhoros"]));
+        assert_eq!(tree(&home.0.join("prefix")), without(&OF_TOOL));
         assert!(matches!(home.text("target/install.log").lines().count(), 1 | 6));
     }
 }
