@@ -94,9 +94,12 @@ pub fn deed(
 
 /// A question whether a word stands for the name that is most like it, if one is like it.
 pub fn meant<'a>(word: &str, names: impl Iterator<Item = &'a str>) -> String {
+    let length = word.chars().count();
+    // A name that is longer or shorter by more is not like the word, however long that is.
+    let names = names.filter(|name| name.len().abs_diff(length) <= 2);
     let near = names.map(|name| (steps_between(word, name), name)).min();
     match near {
-        Some((steps, name)) if steps <= 2 && steps < name.len() && steps < word.chars().count() => {
+        Some((steps, name)) if steps <= 2 && steps < name.len() && steps < length => {
             format!("; did you mean {name}?")
         }
         _ => String::new(),
