@@ -4,10 +4,11 @@ use crate::command_line::failure::{Failure, Outcome};
 use crate::command_line::output;
 use crate::command_line::words::Words;
 use crate::command_line::wrap::{self, NARROWEST, WIDEST};
+use std::env;
 use std::ffi::OsStr;
 use std::fmt::Display;
 use std::fs::{self, File, OpenOptions};
-use std::io::{self, ErrorKind, Read, Write};
+use std::io::{self, ErrorKind, IsTerminal, Read, Write};
 use std::path::{Path, PathBuf};
 use std::process;
 use std::str::Utf8Chunk;
@@ -213,5 +214,26 @@ fn is_standard(path: &Path) -> bool {
 pub fn note(line: &dyn Display) {
     let width = output::columns(io::stderr()).unwrap_or(WIDEST).clamp(NARROWEST, WIDEST);
     let line = format!("dimkhoros: {}", escaped(&line.to_string()));
-    let _ = writeln!(io::stderr(), "{}", wrap::lines(&line, 4, width));
+    let coloured =
+        io::stderr().is_terminal() && env::var_os("NO_COLOR").is_none_or(|no| no.is_empty());
+    let _ = writeln!(io::stderr(), "{}", painted(&wrap::lines(&line, 4, width), coloured));
+}
+
+/// A line with the tool's name before it in red, if colours are wanted.
+fn painted(line: &str, coloured: bool) -> String {
+    match line.strip_prefix("dimkhoros:") {
+        Some(rest) if coloured => format!("\u{1b}[31mdimkhoros:\u{1b}[0m{rest}"),
+        _ => line.to_string(),
+    }
+}
+
+#[cfg(test)]
+mod tests {
+    use super::painted;
+
+    #[test]
+    fn the_name_is_red_if_colours_are_wanted() {
+        assert_eq!(painted("dimkhoros: no", true), "\u{1b}[31mdimkhoros:\u{1b}[0m no");
+        assert_eq!(painted("dimkhoros: no", false), "dimkhoros: no");
+    }
 }
