@@ -12,7 +12,7 @@ from ._exports import EXPORTS
 VERSION = "0.2.0"
 NAME = "libdimkhoros.so"
 
-# What to do where the library is missing or another one.
+# What to do if the library is missing or the wrong one.
 ADVICE = (
     "Run `./install PREFIX` or `scripts/shared_library` at the root of the repository, or set DIMKHOROS_LIB to the whole "
     f"path of the folder that has {NAME}."
@@ -20,15 +20,15 @@ ADVICE = (
 
 
 def folders(module: Path, named: str | None) -> list[Path]:
-    """The folders in which the library of a module is looked for: the one that DIMKHOROS_LIB names and no other, or
-    else the nearest folder `lib` above the module, which is that of an installed prefix, and target/staticlib of the
-    repository."""
+    """The folders in which the library of a module is looked for. If DIMKHOROS_LIB is set, it is the only one.
+    Otherwise they are the module's own folder, as in a wheel, the nearest folder `lib` above it, as in a folder that
+    `./install` made, and target/staticlib of the repository."""
     if named:
         if not os.path.isabs(named):
             raise ImportError(f"DIMKHOROS_LIB has to be the whole path of a folder, and is {named}.")
         return [Path(named)]
     installed = [folder for folder in module.parents if folder.name == "lib"][:1]
-    return installed + [module.parents[2] / "target" / "staticlib"]
+    return [module.parent, *installed, module.parents[2] / "target" / "staticlib"]
 
 
 def find(module: Path, named: str | None) -> Path:
@@ -73,9 +73,9 @@ calls = checked(opened(_PATH), _PATH, VERSION)
 
 def version() -> int:
     """The version of the library, 10000 * major + 100 * minor + patch."""
-    return calls.version()
+    return int(calls.version())
 
 
-def buffer(length: int) -> ctypes.Array:
+def buffer(length: int) -> ctypes.Array[ctypes.c_char]:
     """A buffer of so many zero bytes, to be written to."""
     return ctypes.create_string_buffer(length)

@@ -126,6 +126,13 @@ class Finding(unittest.TestCase):
             shutil.copy(LIBRARY, self.folder / "lib")
             self.assertEqual(imported(module).stdout, f"{self.folder}/lib/libdimkhoros.so\n")
 
+    def test_in_the_module_itself(self):
+        """As in a wheel. A library in a folder `lib` above is not looked at."""
+        module = self.copied("lib/python3.9/site-packages")
+        (self.folder / "lib" / LIBRARY.name).write_bytes(b"no library")
+        shutil.copy(LIBRARY, module / "dimkhoros")
+        self.assertEqual(imported(module).stdout, f"{module}/dimkhoros/libdimkhoros.so\n")
+
     def test_in_the_repository(self):
         """The module stands in its folder python."""
         module, built = self.copied("python"), self.folder / "target" / "staticlib"
@@ -135,8 +142,9 @@ class Finding(unittest.TestCase):
 
     def test_a_missing_library_is_named_with_the_places(self):
         """And with what builds it."""
-        said = self.failed(imported(self.copied("lib/python")))
-        places = f"{self.folder}/lib or {self.folder}/lib/target/staticlib"
+        module = self.copied("lib/python")
+        said = self.failed(imported(module))
+        places = f"{module}/dimkhoros or {self.folder}/lib or {self.folder}/lib/target/staticlib"
         self.assertEqual(said, f"ImportError: There is no libdimkhoros.so in {places}. {_library.ADVICE}")
         self.assertIn("scripts/shared_library", said)
         said = self.failed(imported(self.copied("python"), DIMKHOROS_LIB="/no/such/folder"))

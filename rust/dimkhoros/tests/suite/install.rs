@@ -22,7 +22,9 @@ const CRATES: &str = "laws:\nothers: laws\ncode: io laws\ndimkhoros: code\nmarke
 
 /// Files of a Python module, then such as are not installed.
 const MODULE: [&str; 2] = ["python/README.md", "python/dimkhoros/__init__.py"];
-const NO_MODULE: [&str; 5] = [
+const NO_MODULE: [&str; 7] = [
+    "python/pyproject.toml",
+    "python/wheel_backend.py",
     "python/tests/test_calls.py",
     "python/tests/calls.py",
     "python/dimkhoros/test_calls.py",

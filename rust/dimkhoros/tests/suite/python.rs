@@ -1,5 +1,6 @@
-//! The Python module passes its own tests over the shared library that is made of the archive. They are run where there is a
-//! Python of a version that the module is for, and one line on standard error says where there is none.
+//! The Python module passes its own tests over the shared library that is made of the archive, and pip installs it with that
+//! library. This is tried if there is a Python of a version that the module is for, and pip; if one is missing, a line on standard
+//! error says so.
 
 use crate::cc;
 use crate::tree::untried;
@@ -26,10 +27,20 @@ fn missing() -> Option<&'static str> {
     }
 }
 
-#[test]
-fn the_python_module_passes_its_tests() {
+/// Makes the shared library.
+fn make_library() {
     let script = cc::root().join("scripts/shared_library");
     cc::succeed(Command::new(script).env("DIMKHOROS_LIB", folder()));
+}
+
+/// Whether Python has pip.
+fn has_pip() -> bool {
+    Command::new("python3").args(["-m", "pip", "--version"]).output().unwrap().status.success()
+}
+
+#[test]
+fn the_python_module_passes_its_tests() {
+    make_library();
     if let Some(why) = missing() {
         return untried(why, "the tests of the Python module");
     }
@@ -37,4 +48,32 @@ fn the_python_module_passes_its_tests() {
     python.args(["-m", "unittest", "discover"]).current_dir(cc::root().join("python"));
     python.env("DIMKHOROS_LIB", folder()).env("PYTHONDONTWRITEBYTECODE", "1");
     cc::succeed(&mut python);
+}
+
+/// pip is given the folder python alone and may look nowhere else. The installed module is imported away from the repository, and
+/// loads the library of its own folder.
+#[test]
+fn pip_installs_the_module_with_its_library() {
+    make_library();
+    let what = "python3 -m pip install ./python";
+    if let Some(why) = missing() {
+        return untried(why, what);
+    }
+    if !has_pip() {
+        return untried("python3 has no pip", what);
+    }
+    let installed = cc::scratch("pip");
+    let _ = fs::remove_dir_all(&installed);
+    let mut pip = Command::new("python3");
+    pip.args(["-m", "pip", "--isolated", "install", "--no-index", "--no-compile", "--target"]);
+    pip.arg(&installed).arg(cc::root().join("python"));
+    cc::succeed(pip.env("DIMKHOROS_LIB", folder()).env("PYTHONDONTWRITEBYTECODE", "1"));
+    let installed = fs::canonicalize(installed).unwrap();
+    let program = "import dimkhoros; print(dimkhoros.__file__); print(dimkhoros._library._PATH)";
+    let mut python = Command::new("python3");
+    python.args(["-B", "-c", program]).current_dir(&installed).env_remove("DIMKHOROS_LIB");
+    let said = cc::succeed(python.env_remove("PYTHONPATH"));
+    let module = installed.join("dimkhoros");
+    let expected = ["__init__.py", "libdimkhoros.so"].map(|name| module.join(name));
+    assert_eq!(said.lines().map(PathBuf::from).collect::<Vec<_>>(), expected);
 }
