@@ -1,6 +1,7 @@
 """What the shared library exports: the answer and the arguments of each call, as include/dimkhoros.h declares them."""
 
 import ctypes
+from typing import Any
 
 from . import _structs as c
 
@@ -9,12 +10,12 @@ Size = c.Size
 
 # Bytes, or a buffer of bytes to write to.
 Bytes = ctypes.c_char_p
-# Bytes with their length behind them.
-Given = [Bytes, Size]
+# Bytes, and their length.
+Given: list[type[Any]] = [Bytes, Size]
 # The address of several numbers.
 Numbers = ctypes.POINTER(U32)
 
-EXPORTS = {
+EXPORTS: dict[str, tuple[type[Any], list[type[Any]]]] = {
     "version": (U32, []),
     "load": (c.Loaded, [*Given]),
     "entries": (U32, [*Given, Numbers]),

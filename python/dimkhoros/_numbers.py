@@ -74,17 +74,17 @@ def counted(count: int, what: str) -> str:
     return f"{count} {what}" if count == 1 else f"{count} {what}s"
 
 
-def places(values: tuple[int, ...]) -> ctypes.Array:
+def places(values: tuple[int, ...]) -> ctypes.Array[U32]:
     """Eight places that begin with these values and go on with zeros."""
     return Places(*values)
 
 
-def several(values: tuple[int, ...]) -> ctypes.Array:
+def several(values: tuple[int, ...]) -> ctypes.Array[U32]:
     """An array of just these values."""
     return (U32 * len(values))(*values)
 
 
-def parts(brought: list[tuple[int, ...]]) -> ctypes.Array:
+def parts(brought: list[tuple[int, ...]]) -> ctypes.Array[U32]:
     """What a team's players bring, eight places for each and one player behind the other."""
     all_parts = Parts()
     for player, values in enumerate(brought):
@@ -92,7 +92,7 @@ def parts(brought: list[tuple[int, ...]]) -> ctypes.Array:
     return all_parts
 
 
-def held(values: ctypes.Array) -> tuple[int, ...]:
+def held(values: ctypes.Array[U32]) -> tuple[int, ...]:
     """The values that a session holds in eight places, without the zeros behind them. No group element is 0."""
     last = max((place + 1 for place, value in enumerate(values) if value), default=0)
     return tuple(values[:last])
@@ -119,6 +119,11 @@ def function(value: object, name: str) -> None:
     """Raises an error where the value cannot be called."""
     if not callable(value):
         raise TypeError(f"{name} has to be a function")
+
+
+def hold(made: object, name: str, value: object) -> None:
+    """Sets a field of a dataclass that is frozen, while it is made."""
+    object.__setattr__(made, name, value)
 
 
 def of_kind(kind: type, value: object, name: str) -> None:

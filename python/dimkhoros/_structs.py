@@ -131,7 +131,7 @@ class VerifierJudgement(ctypes.Structure):
     @property
     def refusal(self) -> int:
         """The refusal, which stands in the verdict."""
-        return self.verdict.refusal
+        return int(self.verdict.refusal)
 
 
 class OrRound(ctypes.Structure):

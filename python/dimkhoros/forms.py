@@ -5,10 +5,10 @@ from __future__ import annotations
 from collections.abc import Iterable
 from dataclasses import dataclass
 
-from ._numbers import counted, listed, number, numbers
+from ._numbers import counted, hold, listed, number, numbers
 
 
-@dataclass(frozen=True)
+@dataclass(frozen=True, init=False)
 class Forms:
     """The coefficients of linear forms: how many rows and columns they are for, and the coefficients one after the
     other, by row, then generator, then column. `Forms.of` makes them of nested lists; `Instance.from_forms` tests
@@ -18,11 +18,11 @@ class Forms:
     columns: int
     coefficients: tuple[int, ...]
 
-    def __post_init__(self) -> None:
-        """Lists become tuples."""
-        object.__setattr__(self, "rows", number(self.rows, "the count of rows"))
-        object.__setattr__(self, "columns", number(self.columns, "the count of columns"))
-        object.__setattr__(self, "coefficients", numbers(self.coefficients, "the coefficients"))
+    def __init__(self, rows: int, columns: int, coefficients: Iterable[int]) -> None:
+        """A list of coefficients becomes a tuple."""
+        hold(self, "rows", number(rows, "the count of rows"))
+        hold(self, "columns", number(columns, "the count of columns"))
+        hold(self, "coefficients", numbers(coefficients, "the coefficients"))
 
     @classmethod
     def of(cls, rows: Iterable[Iterable[Iterable[int]]]) -> Forms:

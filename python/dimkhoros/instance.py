@@ -2,12 +2,13 @@
 
 from __future__ import annotations
 
+import ctypes
 from collections.abc import Iterable
-from dataclasses import astuple, dataclass, fields, replace
+from dataclasses import astuple, dataclass, fields
 
 from . import _structs
 from ._library import buffer, calls
-from ._numbers import counted, data, exactly, given, listed, number, numbers, of_kind, places, rows, several
+from ._numbers import counted, data, exactly, given, hold, listed, number, numbers, of_kind, places, rows, several
 from ._sizes import EXPONENT, LONGEST_SHEET, PLACES
 from .forms import Forms, forms_of
 from .patterns import Patterns
@@ -30,10 +31,10 @@ class Header:
     def __post_init__(self) -> None:
         """Each field is a number of 32 bits."""
         for field in fields(self):
-            object.__setattr__(self, field.name, number(getattr(self, field.name), f"the field {field.name}"))
+            hold(self, field.name, number(getattr(self, field.name), f"the field {field.name}"))
 
 
-@dataclass(frozen=True)
+@dataclass(frozen=True, init=False)
 class Values:
     """All values of a sheet: its fixed fields, the table as s rows of n entries, none in a root sheet, and the
     statement z, s values. `Instance.encode` tests them."""
@@ -42,12 +43,12 @@ class Values:
     entries: tuple[tuple[int, ...], ...]
     statement: tuple[int, ...]
 
-    def __post_init__(self) -> None:
+    def __init__(self, header: Header, entries: Iterable[Iterable[int]], statement: Iterable[int]) -> None:
         """Lists become tuples."""
-        of_kind(Header, self.header, "the header")
-        table = tuple(numbers(row, "a row of the table") for row in listed(self.entries, "the table"))
-        object.__setattr__(self, "entries", table)
-        object.__setattr__(self, "statement", numbers(self.statement, "the statement"))
+        of_kind(Header, header, "the header")
+        hold(self, "header", header)
+        hold(self, "entries", tuple(numbers(row, "a row of the table") for row in listed(entries, "the table")))
+        hold(self, "statement", numbers(statement, "the statement"))
 
 
 class Instance:
@@ -150,7 +151,7 @@ class Instance:
 
     def with_statement(self, statement: Iterable[int]) -> Instance:
         """Makes the sheet with this statement in the place of its own, or refuses it with 11."""
-        return Instance.encode(replace(self._values, statement=statement))
+        return Instance.encode(Values(self.header, self._values.entries, statement))
 
     @property
     def bytes(self) -> bytes:
@@ -223,7 +224,7 @@ def verdict(judged: _structs.Judgement) -> Verdict:
     return Verdict(judged.accepted == 1, rows(judged.rows))
 
 
-def _table(values: Values) -> _structs.Table:
+def _table(values: Values) -> ctypes.Array[_structs.U32]:
     """The entries of a sheet of at most eight rows and columns, row i and column j at 8 * i + j."""
     header = values.header
     expected = header.rows if header.kind == EXPONENT else 0

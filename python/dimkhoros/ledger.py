@@ -8,7 +8,7 @@ from dataclasses import dataclass
 
 from . import _structs
 from ._library import calls
-from ._numbers import counted, listed, number, numbers, of_kind, size
+from ._numbers import counted, hold, listed, number, numbers, of_kind, size
 from ._sizes import LINE_COMMITMENT, LINE_PRODUCT, LINE_SUM, MOST_LINES
 from .instance import Instance
 from .patterns import Pattern, Patterns
@@ -41,7 +41,7 @@ class Base:
     def __post_init__(self) -> None:
         """Each is a number of 32 bits."""
         for name in ["g", "h", "modulus", "order", "challenges"]:
-            object.__setattr__(self, name, number(getattr(self, name), name))
+            hold(self, name, number(getattr(self, name), name))
 
     def _struct(self) -> _structs.Base:
         """The base as the library takes it."""
@@ -100,8 +100,8 @@ class Line:
         if found.kind == LINE_SUM:
             return cls.sum(found.first, found.second)
         if found.kind == LINE_PRODUCT:
-            lines = [found.first, found.second]
-            return cls.product(*lines, found.commitment, found.t, found.challenge, found.response)
+            round = found.t, found.challenge, found.response
+            return cls.product(found.first, found.second, found.commitment, *round)
         return cls(found.kind)
 
     def _struct(self) -> _structs.Line:
@@ -189,7 +189,7 @@ class Entries:
 
     def __len__(self) -> int:
         """How many lines there are."""
-        return self._held.count
+        return int(self._held.count)
 
     def __repr__(self) -> str:
         """How many lines there are, and no value, blinding number or nonce."""
@@ -257,9 +257,9 @@ class Ledger:
         two lines multiplied modulo m."""
         check(calls.ledger_check(self._base._struct(), self._held).refusal)
         found: list[int] = []
-        for line in self.lines:
-            stored = line.commitment
-            found.append(found[line.first] * found[line.second] % self._base.modulus if stored is None else stored)
+        for line in self._held.lines[: self._held.count]:
+            is_sum = line.kind == LINE_SUM
+            found.append(found[line.first] * found[line.second] % self._base.modulus if is_sum else line.commitment)
         return tuple(found)
 
     def product(self, line: int) -> tuple[Instance, Round] | None:
@@ -271,9 +271,9 @@ class Ledger:
         a * b mod q with a * beta + delta mod q opens E. This is proved."""
         place = size(line, "the line")
         commitments = self.commitments
-        if place >= len(commitments) or self.lines[place].kind != LINE_PRODUCT:
+        if place >= len(commitments) or self._held.lines[place].kind != LINE_PRODUCT:
             return None
-        found, base = self.lines[place], self._base
+        found, base = self._held.lines[place], self._base
         sheet = Instance.from_pattern(
             Patterns.shipped(),
             Pattern.PRODUCT,

@@ -79,7 +79,8 @@ class Patterns:
     @property
     def layouts(self) -> tuple[Layout, ...]:
         """All patterns, in the file's order: the first one has the number 1."""
-        found, rest = [], self._bytes[_HEADER:]
+        found: list[Layout] = []
+        rest = self._bytes[_HEADER:]
         while rest:
             rows, columns, values = rest[:3]
             digits = [tuple(rest[3 + columns * row : 3 + columns * (row + 1)]) for row in range(rows)]

@@ -25,9 +25,9 @@ class RoundFile:
         """Opens a round file, as `open` does."""
         of_kind(Instance, instance, "the sheet")
         self._instance, self._bytes = instance, data(file, "the round file")
-        counted = calls.count(*self._given())
-        check(counted.refusal)
-        self._count = counted.count
+        found = calls.count(*self._given())
+        check(found.refusal)
+        self._count = int(found.count)
 
     @classmethod
     def open(cls, instance: Instance, file: bytes) -> RoundFile:
@@ -95,7 +95,7 @@ class RoundFile:
             *self._given(), size(i, "the number of a round"), size(j, "the number of a round")
         )
         check(compared.refusal)
-        return compared.same == 1
+        return bool(compared.same == 1)
 
     def convert(self) -> RoundFile:
         """The file in its other version, 2 for 1 and 1 for 2. The rounds keep their order and all their values. A
@@ -130,7 +130,7 @@ class RoundWriter:
         self._instance, self._buffer = instance, buffer(LONGEST_FILE)
         written = calls.empty(number(version, "the version"), self._buffer, len(self._buffer))
         check(written.refusal)
-        self._used = written.length
+        self._used = int(written.length)
 
     @classmethod
     def start(cls, instance: Instance, version: int = 1) -> RoundWriter:

@@ -2,19 +2,15 @@
 
 from __future__ import annotations
 
+from collections.abc import Iterable
 from dataclasses import dataclass
 from enum import IntEnum
 
 from . import _structs
-from ._numbers import exactly, number, numbers, of_kind, places
+from ._numbers import exactly, hold, number, numbers, of_kind, places
 
 
-def _hold(instance: object, name: str, value: object) -> None:
-    """Sets a field of a dataclass that is frozen, while it is made."""
-    object.__setattr__(instance, name, value)
-
-
-@dataclass(frozen=True)
+@dataclass(frozen=True, init=False)
 class Round:
     """One run of the protocol: the commitment t, s values, the challenge c, and the response r, n values."""
 
@@ -22,14 +18,14 @@ class Round:
     challenge: int
     response: tuple[int, ...]
 
-    def __post_init__(self) -> None:
+    def __init__(self, commitment: Iterable[int], challenge: int, response: Iterable[int]) -> None:
         """Lists become tuples."""
-        _hold(self, "commitment", numbers(self.commitment, "the commitment"))
-        _hold(self, "challenge", number(self.challenge, "the challenge"))
-        _hold(self, "response", numbers(self.response, "the response"))
+        hold(self, "commitment", numbers(commitment, "the commitment"))
+        hold(self, "challenge", number(challenge, "the challenge"))
+        hold(self, "response", numbers(response, "the response"))
 
 
-@dataclass(frozen=True)
+@dataclass(frozen=True, init=False)
 class OrRound:
     """One run of the OR proof: both commitments, c, the first side's challenge c0, and both responses. The second
     side has the challenge (c - c0) mod K."""
@@ -41,14 +37,22 @@ class OrRound:
     response0: tuple[int, ...]
     response1: tuple[int, ...]
 
-    def __post_init__(self) -> None:
+    def __init__(
+        self,
+        commitment0: Iterable[int],
+        commitment1: Iterable[int],
+        challenge: int,
+        challenge0: int,
+        response0: Iterable[int],
+        response1: Iterable[int],
+    ) -> None:
         """Lists become tuples."""
-        _hold(self, "commitment0", numbers(self.commitment0, "the commitment of side 0"))
-        _hold(self, "commitment1", numbers(self.commitment1, "the commitment of side 1"))
-        _hold(self, "challenge", number(self.challenge, "the challenge"))
-        _hold(self, "challenge0", number(self.challenge0, "the challenge of side 0"))
-        _hold(self, "response0", numbers(self.response0, "the response of side 0"))
-        _hold(self, "response1", numbers(self.response1, "the response of side 1"))
+        hold(self, "commitment0", numbers(commitment0, "the commitment of side 0"))
+        hold(self, "commitment1", numbers(commitment1, "the commitment of side 1"))
+        hold(self, "challenge", number(challenge, "the challenge"))
+        hold(self, "challenge0", number(challenge0, "the challenge of side 0"))
+        hold(self, "response0", numbers(response0, "the response of side 0"))
+        hold(self, "response1", numbers(response1, "the response of side 1"))
 
 
 def round_struct(round: Round, rows: int, columns: int) -> _structs.Round:

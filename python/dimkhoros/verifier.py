@@ -75,7 +75,7 @@ class Verifier(Session):
     @property
     def challenge(self) -> int:
         """The challenge that the session holds, 0 in a new one."""
-        return self._look().challenge
+        return int(self._look().challenge)
 
     def _shown(self) -> str:
         """The phase and all that is held."""
