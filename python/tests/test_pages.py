@@ -1,5 +1,6 @@
 """01's calculator pages A to J, and the lecture of the README."""
 
+import doctest
 import re
 import subprocess
 import sys
@@ -89,7 +90,7 @@ class Pages(unittest.TestCase):
 class Readme(unittest.TestCase):
     """The README's lecture and ledger."""
 
-    def test_both_print_what_stands_behind_them(self):
+    def test_both_print_what_stands_after_them(self):
         """They run as they are printed, and the lecture has ten lines."""
         readme = (ROOT / "python" / "README.md").read_text()
         pieces = re.findall(r"```python\n(.*?)```\n.*?```text\n(.*?)```", readme, re.DOTALL)
@@ -104,6 +105,12 @@ class Readme(unittest.TestCase):
         """Each is written as code."""
         readme = re.sub(r"```.*?```", "", (ROOT / "python" / "README.md").read_text(), flags=re.DOTALL)
         words = set(re.findall(r"\w+", " ".join(re.findall(r"`([^`]+)`", readme))))
+        self.assertEqual(set(dimkhoros.__all__) - words, set())
+
+    def test_the_help_of_the_package_is_right(self):
+        """Its round runs as it is printed, and every public name is in it."""
+        self.assertEqual(doctest.testmod(dimkhoros), (0, 9))
+        words = set(re.findall(r"\w+", dimkhoros.__doc__))
         self.assertEqual(set(dimkhoros.__all__) - words, set())
 
 
