@@ -25,13 +25,16 @@ Marks the rounds in each folder by the course's sheet and level. A folder passes
 one K for each round is at least 2^W. Without --sheet or --level the folder's own sheet.bin or level.bin counts, as in the
 program `marker`. A student can then pass by a small sheet or a low level that he brings along.
 
+A pass says that the rounds are accepted. It shows that Peggy knows a witness only if Vic's box wrote the file: anyone can make
+accepted rounds for challenges that he chooses himself.
+
 There is a line for each folder: pass, fail, or which file is refused, sheet, file (the round file) or level, with the number of
 the refusal; then which rounds are rejected and refused, by their numbers from 0, or what else is wrong; then notes, which are
 also written to standard error and change no mark. `dimkhoros reason FOLDER` says more of one folder. The exit status is 0 if
 all folders were marked, whatever the marks are, and 1 if one cannot be read.
 
 Notes say that a folder's own sheet.bin or level.bin is not the course's; that two folders have the same rounds.bin; that
-rounds have the same commitment and different challenges, so that the nonce was used twice; and that the same round is there
+rounds have the same commitment and not all the same challenge, so that the nonce was used twice; and that the same round is there
 twice. If --sheet is left out and the folders have different sheets, a warning on standard error says so, and the same holds of
 --level.
 

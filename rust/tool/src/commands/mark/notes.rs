@@ -60,7 +60,7 @@ fn used_twice(rounds: &[Round], group: &[usize]) -> Option<Note> {
         count => format!("{count} times"),
     };
     let whole = format!(
-        "rounds {} have the same commitment and different challenges: the nonce was used {times}",
+        "rounds {} have the same commitment, and not all the same challenge: the nonce was used {times}",
         and(group)
     );
     Some(Note::new(format!("nonce used {times}: rounds {}", spaced(group)), whole))
