@@ -85,7 +85,7 @@ def several(values: tuple[int, ...]) -> ctypes.Array[U32]:
 
 
 def parts(brought: list[tuple[int, ...]]) -> ctypes.Array[U32]:
-    """What a team's players bring, eight places for each and one player behind the other."""
+    """What a team's players bring, eight places for each and one player after the other."""
     all_parts = Parts()
     for player, values in enumerate(brought):
         all_parts[PLACES * player : PLACES * player + len(values)] = values
@@ -93,7 +93,7 @@ def parts(brought: list[tuple[int, ...]]) -> ctypes.Array[U32]:
 
 
 def held(values: ctypes.Array[U32]) -> tuple[int, ...]:
-    """The values that a session holds in eight places, without the zeros behind them. No group element is 0."""
+    """The values that a session holds in eight places, without the zeros after them. No group element is 0."""
     last = max((place + 1 for place, value in enumerate(values) if value), default=0)
     return tuple(values[:last])
 
@@ -116,7 +116,7 @@ def given(value: bytes) -> tuple[bytes, int]:
 
 
 def function(value: object, name: str) -> None:
-    """Raises an error where the value cannot be called."""
+    """Raises an error if the value cannot be called."""
     if not callable(value):
         raise TypeError(f"{name} has to be a function")
 
@@ -127,6 +127,6 @@ def hold(made: object, name: str, value: object) -> None:
 
 
 def of_kind(kind: type, value: object, name: str) -> None:
-    """Raises an error where the value is of another kind."""
+    """Raises an error if the value is of another kind."""
     if not isinstance(value, kind):
         raise TypeError(f"{name} has to be of the type {kind.__name__}")

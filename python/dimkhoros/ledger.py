@@ -105,7 +105,7 @@ class Line:
         return cls(found.kind)
 
     def _struct(self) -> _structs.Line:
-        """The line's numbers, with 0 where its kind uses none."""
+        """The line's numbers, with 0 for those that its kind does not use."""
         made = _structs.Line(number(self.kind, "the kind"))
         names = {"first": "the first line", "second": "the second line", "commitment": "the commitment"}
         for name, words in {**names, "challenge": "the challenge"}.items():
@@ -265,7 +265,7 @@ class Ledger:
     def product(self, line: int) -> tuple[Instance, Round] | None:
         """The sheet and the round of a product, or `None` if the line of this number is none; or a refusal of `check`.
 
-        The sheet is that of `Pattern.PRODUCT` with the values g, h and B and the statement A and E, where A is the
+        The sheet is that of `Pattern.PRODUCT` with the values g, h and B and the statement A and E. A is the
         commitment of the product's first line, B that of its second and E its own. Rounds of two ledgers on one t are
         given to its `extract`, which answers a, alpha and delta: a with alpha opens A, and if b with beta opens B, then
         a * b mod q with a * beta + delta mod q opens E. This is proved."""

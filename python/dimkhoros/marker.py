@@ -9,8 +9,8 @@ from ._sizes import LONGEST_GAME, LONGEST_REASON, LONGEST_TEXT
 
 def mark(sheet: bytes, file: bytes, level: bytes) -> str:
     """The marker's text on the bytes of a sheet, a round file and a level file, which is one byte w from 1 to 64. Its
-    last line is `pass` where every round is accepted and the product of one K for each round is at least 2^w, and
-    else `fail`. A refused sheet, file or level gives one line with its number."""
+    last line is `pass` if every round is accepted and the product of one K for each round is at least 2^w, and
+    otherwise `fail`. A refused sheet, file or level gives one line with its number."""
     text = buffer(LONGEST_TEXT)
     judged = (*given(data(sheet, "the sheet")), *given(data(file, "the round file")))
     length = calls.mark(*judged, *given(data(level, "the level")), text)

@@ -15,10 +15,10 @@ from .rounds import OrRound, Side
 
 class OrProver(ProverSession):
     """A prover's session of the OR proof. It saves nothing: over any chain of calls in which each is made on the
-    session that the last one handed back, at most one challenge is answered. This is proved of the library.
+    session that the last one returned, at most one challenge is answered. This is proved of the library.
 
     Holders of either witness make exactly the accepted rounds for a challenge, each from a single choice of nonce,
-    simulated challenge and simulated response. So a round does not tell which witness is known where these are drawn
+    simulated challenge and simulated response. So a round does not tell which witness is known, if these are drawn
     at random."""
 
     __slots__ = ()
@@ -57,7 +57,7 @@ class OrProver(ProverSession):
     def respond_after(
         self, pair: Pair, challenge: int, witness: Iterable[int], store: Callable[[bytes], object]
     ) -> tuple[OrProver, OrRound]:
-        """Responds as `respond` does, and hands the round out only after `store` has succeeded, as
+        """Responds as `respond` does, and returns the round only after `store` has succeeded, as
         `Prover.respond_after` does."""
         function(store, "the store")
         session, round = self.respond(pair, challenge, witness)

@@ -22,7 +22,7 @@ class Pair:
     def __init__(self, first: Instance, second: Instance) -> None:
         """Takes two sheets together, or refuses them with 26."""
         # No call of the library only tests two sheets: judging does so first. A commitment of zeros is none, so that
-        # it is refused with 14 where the counts are the same, and else with 26.
+        # it is refused with 14 if the counts are the same, and else with 26.
         judged = calls.or_judge(*sheet_of(first), *sheet_of(second), _structs.OrRound())
         if judged.refusal != _COMMITMENT:
             check(judged.refusal)
@@ -33,7 +33,7 @@ class Pair:
         return self._second if Side(number(side, "the side")) == Side.SECOND else self._first
 
     def judge(self, round: OrRound) -> OrVerdict:
-        """The verdict on a round, or a refusal 14 to 16: accepted where both sides are, else rejected with the rows
+        """The verdict on a round, or a refusal 14 to 16: accepted if both sides are, else rejected with the rows
         of each side in which its two values differ."""
         judged = calls.or_judge(*sheets(self), self._struct(round))
         check(judged.refusal)
@@ -41,7 +41,7 @@ class Pair:
 
     def extract(self, one: OrRound, other: OrRound) -> OrWitness:
         """The extractor: the witness that two accepted rounds with the same two commitments and different challenges
-        c give away, or a refusal 14 to 16 or 18 to 20. It is the first sheet's where the two c0 differ, else the
+        c give away, or a refusal 14 to 16 or 18 to 20. It is the first sheet's if the two c0 differ, else the
         second's."""
         extracted = calls.or_extract(*sheets(self), self._struct(one), self._struct(other))
         check(extracted.refusal)

@@ -50,7 +50,7 @@ class Patterns:
         """Tests a pattern file, as `load` does."""
         file = data(file, "the pattern file")
         # No call of the library only tests a pattern file: the sheet maker does so first, whatever it is asked for. A
-        # root sheet takes a statement value, so one without is refused with 1 where the file is right, and else with
+        # root sheet takes a statement value, so one without is refused with 1 if the file is right, and else with
         # 23 or 24.
         none = several(())
         made = calls.from_pattern(*given(file), Pattern.ROOT, 0, 0, 0, none, 0, none, 0, buffer(0), 0)

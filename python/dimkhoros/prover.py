@@ -31,13 +31,13 @@ class Found(IntEnum):
     NEW = _sizes.PROVER_NEW
     """Nothing had happened."""
     COMMITTED = _sizes.PROVER_COMMITTED
-    """It held a nonce, which may have been used. It is dropped: the session that is handed back has to be stored."""
+    """It held a nonce, which may have been used. It is dropped: store the session that is returned."""
     ANSWERED = _sizes.PROVER_ANSWERED
     """A challenge was answered."""
     DROPPED = _sizes.PROVER_DROPPED
     """It was given up."""
     DAMAGED = 4
-    """The bytes are no stored session. What is handed back is a new one, which has to be stored."""
+    """The bytes are not a stored session. Store the session that is returned, which is a new one."""
 
 
 class ProverSession(Session):
@@ -48,8 +48,8 @@ class ProverSession(Session):
     @classmethod
     def reopen(cls: type[_Peggy], stored: bytes) -> tuple[_Peggy, Found]:
         """Reads a stored session back without the nonce that it holds, and answers the session and what was found. A
-        session that was committed is dropped; of bytes that are damaged, a new session is handed back. Both have to be
-        stored over these bytes. A session in another phase is handed back as it was stored.
+        session that was committed is dropped. If the bytes are damaged, a new session is returned. Store both over
+        these bytes. A session in another phase is returned as it was stored.
 
         So the session is never committed. This is rule 1 of docs/BOXES.md: only what this run has drawn is answered.
         The bytes may be an old copy, from a backup or a write that the disk lost, of a session whose challenge was
@@ -64,9 +64,9 @@ class ProverSession(Session):
 
     @classmethod
     def from_stored_with_nonce(cls: type[_Peggy], stored: bytes) -> _Peggy:
-        """Reads a stored session back with its nonce. Bytes that are no stored form are `Damaged`.
+        """Reads a stored session back with its nonce. Raises `Damaged` if the bytes are no stored form.
 
-        A box must not answer on what this hands back. Rule 1 of docs/BOXES.md: only what this run has drawn is
+        A box must not answer on what this returns. Rule 1 of docs/BOXES.md: only what this run has drawn is
         answered, and a committed session that is found in a file is dropped. If the same nonce was answered before,
         another answer gives the witness away, and nothing in the bytes tells. Use `reopen`. This is for programs that
         look at stored sessions, and for those who know that no other copy of these bytes is ever read."""
@@ -85,7 +85,7 @@ class ProverSession(Session):
 class Prover(ProverSession):
     """A prover's session.
 
-    Over any chain of calls in which each is made on the session that the last one handed back, no commitment is
+    Over any chain of calls in which each is made on the session that the last one returned, no commitment is
     answered twice, and at most one challenge is answered if no call returns: this is proved of the library. It cannot
     know of copies that are made by `to_stored` and `from_stored_with_nonce`. A box that stores its session answers by
     `respond_after` and reads it back by `reopen`. Nor does anything wipe the memory that a nonce stood in.
@@ -124,7 +124,7 @@ class Prover(ProverSession):
     def respond_after(
         self, instance: Instance, challenge: int, witness: Iterable[int], store: Callable[[bytes], object]
     ) -> tuple[Prover, tuple[int, ...]]:
-        """Responds as `respond` does, and hands the response out only after `store` has succeeded.
+        """Responds as `respond` does, and returns the response only after `store` has succeeded.
 
         `store` is given the stored form of the whole session as it is after the response, with its saved states and its
         list. It has to write it over the one that was stored before, and to return only once it would be found again

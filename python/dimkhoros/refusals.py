@@ -49,7 +49,7 @@ SENTENCES = {
 class Refusal(Exception):
     """A call that was refused. It has changed nothing.
 
-    Where several refusals apply, the earliest in the order 23, 24, 1 to 9, 27, 29, 30, 10, 11, 26, 37, 35, 36, 12, 25,
+    If several refusals apply, the earliest in the order 23, 24, 1 to 9, 27, 29, 30, 10, 11, 26, 37, 35, 36, 12, 25,
     13 to 16, 28, 31, 17 to 21, 32 to 34, 22 is given."""
 
     def __init__(self, number: int) -> None:
@@ -73,6 +73,6 @@ class Refusal(Exception):
 
 
 def check(number: int) -> None:
-    """Nothing where an answer of the library refuses nothing, and else the refusal is raised."""
+    """Raises the refusal of this number, which an answer of the library has. 0 refuses nothing."""
     if number != 0:
         raise Refusal(number)

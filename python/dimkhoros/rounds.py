@@ -70,11 +70,11 @@ def _rows_in_words(rows: tuple[int, ...]) -> str:
 
 @dataclass(frozen=True)
 class Verdict:
-    """What the verifier says of a round. It is true where the round is accepted."""
+    """What the verifier says of a round. It is true if the round is accepted."""
 
     accepted: bool
     rows: tuple[int, ...] = ()
-    """The rows, from 0 and rising, in which the two sides differ: at least one where the round is rejected."""
+    """The rows, from 0 and rising, in which the two sides differ: at least one if the round is rejected."""
 
     def __bool__(self) -> bool:
         """Whether the round is accepted."""
@@ -87,11 +87,11 @@ class Verdict:
 
 @dataclass(frozen=True)
 class OrVerdict:
-    """What is said of a round of the OR proof. It is true where both sides are accepted."""
+    """What is said of a round of the OR proof. It is true if both sides are accepted."""
 
     accepted: bool
     rows0: tuple[int, ...] = ()
-    """The rows in which side 0's two values differ: none where that side is accepted."""
+    """The rows in which side 0's two values differ: none if that side is accepted."""
     rows1: tuple[int, ...] = ()
     """The same of side 1."""
 

@@ -1,4 +1,4 @@
-"""What all sessions have in common: a call spends the object that it is called on and hands on another."""
+"""What all sessions have in common: a call spends the object that it is called on and returns another."""
 
 from __future__ import annotations
 
@@ -16,8 +16,8 @@ _Self = TypeVar("_Self", bound="Session")
 
 
 class SessionSpent(RuntimeError):
-    """A call was made on a session that an earlier call has spent. The session to go on with is the one that it handed
-    back."""
+    """A call was made on a session that an earlier call has spent. Go on with the session that the earlier call
+    returned."""
 
     def __init__(self) -> None:
         """The error, with what to do."""
@@ -25,7 +25,7 @@ class SessionSpent(RuntimeError):
 
 
 class NotStored(Exception):
-    """The session was not stored, and so the response was not handed out and is gone. `session` is the session as it is
+    """The session was not stored, and so the response was not returned and is gone. `session` is the session as it is
     after the response: it answers no challenge if no call returns. `error` is what the storing raised."""
 
     def __init__(self, session: Session, error: Exception) -> None:
@@ -38,7 +38,7 @@ class NotStored(Exception):
 class Session:
     """A session of Peggy's or Vic's.
 
-    A call that is carried out spends the object and hands back another, with which to go on. A call that is refused
+    A call that is carried out spends the object and returns another, with which to go on. A call that is refused
     spends nothing. A spent object allows nothing, not even to be looked at. Sessions cannot be copied or pickled."""
 
     __slots__ = ("_held", "_lock")
@@ -70,7 +70,7 @@ class Session:
 
     def _step(self: _Self, call: Callable[[Any], Any]) -> tuple[_Self, Any]:
         """Makes a call on what the session holds, and answers the session that comes after it with the call's answer.
-        The object is spent before the call, and is given back what it held where the call is refused. So no two
+        The object is spent before the call, and is given back what it held if the call is refused. So no two
         threads get an answer of one object, and whatever ends the call in between leaves the object spent."""
         with self._lock:
             held = self._look()

@@ -27,8 +27,8 @@ class Team:
     __slots__ = ("_instance", "_images", "_players")
 
     def __init__(self, instance: Instance, images: Iterable[Iterable[int]]) -> None:
-        """Takes the players of these images together, or refuses them: with 27 where they are not 2 to 8, 11 where an
-        image's value is no group element, and 28 where the images do not multiply to the statement."""
+        """Takes the players of these images together, or refuses them: with 27 if they are not 2 to 8, 11 if an
+        image's value is not in the group, and 28 if the images do not multiply to the statement."""
         sheet = sheet_of(instance)
         found = [exactly(instance.header.rows, image, "an image") for image in listed(images, "the images")]
         self._instance, self._players = instance, len(found)

@@ -58,8 +58,9 @@ class Verifier(Session):
 
     @classmethod
     def from_stored(cls, stored: bytes) -> Verifier:
-        """Reads a stored session back. Bytes that are no stored form are `Damaged`. Vic goes on with what he finds: it
-        holds no secret, and he asks the stored challenge again and never another."""
+        """Reads a stored session back. Raises `Damaged` if the bytes are no stored form.
+
+        Vic goes on with what he finds: it holds no secret, and he asks the stored challenge again and never another."""
         return cls._read(stored)
 
     @property

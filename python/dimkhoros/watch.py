@@ -24,7 +24,7 @@ class Reuse:
 
 @dataclass(frozen=True)
 class Heard:
-    """What a watch says of a round. It is true where the round is accepted."""
+    """What a watch says of a round. It is true if the round is accepted."""
 
     verdict: Verdict
     reuse: Reuse | None = None
@@ -74,7 +74,7 @@ class Watch:
         """Gives the watch a round, and answers the verdict on it and the reuse that the watch sees. An accepted round
         is then the newest that it remembers, and of 63 older ones the oldest is forgotten.
 
-        `instance` is the sheet of the round, if it may be another than the watch's. Refused with 14 to 16 by that
+        `instance` is the sheet of the round, if it may differ from the watch's. Refused with 14 to 16 by that
         sheet, and then with 21 if its bytes are other than the watch's. A round that is rejected or refused leaves the
         watch as it is."""
         sheet = self._instance if instance is None else instance
