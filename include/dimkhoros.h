@@ -3,19 +3,19 @@
  * most 32 bits. It is for C99 and C++11, or later, on x86-64 Linux.
  *
  * To link. At the root of the repository `rt staticlib dimkhoros` writes target/staticlib/libdimkhoros.a. There a program is
- * built by
+ * built with
  *
  *     cc -std=c99 -I include program.c target/staticlib/libdimkhoros.a
  *
- * and elsewhere with the whole paths of the two. The archive stands behind the sources that call it. Where `./install PREFIX` has
- * put the library under a folder, pkg-config knows both, as in
+ * Elsewhere give the whole paths of the two. The archive must stand after the sources that call it. If `./install PREFIX` has put
+ * the library under a folder, pkg-config knows both:
  *
  *     cc -std=c99 program.c $(pkg-config --cflags --libs dimkhoros)
  *
- * The archive needs memcpy and memset and nothing else. It allocates nothing and keeps nothing between calls, so calls may
- * run in several threads at once.
+ * The archive needs memcpy and memset, and nothing else. It allocates nothing and keeps nothing between calls, so calls may run
+ * in several threads at once.
  *
- * Sessions. A box keeps a session for each run of the protocol, and every call is given its address. The box Peggy, for one:
+ * Sessions. A box keeps a session for each run of the protocol, and gives its address to every call. The box Peggy, for example:
  *
  *     DimkhorosProverSession peggy = dimkhoros_prover_new();
  *     uint32_t refusal = dimkhoros_commit(sheet, sheet_length, &peggy, nonce, commitment);
@@ -23,35 +23,35 @@
  *     refusal = dimkhoros_respond_after(sheet, sheet_length, &peggy, challenge, witness, store, box, response);
  *     .. if it is 0: the session is stored, so send the response ..
  *
- * Each call puts the session that comes after it in the place of the one before. So a second challenge is refused, with 21, if no
- * call returns to a saved state, and a commitment that was answered is never answered again, by 32, whatever is returned to.
- * "The pure form", at the end, has the same calls with sessions that are handed in and back by value.
- * dimkhoros_box.h, beside this header, has what a box needs beside the library: a store, random numbers and the lines of a wire.
+ * Each call puts the session that comes after it in the place of the one before. If no call returns to a saved state, a second
+ * challenge is refused with 21. Whatever state is returned to, a commitment that was answered is never answered again: this is
+ * refused with 32. "The pure form", at the end, has the same calls with sessions that are handed in and back by value.
+ * dimkhoros_box.h, beside this header, has what else a box needs: a store, random numbers and the lines of a wire.
  *
  * What a call takes. Any bytes and any numbers: every call ends in an answer, and it is proved to be the one that the call's
- * definition gives (docs/promises/exports.md lists the definitions). The caller owes four things. A pointer with a length
- * behind it points to that many bytes or numbers (where the length is 0 it is not used and may be NULL). A pointer written
- * with the size of an array points to that much, one to a session or any other struct to one, and a store to a function. What a
- * call writes to shares no byte with anything else that the same call is given. And nobody else changes these bytes during the
- * call.
+ * definition gives (docs/promises/exports.md lists the definitions). The caller must see to four things. A pointer with a length
+ * after it must point to that many bytes or numbers (if the length is 0, the pointer is not used and may be NULL). A pointer that
+ * is written with the size of an array must point to that many numbers or bytes, one to a session or any other struct must point
+ * to one, and a store to a function. What a call writes to must share no byte with anything else that the same call is given.
+ * Nobody else may change these bytes during the call.
  *
- * Sheets. A sheet describes a homomorphism, its table, with a statement, and comes as bytes. Each call that takes one tests
- * it from the start and refuses a bad one with 2 to 11. m is the modulus, q the order and e the exponent, K the challenge
- * count, s the rows and n the columns. A group element is a number from 1 to m - 1 whose q-th power modulo m is 1
- * (exponent sheets) or that has no factor in common with m (root sheets). A coordinate, one value of a witness, nonce or
- * response, is a number below q (exponent sheets) or a group element (root sheets).
+ * Sheets. A sheet is the table of a homomorphism, with a statement, and comes as bytes. Each call that takes a sheet tests it
+ * from the start, and refuses a bad one with 2 to 11. m is the modulus, q the order and e the exponent, K the challenge count, s
+ * the rows and n the columns. A group element is a number from 1 to m - 1 whose q-th power modulo m is 1 (exponent sheets), or
+ * that has no factor in common with m (root sheets). A coordinate is one value of a witness, nonce or response. It is a number
+ * below q (exponent sheets), or a group element (root sheets).
  *
- * Arrays of eight. Commitments and statements have s values, witnesses, nonces and responses n. They cross in arrays of
- * eight. The places behind these values are not read where a call takes them, and are 0 where a call answers them. A
- * session keeps what it holds in all eight, and the commitments that Peggy's hold are tested in all eight (by 21 and 32).
+ * Arrays of eight. Commitments and statements have s values. Witnesses, nonces and responses have n. They are handed over in
+ * arrays of eight. The places after these values are not read in what a call takes, and are 0 in what a call answers. A session
+ * keeps what it holds in all eight places, and the commitments that Peggy's session holds are tested in all eight (by 21 and 32).
  *
- * Refusals. A call answers a number, or a struct with a field `refusal`: 0, or the number of what was refused. If several
- * apply it is the earliest in the order 23, 24, 1 to 9, 27, 29, 30, 10, 11, 26, 37, 35, 36, 12, 25, 13 to 16, 28, 31, 17 to 21,
- * 32 to 34, 22. A refused call changes no session, watch, ledger, array or buffer, and has 0 in every other field of its answer.
- * Compilers warn of a call whose answer is thrown away.
+ * Refusals. A call answers a number, or a struct with a field `refusal`. The number is 0, or says what was refused. If several
+ * numbers apply, it is the earliest in the order 23, 24, 1 to 9, 27, 29, 30, 10, 11, 26, 37, 35, 36, 12, 25, 13 to 16, 28, 31, 17
+ * to 21, 32 to 34, 22. A refused call changes no session, watch, ledger, array or buffer, and has 0 in every other field of its
+ * answer. Compilers warn of a call whose answer is thrown away.
  *
- * Random numbers are the caller's: nonces, challenges and simulated responses are handed in. A nonce has to be drawn at
- * random from all coordinates for each session, or the responses give the witness away.
+ * Random numbers. The caller draws them: nonces, challenges and simulated responses are handed in. Draw a new nonce for each
+ * session, at random from all coordinates. Else the responses give the witness away.
  */
 #ifndef DIMKHOROS_H
 #define DIMKHOROS_H
@@ -67,7 +67,7 @@ extern "C" {
 #define DIMKHOROS_VERSION 200
 #define DIMKHOROS_VERSION_TEXT "0.2.0"
 
-/* Before a function whose answer has to be looked at: the compiler warns of a call that throws it away. */
+/* Stands before a function whose answer must be looked at: the compiler warns of a call that throws it away. */
 #if defined(__cplusplus) && __cplusplus >= 201703L
 #define DIMKHOROS_CHECKED [[nodiscard]]
 #elif defined(__STDC_VERSION__) && __STDC_VERSION__ > 201710L && defined(__has_c_attribute)
@@ -121,18 +121,18 @@ extern "C" {
 #define DIMKHOROS_LINE_SUM 2        /* the sum of two lines above */
 #define DIMKHOROS_LINE_PRODUCT 3    /* the product of two lines above, with a commitment and a round of its own */
 
-/* Phases of Peggy's sessions. In the OR proof the side and the simulated values are held with the nonce, and gone with it. */
+/* Phases of Peggy's sessions. In the OR proof the session holds the side and the simulated values as long as the nonce. */
 #define DIMKHOROS_PROVER_NEW 0       /* nothing has happened */
 #define DIMKHOROS_PROVER_COMMITTED 1 /* a nonce and its commitment are held */
-#define DIMKHOROS_PROVER_ANSWERED 2  /* a challenge was answered and the nonce is gone, but for saved copies */
-#define DIMKHOROS_PROVER_DROPPED 3   /* the session was given up and the nonce is gone, but for saved copies */
+#define DIMKHOROS_PROVER_ANSWERED 2  /* a challenge was answered, and the nonce is gone except from saved copies */
+#define DIMKHOROS_PROVER_DROPPED 3   /* the session was given up, and the nonce is gone except from saved copies */
 
-/* What a stored session of Peggy's is found to be when it is reopened: one in a phase of hers, or no session. */
+/* What a stored session of Peggy's is found to be when it is reopened: a session in one of her phases, or not a session. */
 #define DIMKHOROS_FOUND_NEW 0       /* nothing had happened */
 #define DIMKHOROS_FOUND_COMMITTED 1 /* it held a nonce, which may have been used; it is dropped */
 #define DIMKHOROS_FOUND_ANSWERED 2  /* a challenge was answered */
 #define DIMKHOROS_FOUND_DROPPED 3   /* it was given up */
-#define DIMKHOROS_FOUND_DAMAGED 4   /* the bytes are no stored session */
+#define DIMKHOROS_FOUND_DAMAGED 4   /* the bytes are not a stored session */
 
 /* Phases of Vic's session. */
 #define DIMKHOROS_VERIFIER_WAITING 0 /* nothing has been heard */
@@ -141,8 +141,8 @@ extern "C" {
 #define DIMKHOROS_VERIFIER_JUDGED 3  /* a response was judged */
 
 /*
- * Every refusal by its number, with its name and what it says. The order in which they are tested stands above, and docs/FORMATS.md
- * of the repository has the conditions, call by call.
+ * Every refusal: its number, its name and its sentence. The order in which they are tested stands above. docs/FORMATS.md of the
+ * repository has the conditions, call by call.
  */
 #define DIMKHOROS_REFUSALS(REFUSAL)                                                                               \
     REFUSAL(1, PATTERN, "the pattern file has no pattern of this number, or it takes another count of values")    \
@@ -201,8 +201,8 @@ enum {
 #define DIMKHOROS_NOT_STORED 1000
 
 /*
- * What an answer says: a refusal, 0 or DIMKHOROS_NOT_STORED. 0 is "nothing is refused", and any other number that is no refusal
- * is "no refusal has this number".
+ * The sentence of an answer: of a refusal, of 0, or of DIMKHOROS_NOT_STORED. For 0 it is "nothing is refused". For any other
+ * number it is "no refusal has this number".
  */
 static inline const char *dimkhoros_sentence(uint32_t refusal) {
     switch (refusal) {
@@ -230,7 +230,7 @@ typedef struct {
     uint32_t columns;    /* n */
 } DimkhorosHeader;
 
-/* A loaded sheet, but for its entries, which dimkhoros_entries gives. */
+/* A loaded sheet without its entries, which dimkhoros_entries gives. */
 typedef struct {
     DimkhorosHeader header;
     uint32_t statement[DIMKHOROS_PLACES];
@@ -262,7 +262,7 @@ typedef struct {
     uint32_t refusal;
 } DimkhorosFetched;
 
-/* Where a round stands in the caller's own file: file + offset is its first byte. The length is 0 where it is refused. */
+/* Where a round stands in the caller's own file: file + offset is its first byte. If it is refused, both are 0. */
 typedef struct {
     size_t offset;
     size_t length;
@@ -281,16 +281,16 @@ typedef struct {
 } DimkhorosComputed;
 
 /*
- * A verdict. It is accepted only where `accepted` is 1: a refused round has 0 there too.
+ * A verdict. The round is accepted only if `accepted` is 1: a refused round has 0 there too.
  *
- * The rows of a rejected round in which the two sides differ are a mask, in which row i has the bit of value 2^i:
+ * The rows in which the two sides of a rejected round differ are a mask. In it row i has the bit of value 2^i:
  *
  *     row      0   1   2   3   4   5   6   7
  *     value    1   2   4   8  16  32  64 128
  *
- * The bit is set where the sides differ in the row, and not set where they agree. So 1 is row 0 alone, 128 is row 7 alone, and
- * 133 is the rows 0, 2 and 7. No bit from 2^s on is set: the sheet has the rows 0 to s - 1. At least one bit is set in a
- * rejected round, and none in an accepted or refused one. Row i differs where (verdict.rows >> i & 1) is 1.
+ * The bit is set if the sides differ in the row, and not set if they agree. So 1 is row 0 alone, 128 is row 7 alone, and 133 is
+ * the rows 0, 2 and 7. No bit from 2^s on is set: the sheet has the rows 0 to s - 1. A rejected round has at least one bit set,
+ * and an accepted or refused one has none. Row i differs if (verdict.rows >> i & 1) is 1.
  */
 typedef struct {
     uint32_t accepted; /* 1 if the two sides agree in every row, else 0 */
@@ -309,7 +309,7 @@ typedef struct {
 } DimkhorosOrRound;
 
 /*
- * A verdict on a round of the OR proof. It is accepted only where `accepted` is 1: a refused round has 0 there too. Of a
+ * A verdict on a round of the OR proof. The round is accepted only if `accepted` is 1: a refused round has 0 there too. In a
  * rejected round each side has its own mask of rows, as in DimkhorosJudgement, and a side that is accepted has the mask 0.
  */
 typedef struct {
@@ -347,17 +347,19 @@ typedef struct {
 } DimkhorosMemory;
 
 /*
- * Peggy's session. Over any calls on one session at most one challenge is answered if no call returns, and no commitment is
- * answered twice, whatever is returned to: this is proved of the archive's calls. The library cannot know of copies. Whoever
- * answers two challenges from two copies of one session gives the witness away. So a box that stores a session must store the one
- * that comes after a response, over the old, before it sends the response, as dimkhoros_respond_after does; and it must not answer
- * on a session that it finds in a file, which dimkhoros_prover_reopen drops, nor return to a state that it finds saved there.
+ * Peggy's session. Over any calls on one session no commitment is answered twice, whatever state is returned to. If no call
+ * returns, at most one challenge is answered. This is proved of the archive's calls.
  *
- * Saved states are for demonstrations, and a box does not save. A saved copy keeps its nonce, also after the session has answered
- * or was dropped: whoever reads it beside the response computes the witness.
+ * The library cannot know of copies. Whoever answers two challenges from two copies of one session gives the witness away. So a
+ * box that stores a session must store the one that comes after a response, over the old one, before it sends the response, as
+ * dimkhoros_respond_after does. It must not answer on a session that it finds in a file, which dimkhoros_prover_reopen drops. It
+ * must not return to a state that it finds saved there.
  *
- * Any number beyond the four is a phase in which commit, respond and drop are refused. Saving takes it as Dropped: 3 is saved, and
- * the session then has 3 too. A return brings 3 back for a saved number beyond the four.
+ * Saved states are for demonstrations, and a box must not save. A saved copy keeps its nonce, even after the session has answered
+ * or was dropped: whoever reads it and the response computes the witness.
+ *
+ * Any number beyond the four is a phase in which commit, respond and drop are refused. Saving takes it as Dropped: 3 is saved,
+ * and the session then has 3 too. If a saved number is beyond the four, a return brings back 3.
  */
 typedef struct {
     uint32_t nonce[DIMKHOROS_PLACES];
@@ -367,9 +369,9 @@ typedef struct {
 } DimkhorosProverSession;
 
 /*
- * Peggy's session of the OR proof. It saves nothing: over any calls on one session at most one challenge is answered, which is
- * proved. The side and the simulated values are as secret as the nonce: they tell which of the two witnesses she holds. Any number
- * beyond the four is a phase that allows no call.
+ * Peggy's session of the OR proof. It has no saved states. Over any calls on one session at most one challenge is answered: this
+ * is proved. The side and the simulated values are as secret as the nonce: they tell which of the two witnesses she holds. Any
+ * number beyond the four is a phase that allows no call.
  */
 typedef struct {
     uint32_t nonce[DIMKHOROS_PLACES];       /* of the side whose witness she knows */
@@ -390,10 +392,10 @@ typedef struct {
 
 /*
  * A watch for used nonces: the bytes of the sheet that it was opened on, and the last accepted rounds that it was given. It is a
- * value: two copies of a watch go on apart, and neither knows the rounds that the other is given.
+ * value: two copies of a watch go on separately, and neither knows the rounds that the other is given.
  *
- * It may hold anything: dimkhoros_hear says what it refuses with 21. What stands in `rounds` from `count` on, in `sheet` from
- * `length` on, and in a round beyond its s and n values, is not read.
+ * It may hold anything: dimkhoros_hear says what it refuses with 21. It does not read what stands in `rounds` from `count` on, in
+ * `sheet` from `length` on, or in a round beyond its s and n values.
  */
 typedef struct {
     DimkhorosRound rounds[DIMKHOROS_MOST_REMEMBERED]; /* the remembered rounds, the newest first */
@@ -403,8 +405,8 @@ typedef struct {
 } DimkhorosWatch;
 
 /*
- * What a watch says of a round. The round is accepted only where `verdict.accepted` is 1: a refused round has 0 there too. Of a
- * round that is not accepted `back` is 0.
+ * What a watch says of a round. The round is accepted only if `verdict.accepted` is 1: a refused round has 0 there too. If the
+ * round is not accepted, `back` is 0.
  */
 typedef struct {
     uint32_t witness[DIMKHOROS_PLACES]; /* what this round and the named one give away, zeros if none is named */
@@ -429,8 +431,8 @@ typedef struct {
  *     DIMKHOROS_LINE_SUM          used
  *     DIMKHOROS_LINE_PRODUCT      used             used          used
  *
- * The others are not read, and are 0 in a ledger that a call makes. A sum's commitment is not stored: it is the two named lines'
- * commitments multiplied modulo m.
+ * The others are not read, and are 0 in a ledger that a call makes. A sum's commitment is not stored: it is the commitments of
+ * the two named lines, multiplied modulo m.
  */
 typedef struct {
     uint32_t kind;        /* DIMKHOROS_LINE_COMMITMENT, DIMKHOROS_LINE_SUM or DIMKHOROS_LINE_PRODUCT */
@@ -449,8 +451,8 @@ typedef struct {
 } DimkhorosLedger;
 
 /*
- * What a checked ledger is found to be. It is accepted only if `accepted` is 1: a refused ledger has 0 there too. `line` is the
- * first product whose round is rejected, if nothing is refused and `accepted` is 0; else it is 0.
+ * The result of checking a ledger. The ledger is accepted only if `accepted` is 1: a refused ledger has 0 there too. If nothing
+ * is refused and `accepted` is 0, `line` is the first product whose round is rejected. Else it is 0.
  */
 typedef struct {
     uint32_t accepted; /* 1 if the round of every product is accepted, else 0 */
@@ -459,8 +461,8 @@ typedef struct {
 } DimkhorosChecked;
 
 /*
- * What a line of a ledger is made of. Its kind says which numbers are used: the value and the blinding number for a commitment,
- * the two lines for a sum, and the two lines, the blinding number, the nonce and the challenge for a product. The others are not
+ * What a line of a ledger is made of. Its kind says which numbers are used: for a commitment the value and the blinding number;
+ * for a sum the two lines; for a product the two lines, the blinding number, the nonce and the challenge. The others are not
  * read. dimkhoros_add_commitment, dimkhoros_add_sum and dimkhoros_add_product set what is used, and the rest to 0.
  */
 typedef struct {
@@ -473,7 +475,7 @@ typedef struct {
     uint32_t challenge; /* c of the round, below K */
 } DimkhorosEntry;
 
-/* What all lines of a ledger are made of, in order. Whoever reads it opens every commitment. */
+/* What all lines of a ledger are made of, in order. Whoever reads it can open every commitment. */
 typedef struct {
     DimkhorosEntry entries[DIMKHOROS_MOST_LINES]; /* those from `count` on are not read */
     uint32_t count;                               /* how many lines there are */
@@ -486,16 +488,16 @@ DIMKHOROS_CHECKED
 DimkhorosLoaded dimkhoros_load(const uint8_t *sheet, size_t sheet_length);
 
 /*
- * Gives the entries of a sheet: all 64 numbers of `entries` are set, to 0 outside the sheet's rows and columns and everywhere in
- * a root sheet, and 0 is answered. Refuses 2 to 11: the number is answered, and `entries` keeps its numbers.
+ * Gives the entries of a sheet. Sets all 64 numbers of `entries` and answers 0. Numbers outside the sheet's rows and columns are
+ * 0, and in a root sheet all are. Refuses 2 to 11: it then answers the number, and `entries` keeps its numbers.
  */
 DIMKHOROS_CHECKED
 uint32_t dimkhoros_entries(const uint8_t *sheet, size_t sheet_length, uint32_t entries[DIMKHOROS_ENTRIES]);
 
 /*
- * Writes the sheet of these values, given as dimkhoros_load and dimkhoros_entries answer them, to the start of `buffer`, and
- * answers its length. The entries of a root sheet are not read. No byte behind the sheet is changed. Refuses 4 to 8, 10,
- * 11 and 22.
+ * Writes the sheet of these values to the start of `buffer`, and answers its length. The values are given as dimkhoros_load and
+ * dimkhoros_entries answer them. The entries of a root sheet are not read. No byte after the sheet is changed. Refuses 4 to 8,
+ * 10, 11 and 22.
  */
 DIMKHOROS_CHECKED
 DimkhorosWritten dimkhoros_encode(DimkhorosHeader header, const uint32_t entries[DIMKHOROS_ENTRIES],
@@ -509,26 +511,26 @@ DimkhorosWritten dimkhoros_encode(DimkhorosHeader header, const uint32_t entries
  *     0 to 2   PAT
  *     3, 4     the version, 1, with the high byte first
  *     5        how many patterns there are, 1 to 32
- *     6 on     the patterns, one straight behind the other: rows, columns and number of public values, a byte each, 1 to 8,
+ *     6 on     the patterns, one straight after the other: rows, columns and number of public values, a byte each, 1 to 8,
  *              and rows times columns digits of a byte each, row by row
  *
- * Digit i stands for the i-th public value, 0 for the entry 1. Nothing stands behind the last pattern, no digit is above the
- * number of values, and each value is named by a digit. share/patterns.bin of the repository is the file that
- * dimkhoros_patterns writes; docs/FORMATS.md has another as an example.
+ * Digit i stands for the i-th public value, and 0 for the entry 1. Nothing stands after the last pattern. No digit is above the
+ * number of values, and each value is named by a digit. share/patterns.bin of the repository is the file that dimkhoros_patterns
+ * writes. docs/FORMATS.md has another as an example.
  */
 
 /*
- * Writes the shipped pattern file, with the five patterns DIMKHOROS_PATTERN_SCHNORR to DIMKHOROS_PATTERN_PRODUCT under their
- * numbers, to the start of `buffer`, and answers its length, 34. No byte behind it is changed. Refuses 22.
+ * Writes the shipped pattern file to the start of `buffer`, and answers its length, 34. It has the five patterns
+ * DIMKHOROS_PATTERN_SCHNORR to DIMKHOROS_PATTERN_PRODUCT under their numbers. No byte after it is changed. Refuses 22.
  */
 DIMKHOROS_CHECKED
 DimkhorosWritten dimkhoros_patterns(uint8_t *buffer, size_t buffer_length);
 
 /*
- * Writes the sheet of the pattern of this number, from 1, in a pattern file to the start of `buffer`, and answers its length;
- * number 0, DIMKHOROS_PATTERN_ROOT, asks for a root sheet of one row. `order` is q, or e for a root sheet; `values` are the
- * public values, `value_count` of them, and `statement` has a value for each row. No byte behind the sheet is changed.
- * Refuses 23, 24, 1, 5, 6, 8, 10, 11 and 22. The whole file is tested by 23 and then by 24, whichever number is asked for.
+ * Makes a sheet by a pattern. Writes the sheet of the pattern of this number, from 1, in a pattern file to the start of `buffer`,
+ * and answers its length. Number 0, DIMKHOROS_PATTERN_ROOT, asks for a root sheet of one row. `order` is q, or e for a root
+ * sheet. `values` are the public values, `value_count` of them, and `statement` has a value for each row. No byte after the sheet
+ * is changed. Refuses 23, 24, 1, 5, 6, 8, 10, 11 and 22. 23 and then 24 test the whole file, whichever number is asked for.
  */
 DIMKHOROS_CHECKED
 DimkhorosWritten dimkhoros_from_pattern(const uint8_t *patterns, size_t patterns_length, uint32_t number,
@@ -539,22 +541,22 @@ DimkhorosWritten dimkhoros_from_pattern(const uint8_t *patterns, size_t patterns
 /* --- Sheets from linear forms --- */
 
 /*
- * Writes the exponent sheet of a statement over several generators, whose exponents are linear forms of the secrets (section 6.5
- * of Maurer's paper), to the start of `buffer`, and answers its length. Row i of the image of x_1, .., x_n is the product, over
- * the generators, of
+ * Makes the exponent sheet of a statement over several generators, whose exponents are linear forms of the secrets (section 6.5
+ * of Maurer's paper). Writes it to the start of `buffer`, and answers its length. Row i of the image of x_1, .., x_n is the
+ * product, over the generators, of
  *
- *     generator ^ (a_1 * x_1 + .. + a_n * x_n)   modulo m,
+ *     generator ^ (a_1 * x_1 + .. + a_n * x_n)   modulo m.
  *
- * where a_1 to a_n are the coefficients of row i and this generator. They stand by row, then generator, then column: those of
+ * Here a_1 to a_n are the coefficients of row i and this generator. They stand by row, then generator, then column. Those of
  * z_1 = h_1^x_3 * h_2^x_1 and z_2 = h_1^x_2 * h_2^x_4 * h_3^x_1 are
  *
  *     0 0 1 0   1 0 0 0   0 0 0 0     row z_1: x_3 over h_1, x_1 over h_2, none over h_3
  *     0 1 0 0   0 0 0 1   1 0 0 0     row z_2: x_2 over h_1, x_4 over h_2, x_1 over h_3
  *
- * So the coefficient of row i, generator g and column j, all from 0, stands at (i * generator_count + g) * columns + j. Entry
- * (i, j) of the sheet is the product over the generators of generator^coefficient modulo m. `statement` has a value for each
- * row. No byte behind the sheet is changed. Refuses 5 to 8, 29, 30, 10, 11 and 22: 10 by a generator, also one that no
- * coefficient uses.
+ * So the coefficient of row i, generator g and column j, all from 0, stands at (i * generator_count + g) * columns + j.
+ * Entry (i, j) of the sheet is the product over the generators of generator^coefficient modulo m. `statement` has a value for
+ * each row. No byte after the sheet is changed. Refuses 5 to 8, 29, 30, 10, 11 and 22. 10 is for a generator, even if no
+ * coefficient uses it.
  */
 DIMKHOROS_CHECKED
 DimkhorosWritten dimkhoros_linear(uint32_t modulus, uint32_t order, uint32_t challenges, uint32_t rows, uint32_t columns,
@@ -565,9 +567,9 @@ DimkhorosWritten dimkhoros_linear(uint32_t modulus, uint32_t order, uint32_t cha
 /* --- Peggy's session --- */
 
 /*
- * A call that is given a session's address, Peggy's or Vic's, answers 0 if it is carried out: the session is then the one that
- * comes after the call, and the values are given. Else it answers the refusal's number, and the session, arrays and round that
- * it was given keep what they hold. dimkhoros_take_response answers a verdict, with the number in its field `refusal`.
+ * A call that takes a session's address, Peggy's or Vic's, answers 0 if nothing is refused: the session is then the one that
+ * comes after the call, and the values are given. Else it answers the refusal's number, and the session, arrays and round that it
+ * was given keep what they hold. dimkhoros_take_response answers a verdict, with the number in its field `refusal`.
  */
 
 /* A new session: DIMKHOROS_PROVER_NEW, with zeros. Nothing is saved in it, and nothing listed. */
@@ -575,20 +577,20 @@ DIMKHOROS_CHECKED
 DimkhorosProverSession dimkhoros_prover_new(void);
 
 /*
- * Commits a new session to a nonce, and gives the commitment. Leads to Committed. Refuses 2 to 11, 16 and 21. A commitment that
- * was answered before is not refused here: responding to it is, with 32.
+ * Commits a new session to a nonce, and gives the commitment. Leads to Committed. Refuses 2 to 11, 16 and 21. It does not refuse
+ * a commitment that was answered before: dimkhoros_respond does, with 32.
  */
 DIMKHOROS_CHECKED
 static inline uint32_t dimkhoros_commit(const uint8_t *sheet, size_t sheet_length, DimkhorosProverSession *session,
                                         const uint32_t nonce[DIMKHOROS_PLACES], uint32_t commitment[DIMKHOROS_PLACES]);
 
 /*
- * Gives the response of a committed session to a challenge, by a witness, sets the nonce to zeros, and lists the commitment as
- * answered. Leads to Answered. Saved states stay, with their nonces. Refuses 2 to 11, 15 to 17, 21, then 32 if the held commitment
- * is listed, compared in all eight places, and 33 if the list holds 64. A committed session that is refused stays committed. After
- * 2 to 21 it can still answer; after 32 and 33 it can be dropped or returned from.
+ * Gives the response of a committed session to a challenge, by a witness. Sets the nonce to zeros, and lists the commitment as
+ * answered. Leads to Answered. Saved states stay, with their nonces. Refuses 2 to 11, 15 to 17, 21, then 32 if the held
+ * commitment is listed, compared in all eight places, and 33 if the list holds 64. A committed session that is refused stays
+ * committed. After 2 to 21 it can still answer. After 32 and 33 it can be dropped or returned from.
  *
- * Of a count above 64, which no call makes, the first 64 commitments are looked at, and then it is 33.
+ * If the count is above 64, which no call makes, the first 64 commitments are looked at by 32, and then 33 is given.
  */
 DIMKHOROS_CHECKED
 static inline uint32_t dimkhoros_respond(const uint8_t *sheet, size_t sheet_length, DimkhorosProverSession *session,
@@ -597,16 +599,16 @@ static inline uint32_t dimkhoros_respond(const uint8_t *sheet, size_t sheet_leng
 
 /*
  * Stores a session for dimkhoros_respond_after. It is given the pointer `box`, which is the caller's, and the stored form of the
- * session. It must write these bytes over those that were stored before, and must answer 0 only after they would be found again
- * if the box were switched off. Any other answer says that they are not stored. dimkhoros_box.h has such a function.
+ * session. It must write these bytes over those that were stored before. It must answer 0 only after they would be found again if
+ * the box were switched off. Any other answer says that they are not stored. dimkhoros_box.h has such a function.
  */
 typedef int (*DimkhorosStore)(void *box, const uint8_t *stored, size_t length);
 
 /*
- * Responds as dimkhoros_respond does, and gives the response only after `store` has stored the session that comes after it. If
- * `store` fails, DIMKHOROS_NOT_STORED is answered: `response` keeps what it holds, the response is gone, and the session is
- * Answered, so that it answers no challenge if no call returns. The whole session is stored, with its saved states and its list.
- * If the call is refused, `store` is not called. Refuses as dimkhoros_respond does.
+ * Responds as dimkhoros_respond does, and gives the response only after `store` has stored the session that comes after it. The
+ * whole session is stored, with its saved states and its list. If `store` fails, the call answers DIMKHOROS_NOT_STORED. Then
+ * `response` keeps what it holds, the response is gone, and the session is Answered, so it answers no challenge if no call
+ * returns. If the call is refused, `store` is not called. Refuses as dimkhoros_respond does.
  */
 DIMKHOROS_CHECKED
 static inline uint32_t dimkhoros_respond_after(const uint8_t *sheet, size_t sheet_length, DimkhorosProverSession *session,
@@ -618,24 +620,24 @@ DIMKHOROS_CHECKED
 static inline uint32_t dimkhoros_drop(DimkhorosProverSession *session);
 
 /*
- * Saves the state, nonce and commitment of a session, in whatever phase, under a name from 0 to 7, in the place of what was saved
- * there. Nothing else of the session changes. Refuses 34.
+ * Saves the state, nonce and commitment of a session under a name from 0 to 7. The session can be in any phase. What was saved
+ * under the name is replaced. Nothing else of the session changes. Refuses 34.
  *
- * Saving is for demonstrations: a box does not save. The saved copy keeps its nonce until the same name is saved again, whatever
+ * Saving is for demonstrations: a box must not save. The saved copy keeps its nonce until the same name is saved again, whatever
  * the session does, in memory and in what dimkhoros_prover_store writes.
  *
- * What a demonstrator does with it. She saves the new session under 0. After each answered round she returns to 0 and commits to a
- * new nonce, so that one session makes up to 64 rounds and its list shows their commitments. And she saves a committed session and
- * returns to it after the response, as one would have to for a second answer on the same nonce: the second challenge is refused
- * with 32. examples/c/lecture.c shows it.
+ * What a demonstrator does with it: she saves the new session under 0. After each answered round she returns to 0 and commits to
+ * a new nonce. So one session makes up to 64 rounds, and its list shows their commitments. She can also save a committed session
+ * and return to it after the response, to try a second answer on the same nonce: the second challenge is refused with 32.
+ * examples/c/lecture.c shows it.
  */
 DIMKHOROS_CHECKED
 static inline uint32_t dimkhoros_save(DimkhorosProverSession *session, uint32_t name);
 
 /*
- * Brings back the state, nonce and commitment that were saved under a name, in whatever phase the session is. Nothing else
- * changes: the saved states and the list of answered commitments stay, so that the return can be made again. Refuses 34, for a
- * name of 8 or more and for one that was never saved.
+ * Brings back the state, nonce and commitment that were saved under a name. The session can be in any phase. Nothing else
+ * changes: the saved states and the list of answered commitments stay, so the return can be made again. Refuses 34 for a name of
+ * 8 or more, and for one that was never saved.
  */
 DIMKHOROS_CHECKED
 static inline uint32_t dimkhoros_return_to(DimkhorosProverSession *session, uint32_t name);
@@ -653,7 +655,7 @@ static inline uint32_t dimkhoros_take_commitment(const uint8_t *sheet, size_t sh
                                                  const uint32_t commitment[DIMKHOROS_PLACES]);
 
 /*
- * Brings the challenge to a session that holds a commitment. Leads to Asked: only then is the challenge sent. Refuses 2 to 11,
+ * Brings the challenge to a session that holds a commitment. Leads to Asked: send the challenge only after that. Refuses 2 to 11,
  * 15 and 21.
  */
 DIMKHOROS_CHECKED
@@ -662,7 +664,7 @@ static inline uint32_t dimkhoros_take_challenge(const uint8_t *sheet, size_t she
 
 /*
  * Brings the response to a session that has asked, and answers the verdict. An accepted verdict and a rejected one both lead to
- * Judged. Refuses 2 to 11, 16 and 21: the verdict then has `accepted` 0 and the number, and the session keeps what it holds.
+ * Judged. Refuses 2 to 11, 16 and 21: the verdict then has the number, with `accepted` 0, and the session keeps what it holds.
  */
 DIMKHOROS_CHECKED
 static inline DimkhorosJudgement dimkhoros_take_response(const uint8_t *sheet, size_t sheet_length,
@@ -684,12 +686,14 @@ static inline DimkhorosJudgement dimkhoros_take_response(const uint8_t *sheet, s
  *     last 4   the CRC-32 of IEEE 802.3 of all bytes before
  *
  * Anything else is refused, version 1 of PRV too, which has 79 bytes and no saved states. So a file that is empty, cut, longer or
- * changed in one byte is never taken for a session, and one that is damaged otherwise, by chance, once in four billion times. What
- * no call makes is stored, and refused when it is read back: a phase beyond the four, held or saved, a number above 1 for saved,
- * more than 64 answered commitments, or a side beyond 1.
+ * changed in one byte is never taken for a session. One that is damaged otherwise is taken for a session, by chance, once in four
+ * billion times.
+ *
+ * A session that no call makes can be stored, but is refused when it is read back: one with a phase beyond the four, held or
+ * saved, a number above 1 for saved, more than 64 answered commitments, or a side beyond 1.
  *
  * A committed Peggy's bytes hold her nonce: whoever reads them computes the witness from her response. So do the bytes of any
- * session of hers with a saved state that holds a nonce, also after she has answered or was dropped.
+ * session of hers with a saved state that holds a nonce, even after she has answered or was dropped.
  */
 
 /* Puts the stored form of Peggy's session into `stored`. */
@@ -697,7 +701,7 @@ static inline void dimkhoros_prover_store(const DimkhorosProverSession *session,
 
 /*
  * Reads a stored Peggy back without the nonce that she holds. Answers what these bytes are found to be, DIMKHOROS_FOUND_NEW to
- * DIMKHOROS_FOUND_DAMAGED, and sets the session to the one to go on with:
+ * DIMKHOROS_FOUND_DAMAGED. Sets the session to the one to go on with:
  *
  *     found        the session is                                     the box
  *     NEW          New                                                commits it
@@ -708,20 +712,20 @@ static inline void dimkhoros_prover_store(const DimkhorosProverSession *session,
  *
  * So the session is never Committed. This is rule 1 of docs/BOXES.md: only what this run has drawn is answered. The bytes may be
  * an old copy, from a backup or a write that the disk lost, of a session whose challenge was answered long ago. Saved states and
- * the list come back as they were stored: a box must not return to a state that it finds saved, for the same reason. Any bytes
- * but what dimkhoros_prover_store writes of a session that calls can make are damaged.
+ * the list come back as they were stored. For the same reason a box must not return to a state that it finds saved. Bytes are
+ * damaged if dimkhoros_prover_store does not write them of any session that calls can make.
  */
 DIMKHOROS_CHECKED
 static inline uint32_t dimkhoros_prover_reopen(const uint8_t *stored, size_t length, DimkhorosProverSession *session);
 
 /*
- * Reads a stored Peggy back with her nonce: sets the session to the one that these bytes hold and answers 1. If they are damaged
+ * Reads a stored Peggy back with her nonce: sets the session to the one that these bytes hold and answers 1. If they are damaged,
  * it answers 0 and leaves the session alone.
  *
- * A box must not answer on what this call gives. Rule 1 of docs/BOXES.md: only what this run has drawn is answered, and a
+ * A box must not answer on what this call gives. This is rule 1 of docs/BOXES.md: only what this run has drawn is answered, and a
  * committed session that is found in a file is dropped. If the same nonce was answered before, another answer gives the witness
- * away, and nothing in the bytes tells. Use dimkhoros_prover_reopen. This call is for programs that look at stored sessions, and
- * for those who know that no other copy of these bytes is ever read.
+ * away, and nothing in the bytes tells. Use dimkhoros_prover_reopen. This call is for programs that only look at stored sessions,
+ * and for those who know that no other copy of these bytes is ever read.
  */
 DIMKHOROS_CHECKED
 static inline int dimkhoros_prover_restore_with_nonce(const uint8_t *stored, size_t length, DimkhorosProverSession *session);
@@ -731,8 +735,8 @@ static inline void dimkhoros_verifier_store(const DimkhorosVerifierSession *sess
                                             uint8_t stored[DIMKHOROS_STORED_VERIFIER]);
 
 /*
- * Sets Vic's session to the one that these bytes hold and answers 1. Answers 0, and leaves the session alone, where they are
- * anything else than what dimkhoros_verifier_store writes of one of the four phases.
+ * Sets Vic's session to the one that these bytes hold and answers 1. If dimkhoros_verifier_store does not write these bytes of
+ * one of the four phases, it answers 0 and leaves the session alone.
  */
 DIMKHOROS_CHECKED
 static inline int dimkhoros_verifier_restore(const uint8_t *stored, size_t length, DimkhorosVerifierSession *session);
@@ -742,15 +746,15 @@ static inline void dimkhoros_or_prover_store(const DimkhorosOrSession *session,
                                              uint8_t stored[DIMKHOROS_STORED_OR_PROVER]);
 
 /*
- * Reads a stored Peggy of the OR proof back without nonce, side and simulated values, as dimkhoros_prover_reopen does. Any bytes
- * but what dimkhoros_or_prover_store writes of one of the four phases and of side 0 or 1 are damaged.
+ * Reads a stored Peggy of the OR proof back without nonce, side and simulated values, as dimkhoros_prover_reopen does. Bytes are
+ * damaged if dimkhoros_or_prover_store does not write them of one of the four phases and of side 0 or 1.
  */
 DIMKHOROS_CHECKED
 static inline uint32_t dimkhoros_or_prover_reopen(const uint8_t *stored, size_t length, DimkhorosOrSession *session);
 
 /*
  * Reads a stored Peggy of the OR proof back with nonce, side and simulated values: sets the session to the one that these bytes
- * hold and answers 1. If they are damaged it answers 0 and leaves the session alone. What dimkhoros_prover_restore_with_nonce
+ * hold and answers 1. If they are damaged, it answers 0 and leaves the session alone. What dimkhoros_prover_restore_with_nonce
  * says of rule 1 holds here too: a box must not answer on what this call gives.
  */
 DIMKHOROS_CHECKED
@@ -763,16 +767,16 @@ DIMKHOROS_CHECKED
 DimkhorosJudgement dimkhoros_judge(const uint8_t *sheet, size_t sheet_length, DimkhorosRound round);
 
 /*
- * The simulator: answers the one commitment with which Vic accepts this challenge and response. No witness is needed for it.
- * Refuses 2 to 11, 15 and 16.
+ * The simulator: answers the one commitment with which Vic accepts this challenge and response. It needs no witness. Refuses 2 to
+ * 11, 15 and 16.
  */
 DIMKHOROS_CHECKED
 DimkhorosComputed dimkhoros_simulate(const uint8_t *sheet, size_t sheet_length, uint32_t challenge,
                                      const uint32_t response[DIMKHOROS_PLACES]);
 
 /*
- * The extractor: answers the witness that two accepted rounds with one commitment and different challenges give away, the
- * same one in either order. Refuses 2 to 11, 14 to 16 and 18 to 20.
+ * The extractor: answers the witness that two accepted rounds with one commitment and different challenges give away. It is the
+ * same in either order. Refuses 2 to 11, 14 to 16 and 18 to 20.
  */
 DIMKHOROS_CHECKED
 DimkhorosComputed dimkhoros_extract(const uint8_t *sheet, size_t sheet_length, DimkhorosRound first,
@@ -781,13 +785,13 @@ DimkhorosComputed dimkhoros_extract(const uint8_t *sheet, size_t sheet_length, D
 /* --- The OR proof --- */
 
 /*
- * "I know a witness of one of the two." There are two sheets with one K, and so two sides, 0 and 1; else they may differ in
- * everything. Peggy knows a witness of one side. Of the other she chooses the challenge and the response before she commits,
- * and simulates its commitment. When she then hears c, her own side answers what is left of it: c0 + c1 is c modulo K. Holders
- * of either witness make the same rounds, so that a round does not tell which of the two is known: this is proved.
+ * "I know a witness of one of the two." There are two sheets with the same K, and so two sides, 0 and 1. The sheets may differ in
+ * everything else. Peggy knows a witness of one side. For the other side she chooses the challenge and the response before she
+ * commits, and simulates its commitment. When she then hears c, her own side answers what is left of it: c0 + c1 is c modulo K.
+ * Holders of either witness make the same rounds, so a round does not tell which of the two is known: this is proved.
  *
- * Each of 2 to 11 is asked of both sheets before the next number, and then 26 is given where their challenge counts differ.
- * What belongs to a side is tested by its own sheet.
+ * Each of 2 to 11 is tested of both sheets before the next number. Then 26 is given if their challenge counts differ. What
+ * belongs to a side is tested by its own sheet.
  */
 
 /* A new session: DIMKHOROS_PROVER_NEW, with zeros. */
@@ -795,9 +799,9 @@ DIMKHOROS_CHECKED
 DimkhorosOrSession dimkhoros_or_prover_new(void);
 
 /*
- * Commits a new session: `side` is the side whose witness Peggy knows, 0, or 1 for any other number; the nonce is that side's,
- * and `challenge` and `response` are those that she simulates the other side with. Gives both commitments. Leads to Committed.
- * Nonce, challenge and response are the caller's and have to be drawn at random. Refuses 2 to 11, 26, 15, 16 and 21.
+ * Commits a new session. `side` is the side whose witness Peggy knows: 0, or 1 for any other number. The nonce is that side's.
+ * `challenge` and `response` are those that she simulates the other side with. Gives both commitments. Leads to Committed. The
+ * caller must draw nonce, challenge and response at random. Refuses 2 to 11, 26, 15, 16 and 21.
  */
 DIMKHOROS_CHECKED
 static inline uint32_t dimkhoros_or_commit(const uint8_t *first, size_t first_length, const uint8_t *second,
@@ -808,9 +812,9 @@ static inline uint32_t dimkhoros_or_commit(const uint8_t *first, size_t first_le
                                            uint32_t commitment1[DIMKHOROS_PLACES]);
 
 /*
- * Answers a challenge by a witness of the side that the session holds: sets `round` to the whole round, with the held
- * commitments, and sets nonce, side, simulated challenge and simulated response to zeros. Leads to Answered. Refuses 2 to 11,
- * 26, 15 to 17 and 21; a committed session that is refused stays committed and can still answer.
+ * Answers a challenge by a witness of the side that the session holds. Sets `round` to the whole round, with the held
+ * commitments. Sets nonce, side, simulated challenge and simulated response to zeros. Leads to Answered. Refuses 2 to 11, 26, 15
+ * to 17 and 21. A committed session that is refused stays committed and can still answer.
  */
 DIMKHOROS_CHECKED
 static inline uint32_t dimkhoros_or_respond(const uint8_t *first, size_t first_length, const uint8_t *second,
@@ -824,7 +828,7 @@ static inline uint32_t dimkhoros_or_respond_after(const uint8_t *first, size_t f
                                                   const uint32_t witness[DIMKHOROS_PLACES], DimkhorosStore store,
                                                   void *box, DimkhorosOrRound *round);
 
-/* Gives up a new or committed session and sets all but its commitments to zeros. Leads to Dropped. Refuses 21. */
+/* Gives up a new or committed session and sets all its values except the commitments to zeros. Leads to Dropped. Refuses 21. */
 DIMKHOROS_CHECKED
 static inline uint32_t dimkhoros_or_drop(DimkhorosOrSession *session);
 
@@ -834,8 +838,8 @@ DimkhorosOrJudgement dimkhoros_or_judge(const uint8_t *first, size_t first_lengt
                                         size_t second_length, DimkhorosOrRound round);
 
 /*
- * The extractor: answers the witness that two accepted rounds with the same two commitments and different c give away: side 0's
- * if the two c0 differ, else side 1's. Refuses 2 to 11, 26, 14 to 16 and 18 to 20.
+ * The extractor: answers the witness that two accepted rounds with the same two commitments and different c give away. It is side
+ * 0's if the two c0 differ, else side 1's. Refuses 2 to 11, 26, 14 to 16 and 18 to 20.
  */
 DIMKHOROS_CHECKED
 DimkhorosOrExtracted dimkhoros_or_extract(const uint8_t *first, size_t first_length, const uint8_t *second,
@@ -844,18 +848,18 @@ DimkhorosOrExtracted dimkhoros_or_extract(const uint8_t *first, size_t first_len
 /* --- Peggy as a team --- */
 
 /*
- * Two to eight players each hold a part of a witness. A part's image is public, and the images multiply to the statement. Each
+ * Two to eight players each hold a part of a witness. Each part's image is public, and the images multiply to the statement. Each
  * player has a session of Peggy's on the sheet with the player's own image as its statement, and all hear the same challenge. A
- * combiner makes one round of theirs, which Vic judges by the sheet itself: it is the round that a single Peggy sends for the
- * joined witness and the joined nonce. Where all players' rounds are accepted so is the whole, and where exactly one is rejected
- * so is the whole. This is proved. Joined means, column by column, added modulo q (exponent sheets) or multiplied modulo m (root
+ * combiner makes one round out of theirs, and Vic judges it by the sheet itself. It is the round that a single Peggy sends for
+ * the joined witness and the joined nonce. If all players' rounds are accepted, so is the whole. If exactly one is rejected, so
+ * is the whole. This is proved. Joined means, column by column, added modulo q (exponent sheets) or multiplied modulo m (root
  * sheets).
  *
- * The players' values stand one player behind the other, value i of player p at 8 * p + i. Those of players from `count` on are
- * not read, nor are the places behind a player's s or n values.
+ * The players' values stand one player after the other, value i of player p at 8 * p + i. Those of players from `count` on are
+ * not read, nor are the places after a player's s or n values.
  *
- * 27 is given behind 9, before an entry of the sheet is looked at; 11 is for the statement and for the images; and 28 is given
- * last, where the images do not multiply to the statement.
+ * 27 is tested after 9, before an entry of the sheet is looked at. 11 is for the statement and for the images. 28 is tested last:
+ * it is given if the images do not multiply to the statement.
  */
 
 /*
@@ -891,26 +895,27 @@ DimkhorosComputed dimkhoros_team_response(const uint8_t *sheet, size_t sheet_len
  * remembered round with the same commitment and the same challenge gives nothing away, and is not named. Rounds that are rejected
  * or refused are not remembered, and do not count.
  *
- * A round is given by its values. So versions of files play no part: what dimkhoros_read answers can be given to a watch. A watch
- * has no stored form: after a restart, open a new one and give it the last 63 accepted rounds, and it remembers the same.
+ * A round is given by its values, so the version of a file does not matter: what dimkhoros_read answers can be given to a watch.
+ * A watch has no stored form. After a restart, open a new one and give it the last 63 accepted rounds: it then remembers the
+ * same.
  */
 
 /*
- * Opens a watch on a sheet: sets `watch` to one that remembers nothing, and answers 0. Refuses 2 to 11: the number is answered,
- * and `watch` keeps what it holds.
+ * Opens a watch on a sheet: sets `watch` to one that remembers nothing, and answers 0. Refuses 2 to 11: it then answers the
+ * number, and `watch` keeps what it holds.
  */
 DIMKHOROS_CHECKED
 static inline uint32_t dimkhoros_open_watch(const uint8_t *sheet, size_t sheet_length, DimkhorosWatch *watch);
 
 /*
- * Gives a watch a round. Answers the verdict that dimkhoros_judge answers and, for an accepted round, the named one with the
- * witness that the two give away. An accepted round is then the newest that `watch` remembers, with zeros beyond its s and n
- * values, and of 63 older ones the oldest is forgotten. A rejected round leaves `watch` as it is.
+ * Gives a watch a round. Answers the verdict that dimkhoros_judge answers. For an accepted round it also answers how far back the
+ * named round stands, and the witness that the two give away. An accepted round is then the newest that `watch` remembers, with
+ * zeros beyond its s and n values. Of 63 older ones the oldest is forgotten. A rejected round leaves `watch` as it is.
  *
- * Refuses 2 to 11 and 14 to 16, by the sheet that is handed in, and then 21: if that sheet has other bytes than the one that the
- * watch was opened on, or more or fewer; if the watch counts more than 63 rounds; or if the round is accepted and the one that it
- * would name is not. A refused call leaves `watch` as it is, and its answer has the number in `verdict.refusal` and 0 in every
- * other field.
+ * Refuses 2 to 11 and 14 to 16, by the sheet that is handed in, and then 21. It gives 21 if that sheet has other bytes than the
+ * one that the watch was opened on, or more or fewer; if the watch counts more than 63 rounds; or if the round is accepted and
+ * the one that it would name is not. A refused call leaves `watch` as it is. Its answer has the number in `verdict.refusal` and 0
+ * in every other field.
  */
 DIMKHOROS_CHECKED
 static inline DimkhorosHeard dimkhoros_hear(const uint8_t *sheet, size_t sheet_length, DimkhorosWatch *watch,
@@ -920,9 +925,9 @@ static inline DimkhorosHeard dimkhoros_hear(const uint8_t *sheet, size_t sheet_l
 
 /*
  * A ledger computes on commitments. g^v * h^b modulo m commits to the value v with the blinding number b. Whoever holds two
- * commitments multiplies them and has one to the sum of the two values. For a product the holder of the values makes a commitment
- * of its own, and shows by a round that it is one to the product. A ledger has up to 64 lines over one g, h, m, q and K:
- * commitments, sums of two lines above, and products of two lines above. This one has 2, 3, 2 + 3 and 2 * 3:
+ * commitments can multiply them, and has a commitment to the sum of the two values. For a product the holder of the values makes
+ * a commitment of its own, and shows by a round that it is one to the product. A ledger has up to 64 lines over one g, h, m, q
+ * and K: commitments, sums of two lines above, and products of two lines above. This one has 2, 3, 2 + 3 and 2 * 3:
  *
  *     const DimkhorosBase base = {2, 3, 23, 11, 11};
  *     const uint32_t nonce[3] = {1, 2, 3};
@@ -937,11 +942,11 @@ static inline DimkhorosHeard dimkhoros_hear(const uint8_t *sheet, size_t sheet_l
  *     DimkhorosChecked checked = dimkhoros_check_ledger(&base, &ledger);
  *     .. if checked.accepted is 1: every product is shown ..
  *
- * A product's round is one of the sheet of pattern DIMKHOROS_PATTERN_PRODUCT with the values g, h and B and the statement A and E,
- * where A is the commitment of its first line, B that of its second and E its own. An accepted round is evidence as of any sheet:
- * if the same t is answered for two challenges, dimkhoros_extract gives the value a of the first line with its blinding number and
- * a third number, and if B opens to b, E opens to a * b mod q. This is proved. So a nonce must be drawn at random for each product,
- * and must not be used for two challenges.
+ * A product's round is a round of a sheet with the pattern DIMKHOROS_PATTERN_PRODUCT, the values g, h and B, and the statement A
+ * and E. A is the commitment of its first line, B that of its second and E its own. An accepted round is evidence, as on any
+ * sheet. If the same t is answered for two challenges, dimkhoros_extract gives the value a of the first line with its blinding
+ * number, and a third number. If B opens to b, E then opens to a * b mod q. This is proved. So a nonce must be drawn at random
+ * for each product, and must not be used for two challenges.
  */
 
 /* What a ledger of no lines is made of. */
@@ -949,7 +954,7 @@ DIMKHOROS_CHECKED
 static inline DimkhorosEntries dimkhoros_no_entries(void);
 
 /*
- * Adds a commitment to a value with a blinding number. Answers the number of its line, by which later lines name it. Behind the
+ * Adds a commitment to a value with a blinding number. Answers the number of its line, by which later lines name it. After the
  * 64th line nothing is written, here and in the next two calls: the count is then 65, and dimkhoros_write_ledger refuses it.
  */
 static inline uint32_t dimkhoros_add_commitment(DimkhorosEntries *entries, uint32_t value, uint32_t blinding);
@@ -959,35 +964,56 @@ static inline uint32_t dimkhoros_add_sum(DimkhorosEntries *entries, uint32_t fir
 
 /*
  * Adds the product of two lines above, which may be the same: a commitment to it with this blinding number, and a round with this
- * nonce and challenge. Answers the number of its line. The round is evidence only if another has drawn the challenge, after t was
- * fixed.
+ * nonce and challenge. Answers the number of its line. The round is evidence only if somebody else drew the challenge, after t
+ * was fixed.
  */
 static inline uint32_t dimkhoros_add_product(DimkhorosEntries *entries, uint32_t first, uint32_t second, uint32_t blinding,
                                              const uint32_t nonce[3], uint32_t challenge);
 
 /*
- * Makes the ledger of these entries: sets `ledger` to it and answers 0. A sum's value and blinding number are those of its lines
- * added modulo q, and a product's value is its lines' multiplied modulo q. dimkhoros_check_ledger accepts what this call makes:
- * this is proved. Refuses 5, 6 and 8 for m, q and K, 10 for g or h, 37 for a count above 64, 35 for an unknown kind, 36 for a line
- * that is not above, 15 for a challenge of K or more, and 16 for a value, blinding number or nonce of q or more: each asked of all
- * lines before the next, and only of numbers that a line's kind uses. The number is answered, and `ledger` keeps what it holds.
+ * Makes the ledger of these entries: sets `ledger` to it and answers 0. A sum's value and blinding number are those of its lines,
+ * added modulo q. A product's value is those of its lines, multiplied modulo q. dimkhoros_check_ledger accepts what this call
+ * makes: this is proved.
+ *
+ * Refuses, in this order:
+ *
+ *     5, 6, 8   by m, q and K
+ *     10        g or h is not a group element
+ *     37        the count is above 64
+ *     35        a kind is unknown
+ *     36        a line that is named is not above
+ *     15        a challenge is K or more
+ *     16        a value, a blinding number or a number of a nonce is q or more
+ *
+ * Each is tested of all lines before the next, and only of numbers that a line's kind uses. A refused call answers the number, and
+ * `ledger` keeps what it holds.
  */
 DIMKHOROS_CHECKED
 static inline uint32_t dimkhoros_write_ledger(const DimkhorosBase *base, const DimkhorosEntries *entries,
                                               DimkhorosLedger *ledger);
 
 /*
- * Checks a ledger: accepted, or the first product whose round is rejected. A ledger of no lines is accepted. Refuses 5, 6 and 8 for
- * m, q and K, 10 for g or h, 37 for a count above 64, 35 for an unknown kind, 36 for a line that is not above, 14 for a commitment
- * or a value of t outside the group, 15 for a challenge of K or more, and 16 for a response of q or more: each asked of all lines
- * before the next, and all before any round is judged.
+ * Checks a ledger: accepted, or the first product whose round is rejected. A ledger of no lines is accepted. Refuses, in this
+ * order:
+ *
+ *     5, 6, 8   by m, q and K
+ *     10        g or h is not a group element
+ *     37        the count is above 64
+ *     35        a kind is unknown
+ *     36        a line that is named is not above
+ *     14        a commitment or a value of t is not a group element
+ *     15        a challenge is K or more
+ *     16        a number of a response is q or more
+ *
+ * Each is tested of all lines before the next, and only of numbers that a line's kind uses. All are tested before any round is
+ * judged.
  */
 DIMKHOROS_CHECKED
 static inline DimkhorosChecked dimkhoros_check_ledger(const DimkhorosBase *base, const DimkhorosLedger *ledger);
 
 /*
- * Gives the commitments of all lines of a ledger, those of sums too: sets all 64 numbers of `commitments`, to 0 behind the last
- * line, and answers 0. Refuses as dimkhoros_check_ledger does: the number is answered, and `commitments` keeps its numbers. A
+ * Gives the commitments of all lines of a ledger, those of sums too. Sets all 64 numbers of `commitments`, to 0 after the last
+ * line, and answers 0. Refuses as dimkhoros_check_ledger does: it then answers the number, and `commitments` keeps its numbers. A
  * round that is rejected is not refused.
  */
 DIMKHOROS_CHECKED
@@ -995,9 +1021,10 @@ static inline uint32_t dimkhoros_line_commitments(const DimkhorosBase *base, con
                                                   uint32_t commitments[DIMKHOROS_MOST_LINES]);
 
 /*
- * Writes the sheet of the product of this number, from 0, to the start of `buffer`, and answers its length, 52; or 0 if the line of
- * this number is none. No byte behind the sheet is changed. Refuses as dimkhoros_check_ledger does, and then 22. The rounds of two
- * ledgers for it, with one t and two challenges, are given to dimkhoros_extract.
+ * Writes the sheet of the product of this number, from 0, to the start of `buffer`, and answers its length, 52. If the line of
+ * this number is not a product, it writes nothing, and the length is 0. No byte after the sheet is changed. Refuses as
+ * dimkhoros_check_ledger does, and then 22. With this sheet, give dimkhoros_extract the rounds of the product in two ledgers,
+ * with one t and two challenges.
  */
 DIMKHOROS_CHECKED
 static inline DimkhorosWritten dimkhoros_line_sheet(const DimkhorosBase *base, const DimkhorosLedger *ledger, uint32_t line,
@@ -1010,21 +1037,21 @@ static inline DimkhorosRound dimkhoros_line_round(const DimkhorosLine *line);
 /* --- Round files --- */
 
 /*
- * A round file has version 1 or 2. In version 2 a challenge is stored in two bytes, and a round has 4 * (s + n) + 2; in version
- * 1 it has four, and a round 4 * (s + n + 1). All calls take files of both. docs/FORMATS.md has the bytes.
+ * A round file has version 1 or 2. In version 2 a challenge is stored in two bytes, and a round has 4 * (s + n) + 2. In version 1
+ * a challenge has four, and a round 4 * (s + n + 1). All calls take files of both. docs/FORMATS.md has the bytes.
  */
 
 /* Answers how many rounds a file has, 0 to 512. Refuses 2 to 12. */
 DIMKHOROS_CHECKED
 DimkhorosCounted dimkhoros_count(const uint8_t *sheet, size_t sheet_length, const uint8_t *file, size_t file_length);
 
-/* Answers the refusal of the round of this number, from 0, in a file: 2 to 13, or 0 where it can be read. */
+/* Answers the refusal of the round of this number, from 0, in a file: 2 to 13, or 0 if it can be read. */
 DIMKHOROS_CHECKED
 uint32_t dimkhoros_check(const uint8_t *sheet, size_t sheet_length, const uint8_t *file, size_t file_length,
                          size_t number);
 
 /*
- * Answers where the round of this number stands in the caller's own file. Where it is refused, offset and length are 0, and
+ * Answers where the round of this number stands in the caller's own file. If it is refused, offset and length are 0, and
  * dimkhoros_check answers the refusal, 2 to 13.
  */
 DIMKHOROS_CHECKED
@@ -1037,7 +1064,7 @@ DimkhorosFetched dimkhoros_read(const uint8_t *sheet, size_t sheet_length, const
                                 size_t number);
 
 /*
- * Answers whether the rounds of these two numbers, which may be the same, have the same commitment: whether all its 4 * s bytes
+ * Answers whether the rounds of these two numbers, which may be the same, have the same commitment: all its 4 * s bytes must
  * agree as they stand in the file. Refuses 2 to 13; 13 is for either number.
  */
 DIMKHOROS_CHECKED
@@ -1045,28 +1072,29 @@ DimkhorosCompared dimkhoros_same_commitment(const uint8_t *sheet, size_t sheet_l
                                             size_t file_length, size_t i, size_t j);
 
 /*
- * Writes a file of this version without rounds to the start of `buffer` and answers its length, 7. No byte behind it is
- * changed. Refuses 12, for any version but 1 and 2, and 22.
+ * Writes a file of this version without rounds to the start of `buffer`, and answers its length, 7. No byte after it is changed.
+ * Refuses 12, if the version is neither 1 nor 2, and 22.
  */
 DIMKHOROS_CHECKED
 DimkhorosWritten dimkhoros_empty(uint32_t version, uint8_t *buffer, size_t buffer_length);
 
 /*
  * Adds a round to the file in the first `used` bytes of `buffer`, in that file's version, and answers how many bytes are then in
- * use. The round is written straight behind these bytes, the file's count rises by one, and no other byte is changed. Its
- * values are not tested, but for a challenge that version 2 cannot hold. Refuses 2 to 12, 15 and 22: 12 where the bytes in use
- * are no file of this sheet, are more than the buffer has or hold 512 rounds, 15 where they have version 2 and the challenge is
- * above 65535, and 22 where the buffer has no room for the round.
+ * use. The round is written straight after these bytes, the file's count rises by one, and no other byte is changed. Its values
+ * are not tested, except a challenge that version 2 cannot hold. Refuses 2 to 12, 15 and 22. 12 is given if the bytes in use are
+ * not a file of this sheet, are more than the buffer has, or hold 512 rounds; 15 if they have version 2 and the challenge is
+ * above 65535; 22 if the buffer has no room for the round.
  */
 DIMKHOROS_CHECKED
 DimkhorosWritten dimkhoros_append(const uint8_t *sheet, size_t sheet_length, uint8_t *buffer, size_t buffer_length,
                                   size_t used, DimkhorosRound round);
 
 /*
- * Writes the rounds of a file in its other version, 2 for 1 and 1 for 2, to the start of `buffer` and answers how many bytes
- * these are: the file's without or with two for each round. No byte behind them is changed. The rounds keep their order and all
- * their values, so that every verdict stays the same, and converting the result gives the file again. Refuses 2 to 12, 15 and
- * 22: 15 where any round of a file of version 1 has a challenge above 65535. One of K to 65535 is converted like the others.
+ * Writes the rounds of a file in its other version, 2 for 1 and 1 for 2, to the start of `buffer`, and answers how many bytes
+ * these are: two fewer for each round, or two more. No byte after them is changed. The rounds keep their order and all their
+ * values. So every verdict stays the same, and converting the result gives the file again. Refuses 2 to 12, 15 and 22. 15 is
+ * given if any round of a file of version 1 has a challenge above 65535. A challenge from K to 65535 is converted like the
+ * others.
  */
 DIMKHOROS_CHECKED
 DimkhorosWritten dimkhoros_convert(const uint8_t *sheet, size_t sheet_length, const uint8_t *file, size_t file_length,
@@ -1076,13 +1104,14 @@ DimkhorosWritten dimkhoros_convert(const uint8_t *sheet, size_t sheet_length, co
 
 /*
  * Judges a round file at a level and writes the marker's text, in ASCII and without a zero at its end, to the start of `text`.
- * Answers its length; no byte behind it is changed. The level is the bytes of a level file: one byte w, from 1 to 64.
+ * Answers its length. No byte after it is changed. The level is the bytes of a level file: one byte w, from 1 to 64.
  *
- * A refused sheet gives the one line `sheet N`, N being 2 to 11; else a refused file gives `file 12`; else a refused level
- * gives `level 25`, a number that no call answers in another way. Else there are a line `rounds` with the count, a line for
- * each round (its number from 0 and `accepted`, `rejected` with the rows that differ, as in `2 rejected 0 2 7`, or `refused`
- * with 14 to 16), and `pass` if every round is accepted and the product of one K for each round is at least 2^w, else `fail`.
- * The product is 1 for no rounds, so that a file of none fails at every level. Rows rise. Each line ends in a newline.
+ * A refused sheet gives the one line `sheet N`, with N from 2 to 11. Else a refused file gives `file 12`. Else a refused level
+ * gives `level 25`, a number that no call answers in another way. Else there is a line `rounds` with the count, a line for each
+ * round, and a last line. A round's line is its number from 0 and `accepted`, or `rejected` with the rows that differ, rising, as
+ * in `2 rejected 0 2 7`, or `refused` with 14 to 16. The last line is `pass` if every round is accepted and the product of one K
+ * for each round is at least 2^w, else `fail`. The product is 1 for no rounds, so a file of none fails at every level. Each line
+ * ends in a newline.
  */
 DIMKHOROS_CHECKED
 size_t dimkhoros_mark(const uint8_t *sheet, size_t sheet_length, const uint8_t *file, size_t file_length,
@@ -1090,10 +1119,10 @@ size_t dimkhoros_mark(const uint8_t *sheet, size_t sheet_length, const uint8_t *
 
 /*
  * Says in one line what is wrong with a sheet, a round file or its round 0, and writes the line, in ASCII and without a zero at
- * its end, to the start of `text`. Answers its length; no byte behind it is changed. The line ends in a newline and is one of
+ * its end, to the start of `text`. Answers its length. No byte after it is changed. The line ends in a newline and is one of
  *
  *     refused N OFFSET           rule N, 2 to 16, is the lowest that is broken, by the value at OFFSET and by none before it
- *     refused N length LENGTH    the same of 2, 9 or 12 where the length of the sheet or the file, LENGTH bytes, breaks it
+ *     refused N length LENGTH    the same for 2, 9 or 12, if the length of the sheet or the file, LENGTH bytes, breaks it
  *     rejected ROW LEFT RIGHT .. nothing is refused; each ROW, from 0 and rising, is one in which the two sides of round 0
  *                                differ, LEFT is the value of [r] there and RIGHT that of t * z^c
  *     accepted                   Vic accepts round 0
@@ -1106,17 +1135,17 @@ size_t dimkhoros_reason(const uint8_t *sheet, size_t sheet_length, const uint8_t
                         uint8_t text[DIMKHOROS_LONGEST_REASON]);
 
 /*
- * Says which challenges Peggy can answer on the commitment t of a file's round 0, whoever knows a witness, and writes the text,
- * in ASCII and without a zero at its end, to the start of `text`. Answers its length; no byte behind it is changed. The text has
- * a line for each challenge below K that has an accepting response, rising: the challenge and the smallest such response, n
+ * Says which challenges Peggy can answer on the commitment t of a file's round 0, whoever knows a witness. Writes the text, in
+ * ASCII and without a zero at its end, to the start of `text`. Answers its length. No byte after it is changed. The text has a
+ * line for each challenge below K that has an accepting response, rising: the challenge and the smallest such response, n
  * numbers, as in `1 0 9`. Responses are compared by the first of their values that differs. If there is no such challenge, the
  * text is the one line `none`. Each line ends in a newline. The challenge and the response of round 0 are not tested.
  *
- * What is refused gives the one line `refused N`: 2 to 11 of the sheet, 12 of the file, 13 if the file has no rounds, 14 if t is
- * no commitment, then 31 if the sheet is too large for all responses to be tried: an exponent sheet if q^n is above 4096, a root
- * sheet if m is above 4096 or s above 1.
+ * What is refused gives the one line `refused N`: 2 to 11 for the sheet, 12 for the file, 13 if the file has no rounds, 14 if a
+ * value of t is not a group element, then 31 if the sheet is too large for all responses to be tried. An exponent sheet is too
+ * large if q^n is above 4096, a root sheet if m is above 4096 or s above 1.
  *
- * The bytes are too many for a small stack: allocate them, or let them be static. The call itself has a table of 128 KiB there.
+ * `text` is too large for a small stack: allocate it, or let it be static. The call itself has a table of 128 KiB on the stack.
  */
 DIMKHOROS_CHECKED
 size_t dimkhoros_game(const uint8_t *sheet, size_t sheet_length, const uint8_t *file, size_t file_length,
@@ -1124,18 +1153,18 @@ size_t dimkhoros_game(const uint8_t *sheet, size_t sheet_length, const uint8_t *
 
 /* --- Version --- */
 
-/* The version of the archive. It is DIMKHOROS_VERSION where archive and header belong together. */
+/* The version of the archive. It is DIMKHOROS_VERSION if archive and header belong together. */
 uint32_t dimkhoros_version(void);
 
 /* --- The pure form --- */
 
 /*
- * The calls on sessions as the archive exports them, and as they are proved. Each is handed a session by value and hands one
- * back, which is the same where the call is refused. The one that was handed in still stands where it stood: from then on it
- * is an old copy, and whoever answers another challenge from it gives the witness away, of which no compiler warns. If each call
- * is given the session that the last one handed back, no commitment of Peggy's is answered twice, and at most one challenge is
- * answered if no call returns. The calls above see to that: they are these calls, with the session put back in its place.
- * A session of Peggy's has 2,696 bytes, which a call takes and answers by value.
+ * The calls on sessions as the archive exports them, and as they are proved. Each takes a session by value and hands one back. If
+ * the call is refused, this is the same session. The session that was handed in is still where it was. From then on it is an old
+ * copy: whoever answers another challenge from it gives the witness away, and no compiler warns of that. If each call is given
+ * the session that the last one handed back, no commitment of Peggy's is answered twice. If also no call returns, at most one
+ * challenge is answered. The calls above see to that: they are these calls, with the session put back in its place. A session of
+ * Peggy's has 2,696 bytes, which a call takes and answers by value.
  *
  * A watch is handed in and back in the same way. An old copy of it gives nothing away, but does not know the newest round.
  *
@@ -1170,7 +1199,7 @@ typedef struct {
     uint32_t refusal;
 } DimkhorosOrAnswer;
 
-/* What opening a watch answers. A refused one has a watch of no bytes, which fits no sheet. */
+/* What opening a watch answers. If it is refused, the watch has no bytes and fits no sheet. */
 typedef struct {
     DimkhorosWatch watch;
     uint32_t refusal;
@@ -1184,7 +1213,7 @@ typedef struct {
     DimkhorosJudgement verdict;
 } DimkhorosWatchAnswer;
 
-/* What making a ledger answers. A refused one has a ledger of zeros. */
+/* What making a ledger answers. If it is refused, the ledger is zeros. */
 typedef struct {
     DimkhorosLedger ledger;
     uint32_t refusal;
@@ -1273,7 +1302,7 @@ static inline void dimkhoros_places_copy(uint32_t to[DIMKHOROS_PLACES], const ui
     }
 }
 
-/* Takes over what a call on Peggy's session answered: the session first, then the values where nothing is refused. */
+/* Takes over what a call on Peggy's session answered: the session first, then the values if nothing is refused. */
 static inline uint32_t dimkhoros_prover_step(const DimkhorosProverAnswer *answer, DimkhorosProverSession *session,
                                              uint32_t values[DIMKHOROS_PLACES]) {
     *session = answer->session;
@@ -1500,7 +1529,7 @@ static inline uint32_t dimkhoros_line_commitments(const DimkhorosBase *base, con
     if (checked.refusal != 0) {
         return checked.refusal;
     }
-    /* Nothing is refused, so that there are 64 lines at most, and a sum names lines above. */
+    /* Nothing is refused, so there are at most 64 lines, and a sum names lines above. */
     for (uint32_t i = 0; i < DIMKHOROS_MOST_LINES; i++) {
         const DimkhorosLine *line = &ledger->lines[i];
         commitments[i] = i < ledger->count ? line->commitment : 0;
@@ -1545,7 +1574,7 @@ static inline DimkhorosRound dimkhoros_line_round(const DimkhorosLine *line) {
 
 /* --- How sessions are stored --- */
 
-/* The CRC-32 of these bytes, reflected: polynomial EDB88320, with all bits changed over at the start and at the end. */
+/* The CRC-32 of these bytes, reflected: polynomial EDB88320, with all bits inverted at the start and at the end. */
 static inline uint32_t dimkhoros_stored_check(const uint8_t *bytes, size_t length) {
     uint32_t crc = 0xFFFFFFFFu;
     for (size_t i = 0; i < 8 * length; i++) {

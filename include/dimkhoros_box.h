@@ -2,7 +2,7 @@
  * What a box of docs/BOXES.md needs beside the library: a store for its session, random numbers, and the lines of the wire. It is
  * for C99 and C++11, or later, on Linux. All of it is C over calls of the system: it is tested and not proved.
  *
- * It needs POSIX.1-2008. A program that is compiled with -std=c99, say, begins with
+ * It needs POSIX.1-2008. A program that is compiled with -std=c99, for example, begins with
  *
  *     #define _POSIX_C_SOURCE 200809L
  *     #include "dimkhoros_box.h"
@@ -56,16 +56,16 @@ extern "C" {
 #endif
 
 /*
- * Reads a file of a folder, as much of it as there is room for, and answers how many bytes these are. Answers -1 if it cannot be
- * read, with the reason in errno: ENOENT if there is no such file.
+ * Reads a file of a folder, as much of it as there is room for, and answers how many bytes these are. If the file cannot be read,
+ * it answers -1, with the reason in errno: ENOENT if there is no such file.
  */
 DIMKHOROS_CHECKED
 static inline ssize_t dimkhoros_box_find(int folder, const char *name, void *bytes, size_t room);
 
 /*
- * Puts the bytes of a session in the place of the stored ones, for the owner's eyes alone (mode 600). Answers 0 after they are on
- * the disk: the file holds either what it held or all of the new bytes, wherever the box ends. Else it answers the error's
- * number, as in errno, and nothing may be sent.
+ * Puts the bytes of a session in the place of the stored ones. Only the owner can read them (mode 600). Answers 0 after they are
+ * on the disk. Wherever the box ends, the file holds either what it held or all of the new bytes. If it fails, it answers the
+ * error's number, as in errno, and the box must not send anything.
  */
 DIMKHOROS_CHECKED
 static inline int dimkhoros_box_store(int folder, const uint8_t *bytes, size_t length);
@@ -77,9 +77,9 @@ static inline int dimkhoros_box_store_in(void *folder, const uint8_t *stored, si
 /* --- Random numbers --- */
 
 /*
- * A random number below a bound, each as likely as any other, from the system's generator. It waits until the generator is
- * ready, which on a box that was just switched on can take a moment. A bound of 0 stands for 2^32. If the system gives no
- * random numbers it says so on standard error and ends the program with 1: no box may go on with another number.
+ * A random number below a bound, each as likely as any other, from the system's generator. It waits until the generator is ready,
+ * which on a box that was just switched on can take a moment. A bound of 0 stands for 2^32. If the system gives no random
+ * numbers, it says so on standard error and ends the program with 1: a box must not go on with another number.
  */
 DIMKHOROS_CHECKED
 static inline uint32_t dimkhoros_box_below(uint32_t bound);
@@ -101,20 +101,20 @@ static inline uint32_t dimkhoros_box_nonce(const uint8_t *sheet, size_t sheet_le
 typedef struct {
     char text[DIMKHOROS_BOX_LINE]; /* without the newline, with a zero at its end */
     size_t length;                 /* how many bytes the text has */
-    size_t word;                   /* how many letters the word has; 0 if the text is no word with numbers */
+    size_t word;                   /* how many letters the word has; 0 if the text is not a word with numbers */
     uint32_t numbers[DIMKHOROS_BOX_NUMBERS];
     size_t count; /* how many numbers there are; those after them are 0 */
 } DimkhorosBoxLine;
 
 /*
- * Waits for a line and answers 1, or 0 if the other box has closed its end. It reads no further than the newline, so that the
- * lines after it stay in the pipe for the box that is started next. A line that is not of the wire's form is heard with `word`
- * 0, and so is one that is too long, whose text is cut.
+ * Waits for a line and answers 1, or 0 if the other box has closed its end. It reads no further than the newline, so the lines
+ * after it stay in the pipe for the box that is started next. If a line is not of the wire's form, `word` is 0. If a line is too
+ * long, `word` is 0 too, and its text is cut.
  */
 DIMKHOROS_CHECKED
 static inline int dimkhoros_box_hear(int wire, DimkhorosBoxLine *line);
 
-/* Takes a text apart that the caller has put into a line, with its length. dimkhoros_box_hear does this by itself. */
+/* Takes apart a text that the caller has put into a line, with its length. dimkhoros_box_hear does this by itself. */
 static inline void dimkhoros_box_take_apart(DimkhorosBoxLine *line);
 
 /* Whether a line has this word and this many numbers. */
@@ -122,9 +122,9 @@ DIMKHOROS_CHECKED
 static inline int dimkhoros_box_is(const DimkhorosBoxLine *line, const char *word, size_t count);
 
 /*
- * Sends a word and two runs of numbers, of at most 16 in all, as one line in one write, so that no part of a line ever goes over
+ * Sends a word and two runs of numbers, of at most 16 in all, as one line in one write, so no part of a line ever goes over
  * alone. Answers 0, or the error's number, as in errno. The word has at most 30 letters. If nobody reads the wire any more, the
- * system ends the program (SIGPIPE); in one that ignores this signal, EPIPE is answered.
+ * system ends the program (SIGPIPE). If the program ignores this signal, the call answers EPIPE.
  */
 DIMKHOROS_CHECKED
 static inline int dimkhoros_box_send(int wire, const char *word, const uint32_t *first, size_t first_count,
@@ -198,8 +198,7 @@ static inline uint32_t dimkhoros_box_word(void) {
 }
 
 /*
- * The highest words, which are too few for one more run of the bound, are drawn again: the remainders of all words would have
- * the low numbers more often.
+ * The highest words are too few for one more run of the bound, and are drawn again: else the low numbers would come more often.
  */
 static inline uint32_t dimkhoros_box_below(uint32_t bound) {
     const uint64_t words = 0x100000000u;
@@ -232,7 +231,7 @@ static inline uint32_t dimkhoros_box_nonce(const uint8_t *sheet, size_t sheet_le
     return 0;
 }
 
-/* Reads the number that begins here and answers where it ends: NULL if there is none of one to ten digits below 2^32. */
+/* Reads the number that begins here and answers where it ends, or NULL if no number of one to ten digits below 2^32 does. */
 static inline const char *dimkhoros_box_number(const char *at, uint32_t *number) {
     const size_t digits = strspn(at, "0123456789");
     const unsigned long long value = strtoull(at, NULL, 10);
