@@ -2,14 +2,12 @@
 -- handed back.
 -- Assumes nothing.
 use Prim.Native.Nat.{ℕ, _≤_, _<_, min}
-use mathlib.Core.Path.{_≡_, refl, sym, ap, _∙_}
+use mathlib.Core.Path.{_≡_, sym, ap, _∙_}
 use mathlib.Core.List.{List, []}
 use mathlib.Core.Logic.{inl, inr}
 use native.Mathlib.Decide.{decLt}
 use native.Mathlib.Omega.{arith}
-use Rattle.types.specs.declared.Memory.{Memory}
 use Rattle.types.specs.declared.Prover.{Prover}
-use Rattle.types.specs.declared.ProverPhase.the-variants.{Answered}
 use Rattle.lists.specs.Member.{EachOnce, Member}
 use Rattle.lists.specs.Places.{places, zeros8}
 use Rattle.rules.specs.Answer.{unlessRefused}

@@ -3,7 +3,7 @@
 -- take nothing and refuse nothing.
 -- Assumes nothing.
 use mathlib.Core.Path.{_≡_}
-use mathlib.Core.List.{List, [], _∷_}
+use mathlib.Core.List.{[], _∷_}
 use Rattle.rules.specs.Order.{refusalOrder}
 use Rattle.disjunctions.specs.OneOfTwo.{OrRefusals}
 use Rattle.formats.specs.Converts.{ConvertRefusals}

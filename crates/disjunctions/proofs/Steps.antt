@@ -1,16 +1,14 @@
 -- What the calls of the OR session answer, in the answers of 01's calls: the side that Peggy knows is answered as her session of 01
 -- answers it, and the other as the simulator does.
 -- Assumes nothing.
-use Prim.Native.Nat.{ℕ, zero, suc, _<_}
+use Prim.Native.Nat.{ℕ, zero, suc}
 use mathlib.Core.Path.{_≡_, refl, sym, ap, _∙_}
-use mathlib.Core.Logic.{_↔_}
-use mathlib.Core.Bool.{Bool, true, false, cond, not, _||_}
+use mathlib.Core.Bool.{false, cond, not, _||_}
 use mathlib.Core.List.{List}
-use native.Mathlib.Omega.{arith}
 use lib.Dec.{ltb}
 use Rattle.types.specs.declared.Computed.{Computed}
 use Rattle.types.specs.declared.Prover.{Prover}
-use Rattle.types.specs.declared.ProverPhase.the-variants.{Committed, New}
+use Rattle.types.specs.declared.ProverPhase.the-variants.{Committed}
 use Rattle.types.specs.declared.ProverStep.{ProverStep}
 use Rattle.disjunctions.specs.declared.OrProver.{OrProver}
 use Rattle.disjunctions.specs.declared.OrStep.{OrStep}
@@ -35,7 +33,7 @@ use Rattle.sigma.specs.Knowledge.{Witness}
 use Rattle.sigma.specs.Meaning.{Coordinates}
 use Rattle.sigma.specs.Reads.{Agree}
 use Rattle.sigma.specs.Round.{badChallenge, badCoordinates, badWitness, response}
-use Rattle.sigma.specs.Simulator.{simulateLoaded, simulated}
+use Rattle.sigma.specs.Simulator.{simulated}
 use Rattle.sigma.proofs.Calculus.{both-fail}
 use Rattle.sigma.proofs.Calls.{simulate-given, simulate-runs}
 use Rattle.sigma.proofs.Comparison.{differ-false}

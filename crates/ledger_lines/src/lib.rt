@@ -14,3 +14,4 @@ pub use shared::base_refusal;
 pub use shared::product_header;
 pub use values::line_commitment;
 pub use values::product_entries;
+pub use values::product_of_two;

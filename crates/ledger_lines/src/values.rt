@@ -3,8 +3,17 @@ use ledgers::Base;
 use ledgers::Line;
 use modular::mul_mod;
 ghost use mathlib.Core.Path.{_≡_};
-ghost use Prim.Native.Nat.{ℕ, _<_};
+ghost use Prim.Native.Nat.{ℕ, _*_, _%_, _<_};
+ghost use lib.ListN.{getD};
 ghost use Rattle.ledgers.specs.Ledger.{lineCommitment, productOf};
+
+// The numbers of two lines, multiplied modulo m.
+pub fn product_of_two(numbers: [u32; 64], first: u32, second: u32, m: u32) -> u32
+    requires { ⌜ (first < 64) × (second < 64) × (0 < m) ⌝ }
+    ensures { λ r. ⌜ r ≡ getD numbers first 0 * getD numbers second 0 % m ⌝ }
+{
+    mul_mod(numbers[first as usize], numbers[second as usize], m)
+}
 
 // The commitment of a line, of those of the lines above it: two of these multiplied for a sum, else its own.
 pub fn line_commitment(m: u32, above: [u32; 64], line: Line) -> u32
@@ -13,7 +22,7 @@ pub fn line_commitment(m: u32, above: [u32; 64], line: Line) -> u32
     ensures { λ r. ⌜ r ≡ lineCommitment m above line ⌝ }
 {
     if line.kind == 2 {
-        return mul_mod(above[line.first as usize], above[line.second as usize], m);
+        return product_of_two(above, line.first, line.second, m);
     }
     line.commitment
 }

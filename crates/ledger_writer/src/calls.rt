@@ -1,12 +1,12 @@
 // The call that writes a ledger.
 use crate::made::made_lines;
+use crate::made::plain_line;
 use ledger_entries::entries_refusal;
 use ledger_lines::base_refusal;
 use ledgers::Base;
 use ledgers::Entries;
 use ledgers::Ledger;
 use ledgers::LedgerWritten;
-use ledgers::Line;
 ghost use mathlib.Core.Path.{_≡_};
 ghost use Rattle.ledgers.specs.Write.{ledgerOf, writeLedger, zeroLine};
 
@@ -14,16 +14,7 @@ ghost use Rattle.ledgers.specs.Write.{ledgerOf, writeLedger, zeroLine};
 fn refused(refusal: u32) -> LedgerWritten
     ensures { λ r. ⌜ r ≡ record { ledger = ledgerOf 0 (λ i. zeroLine); refusal = refusal } ⌝ }
 {
-    let none = Line {
-        kind: 0,
-        first: 0,
-        second: 0,
-        commitment: 0,
-        t: [0u32; 2],
-        challenge: 0,
-        response: [0u32; 3],
-    };
-    let lines = [none; 64];
+    let lines = [plain_line(0, 0, 0, 0); 64];
     let ledger = Ledger { lines, count: 0 };
     LedgerWritten { ledger, refusal }
 }

@@ -57,7 +57,7 @@ fn product_line(base: Base, a: u32, alpha: u32, b: u32, beta: u32, entry: Entry)
 }
 
 // A line of a kind, two lines and a commitment, and zeros.
-fn plain_line(kind: u32, first: u32, second: u32, commitment: u32) -> Line
+pub fn plain_line(kind: u32, first: u32, second: u32, commitment: u32) -> Line
     ensures { λ r. ⌜ r ≡ plainLine kind first second commitment ⌝ }
 {
     Line {

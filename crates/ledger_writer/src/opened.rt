@@ -1,4 +1,5 @@
 // What a line opens to, of the values and blinding numbers of the lines above it, and the commitment to it.
+use ledger_lines::product_of_two;
 use ledgers::Base;
 use ledgers::Entry;
 use modular::mul_mod;
@@ -18,6 +19,14 @@ fn add_mod(a: u32, b: u32, q: u32) -> u32
     ((a as u64 + b as u64) % q as u64) as u32
 }
 
+// The numbers of two lines, added modulo q.
+fn sum_of_two(numbers: [u32; 64], first: u32, second: u32, q: u32) -> u32
+    requires { ⌜ (first < 64) × (second < 64) × (0 < q) ⌝ }
+    ensures { λ r. ⌜ r ≡ (getD numbers first 0 + getD numbers second 0) % q ⌝ }
+{
+    add_mod(numbers[first as usize], numbers[second as usize], q)
+}
+
 // The value of a line: that of a commitment is given, that of a sum or a product is of the two lines that it names, mod q.
 pub fn opening_value(q: u32, values: [u32; 64], entry: Entry) -> u32
     requires order { ⌜ 0 < q ⌝ }
@@ -26,18 +35,10 @@ pub fn opening_value(q: u32, values: [u32; 64], entry: Entry) -> u32
         → r ≡ openingOf q above entry .value) ⌝ }
 {
     if entry.kind == 2 {
-        return add_mod(
-            values[entry.first as usize],
-            values[entry.second as usize],
-            q,
-        );
+        return sum_of_two(values, entry.first, entry.second, q);
     }
     if entry.kind == 3 {
-        return mul_mod(
-            values[entry.first as usize],
-            values[entry.second as usize],
-            q,
-        );
+        return product_of_two(values, entry.first, entry.second, q);
     }
     entry.value
 }
@@ -50,11 +51,7 @@ pub fn opening_blinding(q: u32, blindings: [u32; 64], entry: Entry) -> u32
         → r ≡ openingOf q above entry .blinding) ⌝ }
 {
     if entry.kind == 2 {
-        return add_mod(
-            blindings[entry.first as usize],
-            blindings[entry.second as usize],
-            q,
-        );
+        return sum_of_two(blindings, entry.first, entry.second, q);
     }
     entry.blinding
 }

@@ -23,7 +23,7 @@ committed base v ρ = base .g ^ v * base .h ^ ρ % base .modulus
 
 -- a commitment opens to v with ρ: it is C(v, ρ), and both are below q
 pub record Opens (base : Base) (commitment v ρ : ℕ) : Type 0 where
-  pub opened : commitment ≡ base .g ^ v * base .h ^ ρ % base .modulus
+  pub opened : commitment ≡ committed base v ρ
   pub value-below : v < base .order
   pub blinding-below : ρ < base .order
 

@@ -6,7 +6,7 @@ use mathlib.Core.List.{List, [], _∷_}
 use mathlib.Core.Logic.{inr}
 use native.Mathlib.Omega.{arith}
 use lib.ListN.{length}
-use Rattle.types.specs.declared.ProverPhase.the-variants.{New, Committed, Answered, Dropped}
+use Rattle.types.specs.declared.ProverPhase.the-variants.{Answered, Dropped}
 use Rattle.lists.specs.Places.{zeros8}
 use Rattle.sigma.proofs.Answer.{unlessRefused-positive}
 use Rattle.runs.specs.Run.{sessionAfter, trace}

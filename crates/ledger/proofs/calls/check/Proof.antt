@@ -1,7 +1,6 @@
 -- `ledger::calls::check` meets its contract: each return is a law of the answer.
 -- Assumes nothing.
 use mathlib.Core.Path.{sym, _∙_}
-use native.Mathlib.Omega.{arith}
 use Rattle.ledger_lines.proofs.BaseRules.{shared-modulus}
 use Rattle.ledger.proofs.Answers.{line-told, lines-refused, none-told, not-refused, shared-refused}
 use Rattle.ledger.proofs.calls.check.Statement.{statement}

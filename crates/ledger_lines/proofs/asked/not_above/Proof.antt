@@ -1,6 +1,6 @@
 -- `ledger_lines::asked::not_above` meets its contract: the tests stand in the order of the definition.
 -- Assumes nothing.
-use mathlib.Core.Path.{sym, _∙_}
+use mathlib.Core.Path.{sym}
 use borrow.Author.Tests.{le-leb, lt-leb, not-false, not-true}
 use Rattle.ledgers.specs.Check.{notAbove}
 use Rattle.ledger_lines.proofs.asked.not_above.Statement.{statement}

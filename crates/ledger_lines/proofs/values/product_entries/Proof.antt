@@ -2,9 +2,8 @@
 -- Assumes nothing.
 use mathlib.Core.Path.{refl}
 use native.Mathlib.Omega.{arith}
-use Rattle.formats.specs.Sheet.{zeros64}
 use Rattle.lists.specs.Places.{eightByEight, itemsAt, pad8, tabulate, zeros8}
-use Rattle.patterns.specs.Pattern.{digit, entryOf, headerFor, madeFor, patternEntries}
+use Rattle.patterns.specs.Pattern.{digit, entryOf, madeFor, patternEntries}
 use Rattle.patterns.specs.Table.{kindOf, made, patternOf, patterns}
 use Rattle.ledgers.specs.Ledger.{productOf}
 use Rattle.ledger_lines.proofs.values.product_entries.Statement.{statement}

@@ -1,8 +1,8 @@
 -- `ledger_writer::made::made_lines` meets its contract. The invariant: the lines before i are made, and the two arrays keep the values and
 -- the blinding numbers of these lines. The measure: how many entries are left. Assumes nothing.
 use Prim.Native.Nat.{_-_}
-use mathlib.Core.Path.{refl, sym, ap, _∙_}
-use mathlib.Core.List.{List, _++_}
+use mathlib.Core.Path.{refl, ap, _∙_}
+use mathlib.Core.List.{_++_}
 use native.Mathlib.Omega.{arith}
 use lib.ListN.{replicate}
 use Rattle.lists.specs.Places.{tabulate}
