@@ -2,10 +2,13 @@
 
 use crate::specs::{Definition, Place, Specs};
 
-/// A call: the name of its field, and the name and the file of the definition that stands for it.
+/// A call.
 pub struct Call {
+    /// The name of its field.
     pub name: String,
+    /// The name of the definition that stands for it.
     pub definition: String,
+    /// The file of that definition.
     pub defined: Place,
 }
 

@@ -8,14 +8,19 @@ use crate::specs::{Place, crates, files_in, root, text_of};
 /// The functions over whole files that the programs call, with the crates that have them.
 const OF_PROGRAMS: [(&str, &str); 2] = [("report", "mark_files"), ("diagnosis", "reason_files")];
 
-/// A function with a contract: its name, its parameters and those of them that are lent to be changed, what the contract ensures,
-/// clause by clause, how many lines the contract has, and its words that the source imports, each with the file that it comes from.
+/// A function with a contract.
 pub struct Contract {
+    /// The function's name.
     pub name: String,
+    /// Its parameters.
     pub parameters: Vec<String>,
+    /// Those of them that are lent to be changed.
     pub lent: Vec<String>,
+    /// What the contract ensures, clause by clause.
     pub ensured: Vec<String>,
+    /// How many lines the contract has.
     pub lines: usize,
+    /// The contract's words that the source imports, each with the file that it comes from.
     pub named: BTreeMap<String, Place>,
 }
 

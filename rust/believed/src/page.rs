@@ -7,8 +7,9 @@ use crate::contracts::of_programs;
 use crate::reach::{meant, reach, words};
 use crate::specs::{Definition, Place, Specs};
 
-/// The lines between which the list stands on the page.
+/// The line of the page after which the list stands.
 pub const BEGIN: &str = "<!-- believed: begin -->\n";
+/// The line of the page before which the list stands.
 pub const END: &str = "<!-- believed: end -->\n";
 
 /// The file of the record `Demands`.
@@ -19,9 +20,11 @@ pub fn demands() -> Place {
 /// The records whose fields have rows of their own.
 const PARTED: [&str; 2] = ["Refusals", "Cards"];
 
-/// A field of the record and what it adds, as indices of definitions in the order of reading.
+/// A field of the record and what it adds.
 pub struct Section {
+    /// The field's name.
     pub field: String,
+    /// The definitions that it adds, as indices in the order of reading.
     pub added: Vec<usize>,
 }
 

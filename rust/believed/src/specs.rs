@@ -7,22 +7,29 @@ use std::path::{Path, PathBuf};
 /// A file's place: its crate, and its module below `specs`. A struct of the sources stands in `declared.NAME`.
 pub type Place = (String, String);
 
-/// A definition: its lines, without comments, blank lines and imports.
+/// A definition.
 pub struct Definition {
+    /// The file that it stands in.
     pub place: Place,
+    /// Its name.
     pub name: String,
+    /// Its lines, without comments, blank lines and imports.
     pub lines: Vec<String>,
 }
 
 /// Where an imported name comes from.
 pub struct Import {
+    /// The file that has its definition.
     pub place: Place,
+    /// Its name there.
     pub name: String,
 }
 
-/// All definitions, and the imports of each file by the name that it gives them.
+/// The definitions and the imports of all crates.
 pub struct Specs {
+    /// All definitions.
     pub definitions: Vec<Definition>,
+    /// The imports of each file by the name that it gives them.
     pub imports: BTreeMap<Place, BTreeMap<String, Import>>,
 }
 

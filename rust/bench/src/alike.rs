@@ -2,8 +2,8 @@
 
 use dimkhoros_sys::phases::prover::{ANSWERED, COMMITTED, NEW};
 use dimkhoros_sys::{
-    self as proved, Computed, Header, Judgement, Loaded, Places, ProverSession, EXPONENT,
-    LONGEST_TEXT, ROOT,
+    self as proved, Computed, EXPONENT, Header, Judgement, LONGEST_TEXT, Loaded, Places,
+    ProverSession, ROOT,
 };
 
 use crate::inputs::Inputs;
@@ -24,23 +24,12 @@ pub fn simulate<A: Arithmetic>(inputs: &mut Inputs) -> bool {
 }
 
 pub fn extract<A: Arithmetic>(inputs: &mut Inputs) -> bool {
-    let Inputs {
-        sheet,
-        first,
-        second,
-        ..
-    } = inputs;
+    let Inputs { sheet, first, second, .. } = inputs;
     result(&proved::extract(sheet, first, second)) == reference::extract::<A>(sheet, first, second)
 }
 
 pub fn commit_and_respond<A: Arithmetic>(inputs: &mut Inputs) -> bool {
-    let Inputs {
-        sheet,
-        nonce,
-        witness,
-        first,
-        ..
-    } = inputs;
+    let Inputs { sheet, nonce, witness, first, .. } = inputs;
     let mut session = Prover::new();
     let committed = proved::prover_commit(sheet, proved::prover_new(), nonce);
     let answered = proved::prover_respond(sheet, committed.session, first.challenge, witness);
@@ -54,13 +43,7 @@ pub fn commit_and_respond<A: Arithmetic>(inputs: &mut Inputs) -> bool {
 pub fn mark<A: Arithmetic>(inputs: &mut Inputs) -> bool {
     let mut text = [0; LONGEST_TEXT];
     inputs.text.fill(0);
-    let Inputs {
-        sheet,
-        file,
-        level,
-        text: proved_text,
-        ..
-    } = inputs;
+    let Inputs { sheet, file, level, text: proved_text, .. } = inputs;
     let length = proved::mark(sheet, file, level, proved_text);
     length == reference::mark::<A>(sheet, file, level, &mut text) && **proved_text == text
 }
@@ -83,10 +66,7 @@ fn loaded<A>(answer: &Result<Sheet<A>, u32>) -> Loaded {
             },
             statement: sheet.statement,
         },
-        &Err(refusal) => Loaded {
-            refusal,
-            ..Loaded::default()
-        },
+        &Err(refusal) => Loaded { refusal, ..Loaded::default() },
     }
 }
 
@@ -97,11 +77,7 @@ fn judgement(answer: &Result<Verdict, u32>) -> Judgement {
         Ok(Verdict::Rejected(rows)) => (0, 0, rows),
         Err(refusal) => (refusal, 0, 0),
     };
-    Judgement {
-        refusal,
-        accepted,
-        rows,
-    }
+    Judgement { refusal, accepted, rows }
 }
 
 /// The session that the library has to hand back where Rust has this one.

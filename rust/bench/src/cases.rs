@@ -25,11 +25,7 @@ macro_rules! case {
     ($name:literal, $call:ident) => {
         Case {
             name: $name,
-            calls: [
-                library::$call,
-                rust::$call::<Idiomatic>,
-                rust::$call::<Tuned>,
-            ],
+            calls: [library::$call, rust::$call::<Idiomatic>, rust::$call::<Tuned>],
             alike: [alike::$call::<Idiomatic>, alike::$call::<Tuned>],
         }
     };

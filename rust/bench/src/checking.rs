@@ -33,9 +33,6 @@ pub fn differing(inputs: &mut Inputs) -> Option<Difference> {
 fn tried(inputs: &mut Inputs) -> Option<Difference> {
     CASES.iter().find_map(|case| {
         let version = case.alike.iter().position(|alike| !alike(inputs))?;
-        Some(Difference {
-            call: case.name,
-            side: SIDES[version + 1],
-        })
+        Some(Difference { call: case.name, side: SIDES[version + 1] })
     })
 }

@@ -6,8 +6,8 @@ use std::time::Instant;
 
 use dimkhoros_sys::{self as proved, LONGEST_GAME};
 
-use crate::inputs::{sheet_bytes, Plan};
-use crate::reference::{game, Idiomatic, Kind};
+use crate::inputs::{Plan, sheet_bytes};
+use crate::reference::{Idiomatic, Kind, game};
 use crate::tables::machine;
 use crate::timing::median;
 
@@ -26,16 +26,12 @@ struct Inputs {
 type Play = fn(&mut Inputs) -> usize;
 
 fn library(inputs: &mut Inputs) -> usize {
-    let Inputs {
-        sheet, file, text, ..
-    } = black_box(inputs);
+    let Inputs { sheet, file, text, .. } = black_box(inputs);
     black_box(proved::game(sheet, file, text))
 }
 
 fn plain(inputs: &mut Inputs) -> usize {
-    let Inputs {
-        sheet, file, text, ..
-    } = black_box(inputs);
+    let Inputs { sheet, file, text, .. } = black_box(inputs);
     black_box(game::<Idiomatic>(sheet, file, text))
 }
 
@@ -73,11 +69,7 @@ fn slowest() -> [Inputs; 3] {
     };
     let all = exponent("exponent, q and K 4,093, all answered");
     let none = exponent("exponent, q and K 4,093, none answered");
-    [
-        inputs(root, &[], 2, 3),
-        inputs(all, &[4096], 28_319, 4096),
-        inputs(none, &[1], 1, 4096),
-    ]
+    [inputs(root, &[], 2, 3), inputs(all, &[4096], 28_319, 4096), inputs(none, &[1], 1, 4096)]
 }
 
 /// Prints the times of the slowest sheets.
@@ -96,10 +88,7 @@ pub fn times() -> ExitCode {
         let (quickest, quotient) = measured(sheet);
         let [library, plain] = quickest;
         let name = sheet.name;
-        println!(
-            "| {name} | {library:.2} | {plain:.1} | {:.1} | {quotient:.1} |",
-            plain / library
-        );
+        println!("| {name} | {library:.2} | {plain:.1} | {:.1} | {quotient:.1} |", plain / library);
     }
     ExitCode::SUCCESS
 }

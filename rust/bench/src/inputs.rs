@@ -1,9 +1,9 @@
 //! The sheets that are measured, and for each a session, two rounds, a round
 //! file of 512 rounds and a level.
 
-use dimkhoros_sys::{Places, Round, LONGEST_TEXT};
+use dimkhoros_sys::{LONGEST_TEXT, Places, Round};
 
-use crate::reference::{load, Idiomatic, Kind};
+use crate::reference::{Idiomatic, Kind, load};
 
 /// How many rounds the round file has.
 const ROUNDS: u32 = 512;
@@ -51,11 +51,7 @@ pub const SHEETS: [fn() -> Inputs; 8] = [
 /// The inputs of sheets of two to seven rows, which are compared and not measured.
 pub fn between() -> impl Iterator<Item = Inputs> {
     let plans = (2..8).flat_map(|size| {
-        let plan = |plan| Plan {
-            rows: size,
-            columns: size,
-            ..plan
-        };
+        let plan = |plan| Plan { rows: size, columns: size, ..plan };
         [
             plan(exponent("fewer rows, exponent, K 256", 256)),
             plan(root("fewer rows, root, K 256", 256)),
@@ -127,15 +123,7 @@ fn page_g() -> Inputs {
 
 /// The fixed fields of pages A to F of 01.
 fn page(name: &'static str, rows: usize, columns: usize) -> Plan {
-    Plan {
-        name,
-        kind: Kind::Exponent,
-        modulus: 23,
-        order: 11,
-        challenges: 11,
-        rows,
-        columns,
-    }
+    Plan { name, kind: Kind::Exponent, modulus: 23, order: 11, challenges: 11, rows, columns }
 }
 
 /// Values in the first places, and zeros beyond them.
@@ -151,9 +139,7 @@ fn places<const N: usize>(values: [u32; N]) -> Places {
 fn random(plan: Plan, challenges: (u32, u32)) -> Inputs {
     let mut state = 1u64;
     let mut next = || {
-        state = state
-            .wrapping_mul(6_364_136_223_846_793_005)
-            .wrapping_add(1);
+        state = state.wrapping_mul(6_364_136_223_846_793_005).wrapping_add(1);
         (state >> 33) as u32
     };
     let m = u64::from(plan.modulus);
@@ -166,7 +152,7 @@ fn random(plan: Plan, challenges: (u32, u32)) -> Inputs {
     };
     let mut slot = || loop {
         let v = next() % plan.order;
-        if !v.is_multiple_of(65_521) && !v.is_multiple_of(65_519) {
+        if v % 65_521 != 0 && v % 65_519 != 0 {
             return v;
         }
     };
@@ -232,14 +218,7 @@ fn record(plan: &Plan, k: u32, mut round: Round) -> Vec<u8> {
     if k % 8 == 7 {
         round.response[plan.columns - 1] = 1;
     }
-    let numbers = [
-        &round.commitment[..plan.rows],
-        &[round.challenge],
-        &round.response[..plan.columns],
-    ];
-    numbers
-        .concat()
-        .into_iter()
-        .flat_map(u32::to_be_bytes)
-        .collect()
+    let numbers =
+        [&round.commitment[..plan.rows], &[round.challenge], &round.response[..plan.columns]];
+    numbers.concat().into_iter().flat_map(u32::to_be_bytes).collect()
 }

@@ -29,13 +29,7 @@ pub fn extract(inputs: &mut Inputs) {
 }
 
 pub fn commit_and_respond(inputs: &mut Inputs) {
-    let Inputs {
-        sheet,
-        nonce,
-        witness,
-        first,
-        ..
-    } = black_box(inputs);
+    let Inputs { sheet, nonce, witness, first, .. } = black_box(inputs);
     let session = proved::prover_new();
     let committed = proved::prover_commit(sheet, session, nonce);
     let answered = proved::prover_respond(sheet, committed.session, first.challenge, witness);
@@ -43,12 +37,6 @@ pub fn commit_and_respond(inputs: &mut Inputs) {
 }
 
 pub fn mark(inputs: &mut Inputs) {
-    let Inputs {
-        sheet,
-        file,
-        level,
-        text,
-        ..
-    } = black_box(inputs);
+    let Inputs { sheet, file, level, text, .. } = black_box(inputs);
     black_box(proved::mark(sheet, file, level, text));
 }

@@ -14,6 +14,6 @@ mod sheet;
 pub use arithmetic::{Arithmetic, Idiomatic, Tuned};
 pub use game::game;
 pub use marker::mark;
-pub use rounds::{extract, judge, simulate, Verdict};
+pub use rounds::{Verdict, extract, judge, simulate};
 pub use session::{Phase, Prover};
-pub use sheet::{load, Kind, Sheet};
+pub use sheet::{Kind, Sheet, load};

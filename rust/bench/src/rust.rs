@@ -28,13 +28,7 @@ pub fn extract<A: Arithmetic>(inputs: &mut Inputs) {
 }
 
 pub fn commit_and_respond<A: Arithmetic>(inputs: &mut Inputs) {
-    let Inputs {
-        sheet,
-        nonce,
-        witness,
-        first,
-        ..
-    } = black_box(inputs);
+    let Inputs { sheet, nonce, witness, first, .. } = black_box(inputs);
     let mut session = Prover::new();
     let commitment = session.commit::<A>(sheet, nonce);
     let response = session.respond::<A>(sheet, first.challenge, witness);
@@ -42,12 +36,6 @@ pub fn commit_and_respond<A: Arithmetic>(inputs: &mut Inputs) {
 }
 
 pub fn mark<A: Arithmetic>(inputs: &mut Inputs) {
-    let Inputs {
-        sheet,
-        file,
-        level,
-        text,
-        ..
-    } = black_box(inputs);
+    let Inputs { sheet, file, level, text, .. } = black_box(inputs);
     black_box(reference::mark::<A>(sheet, file, level, text));
 }

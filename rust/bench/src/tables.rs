@@ -4,10 +4,10 @@ use std::fs;
 use std::process::ExitCode;
 use std::thread;
 
-use crate::cases::{Case, CASES};
-use crate::checking::{differing, Difference};
+use crate::cases::{CASES, Case};
+use crate::checking::{Difference, differing};
 use crate::counting;
-use crate::inputs::{between, Inputs, SHEETS};
+use crate::inputs::{Inputs, SHEETS, between};
 use crate::timing;
 
 /// Prints the times of all calls.
@@ -27,12 +27,7 @@ pub fn times() -> ExitCode {
             let times = timing::times(sheet, case.calls);
             let [first, second] = times.medians;
             let ratios = ratios(times.sides);
-            print_row(
-                sheet,
-                case,
-                times.sides,
-                &[ratios[0], first, ratios[1], second],
-            );
+            print_row(sheet, case, times.sides, &[ratios[0], first, ratios[1], second]);
         }
     }
     ExitCode::SUCCESS

@@ -16,14 +16,7 @@ const FEWEST: usize = 24;
 const MOST: usize = 4_000;
 
 /// The orders in which the sides have their batches.
-const ORDERS: [[usize; 3]; 6] = [
-    [0, 1, 2],
-    [2, 1, 0],
-    [1, 2, 0],
-    [0, 2, 1],
-    [2, 0, 1],
-    [1, 0, 2],
-];
+const ORDERS: [[usize; 3]; 6] = [[0, 1, 2], [2, 1, 0], [1, 2, 0], [0, 2, 1], [2, 0, 1], [1, 0, 2]];
 
 /// Nanoseconds of a call on each side, and for both versions in Rust the median,
 /// over the turns, of the library's time divided by the version's.

@@ -22,11 +22,7 @@ pub fn power(base: u32, exponent: u32, m: u32) -> u32 {
 
 /// The greatest common divisor.
 pub fn gcd(a: u32, b: u32) -> u32 {
-    if b == 0 {
-        a
-    } else {
-        gcd(b, a % b)
-    }
+    if b == 0 { a } else { gcd(b, a % b) }
 }
 
 /// The primes below 65,536. Every composite 32-bit number has one of them.
@@ -50,16 +46,14 @@ fn primes() -> &'static [u32] {
 /// The least divisor above 1 of an n of at least 2, which is a prime.
 pub fn least_divisor(n: u32) -> u32 {
     let candidates = primes().iter().take_while(|prime| *prime * *prime <= n);
-    let mut divisors = candidates.filter(|prime| n.is_multiple_of(**prime));
+    let mut divisors = candidates.filter(|prime| n % **prime == 0);
     divisors.next().copied().unwrap_or(n)
 }
 
 /// The least prime above an n of at most 65,536.
 pub fn next_prime(n: u32) -> u32 {
     let mut above = n + 1..=65_537;
-    above
-        .find(|candidate| least_divisor(*candidate) == *candidate)
-        .unwrap_or(65_537)
+    above.find(|candidate| least_divisor(*candidate) == *candidate).unwrap_or(65_537)
 }
 
 /// The prime factors of an n of at least 1, each as often as it divides n.
@@ -78,9 +72,7 @@ pub fn prime_factors(n: u32) -> Vec<u32> {
 pub fn totient(m: u32) -> u32 {
     let mut factors = prime_factors(m);
     factors.dedup();
-    factors
-        .iter()
-        .fold(m, |count, prime| count / prime * (prime - 1))
+    factors.iter().fold(m, |count, prime| count / prime * (prime - 1))
 }
 
 /// The inverse of v mod m, for an m of at least 2 and a v with gcd(v, m) = 1.
@@ -95,7 +87,7 @@ mod tests {
     #[test]
     fn least_divisors_and_totients_of_small_numbers() {
         for n in 2_u32..3000 {
-            let least = (2..=n).find(|d| n.is_multiple_of(*d));
+            let least = (2..=n).find(|d| n % *d == 0);
             assert_eq!(Some(least_divisor(n)), least);
             let coprime = (1..=n).filter(|v| gcd(*v, n) == 1).count();
             assert_eq!(totient(n) as usize, coprime);
@@ -120,10 +112,7 @@ mod tests {
     fn next_primes() {
         let first: Vec<u32> = (1..14).map(next_prime).collect();
         assert_eq!(first, [2, 3, 5, 5, 7, 7, 11, 11, 11, 11, 13, 13, 17]);
-        assert_eq!(
-            (65_520..=65_521).map(next_prime).collect::<Vec<_>>(),
-            [65_521, 65_537]
-        );
+        assert_eq!((65_520..=65_521).map(next_prime).collect::<Vec<_>>(), [65_521, 65_537]);
         assert_eq!(next_prime(65_536), 65_537);
     }
 

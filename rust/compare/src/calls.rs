@@ -57,12 +57,7 @@ struct Entry {
 }
 
 const fn entry(call: Call, name: &'static str, loads: bool, others: &'static [u32]) -> Entry {
-    Entry {
-        call,
-        name,
-        loads,
-        others,
-    }
+    Entry { call, name, loads, others }
 }
 
 /// The calls in the order of their enum. A marker's text gives the number of
@@ -211,9 +206,7 @@ mod tests {
         all.sort();
         assert!(all.into_iter().eq((1..=LAST).filter(given)));
         let ordered = |numbers: &[u32]| {
-            let places = numbers
-                .iter()
-                .map(|number| ORDER.iter().position(|n| n == number));
+            let places = numbers.iter().map(|number| ORDER.iter().position(|n| n == number));
             places.is_sorted()
         };
         assert!(ordered(&SHEET_NUMBERS));

@@ -43,9 +43,7 @@ pub trait Case: fmt::Debug + fmt::Display {
     /// judge's outcome.
     fn numbers(&self, judged: &Outcome) -> Vec<(Call, u32)> {
         let answers = judged.answers.iter();
-        answers
-            .map(|(call, answer)| (*call, answer.refusal()))
-            .collect()
+        answers.map(|(call, answer)| (*call, answer.refusal())).collect()
     }
 
     /// The fixed fields of the sheet, the first of two, where it has all of them.

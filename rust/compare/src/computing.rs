@@ -39,10 +39,7 @@ impl Both {
         self.calls += 1;
         let [answer, judged] = [self.library, Judge].map(|it| it.ledger_check(base, held));
         let what = format!("{answer:?} and not the judge's {judged:?}");
-        match answer == judged {
-            true => Ok(answer),
-            false => Err(of_ledger(&what, base, held)),
-        }
+        if answer == judged { Ok(answer) } else { Err(of_ledger(&what, base, held)) }
     }
 
     /// What both libraries make.
@@ -96,26 +93,16 @@ fn of_entries(what: &str, base: Base, of: &Entries) -> String {
 }
 
 /// The checker accepts.
-const ACCEPTED: Checked = Checked {
-    accepted: 1,
-    line: 0,
-    refusal: 0,
-};
+const ACCEPTED: Checked = Checked { accepted: 1, line: 0, refusal: 0 };
 
 /// The checker names this line.
 fn rejected(line: u32) -> Checked {
-    Checked {
-        line,
-        ..Checked::default()
-    }
+    Checked { line, ..Checked::default() }
 }
 
 /// The checker refuses with this number.
 fn refused(refusal: u32) -> Checked {
-    Checked {
-        refusal,
-        ..Checked::default()
-    }
+    Checked { refusal, ..Checked::default() }
 }
 
 #[cfg(test)]

@@ -11,10 +11,7 @@ use crate::sheets::Sheet;
 pub fn faults(random: &mut Random, numbers: &[u32], first: u32) -> Vec<u32> {
     let several = random.once_in(2);
     let later = numbers.iter().rev().take_while(|number| **number != first);
-    let mut faults: Vec<u32> = later
-        .filter(|_| several && random.once_in(2))
-        .copied()
-        .collect();
+    let mut faults: Vec<u32> = later.filter(|_| several && random.once_in(2)).copied().collect();
     faults.push(first);
     faults
 }
@@ -64,22 +61,15 @@ pub fn spoil_sides(random: &mut Random, header: &mut Header, widest: u32) {
         2 if header.kind == 2 => header.columns = header.rows % 8 + 1,
         _ => {
             header.rows = outside(random, &sides, widest);
-            header.columns = if random.once_in(2) {
-                header.rows
-            } else {
-                outside(random, &sides, widest)
-            };
+            header.columns =
+                if random.once_in(2) { header.rows } else { outside(random, &sides, widest) };
         }
     }
 }
 
 /// A group that can have a sheet with this number.
 pub fn group_for(random: &mut Random, number: u32) -> Group {
-    let kind = if number == 10 {
-        1
-    } else {
-        random.between(1, 2)
-    };
+    let kind = if number == 10 { 1 } else { random.between(1, 2) };
     group_of_kind(random, kind, number)
 }
 

@@ -29,9 +29,7 @@ pub fn check(library: Library) -> Result<String, String> {
         sheets += 1;
         calls += small.calls.get();
     }
-    Ok(format!(
-        "demand 3 holds on {sheets} small sheets over all rounds, {calls} calls"
-    ))
+    Ok(format!("demand 3 holds on {sheets} small sheets over all rounds, {calls} calls"))
 }
 
 /// Every choice of so many of the values, with 0 in the places beyond.
@@ -67,9 +65,7 @@ impl Small {
         let group = Group::new(header.kind, header.modulus, header.order);
         let slots: Vec<u32> = match header.kind {
             1 => (0..header.order).collect(),
-            _ => (1..header.modulus)
-                .filter(|v| group.is_element(*v))
-                .collect(),
+            _ => (1..header.modulus).filter(|v| group.is_element(*v)).collect(),
         };
         let domain = choices(&slots, header.columns as usize);
         let is_witness = |slots: &&Places| sheet.image(slots) == sheet.statement;
@@ -118,10 +114,7 @@ impl Small {
             _ => header.modulus + 1,
         };
         let slots: Vec<u32> = (0..=most).collect();
-        [
-            choices(&values, header.rows as usize),
-            choices(&slots, header.columns as usize),
-        ]
+        [choices(&values, header.rows as usize), choices(&slots, header.columns as usize)]
     }
 
     /// All accepted rounds with this challenge, by judging every choice.
@@ -130,11 +123,7 @@ impl Small {
         let mut accepted = Vec::new();
         for commitment in commitments {
             for response in &responses {
-                let round = Round {
-                    commitment,
-                    challenge,
-                    response: *response,
-                };
+                let round = Round { commitment, challenge, response: *response };
                 self.count(1);
                 if self.library.judge(&self.bytes, &round).accepted == 1 {
                     accepted.push(round);
@@ -149,11 +138,7 @@ impl Small {
         self.count(1);
         let simulated = self.library.simulate(&self.bytes, challenge, response);
         match simulated.refusal {
-            0 => Ok(Round {
-                commitment: simulated.values,
-                challenge,
-                response: *response,
-            }),
+            0 => Ok(Round { commitment: simulated.values, challenge, response: *response }),
             number => Err(number),
         }
     }
@@ -164,15 +149,11 @@ impl Small {
         let session = self.library.prover_new();
         let committed = self.library.prover_commit(&self.bytes, session, nonce);
         let session = committed.session;
-        let answered = self
-            .library
-            .prover_respond(&self.bytes, session, challenge, witness);
+        let answered = self.library.prover_respond(&self.bytes, session, challenge, witness);
         match (committed.refusal, answered.refusal) {
-            (0, 0) => Ok(Round {
-                commitment: committed.values,
-                challenge,
-                response: answered.values,
-            }),
+            (0, 0) => {
+                Ok(Round { commitment: committed.values, challenge, response: answered.values })
+            }
             (0, number) | (number, _) => Err(number),
         }
     }
@@ -186,9 +167,7 @@ impl Small {
                 let one = self.library.extract(&self.bytes, first, second);
                 let two = self.library.extract(&self.bytes, second, first);
                 if one != two || one.refusal != 0 || !self.witnesses.contains(&one.values) {
-                    return Err(format!(
-                        "{first:?} and {second:?}: {one:?}, swapped {two:?}"
-                    ));
+                    return Err(format!("{first:?} and {second:?}: {one:?}, swapped {two:?}"));
                 }
             }
         }

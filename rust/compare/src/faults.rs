@@ -32,7 +32,7 @@ pub use forms::linear;
 pub use games::game;
 pub use ledger_writing::ledger_write;
 pub use ledgers::ledger_check;
-pub use list::{Fault, FAULTS};
+pub use list::{FAULTS, Fault};
 pub use marking::mark;
 pub use or_extracting::or_extract;
 pub use or_prover::{or_prover_commit, or_prover_drop, or_prover_new};

@@ -2,7 +2,7 @@
 //! rounds.
 
 use crate::damage::spoil_length;
-use crate::library::{Header, Round, MOST_ROUNDS};
+use crate::library::{Header, MOST_ROUNDS, Round};
 use crate::random::Random;
 
 /// How many bytes a challenge has in a file of this version.
@@ -63,11 +63,7 @@ pub fn of_count(random: &mut Random, header: &Header, version: u16, count: usize
 
 /// A round of any values.
 pub fn any_round(random: &mut Random) -> Round {
-    Round {
-        commitment: random.words(),
-        challenge: random.word(),
-        response: random.words(),
-    }
+    Round { commitment: random.words(), challenge: random.word(), response: random.words() }
 }
 
 /// The file of these rounds in this version, for a sheet with this header.

@@ -10,9 +10,9 @@ mod family;
 pub mod largest;
 
 use crate::files;
-use crate::library::{Library, Places, Round, LONGEST_GAME};
+use crate::library::{LONGEST_GAME, Library, Places, Round};
 use crate::printing::hex;
-use crate::search::{is_long, Table};
+use crate::search::{Table, is_long};
 use crate::sheets::Sheet;
 
 /// What a game answers for one commitment.
@@ -52,11 +52,7 @@ pub fn check(library: Library) -> Result<String, String> {
             tried.largest += 1;
         }
     }
-    let Tried {
-        sheets,
-        texts,
-        largest,
-    } = tried;
+    let Tried { sheets, texts, largest } = tried;
     Ok(format!(
         "card 12 holds on {sheets} small sheets over all commitments, {texts} texts, and in {largest} texts of large sheets"
     ))
@@ -76,16 +72,15 @@ fn meets_card(library: Library, table: &Table, text: &mut [u8]) -> Result<u64, S
         }
         met.push(answered.ok_or_else(|| format!("some challenges, not all: {told:?}"))?);
     }
-    let holds = match table.has_witness() {
-        true => met.contains(&Answered::All) && !met.contains(&Answered::One),
-        false => !met.contains(&Answered::All),
+    let holds = if table.has_witness() {
+        met.contains(&Answered::All) && !met.contains(&Answered::One)
+    } else {
+        !met.contains(&Answered::All)
     };
-    match holds {
-        true => Ok(met.len() as u64),
-        false => Err(format!(
-            "card 12 fails on sheet {}: {met:?}",
-            hex(&sheet.bytes())
-        )),
+    if holds {
+        Ok(met.len() as u64)
+    } else {
+        Err(format!("card 12 fails on sheet {}: {met:?}", hex(&sheet.bytes())))
     }
 }
 
@@ -102,11 +97,7 @@ fn answered(text: &str, challenges: u32) -> Option<Answered> {
 
 /// The file of one round with this commitment, whose other values are out of range.
 fn file(sheet: &Sheet, commitment: &Places) -> Vec<u8> {
-    let round = Round {
-        commitment: *commitment,
-        challenge: u32::MAX,
-        response: [u32::MAX; 8],
-    };
+    let round = Round { commitment: *commitment, challenge: u32::MAX, response: [u32::MAX; 8] };
     files::of_rounds(&sheet.header, 1, &[round])
 }
 
@@ -127,18 +118,11 @@ fn same(sheet: &Sheet, commitment: &Places, wanted: &str, told: &str) -> Result<
     }
     let lines = wanted.lines().zip(told.lines());
     let other = lines.map(|(one, two)| format!("{one:?}, not {two:?}"));
-    let mut other = other.zip(
-        wanted
-            .lines()
-            .zip(told.lines())
-            .map(|(one, two)| one != two),
-    );
+    let mut other = other.zip(wanted.lines().zip(told.lines()).map(|(one, two)| one != two));
     let line = other.find(|(_, differs)| *differs);
     let what = line.map_or("one is longer".to_string(), |(line, _)| line);
     let bytes = hex(&sheet.bytes());
-    Err(format!(
-        "card 12 differs on sheet {bytes}, commitment {commitment:?}: wanted {what}"
-    ))
+    Err(format!("card 12 differs on sheet {bytes}, commitment {commitment:?}: wanted {what}"))
 }
 
 #[cfg(test)]

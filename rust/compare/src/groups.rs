@@ -19,12 +19,7 @@ pub struct Group {
 impl Group {
     /// The group of these numbers.
     pub fn new(kind: u32, modulus: u32, order: u32) -> Group {
-        Group {
-            kind,
-            modulus,
-            order,
-            totient: totient(modulus),
-        }
+        Group { kind, modulus, order, totient: totient(modulus) }
     }
 
     /// Any group of either kind.
@@ -198,11 +193,7 @@ impl Group {
 /// A challenge count up to this one. A large one is rare, because it takes long to
 /// test.
 fn count_up_to(random: &mut Random, most: u32) -> u32 {
-    let usual = if most > 1000 && !random.once_in(12) {
-        100
-    } else {
-        most
-    };
+    let usual = if most > 1000 && !random.once_in(12) { 100 } else { most };
     match random.below(3) {
         0 => 2,
         1 => usual,
@@ -250,10 +241,7 @@ mod tests {
             let mut random = Random::new(seed);
             let group = Group::any(&mut random);
             let (v, exponent) = (group.element(&mut random), random.word());
-            let (up, down) = (
-                power(v, exponent, group.modulus),
-                group.negative_power(v, exponent),
-            );
+            let (up, down) = (power(v, exponent, group.modulus), group.negative_power(v, exponent));
             assert_eq!(multiply(up, down, group.modulus), 1);
             let root = group.root_of_unity(&mut random);
             assert_eq!(power(root, group.order, group.modulus), 1);
@@ -263,8 +251,7 @@ mod tests {
     #[test]
     fn challenge_counts_are_those_of_the_order() {
         let allowed = |group: &Group, count: u32| {
-            (2..=MOST_CHALLENGES).contains(&count)
-                && (2..count).all(|d| !group.order.is_multiple_of(d))
+            (2..=MOST_CHALLENGES).contains(&count) && (2..count).all(|d| group.order % d != 0)
         };
         for seed in 0..1000 {
             let mut random = Random::new(seed);

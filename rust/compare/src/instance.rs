@@ -17,11 +17,7 @@ impl Instance {
     /// A sheet of the group with a known witness.
     pub fn known(random: &mut Random, group: Group) -> Instance {
         let (sheet, witness) = Sheet::with_witness(random, &group);
-        Instance {
-            group,
-            sheet,
-            witness: Some(witness),
-        }
+        Instance { group, sheet, witness: Some(witness) }
     }
 
     /// A sheet of the group. In half of the cases its witness is known.
@@ -29,11 +25,7 @@ impl Instance {
         if random.once_in(2) {
             return Instance::known(random, group);
         }
-        Instance {
-            sheet: Sheet::with_any_statement(random, &group),
-            group,
-            witness: None,
-        }
+        Instance { sheet: Sheet::with_any_statement(random, &group), group, witness: None }
     }
 
     /// The rows s.
@@ -123,11 +115,9 @@ impl Instance {
                 challenge,
                 response: self.response(&slots, challenge, witness),
             },
-            _ => Round {
-                commitment: self.simulated(challenge, &slots),
-                challenge,
-                response: slots,
-            },
+            _ => {
+                Round { commitment: self.simulated(challenge, &slots), challenge, response: slots }
+            }
         }
     }
 

@@ -10,9 +10,9 @@ mod watches;
 use judge::{linear, pattern_file};
 
 use crate::library::{
-    Compared, Computed, Counted, Fetched, Forms, Header, Judgement, Loaded, Part, Places, Plan,
-    ProverAnswer, ProverSession, Round, Saved, VerifierAnswer, VerifierJudgement, VerifierSession,
-    Written, LONGEST_GAME, LONGEST_REASON, LONGEST_TEXT,
+    Compared, Computed, Counted, Fetched, Forms, Header, Judgement, LONGEST_GAME, LONGEST_REASON,
+    LONGEST_TEXT, Loaded, Part, Places, Plan, ProverAnswer, ProverSession, Round, Saved,
+    VerifierAnswer, VerifierJudgement, VerifierSession, Written,
 };
 use sessions::{
     prover, prover_answer, prover_session, verifier, verifier_answer, verifier_session,
@@ -97,10 +97,7 @@ pub fn part(sheet: &[u8], file: &[u8], number: usize) -> Part {
     if part.is_empty() {
         return Part::default();
     }
-    Part {
-        offset: part.as_ptr() as usize - file.as_ptr() as usize,
-        length: part.len(),
-    }
+    Part { offset: part.as_ptr() as usize - file.as_ptr() as usize, length: part.len() }
 }
 
 pub fn read(sheet: &[u8], file: &[u8], number: usize) -> Fetched {
@@ -113,19 +110,13 @@ pub fn read(sheet: &[u8], file: &[u8], number: usize) -> Fetched {
                 response: round.response,
             },
         },
-        Err(refusal) => Fetched {
-            refusal,
-            ..Fetched::default()
-        },
+        Err(refusal) => Fetched { refusal, ..Fetched::default() },
     }
 }
 
 pub fn same_commitment(sheet: &[u8], file: &[u8], i: usize, j: usize) -> Compared {
     match judge::same_commitment(sheet, file, i as u64, j as u64) {
-        Ok(same) => Compared {
-            refusal: 0,
-            same: same.into(),
-        },
+        Ok(same) => Compared { refusal: 0, same: same.into() },
         Err(refusal) => Compared { refusal, same: 0 },
     }
 }
@@ -219,11 +210,7 @@ pub fn verifier_response(
 ) -> VerifierJudgement {
     let (verdict, next) = judge::take_response(sheet, verifier(&given), response);
     let verdict = judgement(verdict);
-    let session = if verdict.refusal == 0 {
-        verifier_session(next)
-    } else {
-        given
-    };
+    let session = if verdict.refusal == 0 { verifier_session(next) } else { given };
     VerifierJudgement { verdict, session }
 }
 

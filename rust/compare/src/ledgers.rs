@@ -4,7 +4,7 @@
 use crate::arithmetic::multiply;
 use crate::library::lines::{COMMITMENT, PRODUCT, SUM};
 use crate::library::{
-    Base, Entries, Entry, Ledger, Library, Line, Places, Plan, Round, MOST_LINES, SHIPPED_PATTERNS,
+    Base, Entries, Entry, Ledger, Library, Line, MOST_LINES, Places, Plan, Round, SHIPPED_PATTERNS,
 };
 
 /// How many numbers a line has, and what one is made of.
@@ -20,60 +20,27 @@ const SHEET: usize = 52;
 /// The numbers of a line in their order.
 pub fn line_numbers(line: &Line) -> [u32; OF_LINE] {
     let ([t1, t2], [r1, r2, r3]) = (line.t, line.response);
-    let Line {
-        kind,
-        first,
-        second,
-        commitment,
-        challenge,
-        ..
-    } = *line;
-    [
-        kind, first, second, commitment, t1, t2, challenge, r1, r2, r3,
-    ]
+    let Line { kind, first, second, commitment, challenge, .. } = *line;
+    [kind, first, second, commitment, t1, t2, challenge, r1, r2, r3]
 }
 
 /// The line of these numbers.
 pub fn line_of(numbers: [u32; OF_LINE]) -> Line {
     let [kind, first, second, commitment, t1, t2, challenge, r1, r2, r3] = numbers;
-    Line {
-        kind,
-        first,
-        second,
-        commitment,
-        t: [t1, t2],
-        challenge,
-        response: [r1, r2, r3],
-    }
+    Line { kind, first, second, commitment, t: [t1, t2], challenge, response: [r1, r2, r3] }
 }
 
 /// The numbers that a line is made of, in their order.
 pub fn entry_numbers(entry: &Entry) -> [u32; OF_ENTRY] {
     let [k1, k2, k3] = entry.nonce;
-    let Entry {
-        kind,
-        first,
-        second,
-        value,
-        blinding,
-        challenge,
-        ..
-    } = *entry;
+    let Entry { kind, first, second, value, blinding, challenge, .. } = *entry;
     [kind, first, second, value, blinding, k1, k2, k3, challenge]
 }
 
 /// The entry of these numbers.
 pub fn entry_of(numbers: [u32; OF_ENTRY]) -> Entry {
     let [kind, first, second, value, blinding, k1, k2, k3, challenge] = numbers;
-    Entry {
-        kind,
-        first,
-        second,
-        value,
-        blinding,
-        nonce: [k1, k2, k3],
-        challenge,
-    }
+    Entry { kind, first, second, value, blinding, nonce: [k1, k2, k3], challenge }
 }
 
 /// Whether a kind uses each number of a line.
@@ -88,60 +55,34 @@ pub fn line_uses(kind: u32) -> [bool; OF_LINE] {
 pub fn entry_uses(kind: u32) -> [bool; OF_ENTRY] {
     let (names, value, round) = (kind != COMMITMENT, kind == COMMITMENT, kind == PRODUCT);
     let blinding = kind != SUM;
-    [
-        true, names, names, value, blinding, round, round, round, round,
-    ]
+    [true, names, names, value, blinding, round, round, round, round]
 }
 
 /// A commitment to a value with a blinding number.
 pub fn commitment(value: u32, blinding: u32) -> Entry {
-    Entry {
-        kind: COMMITMENT,
-        value,
-        blinding,
-        ..Entry::default()
-    }
+    Entry { kind: COMMITMENT, value, blinding, ..Entry::default() }
 }
 
 /// The sum of two lines.
 pub fn sum(first: u32, second: u32) -> Entry {
-    Entry {
-        kind: SUM,
-        first,
-        second,
-        ..Entry::default()
-    }
+    Entry { kind: SUM, first, second, ..Entry::default() }
 }
 
 /// The product of two lines.
 pub fn product([first, second]: [u32; 2], blinding: u32, nonce: [u32; 3], challenge: u32) -> Entry {
-    Entry {
-        kind: PRODUCT,
-        first,
-        second,
-        value: 0,
-        blinding,
-        nonce,
-        challenge,
-    }
+    Entry { kind: PRODUCT, first, second, value: 0, blinding, nonce, challenge }
 }
 
 /// A ledger of these lines, of which there are 64 at most.
 pub fn ledger_of(lines: &[Line]) -> Ledger {
-    let mut ledger = Ledger {
-        count: lines.len() as u32,
-        ..Ledger::default()
-    };
+    let mut ledger = Ledger { count: lines.len() as u32, ..Ledger::default() };
     ledger.lines[..lines.len()].copy_from_slice(lines);
     ledger
 }
 
 /// What a ledger is made of: these, of which there are 64 at most.
 pub fn entries_of(list: &[Entry]) -> Entries {
-    let mut entries = Entries {
-        count: list.len() as u32,
-        ..Entries::default()
-    };
+    let mut entries = Entries { count: list.len() as u32, ..Entries::default() };
     entries.entries[..list.len()].copy_from_slice(list);
     entries
 }

@@ -66,11 +66,7 @@ impl Lent {
         memory.extend(bytes);
         let missing = (length + 16).saturating_sub(bytes.len());
         memory.extend(random.bytes(missing));
-        Lent {
-            memory,
-            from,
-            to: from + length,
-        }
+        Lent { memory, from, to: from + length }
     }
 
     /// Lends any bytes: exactly as many as needed, one more, one less, none, or
@@ -108,10 +104,7 @@ mod tests {
                 1
             });
             assert_eq!((length, memory.len()), (1, AROUND + place + 1));
-            assert_eq!(
-                memory.iter().position(|byte| *byte == 0),
-                Some(AROUND + place)
-            );
+            assert_eq!(memory.iter().position(|byte| *byte == 0), Some(AROUND + place));
         }
         assert_eq!(for_game(|_| 3).1, [UNTOUCHED; AROUND + 3]);
     }

@@ -1,24 +1,15 @@
 //! The levels of 02's card 3, at the counts of rounds at which a file begins to
 //! pass, in both libraries.
 
-use crate::library::Library::{self, Judge};
 use crate::library::LONGEST_TEXT;
-use crate::making::{needed, HIGHEST};
+use crate::library::Library::{self, Judge};
+use crate::making::{HIGHEST, needed};
 
 /// The challenge counts that are tried.
 const CHALLENGES: [u32; 8] = [2, 3, 11, 256, 257, 4096, 65_535, 65_536];
 
 /// Bytes that are no level.
-const NO_LEVELS: [&[u8]; 8] = [
-    &[],
-    &[0],
-    &[65],
-    &[255],
-    &[7, 7],
-    &[0, 7],
-    &[7, 0],
-    &[7; 300],
-];
+const NO_LEVELS: [&[u8]; 8] = [&[], &[0], &[65], &[255], &[7, 7], &[0, 7], &[7, 0], &[7; 300]];
 
 /// Rounds of the sheet below, with each K: an accepted, a rejected and a refused
 /// one.
@@ -53,9 +44,7 @@ fn files(challenges: u32, level: u32) -> Vec<Vec<u8>> {
     let count = needed(challenges, level);
     let others = [&[][..], &[REJECTED], &[REFUSED]];
     let counts = [count - 1, count];
-    let files = counts
-        .iter()
-        .flat_map(|count| others.map(|others| file(*count, others)));
+    let files = counts.iter().flat_map(|count| others.map(|others| file(*count, others)));
     files.collect()
 }
 

@@ -4,13 +4,13 @@ use crate::faults::{self, Fault};
 use crate::{judged, proved};
 
 pub use dimkhoros_sys::{
-    lines, phases, Base, Checked, Compared, Computed, Counted, Entries, Entry, Fetched, Header,
-    Judgement, Ledger, LedgerWritten, Line, Listed, Loaded, Memory, Opened, OrAnswer, OrExtracted,
-    OrJudgement, OrRound, OrSession, Part, Parts, Places, ProverAnswer, ProverSession, Round,
-    Saved, VerifierAnswer, VerifierJudgement, VerifierSession, Watch, WatchAnswer, Written,
+    Base, Checked, Compared, Computed, Counted, Entries, Entry, Fetched, Header, Judgement,
     LONGEST_FILE, LONGEST_FILE_2, LONGEST_GAME, LONGEST_REASON, LONGEST_SHEET, LONGEST_TEXT,
-    MOST_ANSWERED, MOST_LINES, MOST_PLAYERS, MOST_REMEMBERED, MOST_ROUNDS, PARTS, PLACES,
-    SAVED_STATES, SHIPPED_PATTERNS,
+    Ledger, LedgerWritten, Line, Listed, Loaded, MOST_ANSWERED, MOST_LINES, MOST_PLAYERS,
+    MOST_REMEMBERED, MOST_ROUNDS, Memory, Opened, OrAnswer, OrExtracted, OrJudgement, OrRound,
+    OrSession, PARTS, PLACES, Part, Parts, Places, ProverAnswer, ProverSession, Round,
+    SAVED_STATES, SHIPPED_PATTERNS, Saved, VerifierAnswer, VerifierJudgement, VerifierSession,
+    Watch, WatchAnswer, Written, lines, phases,
 };
 
 /// The numbers that the sheet maker takes. The pattern number 0 is that of root

@@ -58,7 +58,7 @@ use std::path::Path;
 use std::process::ExitCode;
 
 use library::Library;
-use options::{Options, COUNT};
+use options::{COUNT, Options};
 use program::{BUILT, PROGRAMS};
 
 /// The fewest times that a full run must meet each number, verdict and shape.

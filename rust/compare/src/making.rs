@@ -37,7 +37,7 @@ use crate::random::Random;
 pub use brought::change;
 pub use games::game_case;
 pub use ledgers::{base as ledger_base, entries as ledger_entries, reject as reject_line};
-pub use levels::{needed, HIGHEST};
+pub use levels::{HIGHEST, needed};
 pub use marking::{mark_case, mark_file};
 pub use reasons::reason_case;
 pub use state_runs::{of_calls as state_calls, to_the_last as answers_to_the_last};
@@ -97,9 +97,7 @@ const SHARES: [(Maker, usize); 43] = [
 pub fn case(seed: u64, number: u64) -> Box<dyn Case> {
     let mut random = Random::of_case(seed, number);
     let shares = SHARES.iter();
-    let makers: Vec<Maker> = shares
-        .flat_map(|(maker, share)| repeat_n(*maker, *share))
-        .collect();
+    let makers: Vec<Maker> = shares.flat_map(|(maker, share)| repeat_n(*maker, *share)).collect();
     random.pick(&makers)(&mut random)
 }
 

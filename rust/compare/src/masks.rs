@@ -3,11 +3,11 @@
 
 use crate::arithmetic::multiply;
 use crate::files;
-use crate::library::phases::verifier::ASKED;
 use crate::library::Library::{self, Judge};
+use crate::library::phases::verifier::ASKED;
 use crate::library::{
-    Header, Judgement, OrJudgement, OrRound, Places, Round, VerifierSession, LONGEST_REASON,
-    LONGEST_TEXT,
+    Header, Judgement, LONGEST_REASON, LONGEST_TEXT, OrJudgement, OrRound, Places, Round,
+    VerifierSession,
 };
 use crate::sheets::Sheet;
 
@@ -27,11 +27,7 @@ fn sheet(kind: u32, rows: u32) -> Sheet {
         rows,
         columns: if kind == 1 { 1 } else { rows },
     };
-    let mut sheet = Sheet {
-        header,
-        entries: [0; 64],
-        statement: [0; 8],
-    };
+    let mut sheet = Sheet { header, entries: [0; 64], statement: [0; 8] };
     for row in 0..rows as usize {
         sheet.statement[row] = 13;
         if kind == 1 {
@@ -52,20 +48,12 @@ fn round(sheet: &Sheet, rows: u32) -> Round {
             *value = multiply(*value, 2, MODULUS);
         }
     }
-    Round {
-        commitment,
-        challenge,
-        response,
-    }
+    Round { commitment, challenge, response }
 }
 
 /// The verdict that names these rows.
 fn verdict(rows: u32) -> Judgement {
-    Judgement {
-        accepted: u32::from(rows == 0),
-        rows,
-        refusal: 0,
-    }
+    Judgement { accepted: u32::from(rows == 0), rows, refusal: 0 }
 }
 
 /// What a library says of a round: in a session and out of one, and in both texts
@@ -104,19 +92,14 @@ fn said(library: Library, sheet: &Sheet, round: &Round) -> Said {
     let bytes = sheet.bytes();
     let version = sheet.header.kind as u16;
     let file = files::of_rounds(&sheet.header, version, &[*round]);
-    let asked = VerifierSession {
-        commitment: round.commitment,
-        challenge: round.challenge,
-        phase: ASKED,
-    };
+    let asked =
+        VerifierSession { commitment: round.commitment, challenge: round.challenge, phase: ASKED };
     let (mut text, mut line) = ([0; LONGEST_TEXT], [0; LONGEST_REASON]);
     let marked = library.mark(&bytes, &file, &[3], &mut text);
     let told = library.reason(&bytes, &file, &mut line);
     Said {
         judged: library.judge(&bytes, round),
-        in_session: library
-            .verifier_response(&bytes, asked, &round.response)
-            .verdict,
+        in_session: library.verifier_response(&bytes, asked, &round.response).verdict,
         marked: String::from_utf8_lossy(&text[..marked]).into_owned(),
         told: String::from_utf8_lossy(&line[..told]).into_owned(),
     }
@@ -138,10 +121,7 @@ fn sides(sheet: &Sheet, round: &Round) -> [Places; 2] {
 /// Each mask on each sheet. Answers how many rounds there were.
 fn of_one_sheet(other: Library) -> Result<usize, String> {
     let mut count = 0;
-    for (kind, size) in [1, 2]
-        .into_iter()
-        .flat_map(|kind| (1..=8).map(move |size| (kind, size)))
-    {
+    for (kind, size) in [1, 2].into_iter().flat_map(|kind| (1..=8).map(move |size| (kind, size))) {
         let sheet = sheet(kind, size);
         for rows in 0..1 << size {
             let round = round(&sheet, rows);
@@ -203,9 +183,7 @@ fn of_two_sheets(other: Library) -> Result<usize, String> {
 /// what differs.
 pub fn check(other: Library) -> Result<String, String> {
     let (one, two) = (of_one_sheet(other)?, of_two_sheets(other)?);
-    Ok(format!(
-        "rows: each mask in {one} rounds of one sheet and {two} of two"
-    ))
+    Ok(format!("rows: each mask in {one} rounds of one sheet and {two} of two"))
 }
 
 #[cfg(test)]
@@ -217,10 +195,7 @@ mod tests {
     #[test]
     fn the_judge_names_the_rows_that_are_made_to_differ() {
         let line = check(Judge).unwrap();
-        assert_eq!(
-            line,
-            "rows: each mask in 1020 rounds of one sheet and 4096 of two"
-        );
+        assert_eq!(line, "rows: each mask in 1020 rounds of one sheet and 4096 of two");
     }
 
     #[test]

@@ -16,7 +16,7 @@ mod random_rounds;
 use std::cell::Cell;
 
 use crate::arithmetic::multiply;
-use crate::library::{Computed, Header, Judgement, Library, Places, Round, LONGEST_SHEET};
+use crate::library::{Computed, Header, Judgement, LONGEST_SHEET, Library, Places, Round};
 use crate::printing::hex;
 use crate::sheets::Sheet;
 
@@ -70,12 +70,8 @@ struct Ways {
 }
 
 /// As the card says it.
-const RIGHT: Ways = Ways {
-    statement: multiplied,
-    commitment: multiplied,
-    response: joined,
-    witness: joined,
-};
+const RIGHT: Ways =
+    Ways { statement: multiplied, commitment: multiplied, response: joined, witness: joined };
 
 /// The values multiplied row by row mod m, with 0 beyond s.
 fn multiplied(header: &Header, one: &Places, other: &Places) -> Places {
@@ -93,10 +89,7 @@ fn joined(header: &Header, one: &Places, other: &Places) -> Places {
 
 /// So many values, with 0 beyond.
 fn first(count: u32, value: impl Fn(usize) -> u32) -> Places {
-    std::array::from_fn(|place| match place < count as usize {
-        true => value(place),
-        false => 0,
-    })
+    std::array::from_fn(|place| if place < count as usize { value(place) } else { 0 })
 }
 
 /// Two sheets of one table, and the sheet of the product of their statements.
@@ -139,9 +132,10 @@ impl Product {
             statement: z,
             calls: Cell::new(3),
         };
-        match is_right {
-            true => Ok(sheets),
-            false => Err(sheets.fails("the sheet of the product does not load as it is to")),
+        if is_right {
+            Ok(sheets)
+        } else {
+            Err(sheets.fails("the sheet of the product does not load as it is to"))
         }
     }
 
@@ -204,11 +198,10 @@ impl Product {
         met.accepted += u64::from(wanted.accepted);
         met.rejected += u64::from(wanted.refusal == 0 && wanted.accepted == 0);
         let verdict = self.judge(&self.product, &self.round(rounds));
-        match verdict == wanted {
-            true => Ok(()),
-            false => Err(self.fails(&format!(
-                "the product of {rounds:?}: {verdict:?}, not {wanted:?}"
-            ))),
+        if verdict == wanted {
+            Ok(())
+        } else {
+            Err(self.fails(&format!("the product of {rounds:?}: {verdict:?}, not {wanted:?}")))
         }
     }
 
@@ -221,17 +214,15 @@ impl Product {
         let products = [0, 1].map(|number| self.round(pairs.map(|pair| &pair[number])));
         let extracted = self.extract(&self.product, &products[0], &products[1]);
         let [x, y] = factors.map(|answer| answer.values);
-        let wanted = Computed {
-            refusal: 0,
-            values: (self.ways.witness)(&self.header, &x, &y),
-        };
+        let wanted = Computed { refusal: 0, values: (self.ways.witness)(&self.header, &x, &y) };
         met.extracted[usize::from(self.header.kind == 2)] += 1;
         let is_right = factors.iter().all(|answer| answer.refusal == 0) && extracted == wanted;
-        match is_right && self.is_witness(&extracted.values) {
-            true => Ok(()),
-            false => Err(self.fails(&format!(
+        if is_right && self.is_witness(&extracted.values) {
+            Ok(())
+        } else {
+            Err(self.fails(&format!(
                 "the products of {pairs:?}: {extracted:?}, of the factors {factors:?}"
-            ))),
+            )))
         }
     }
 }
@@ -242,9 +233,7 @@ type Pair = [Round; 2];
 /// The entries of a table.
 fn used(header: &Header, entries: &[u32; 64]) -> Vec<u32> {
     let rows = entries.chunks(8).take(header.rows as usize);
-    rows.flat_map(|row| &row[..header.columns as usize])
-        .copied()
-        .collect()
+    rows.flat_map(|row| &row[..header.columns as usize]).copied().collect()
 }
 
 #[cfg(test)]
@@ -258,14 +247,7 @@ mod tests {
         let met = tried(Judge, RIGHT).unwrap();
         assert_eq!(met.products, met.accepted + met.rejected);
         let [first, second] = met.extracted;
-        let counts = [
-            met.small,
-            met.random,
-            met.accepted,
-            met.rejected,
-            first,
-            second,
-        ];
+        let counts = [met.small, met.random, met.accepted, met.rejected, first, second];
         assert!(counts.iter().all(|times| *times > 200), "{met:?}");
     }
 
@@ -296,38 +278,17 @@ mod tests {
     #[test]
     fn products_that_are_made_in_another_way_are_found() {
         let others = [
-            Ways {
-                statement: |_, z, _| *z,
-                ..RIGHT
-            },
-            Ways {
-                commitment: |header, t, _| multiplied(header, t, t),
-                ..RIGHT
-            },
-            Ways {
-                response: multiplied,
-                ..RIGHT
-            },
-            Ways {
-                response: |_, r, _| *r,
-                ..RIGHT
-            },
-            Ways {
-                witness: |_, x, _| *x,
-                ..RIGHT
-            },
-            Ways {
-                witness: multiplied,
-                ..RIGHT
-            },
+            Ways { statement: |_, z, _| *z, ..RIGHT },
+            Ways { commitment: |header, t, _| multiplied(header, t, t), ..RIGHT },
+            Ways { response: multiplied, ..RIGHT },
+            Ways { response: |_, r, _| *r, ..RIGHT },
+            Ways { witness: |_, x, _| *x, ..RIGHT },
+            Ways { witness: multiplied, ..RIGHT },
         ];
         for (place, ways) in others.into_iter().enumerate() {
             let mut met = Met::default();
             assert!(all_rounds::check(Judge, ways, &mut met).is_err(), "{place}");
-            assert!(
-                random_rounds::check(Judge, ways, &mut met).is_err(),
-                "{place}"
-            );
+            assert!(random_rounds::check(Judge, ways, &mut met).is_err(), "{place}");
         }
     }
 }

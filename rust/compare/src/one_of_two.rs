@@ -10,7 +10,7 @@ use std::cell::Cell;
 use std::collections::BTreeMap;
 
 use crate::demand_three::sheets::{exponent, root};
-use crate::demand_three::{meets_each_once, Small};
+use crate::demand_three::{Small, meets_each_once};
 use crate::library::{Library, OrRound, Places};
 use crate::printing::hex;
 use crate::sheets::Sheet;
@@ -28,9 +28,7 @@ pub fn check(library: Library) -> Result<String, String> {
         pairs += 1;
         calls += pair.calls.get();
     }
-    Ok(format!(
-        "card 4 holds on {pairs} small pairs of sheets over all rounds, {calls} calls"
-    ))
+    Ok(format!("card 4 holds on {pairs} small pairs of sheets over all rounds, {calls} calls"))
 }
 
 /// Pairs of either kind and of both, whose sheets have one witness, several and
@@ -47,14 +45,8 @@ fn small_pairs() -> Vec<[Sheet; 2]> {
         // K is below the order, so that c - c' and c1 - c1' are different there.
         [several(), exponent([11, 5, 3], 1, &[3], &[9])],
         [only_root(), root([7, 3, 3], &[3])],
-        [
-            exponent([5, 2, 2], 1, &[4], &[4]),
-            exponent([3, 2, 2], 2, &[2, 1], &[2]),
-        ],
-        [
-            exponent([3, 2, 2], 1, &[2, 2], &[2, 2]),
-            root([4, 3, 2], &[3]),
-        ],
+        [exponent([5, 2, 2], 1, &[4], &[4]), exponent([3, 2, 2], 2, &[2, 1], &[2])],
+        [exponent([3, 2, 2], 1, &[2, 2], &[2, 2]), root([4, 3, 2], &[3])],
         [none(), root([7, 3, 3], &[3])],
     ]
 }
@@ -174,11 +166,7 @@ impl SmallPair {
         choice: &Choice,
     ) -> Result<OrRound, u32> {
         let ([first, second], side) = (self.bytes(), side as u32);
-        let Choice {
-            nonce,
-            challenge: simulated,
-            response,
-        } = choice;
+        let Choice { nonce, challenge: simulated, response } = choice;
         self.count(3);
         let library = self.library;
         let new = library.or_prover_new();
@@ -214,9 +202,7 @@ impl SmallPair {
                     && found.side as usize == side
                     && self.sides[side].witnesses.contains(&found.values);
                 if !holds {
-                    return Err(format!(
-                        "{one:?} and {other:?}: {found:?}, swapped {swapped:?}"
-                    ));
+                    return Err(format!("{one:?} and {other:?}: {found:?}, swapped {swapped:?}"));
                 }
             }
         }

@@ -2,7 +2,7 @@
 
 use std::path::PathBuf;
 
-use crate::faults::{Fault, FAULTS};
+use crate::faults::{FAULTS, Fault};
 use crate::library::Library;
 
 /// The seed of a run that names none.
@@ -29,13 +29,8 @@ const USAGE: &str = "usage: compare [--seed N] [--count N] [--self | --fault NAM
 
 /// Reads the words after the program's name. An error is the text to print.
 pub fn options(mut words: impl Iterator<Item = String>) -> Result<Options, String> {
-    let mut options = Options {
-        seed: SEED,
-        count: COUNT,
-        other: Library::Proved,
-        store: None,
-        vectors: None,
-    };
+    let mut options =
+        Options { seed: SEED, count: COUNT, other: Library::Proved, store: None, vectors: None };
     while let Some(word) = words.next() {
         match word.as_str() {
             "--seed" => options.seed = number(words.next())?,
@@ -60,9 +55,7 @@ fn path(word: Option<String>) -> Result<PathBuf, String> {
 }
 
 fn fault(word: Option<String>) -> Result<Fault, String> {
-    let found = FAULTS
-        .iter()
-        .find(|planted| word.as_deref() == Some(planted.name));
+    let found = FAULTS.iter().find(|planted| word.as_deref() == Some(planted.name));
     found.map(|planted| planted.fault).ok_or_else(|| {
         let lines = FAULTS.iter().map(|planted| {
             let (name, what) = (planted.name, planted.what);
@@ -99,15 +92,9 @@ mod tests {
 
     #[test]
     fn other_words_are_errors() {
-        for words in [
-            "--seed",
-            "--seed x",
-            "--count -1",
-            "--other",
-            "--fault none",
-            "--store",
-            "--vectors",
-        ] {
+        for words in
+            ["--seed", "--seed x", "--count -1", "--other", "--fault none", "--store", "--vectors"]
+        {
             assert!(read(words).is_err());
         }
     }

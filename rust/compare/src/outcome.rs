@@ -106,10 +106,7 @@ impl Answer {
             1 => Verdict::Accepted,
             _ => Verdict::Rejected(rows),
         };
-        (self.refusal() == 0)
-            .then_some(verdict)
-            .into_iter()
-            .collect()
+        (self.refusal() == 0).then_some(verdict).into_iter().collect()
     }
 }
 
@@ -146,10 +143,7 @@ impl Outcome {
 
     /// The outcome of one call, with the memory after it.
     pub fn with_memory(call: Call, answer: Answer, memory: Vec<u8>) -> Outcome {
-        Outcome {
-            answers: vec![(call, answer)],
-            memory,
-        }
+        Outcome { answers: vec![(call, answer)], memory }
     }
 }
 

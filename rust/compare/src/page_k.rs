@@ -43,14 +43,10 @@ fn numbers(library: Library) -> [u32; 4] {
 pub fn check(library: Library) -> Result<String, String> {
     let (judged, other) = (numbers(Judge), numbers(library));
     if judged != other {
-        return Err(format!(
-            "page K: the judge gives {judged:?}, the library {other:?}"
-        ));
+        return Err(format!("page K: the judge gives {judged:?}, the library {other:?}"));
     }
     let [eight, nine, most, more] = other;
-    Ok(format!(
-        "page K: 8 rows {eight}, 9 rows {nine}, 512 rounds {most}, 513 rounds {more}"
-    ))
+    Ok(format!("page K: 8 rows {eight}, 9 rows {nine}, 512 rounds {most}, 513 rounds {more}"))
 }
 
 #[cfg(test)]

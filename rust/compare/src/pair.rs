@@ -50,11 +50,8 @@ impl Pair {
     /// both are below it.
     pub fn joined(&self, [first, second]: &[Round; 2]) -> OrRound {
         let (c, d) = (first.challenge, second.challenge);
-        let challenge = if c.max(d) < self.count() {
-            self.left(c, self.left(0, d))
-        } else {
-            c.wrapping_add(d)
-        };
+        let challenge =
+            if c.max(d) < self.count() { self.left(c, self.left(0, d)) } else { c.wrapping_add(d) };
         OrRound {
             commitment0: first.commitment,
             commitment1: second.commitment,
@@ -90,10 +87,7 @@ mod tests {
             let round = pair.joined(&sides);
             let [first, second] = [0, 1].map(|side| pair.instances[side].sheet.bytes());
             assert_eq!(Judge.or_judge(&first, &second, &round).accepted, 1);
-            assert_eq!(
-                pair.left(round.challenge, round.challenge0),
-                sides[1].challenge
-            );
+            assert_eq!(pair.left(round.challenge, round.challenge0), sides[1].challenge);
             below += u32::from(round.challenge < round.challenge0);
         }
         assert!(below > 300, "{below}");

@@ -20,15 +20,10 @@ pub struct Pattern {
 impl Pattern {
     /// A pattern that is right, often one of the smallest or largest.
     fn any(random: &mut Random) -> Pattern {
-        let [rows, columns] = [0; 2].map(|_| match random.once_in(3) {
-            true => random.pick(&[1, 8]),
-            false => 1 + random.below(8),
-        });
+        let [rows, columns] = [0; 2]
+            .map(|_| if random.once_in(3) { random.pick(&[1, 8]) } else { 1 + random.below(8) });
         let cells = rows * columns;
-        let values = match random.once_in(3) {
-            true => cells.min(8),
-            false => 1 + random.below(cells.min(8)),
-        };
+        let values = if random.once_in(3) { cells.min(8) } else { 1 + random.below(cells.min(8)) };
         let mut digits: Vec<u8> = (1..=values as u8).collect();
         while digits.len() < cells {
             let place = random.below(digits.len() + 1);
@@ -37,10 +32,7 @@ impl Pattern {
         for place in (1..cells).rev() {
             digits.swap(place, random.below(place + 1));
         }
-        Pattern {
-            sizes: [rows, columns, values].map(|size| size as u8),
-            digits,
-        }
+        Pattern { sizes: [rows, columns, values].map(|size| size as u8), digits }
     }
 
     pub fn rows(&self) -> usize {
@@ -74,11 +66,7 @@ impl Pattern {
             _ => {
                 let value = random.place(values.into()) as u8 + 1;
                 let next = value % values + 1;
-                let other = if next == value || random.once_in(2) {
-                    0
-                } else {
-                    next
-                };
+                let other = if next == value || random.once_in(2) { 0 } else { next };
                 for digit in self.digits.iter_mut().filter(|digit| **digit == value) {
                     *digit = other;
                 }
@@ -143,10 +131,7 @@ pub fn read(file: &[u8], widest: u8) -> (Vec<Pattern>, &[u8]) {
         let Some((digits, behind)) = behind.split_at_checked(cells).filter(|_| in_range) else {
             break;
         };
-        patterns.push(Pattern {
-            sizes: *sizes,
-            digits: digits.to_vec(),
-        });
+        patterns.push(Pattern { sizes: *sizes, digits: digits.to_vec() });
         rest = behind;
     }
     (patterns, rest)
@@ -186,10 +171,7 @@ mod tests {
     /// What the judge refuses a file with, 0 for nothing. The number is never a
     /// pattern's, so that a file that is right gives 1.
     fn refusal(file: &[u8]) -> u32 {
-        let plan = Plan {
-            number: u32::MAX,
-            ..Plan::default()
-        };
+        let plan = Plan { number: u32::MAX, ..Plan::default() };
         match Judge.from_pattern(file, plan, &[], &[], &mut []).refusal {
             1 => 0,
             number => number,

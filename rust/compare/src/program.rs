@@ -14,7 +14,7 @@ use std::path::Path;
 use std::process::{Command, ExitStatus, Output, Stdio};
 
 use crate::search;
-use folders::{folders, Folder};
+use folders::{Folder, folders};
 use scratch::Scratch;
 
 /// Where `rt check` puts programs.
@@ -28,18 +28,9 @@ pub struct Program {
 
 /// All programs. The game's text is that of a table if the judge would take long.
 pub const PROGRAMS: [Program; 3] = [
-    Program {
-        name: "marker",
-        text: judge::marker,
-    },
-    Program {
-        name: "reason",
-        text: |sheet, rounds, _| judge::reason(sheet, rounds),
-    },
-    Program {
-        name: "game",
-        text: |sheet, rounds, _| search::game(sheet, rounds),
-    },
+    Program { name: "marker", text: judge::marker },
+    Program { name: "reason", text: |sheet, rounds, _| judge::reason(sheet, rounds) },
+    Program { name: "game", text: |sheet, rounds, _| search::game(sheet, rounds) },
 ];
 
 impl Program {
@@ -55,10 +46,7 @@ impl Program {
             ));
         };
         let runs = self.check_runs(seed, |folder| {
-            Command::new(&program)
-                .current_dir(folder)
-                .stdin(Stdio::null())
-                .output()
+            Command::new(&program).current_dir(folder).stdin(Stdio::null()).output()
         })?;
         Ok(format!("the program {name}: {runs} folders"))
     }
@@ -88,17 +76,9 @@ impl Program {
 
     /// What a right program's run in the folder comes to.
     fn judged(&self, folder: &Folder) -> Output {
-        let Folder {
-            sheet,
-            rounds,
-            level,
-        } = folder;
+        let Folder { sheet, rounds, level } = folder;
         let text = (self.text)(sheet.bytes(), rounds.bytes(), level.bytes());
-        Output {
-            status: ExitStatus::default(),
-            stdout: text.into_bytes(),
-            stderr: Vec::new(),
-        }
+        Output { status: ExitStatus::default(), stdout: text.into_bytes(), stderr: Vec::new() }
     }
 }
 
@@ -127,11 +107,7 @@ mod tests {
     }
 
     /// One byte more than the longest of each.
-    const ENOUGH: Kept = Kept {
-        sheet: 309,
-        rounds: 34_824,
-        level: 2,
-    };
+    const ENOUGH: Kept = Kept { sheet: 309, rounds: 34_824, level: 2 };
 
     /// The run of a program that keeps so many bytes. Where it tells a length,
     /// it tells that of the whole file.
@@ -145,18 +121,10 @@ mod tests {
             &start(&level, kept.level),
         );
         if let Some((words, _)) = text.split_once("length ") {
-            let of = if words == "refused 12 " {
-                rounds
-            } else {
-                sheet
-            };
+            let of = if words == "refused 12 " { rounds } else { sheet };
             text = format!("{words}length {}\n", of.len());
         }
-        Output {
-            status: ExitStatus::default(),
-            stdout: text.into_bytes(),
-            stderr: Vec::new(),
-        }
+        Output { status: ExitStatus::default(), stdout: text.into_bytes(), stderr: Vec::new() }
     }
 
     /// Whether the check finds no difference in a program that keeps so many
@@ -193,11 +161,8 @@ mod tests {
     fn passes_on(program: &Program, taken: impl Fn(&str, Vec<u8>) -> Vec<u8>) -> bool {
         let found = program.check_runs(SEED, |folder| {
             let bytes = |name: &str| taken(name, bytes(folder, name));
-            let text = (program.text)(
-                &bytes("sheet.bin"),
-                &bytes("rounds.bin"),
-                &bytes("level.bin"),
-            );
+            let text =
+                (program.text)(&bytes("sheet.bin"), &bytes("rounds.bin"), &bytes("level.bin"));
             Ok(Output {
                 status: ExitStatus::default(),
                 stdout: text.into_bytes(),
@@ -263,10 +228,7 @@ mod tests {
     #[test]
     fn a_game_that_reads_the_level_is_found() {
         for needed in [&[1..=64][..], &[0..=255]] {
-            let reads = Program {
-                name: "game",
-                text: GAME.text,
-            };
+            let reads = Program { name: "game", text: GAME.text };
             let found = reads.check_runs(SEED, |folder| {
                 let level = bytes(folder, "level.bin");
                 let mut ran = ran(GAME, folder, ENOUGH);

@@ -59,11 +59,7 @@ impl Random {
 
     /// One of so many places, often the last.
     pub fn place(&mut self, count: usize) -> usize {
-        if self.once_in(3) {
-            count - 1
-        } else {
-            self.below(count)
-        }
+        if self.once_in(3) { count - 1 } else { self.below(count) }
     }
 
     /// True once in so many times.
@@ -78,11 +74,7 @@ impl Random {
 
     /// A 32-bit number, now and then one at a border.
     pub fn word(&mut self) -> u32 {
-        if self.once_in(3) {
-            self.pick(&BORDERS)
-        } else {
-            self.bits() as u32
-        }
+        if self.once_in(3) { self.pick(&BORDERS) } else { self.bits() as u32 }
     }
 
     /// So many 32-bit numbers.

@@ -12,8 +12,8 @@ use std::collections::HashSet;
 
 use crate::cases::{Sessions, StateStep, Step};
 use crate::library::{
-    Library, Listed, Memory, Places, ProverAnswer, ProverSession, Round, Saved, MOST_ANSWERED,
-    SAVED_STATES,
+    Library, Listed, MOST_ANSWERED, Memory, Places, ProverAnswer, ProverSession, Round,
+    SAVED_STATES, Saved,
 };
 use crate::making::{answers_to_the_last, state_calls};
 use crate::outcome::Answer;
@@ -60,19 +60,18 @@ fn tried(library: Library) -> Result<Met, String> {
     let mut met = Met::default();
     for seed in 0..RUNS + LONG_RUNS {
         let mut random = Random::new(seed);
-        let (sheets, steps) = match seed < RUNS {
-            true => {
-                let calls = random.between(30, 300);
-                state_calls(&mut random, calls)
-            }
-            false => answers_to_the_last(&mut random),
+        let (sheets, steps) = if seed < RUNS {
+            let calls = random.between(30, 300);
+            state_calls(&mut random, calls)
+        } else {
+            answers_to_the_last(&mut random)
         };
-        Run::new(library, &sheets)
-            .and_then(|mut run| run.take_all(&steps, &mut met))
-            .map_err(|what| {
+        Run::new(library, &sheets).and_then(|mut run| run.take_all(&steps, &mut met)).map_err(
+            |what| {
                 let [first, second] = sheets.each_ref().map(|sheet| hex(sheet));
                 format!("card 13 fails on sheets {first} and {second}: {what} in run {seed}")
-            })?;
+            },
+        )?;
     }
     Ok(met)
 }
@@ -103,21 +102,17 @@ impl Run<'_> {
             answered: Vec::new(),
             given: HashSet::new(),
         };
-        match run.sessions.prover == run.expected() {
-            true => Ok(run),
-            false => Err("a new session holds something".to_string()),
+        if run.sessions.prover == run.expected() {
+            Ok(run)
+        } else {
+            Err("a new session holds something".to_string())
         }
     }
 
     /// A session that holds what this one is to hold and remembers nothing.
     fn plain(&self) -> ProverSession {
         let (phase, nonce, commitment) = self.held;
-        ProverSession {
-            nonce,
-            commitment,
-            phase,
-            memory: Memory::default(),
-        }
+        ProverSession { nonce, commitment, phase, memory: Memory::default() }
     }
 
     /// The session as it is to be.
@@ -133,9 +128,7 @@ impl Run<'_> {
             })
         });
         for (listed, commitment) in memory.answered.iter_mut().zip(&self.answered) {
-            *listed = Listed {
-                commitment: *commitment,
-            };
+            *listed = Listed { commitment: *commitment };
         }
         memory.count = self.answered.len() as u32;
         session
@@ -236,11 +229,8 @@ impl Run<'_> {
         let (Step::Respond { challenge, .. }, 0) = (step, answer.refusal) else {
             return Ok(());
         };
-        let round = Round {
-            commitment: before.commitment,
-            challenge: *challenge,
-            response: answer.values,
-        };
+        let round =
+            Round { commitment: before.commitment, challenge: *challenge, response: answer.values };
         let judged = self.library.judge(&self.sheets[*side], &round);
         let other = self.given.contains(&(1 - side, before.commitment));
         match () {
@@ -295,10 +285,7 @@ mod tests {
     #[test]
     fn impostors_do_not_meet_card_thirteen() {
         let first = FAULTS.iter().position(|it| it.name == "new-saved").unwrap();
-        let last = FAULTS
-            .iter()
-            .position(|it| it.name == "return-values")
-            .unwrap();
+        let last = FAULTS.iter().position(|it| it.name == "return-values").unwrap();
         let faults = &FAULTS[first..=last];
         let meets = |holds: fn(Library) -> bool| -> Vec<&str> {
             let met = faults.iter().filter(|it| holds(Faulty(it.fault)));

@@ -25,12 +25,7 @@ pub fn run(seed: u64, count: u64, other: Library) -> Result<Tally, Box<Differenc
         let judged = case.run(Judge);
         let answered = case.run(other);
         if judged != answered {
-            return Err(Box::new(Difference {
-                number,
-                case,
-                judged,
-                other: answered,
-            }));
+            return Err(Box::new(Difference { number, case, judged, other: answered }));
         }
         tally.add(case.as_ref(), &judged);
     }

@@ -27,9 +27,7 @@ pub struct Table {
 /// How many responses a sheet has: q^n, or m, which is a little more than there are.
 pub fn count(header: &Header) -> u128 {
     match header.kind {
-        1 => u128::from(header.order)
-            .checked_pow(header.columns)
-            .unwrap_or(u128::MAX),
+        1 => u128::from(header.order).checked_pow(header.columns).unwrap_or(u128::MAX),
         _ => header.modulus.into(),
     }
 }
@@ -51,9 +49,7 @@ impl Table {
         let group = Group::new(header.kind, header.modulus, header.order);
         let slots: Vec<u32> = match header.kind {
             1 => (0..header.order).collect(),
-            _ => (1..header.modulus)
-                .filter(|v| group.is_element(*v))
-                .collect(),
+            _ => (1..header.modulus).filter(|v| group.is_element(*v)).collect(),
         };
         let responses = choices(&slots, header.columns as usize);
         let mut of_image: HashMap<Places, Vec<Places>> = HashMap::new();
@@ -61,11 +57,7 @@ impl Table {
             let image = sheet.image(response);
             of_image.entry(image).or_default().push(*response);
         }
-        Table {
-            sheet,
-            responses,
-            of_image,
-        }
+        Table { sheet, responses, of_image }
     }
 
     /// How many images there are.
@@ -104,20 +96,14 @@ impl Table {
                 lines += &self.line(challenge, first);
             }
         }
-        match lines.is_empty() {
-            true => String::from("none\n"),
-            false => lines,
-        }
+        if lines.is_empty() { String::from("none\n") } else { lines }
     }
 
     /// The line of a challenge and a response.
     pub fn line(&self, challenge: u32, response: &Places) -> String {
         let slots = &response[..self.sheet.header.columns as usize];
-        let words: Vec<String> = [&[challenge], slots]
-            .concat()
-            .iter()
-            .map(u32::to_string)
-            .collect();
+        let words: Vec<String> =
+            [&[challenge], slots].concat().iter().map(u32::to_string).collect();
         words.join(" ") + "\n"
     }
 }
@@ -128,16 +114,9 @@ pub fn game(sheet: &[u8], file: &[u8]) -> String {
     let loaded = Judge.load(sheet);
     let long = loaded.refusal == 0 && is_small(&loaded.header) && is_long(&loaded.header);
     let round = Judge.read(sheet, file, 0);
-    let group = Group::new(
-        loaded.header.kind,
-        loaded.header.modulus.max(3),
-        loaded.header.order.max(2),
-    );
-    let mut values = round
-        .round
-        .commitment
-        .iter()
-        .take(loaded.header.rows as usize);
+    let group =
+        Group::new(loaded.header.kind, loaded.header.modulus.max(3), loaded.header.order.max(2));
+    let mut values = round.round.commitment.iter().take(loaded.header.rows as usize);
     if !long || round.refusal != 0 || !values.all(|value| group.is_element(*value)) {
         return judge::game(sheet, file);
     }

@@ -22,12 +22,8 @@ const ENDS: [Fields; 9] = [
         sheet.modulus.is_power_of_two() && (5..1 << 31).contains(&sheet.modulus)
     }),
     ("m = 2^31", |sheet| sheet.modulus == 1 << 31),
-    ("m even, m > 2^31", |sheet| {
-        sheet.modulus.is_multiple_of(2) && sheet.modulus > 1 << 31
-    }),
-    ("m odd, m > 2^31", |sheet| {
-        !sheet.modulus.is_multiple_of(2) && sheet.modulus > 1 << 31
-    }),
+    ("m even, m > 2^31", |sheet| sheet.modulus % 2 == 0 && sheet.modulus > 1 << 31),
+    ("m odd, m > 2^31", |sheet| sheet.modulus % 2 != 0 && sheet.modulus > 1 << 31),
     ("m = 2^32 - 2", |sheet| sheet.modulus == u32::MAX - 1),
     ("m = 2^32 - 1", |sheet| sheet.modulus == u32::MAX),
     ("l = 2^32 - 1", |sheet| sheet.order == u32::MAX),
@@ -40,9 +36,7 @@ const ORDERS: [Order; 14] = [
     ("l = p^2", |order, p| order / p == p),
     ("l = p^2, p > 255", |order, p| order / p == p && p > 255),
     ("l = p q, the next prime q", neighbours),
-    ("l = p q, the next prime q, p > 255", |order, p| {
-        neighbours(order, p) && p > 255
-    }),
+    ("l = p q, the next prime q, p > 255", |order, p| neighbours(order, p) && p > 255),
     ("l = 2 q, a prime q", |order, p| p == 2 && prime(order / 2)),
     ("l = 3 q, a prime q", |order, p| p == 3 && prime(order / 3)),
     ("p = 5, l > 5", |order, p| p == 5 && order > 5),
@@ -58,12 +52,8 @@ const ORDERS: [Order; 14] = [
 const SLOTS: [Slot; 5] = [
     ("slot 0, q > 2^31", |slot, q| slot == 0 && q > 1 << 31),
     ("slot 1, q > 2^31", |slot, q| slot == 1 && q > 1 << 31),
-    ("slot q - 1, q > 2^31", |slot, q| {
-        slot == q - 1 && q > 1 << 31
-    }),
-    ("slot q - 1, q = 2^32 - 1", |slot, q| {
-        slot == q - 1 && q == u32::MAX
-    }),
+    ("slot q - 1, q > 2^31", |slot, q| slot == q - 1 && q > 1 << 31),
+    ("slot q - 1, q = 2^32 - 1", |slot, q| slot == q - 1 && q == u32::MAX),
     ("slot 2^32 - 1", |slot, _| slot == u32::MAX),
 ];
 
@@ -118,12 +108,7 @@ impl Shapes {
 
     /// Counts the slots that are brought to a sheet that loads.
     fn add_slots(&mut self, seen: &Seen) {
-        let Header {
-            kind,
-            order,
-            columns,
-            ..
-        } = seen.header;
+        let Header { kind, order, columns, .. } = seen.header;
         let slots = seen.slots.iter().filter(|_| kind == 1);
         for slot in slots.flat_map(|slots| slots.iter().take(columns as usize)) {
             for (count, (_, holds)) in self.slots.iter_mut().zip(SLOTS) {
@@ -134,9 +119,7 @@ impl Shapes {
 
     /// Counts the order of a sheet whose K is its least divisor and so much more.
     fn add_order(&mut self, header: &Header, more: u32) {
-        let Header {
-            order, challenges, ..
-        } = *header;
+        let Header { order, challenges, .. } = *header;
         let least = least_divisor(order);
         if challenges.checked_sub(more) == Some(least) {
             for (count, (_, holds)) in self.orders.iter_mut().zip(ORDERS) {
@@ -155,10 +138,8 @@ impl Shapes {
             .iter()
             .zip(self.orders)
             .map(|((name, _), [most, more])| (*name, vec![("K = p", most), ("K = p + 1", more)]));
-        let slots = SLOTS
-            .iter()
-            .zip(self.slots)
-            .map(|((name, _), met)| (*name, vec![("brought", met)]));
+        let slots =
+            SLOTS.iter().zip(self.slots).map(|((name, _), met)| (*name, vec![("brought", met)]));
         ends.chain(orders).chain(slots).collect()
     }
 }
@@ -171,27 +152,14 @@ mod tests {
     fn counted(order: u32, challenges: u32, refusal: u32) -> Vec<(&'static str, Vec<u64>)> {
         let mut shapes = Shapes::default();
         shapes.add(&Seen {
-            header: Header {
-                kind: 2,
-                modulus: 1 << 31,
-                order,
-                challenges,
-                rows: 1,
-                columns: 1,
-            },
+            header: Header { kind: 2, modulus: 1 << 31, order, challenges, rows: 1, columns: 1 },
             refusal,
             slots: vec![[0; 8]],
         });
         let rows = shapes.rows().into_iter();
-        let counts = rows.map(|(name, columns)| {
-            (
-                name,
-                columns.iter().map(|(_, met)| *met).collect::<Vec<_>>(),
-            )
-        });
-        counts
-            .filter(|(_, counts)| counts.iter().any(|met| *met > 0))
-            .collect()
+        let counts = rows
+            .map(|(name, columns)| (name, columns.iter().map(|(_, met)| *met).collect::<Vec<_>>()));
+        counts.filter(|(_, counts)| counts.iter().any(|met| *met > 0)).collect()
     }
 
     #[test]

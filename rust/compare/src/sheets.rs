@@ -16,11 +16,7 @@ pub struct Sheet {
 
 /// A row or column count, more often one of the smallest and largest.
 fn side(random: &mut Random) -> u32 {
-    if random.once_in(3) {
-        random.pick(&[1, 8])
-    } else {
-        random.between(1, 8)
-    }
+    if random.once_in(3) { random.pick(&[1, 8]) } else { random.between(1, 8) }
 }
 
 /// The fixed fields in a sheet's bytes, where it has all of them.
@@ -40,9 +36,7 @@ pub fn header(sheet: &[u8]) -> Option<Header> {
 /// The product over the row of entry^slot mod m.
 fn product(row: &[u32], slots: &Places, m: u32) -> u32 {
     let factors = row.iter().zip(slots);
-    factors.fold(1, |product, (entry, slot)| {
-        multiply(product, power(*entry, *slot, m), m)
-    })
+    factors.fold(1, |product, (entry, slot)| multiply(product, power(*entry, *slot, m), m))
 }
 
 impl Sheet {
@@ -50,11 +44,7 @@ impl Sheet {
     pub fn read(bytes: &[u8]) -> Sheet {
         let (loaded, mut entries) = (Judge.load(bytes), [0; 64]);
         Judge.entries(bytes, &mut entries);
-        Sheet {
-            header: loaded.header,
-            entries,
-            statement: loaded.statement,
-        }
+        Sheet { header: loaded.header, entries, statement: loaded.statement }
     }
 
     /// A sheet of the group that loads, with any statement. Unused places are 0.
@@ -128,14 +118,7 @@ impl Sheet {
 
     /// The table's image of the slots, with 0 beyond the rows.
     pub fn image(&self, slots: &Places) -> Places {
-        let Header {
-            kind,
-            modulus,
-            order,
-            rows,
-            columns,
-            ..
-        } = self.header;
+        let Header { kind, modulus, order, rows, columns, .. } = self.header;
         let mut image = [0; 8];
         for (i, value) in image.iter_mut().enumerate().take(rows as usize) {
             *value = match kind {
@@ -166,11 +149,7 @@ impl Sheet {
         if header.kind == 1 {
             for place in 0..header.rows * header.columns {
                 let (i, j) = (place / header.columns, place % header.columns);
-                let entry = if j < 8 {
-                    at(&self.entries, 8 * i + j)
-                } else {
-                    1
-                };
+                let entry = if j < 8 { at(&self.entries, 8 * i + j) } else { 1 };
                 bytes.extend(entry.to_be_bytes());
             }
         }
@@ -218,12 +197,7 @@ mod tests {
             let mut entries = [7; 64];
             Judge.entries(&bytes, &mut entries);
             assert_eq!(entries, sheet.entries);
-            let Header {
-                kind,
-                rows,
-                columns,
-                ..
-            } = sheet.header;
+            let Header { kind, rows, columns, .. } = sheet.header;
             sizes.insert((kind, rows, columns));
         }
         assert_eq!(sizes.len(), 64 + 8);

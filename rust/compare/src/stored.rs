@@ -27,9 +27,7 @@ impl Stored {
     /// Adds a case: the sheet's length in two bytes, the file's in four and the
     /// level's in two, high byte first, and the bytes of the three.
     fn push(&mut self, case: &TextCase, text: &str) {
-        let TextCase {
-            sheet, file, level, ..
-        } = case;
+        let TextCase { sheet, file, level, .. } = case;
         self.cases.extend((sheet.len() as u16).to_be_bytes());
         self.cases.extend((file.len() as u32).to_be_bytes());
         self.cases.extend((level.len() as u16).to_be_bytes());
@@ -84,10 +82,7 @@ fn met(sheet: &[u8], file: &[u8], level: &[u8], text: &str) -> BTreeSet<String> 
         ("no file", file.is_empty()),
         ("no level", level.is_empty() && of_level),
         ("two bytes", level.len() == 2 && of_level),
-        (
-            "too few",
-            !text.contains(" re") && text.ends_with("accepted\nfail\n"),
-        ),
+        ("too few", !text.contains(" re") && text.ends_with("accepted\nfail\n")),
     ] {
         if holds {
             met.insert(name.to_string());

@@ -6,7 +6,7 @@ mod ledgers;
 
 use std::fmt;
 
-use crate::calls::{Call, CALL_COUNT, LAST, ORDER};
+use crate::calls::{CALL_COUNT, Call, LAST, ORDER};
 use crate::cases::Case;
 use crate::outcome::{Answer, Outcome, Verdict};
 use crate::shapes::{Seen, Shapes};
@@ -68,11 +68,7 @@ fn places(verdict: Verdict) -> Vec<usize> {
     let mut places = Vec::new();
     for (side, rows) in rows.into_iter().enumerate().filter(|(_, rows)| *rows != 0) {
         let start = 1 + OF_SIDE * side;
-        places.extend(
-            (0..8)
-                .filter(|row| rows >> row & 1 == 1)
-                .map(|row| start + row),
-        );
+        places.extend((0..8).filter(|row| rows >> row & 1 == 1).map(|row| start + row));
         places.push(start + 8 + rows.count_ones() as usize - 1);
     }
     let rejected = rows.map(|rows| usize::from(rows != 0));
@@ -120,11 +116,7 @@ impl Tally {
         if let Some(header) = case.header() {
             let mut numbers = numbers.iter().map(|(_, number)| *number);
             let of_sheet = numbers.find(|number| is_of_sheet(*number));
-            self.shapes.add(&Seen {
-                header,
-                refusal: of_sheet.unwrap_or(0),
-                slots: case.slots(),
-            });
+            self.shapes.add(&Seen { header, refusal: of_sheet.unwrap_or(0), slots: case.slots() });
         }
         for (call, answer) in &judged.answers {
             for place in answer.verdicts().into_iter().flat_map(places) {

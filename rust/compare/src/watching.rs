@@ -7,7 +7,7 @@
 //! the witness that the extracting call answers for the two.
 
 use crate::cases::WatchStep;
-use crate::library::{Judgement, Library, Places, Round, Watch, LONGEST_SHEET, MOST_REMEMBERED};
+use crate::library::{Judgement, LONGEST_SHEET, Library, MOST_REMEMBERED, Places, Round, Watch};
 use crate::making::watched_rounds;
 use crate::printing::hex;
 use crate::random::Random;
@@ -85,9 +85,10 @@ impl Run<'_> {
             watch: opened.watch,
             past: Vec::new(),
         };
-        match opened.refusal == 0 && opened.watch == run.expected() {
-            true => Ok(run),
-            false => Err("another watch is opened".to_string()),
+        if opened.refusal == 0 && opened.watch == run.expected() {
+            Ok(run)
+        } else {
+            Err("another watch is opened".to_string())
         }
     }
 
@@ -98,23 +99,16 @@ impl Run<'_> {
         rounds[..count].copy_from_slice(&self.past[..count]);
         let mut sheet = [0; LONGEST_SHEET];
         sheet[..self.sheet.len()].copy_from_slice(self.sheet);
-        Watch {
-            rounds,
-            sheet,
-            length: self.sheet.len() as u32,
-            count: count as u32,
-        }
+        Watch { rounds, sheet, length: self.sheet.len() as u32, count: count as u32 }
     }
 
     /// The verdict that is to be given: the judging call's, and 21 for other bytes.
     fn verdict(&self, WatchStep { sheet, round }: &WatchStep) -> Judgement {
         let judged = self.library.judge(sheet, round);
-        match judged.refusal == 0 && sheet != self.sheet {
-            true => Judgement {
-                refusal: 21,
-                ..Judgement::default()
-            },
-            false => judged,
+        if judged.refusal == 0 && sheet != self.sheet {
+            Judgement { refusal: 21, ..Judgement::default() }
+        } else {
+            judged
         }
     }
 
@@ -167,9 +161,7 @@ impl Run<'_> {
             self.past.insert(0, round);
         }
         met.rounds += 1;
-        let answer = self
-            .library
-            .watch_round(&step.sheet, &self.watch, &step.round);
+        let answer = self.library.watch_round(&step.sheet, &self.watch, &step.round);
         self.watch = answer.watch;
         match () {
             _ if answer.verdict != verdict => Err("another verdict"),
@@ -221,9 +213,7 @@ mod tests {
 
     #[test]
     fn impostors_do_not_meet_card_nine() {
-        let faults = FAULTS
-            .iter()
-            .filter(|planted| planted.name.starts_with("watch-"));
+        let faults = FAULTS.iter().filter(|planted| planted.name.starts_with("watch-"));
         let met: Vec<&str> = faults
             .filter(|planted| tried(Faulty(planted.fault)).is_ok())
             .map(|planted| planted.name)

@@ -11,9 +11,9 @@ use std::cell::Cell;
 
 use crate::arithmetic::multiply;
 use crate::demand_three::sheets::{exponent, root};
-use crate::demand_three::{choices, Small};
+use crate::demand_three::{Small, choices};
 use crate::groups::Group;
-use crate::library::{Computed, Judgement, Library, Parts, Places, Round, PARTS, PLACES};
+use crate::library::{Computed, Judgement, Library, PARTS, PLACES, Parts, Places, Round};
 use crate::printing::hex;
 use crate::sheets::Sheet;
 
@@ -32,9 +32,7 @@ pub fn check(library: Library) -> Result<String, String> {
             calls += team.all_calls();
         }
     }
-    Ok(format!(
-        "card 6 holds for {teams} teams on small sheets over all rounds, {calls} calls"
-    ))
+    Ok(format!("card 6 holds for {teams} teams on small sheets over all rounds, {calls} calls"))
 }
 
 /// How many players teams have, and sheets of either kind, with one witness,
@@ -76,9 +74,7 @@ fn tuples<T: Copy>(lists: &[Vec<T>]) -> Vec<Vec<T>> {
 fn multiplied(lists: &[Places], used: u32, modulus: u32) -> Places {
     let mut product = [0; 8];
     for (place, value) in product.iter_mut().enumerate().take(used as usize) {
-        *value = lists
-            .iter()
-            .fold(1, |product, list| multiply(product, list[place], modulus));
+        *value = lists.iter().fold(1, |product, list| multiply(product, list[place], modulus));
     }
     product
 }
@@ -87,9 +83,7 @@ fn multiplied(lists: &[Places], used: u32, modulus: u32) -> Places {
 pub fn elements(sheet: &Sheet) -> Vec<Places> {
     let header = sheet.header;
     let group = Group::new(header.kind, header.modulus, header.order);
-    let all: Vec<u32> = (1..header.modulus)
-        .filter(|v| group.is_element(*v))
-        .collect();
+    let all: Vec<u32> = (1..header.modulus).filter(|v| group.is_element(*v)).collect();
     choices(&all, header.rows as usize)
 }
 
@@ -145,11 +139,8 @@ impl SmallTeam {
 
     /// The verdict on the whole for all rounds of the players.
     fn check_verdicts(&self, challenge: u32) -> Result<(), String> {
-        let lists: Vec<_> = self
-            .players
-            .iter()
-            .map(|player| self.judged(player, challenge))
-            .collect();
+        let lists: Vec<_> =
+            self.players.iter().map(|player| self.judged(player, challenge)).collect();
         for rounds in tuples(&lists) {
             let parts: Vec<Round> = rounds.iter().map(|(round, _)| *round).collect();
             let rejected: Vec<Judgement> = rounds
@@ -158,16 +149,11 @@ impl SmallTeam {
                 .filter(|verdict| verdict.accepted == 0)
                 .collect();
             let wanted = match rejected[..] {
-                [] => Judgement {
-                    accepted: 1,
-                    ..Judgement::default()
-                },
+                [] => Judgement { accepted: 1, ..Judgement::default() },
                 [verdict] => verdict,
                 _ => continue,
             };
-            let verdict = self
-                .joined(&parts)
-                .map(|whole| self.judge(&self.whole, &whole));
+            let verdict = self.joined(&parts).map(|whole| self.judge(&self.whole, &whole));
             if verdict != Ok(wanted) {
                 return Err(format!("{parts:?}: {verdict:?}, not {wanted:?}"));
             }
@@ -180,11 +166,7 @@ impl SmallTeam {
         let mut judged = Vec::new();
         for commitment in elements(&player.sheet) {
             for response in &player.domain {
-                let round = Round {
-                    commitment,
-                    challenge,
-                    response: *response,
-                };
+                let round = Round { commitment, challenge, response: *response };
                 judged.push((round, self.judge(player, &round)));
             }
         }
@@ -203,17 +185,9 @@ impl SmallTeam {
         let commitments = flat(rounds.iter().map(|round| round.commitment));
         let responses = flat(rounds.iter().map(|round| round.response));
         let (sheet, count) = (&self.whole.bytes, rounds.len() as u32);
-        let t = self
-            .library
-            .team_commitment(sheet, count, &images, &commitments);
-        let r = self
-            .library
-            .team_response(sheet, count, &images, &responses);
-        Ok(Round {
-            commitment: values(t)?,
-            challenge: rounds[0].challenge,
-            response: values(r)?,
-        })
+        let t = self.library.team_commitment(sheet, count, &images, &commitments);
+        let r = self.library.team_response(sheet, count, &images, &responses);
+        Ok(Round { commitment: values(t)?, challenge: rounds[0].challenge, response: values(r)? })
     }
 
     /// The whole of honest rounds, for all parts of the witness and all nonces.

@@ -36,11 +36,7 @@ pub(crate) fn euclid(a: i128, b: i128) -> (i128, i128, i128) {
         (x, next_x) = (next_x, x - times * next_x);
         (y, next_y) = (next_y, y - times * next_y);
     }
-    if g < 0 {
-        (-g, -x, -y)
-    } else {
-        (g, x, y)
-    }
+    if g < 0 { (-g, -x, -y) } else { (g, x, y) }
 }
 
 /// The greatest common divisor of v and m.
@@ -100,10 +96,7 @@ mod tests {
             for b in -30_i128..=30 {
                 let (g, x, y) = euclid(a, b);
                 assert_eq!(a * x + b * y, g);
-                let greatest = (1..=30)
-                    .filter(|d| a % d == 0 && b % d == 0)
-                    .max()
-                    .unwrap_or(0);
+                let greatest = (1..=30).filter(|d| a % d == 0 && b % d == 0).max().unwrap_or(0);
                 let both_zero = a == 0 && b == 0;
                 assert_eq!(g, if both_zero { 0 } else { greatest });
             }
@@ -124,10 +117,7 @@ mod tests {
         }
         let m = u32::MAX;
         let wide = i128::from(u32::MAX);
-        assert_eq!(
-            multiply(signed_power(2, wide, m), signed_power(2, -wide, m), m),
-            1
-        );
+        assert_eq!(multiply(signed_power(2, wide, m), signed_power(2, -wide, m), m), 1);
     }
 
     #[test]

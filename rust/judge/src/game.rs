@@ -3,9 +3,9 @@
 //! "Peggy names t, Vic names c, Peggy answers if she can." On a small sheet
 //! all responses are tried, so no one has to know a witness.
 
-use crate::protocol::{test_commitment, verdict, Verdict};
+use crate::protocol::{Verdict, test_commitment, verdict};
 use crate::round_file::file_round;
-use crate::sheet::{load, Sheet};
+use crate::sheet::{Sheet, load};
 
 /// The highest count of responses of kind 1 and the highest modulus of kind 2.
 const MOST: u32 = 4096;

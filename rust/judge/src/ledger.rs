@@ -12,9 +12,9 @@
 
 use crate::arithmetic::{multiply, power, reduce};
 use crate::pattern::make;
-use crate::protocol::{judge, test_challenge, Round, Verdict};
-use crate::sessions::{commit, respond, Prover};
-use crate::sheet::{load, Sheet};
+use crate::protocol::{Round, Verdict, judge, test_challenge};
+use crate::sessions::{Prover, commit, respond};
+use crate::sheet::{Sheet, load};
 
 /// The room for lines.
 const ROOM: usize = 64;
@@ -111,15 +111,8 @@ pub struct Wishes {
 }
 
 /// The line with zeros everywhere.
-const EMPTY: Line = Line {
-    kind: 0,
-    first: 0,
-    second: 0,
-    commitment: 0,
-    t: [0; 2],
-    challenge: 0,
-    response: [0; 3],
-};
+const EMPTY: Line =
+    Line { kind: 0, first: 0, second: 0, commitment: 0, t: [0; 2], challenge: 0, response: [0; 3] };
 
 /// An opening (v, ρ) of a commitment C(v, ρ).
 #[derive(Clone, Copy)]
@@ -204,11 +197,7 @@ fn test_lines(sheet: &Sheet, lines: &[Line]) -> Result<(), u32> {
         test_challenge(sheet, line.challenge)?;
     }
     for line in lines.iter().filter(|line| line.kind == PRODUCT) {
-        if line
-            .response
-            .iter()
-            .any(|slot| !sheet.is_domain_slot(*slot))
-        {
+        if line.response.iter().any(|slot| !sheet.is_domain_slot(*slot)) {
             return Err(16);
         }
     }
@@ -248,9 +237,7 @@ fn padded(values: &[u32]) -> [u32; 8] {
 /// q or more.
 pub fn check(base: &Base, ledger: &Ledger) -> Result<Checked, u32> {
     let sheet = base.sheet()?;
-    let form = ledger
-        .lines
-        .map(|line| [line.kind, line.first, line.second]);
+    let form = ledger.lines.map(|line| [line.kind, line.first, line.second]);
     test_form(ledger.count, &form)?;
     let lines = &ledger.lines[..ledger.count as usize];
     test_lines(&sheet, lines)?;
@@ -307,17 +294,10 @@ fn product(
     second: Opening,
 ) -> Result<(Opening, Line), u32> {
     let q = base.order;
-    let own = Opening {
-        value: multiply(first.value, second.value, q),
-        blinding: wish.blinding,
-    };
+    let own = Opening { value: multiply(first.value, second.value, q), blinding: wish.blinding };
     let [a, b, e] = [first, second, own].map(|opening| base.commitment(opening));
     let taken = i128::from(multiply(first.value, second.blinding, q));
-    let witness = [
-        first.value,
-        first.blinding,
-        reduce(i128::from(own.blinding) - taken, q),
-    ];
+    let witness = [first.value, first.blinding, reduce(i128::from(own.blinding) - taken, q)];
     // Nothing is refused from here on: the commitments are group elements, and
     // the witness is carried to the statement.
     let sheet = base.statement(a, b, e)?;
@@ -347,23 +327,15 @@ fn product(
 /// more.
 pub fn write(base: &Base, wishes: &Wishes) -> Result<Ledger, u32> {
     let sheet = base.sheet()?;
-    let form = wishes
-        .entries
-        .map(|wish| [wish.kind, wish.first, wish.second]);
+    let form = wishes.entries.map(|wish| [wish.kind, wish.first, wish.second]);
     test_form(wishes.count, &form)?;
     let used = &wishes.entries[..wishes.count as usize];
     test_wishes(&sheet, used)?;
-    let mut ledger = Ledger {
-        lines: [EMPTY; ROOM],
-        count: wishes.count,
-    };
+    let mut ledger = Ledger { lines: [EMPTY; ROOM], count: wishes.count };
     let mut openings: Vec<Opening> = Vec::new();
     for (line, wish) in ledger.lines.iter_mut().zip(used) {
         if wish.kind == COMMITMENT {
-            let own = Opening {
-                value: wish.value,
-                blinding: wish.blinding,
-            };
+            let own = Opening { value: wish.value, blinding: wish.blinding };
             line.kind = COMMITMENT;
             line.commitment = base.commitment(own);
             openings.push(own);

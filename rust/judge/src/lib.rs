@@ -13,7 +13,6 @@
 //! Each sheet is handed in as bytes and is tested on every call.
 
 #![forbid(unsafe_code)]
-#![warn(missing_docs)]
 
 mod arithmetic;
 mod bytes;
@@ -41,12 +40,12 @@ pub use game::game;
 pub use marker::marker;
 pub use pattern::make;
 pub use pattern_file::Written;
-pub use protocol::{extract, judge, simulate, Round, Rows, Verdict};
+pub use protocol::{Round, Rows, Verdict, extract, judge, simulate};
 pub use reason::reason;
 pub use round_file::{append, check, convert, count, empty, part, read, same_commitment};
 pub use sessions::{
-    commit, drop_session, respond, return_to, save, take_challenge, take_commitment, take_response,
-    Prover, ProverPhase, Saved, Verifier, VerifierPhase, MOST_ANSWERED, NAMES,
+    MOST_ANSWERED, NAMES, Prover, ProverPhase, Saved, Verifier, VerifierPhase, commit,
+    drop_session, respond, return_to, save, take_challenge, take_commitment, take_response,
 };
-pub use sheet::{encode, load, Sheet};
+pub use sheet::{Sheet, encode, load};
 pub use team::{join_responses, multiply_commitments};

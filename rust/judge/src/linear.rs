@@ -7,7 +7,7 @@
 
 use crate::arithmetic::{multiply, power};
 use crate::pattern_file::Written;
-use crate::sheet::{encode, Sheet};
+use crate::sheet::{Sheet, encode};
 
 /// Refuses with 29 when the count of generators is outside 1 to 8 or that of
 /// the coefficients or statement values is wrong. Tests 5 to 8 have passed.

@@ -1,6 +1,6 @@
 //! The marker's text.
 
-use crate::protocol::{row_numbers, tested_verdict, Rows, Verdict};
+use crate::protocol::{Rows, Verdict, row_numbers, tested_verdict};
 use crate::round_file::{file_header, file_round};
 use crate::sheet::load;
 

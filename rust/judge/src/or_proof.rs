@@ -8,13 +8,13 @@
 mod rounds;
 mod session;
 
-pub use rounds::{extract, judge, OrRound, OrVerdict, OrWitness};
+pub use rounds::{OrRound, OrVerdict, OrWitness, extract, judge};
 pub use session::{
-    commit, drop_session, respond, OrAnswer, OrProver, ANSWERED, COMMITTED, DROPPED, NEW,
+    ANSWERED, COMMITTED, DROPPED, NEW, OrAnswer, OrProver, commit, drop_session, respond,
 };
 
 use crate::arithmetic::reduce;
-use crate::sheet::{load, Sheet};
+use crate::sheet::{Sheet, load};
 
 /// Both sheets, after the tests 2 to 11 of each and then 26.
 fn load_both(sheets: [&[u8]; 2]) -> Result<[Sheet; 2], u32> {

@@ -1,6 +1,6 @@
 //! The six patterns of the sheet maker.
 
-use crate::sheet::{encode, Sheet};
+use crate::sheet::{Sheet, encode};
 
 /// What a pattern number stands for.
 struct Pattern {
@@ -27,13 +27,7 @@ fn pattern(number: u64) -> Option<Pattern> {
             6 => (2, 0, 1, 1, &[]),
             _ => return None,
         };
-    Some(Pattern {
-        kind,
-        values,
-        rows,
-        columns,
-        digits,
-    })
+    Some(Pattern { kind, values, rows, columns, digits })
 }
 
 /// Makes the sheet of a pattern at the start of the buffer and answers its

@@ -4,7 +4,7 @@
 //! stays beside it, so that the two can be held against each other.
 
 use crate::bytes::{number, put};
-use crate::sheet::{encode, Sheet};
+use crate::sheet::{Sheet, encode};
 
 const MARK: &[u8; 3] = b"PAT";
 /// The bytes before the first pattern.
@@ -36,12 +36,7 @@ struct Pattern<'a> {
 }
 
 /// A root sheet has kind 2, one row and neither public values nor entries.
-const ROOT: Pattern<'static> = Pattern {
-    rows: 1,
-    columns: 1,
-    values: 0,
-    digits: &[],
-};
+const ROOT: Pattern<'static> = Pattern { rows: 1, columns: 1, values: 0, digits: &[] };
 
 impl Pattern<'_> {
     /// Whether every digit names a value or is 0, and every value is named.
@@ -80,12 +75,7 @@ fn split_first(bytes: &[u8]) -> Option<(Pattern<'_>, &[u8])> {
     }
     let cells = usize::from(*rows) * usize::from(*columns);
     let (digits, after) = rest.split_at_checked(cells)?;
-    let pattern = Pattern {
-        rows: *rows,
-        columns: *columns,
-        values: *values,
-        digits,
-    };
+    let pattern = Pattern { rows: *rows, columns: *columns, values: *values, digits };
     Some((pattern, after))
 }
 
@@ -113,11 +103,7 @@ fn patterns(file: &[u8]) -> Result<Vec<Pattern<'_>>, u32> {
     // Decision: 23 and 24 are about the file, so every pattern is tested, not
     // only the one that is asked for. 23 in a later pattern is given before 24
     // in an earlier one.
-    if patterns.iter().all(Pattern::is_named) {
-        Ok(patterns)
-    } else {
-        Err(24)
-    }
+    if patterns.iter().all(Pattern::is_named) { Ok(patterns) } else { Err(24) }
 }
 
 /// Makes the sheet of a pattern of the file at the start of the buffer and

@@ -1,7 +1,7 @@
 //! Rounds: judging, simulating and extracting.
 
 use crate::arithmetic::{euclid, inverse, multiply, power, reduce, signed_power};
-use crate::sheet::{load, Sheet};
+use crate::sheet::{Sheet, load};
 
 /// A round (t, c, r). Places beyond the rows or columns in use are not read.
 #[derive(Clone, Debug, PartialEq, Eq)]
@@ -44,29 +44,17 @@ pub(crate) fn are_slots(sheet: &Sheet, values: &[u32; 8]) -> bool {
 
 /// Refuses with 14 when a commitment value is no group element.
 pub(crate) fn test_commitment(sheet: &Sheet, commitment: &[u32; 8]) -> Result<(), u32> {
-    if are_elements(sheet, commitment) {
-        Ok(())
-    } else {
-        Err(14)
-    }
+    if are_elements(sheet, commitment) { Ok(()) } else { Err(14) }
 }
 
 /// Refuses with 15 when the challenge is K or more.
 pub(crate) fn test_challenge(sheet: &Sheet, challenge: u32) -> Result<(), u32> {
-    if challenge < sheet.challenges {
-        Ok(())
-    } else {
-        Err(15)
-    }
+    if challenge < sheet.challenges { Ok(()) } else { Err(15) }
 }
 
 /// Refuses with 16 when a nonce, witness or response slot is no domain slot.
 pub(crate) fn test_slots(sheet: &Sheet, slots: &[u32; 8]) -> Result<(), u32> {
-    if are_slots(sheet, slots) {
-        Ok(())
-    } else {
-        Err(16)
-    }
+    if are_slots(sheet, slots) { Ok(()) } else { Err(16) }
 }
 
 /// The two sides of every row in use, `[r]` first and then t · z^c mod m.
@@ -118,11 +106,7 @@ pub(crate) fn verdict(
     response: &[u32; 8],
 ) -> Verdict {
     let rows = differing(sheet, commitment, challenge, response);
-    if rows.contains(&true) {
-        Verdict::Rejected(rows)
-    } else {
-        Verdict::Accepted
-    }
+    if rows.contains(&true) { Verdict::Rejected(rows) } else { Verdict::Accepted }
 }
 
 /// The verdict on a round, after the tests 14 to 16.
@@ -130,12 +114,7 @@ pub(crate) fn tested_verdict(sheet: &Sheet, round: &Round) -> Result<Verdict, u3
     test_commitment(sheet, &round.commitment)?;
     test_challenge(sheet, round.challenge)?;
     test_slots(sheet, &round.response)?;
-    Ok(verdict(
-        sheet,
-        &round.commitment,
-        round.challenge,
-        &round.response,
-    ))
+    Ok(verdict(sheet, &round.commitment, round.challenge, &round.response))
 }
 
 /// Judges a round: accepted when `[r]` = t · z^c in every row, otherwise

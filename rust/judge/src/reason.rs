@@ -1,9 +1,9 @@
 //! The reason: one line for a student who was turned down.
 
 use crate::bytes::number;
-use crate::protocol::{row_numbers, sides, tested_verdict, Round, Rows, Verdict};
-use crate::round_file::{self, file_header, file_round, named_version, Version};
-use crate::sheet::{self, header, load, Sheet};
+use crate::protocol::{Round, Rows, Verdict, row_numbers, sides, tested_verdict};
+use crate::round_file::{self, Version, file_header, file_round, named_version};
+use crate::sheet::{self, Sheet, header, load};
 
 /// The place of the first value that breaks a rule.
 enum Place {
@@ -118,10 +118,8 @@ fn file_place(file: &[u8]) -> Place {
 /// The offset in a file of this version of the first value of round 0 that
 /// breaks the rule with this number, 14 to 16.
 fn round_offset(number: u32, sheet: &Sheet, version: Version, round: &Round) -> usize {
-    let (element, slot) = (
-        |v: &&u32| sheet.is_group_element(**v),
-        |v: &&u32| sheet.is_domain_slot(**v),
-    );
+    let (element, slot) =
+        (|v: &&u32| sheet.is_group_element(**v), |v: &&u32| sheet.is_domain_slot(**v));
     // The values of a record are t, c and r. Those of t and r have 4 bytes
     // each, and the version says how many c has.
     let challenge = round_file::HEADER + 4 * sheet.s();

@@ -9,7 +9,7 @@ use std::ops::Range;
 use crate::bytes::{number, put};
 use crate::pattern_file::Written;
 use crate::protocol::Round;
-use crate::sheet::{load, Sheet};
+use crate::sheet::{Sheet, load};
 
 pub(crate) const MARK: &[u8; 3] = b"RND";
 /// The bytes before the first record.
@@ -79,11 +79,7 @@ fn place(sheet: &Sheet, file: &[u8], number: u64) -> Result<(Version, Range<usiz
 pub(crate) fn file_round(sheet: &Sheet, file: &[u8], which: u64) -> Result<Round, u32> {
     let (version, range) = place(sheet, file, which)?;
     let mut at = range.start;
-    let mut round = Round {
-        commitment: [0; 8],
-        challenge: 0,
-        response: [0; 8],
-    };
+    let mut round = Round { commitment: [0; 8], challenge: 0, response: [0; 8] };
     for value in round.commitment.iter_mut().take(sheet.s()) {
         *value = number(file, at, 4);
         at += 4;

@@ -8,6 +8,6 @@ mod states;
 mod verifier;
 
 pub(crate) use prover::answers;
-pub use prover::{commit, drop_session, respond, Prover, ProverPhase, MOST_ANSWERED};
-pub use states::{return_to, save, Saved, NAMES};
-pub use verifier::{take_challenge, take_commitment, take_response, Verifier, VerifierPhase};
+pub use prover::{MOST_ANSWERED, Prover, ProverPhase, commit, drop_session, respond};
+pub use states::{NAMES, Saved, return_to, save};
+pub use verifier::{Verifier, VerifierPhase, take_challenge, take_commitment, take_response};

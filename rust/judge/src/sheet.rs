@@ -103,7 +103,7 @@ impl Sheet {
         if self.challenges < 2 || self.challenges > 65_536 {
             return Err(8);
         }
-        if (2..self.challenges).any(|d| self.order.is_multiple_of(d)) {
+        if (2..self.challenges).any(|d| self.order % d == 0) {
             return Err(8);
         }
         Ok(())
@@ -137,11 +137,7 @@ impl Sheet {
 
     /// The length in bytes that the header gives.
     fn length(&self) -> usize {
-        let entries = if self.kind == 1 {
-            self.s() * self.n()
-        } else {
-            0
-        };
+        let entries = if self.kind == 1 { self.s() * self.n() } else { 0 };
         HEADER + 4 * (entries + self.s())
     }
 }

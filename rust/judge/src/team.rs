@@ -7,7 +7,7 @@
 use crate::arithmetic::{multiply, reduce};
 use crate::bytes::first;
 use crate::protocol::{are_elements, test_commitment, test_slots};
-use crate::sheet::{unpack, Sheet};
+use crate::sheet::{Sheet, unpack};
 
 /// The sheet and the count of players, after the tests 2 to 9, 27, 10 and 11.
 ///
@@ -28,11 +28,7 @@ fn team(sheet: &[u8], count: u64, images: &[[u32; 8]; 8]) -> Result<(Sheet, usiz
 
 /// Refuses with 28 when the images do not multiply to the statement.
 fn test_images(sheet: &Sheet, images: &[[u32; 8]]) -> Result<(), u32> {
-    if multiplied(sheet, images) == sheet.statement {
-        Ok(())
-    } else {
-        Err(28)
-    }
+    if multiplied(sheet, images) == sheet.statement { Ok(()) } else { Err(28) }
 }
 
 /// The product of the parts mod m, row by row, with 0 beyond the rows in use.

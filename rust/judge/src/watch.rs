@@ -8,8 +8,8 @@
 //! call hands it back unchanged.
 
 use crate::bytes::first;
-use crate::protocol::{combine, differ, tested_verdict, Round, Verdict};
-use crate::sheet::{load, Sheet};
+use crate::protocol::{Round, Verdict, combine, differ, tested_verdict};
+use crate::sheet::{Sheet, load};
 
 /// The bytes of the longest sheet: 20, 8 × 8 entries and 8 statement values.
 pub const MOST_BYTES: usize = 308;
@@ -48,11 +48,7 @@ pub struct Watched {
 impl Watched {
     /// The answer that names no round.
     fn none(verdict: Verdict) -> Watched {
-        Watched {
-            verdict,
-            back: 0,
-            witness: [0; 8],
-        }
+        Watched { verdict, back: 0, witness: [0; 8] }
     }
 }
 

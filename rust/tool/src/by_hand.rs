@@ -119,9 +119,10 @@ pub fn steps(sheet: &Instance, first: &Round, second: &Round) -> Option<Steps> {
     let euclid = euclid(sheet.values().header.order, difference)?;
     let step = |column: usize| {
         let responses = [first.response[column], second.response[column]];
-        match sheet.values().header.kind == EXPONENT {
-            true => Some(exponent_column(responses, &euclid)),
-            false => root_column(sheet, sheet.values().statement[column], responses, &euclid),
+        if sheet.values().header.kind == EXPONENT {
+            Some(exponent_column(responses, &euclid))
+        } else {
+            root_column(sheet, sheet.values().statement[column], responses, &euclid)
         }
     };
     let columns = (0..column_count(sheet)).map(step).collect::<Option<Vec<Column>>>()?;
@@ -149,10 +150,7 @@ fn root_column(
     let modulus = sheet.values().header.modulus;
     let inverse_of_second = inverse(responses[1], modulus)?;
     let quotient = product(responses[0], inverse_of_second, modulus);
-    let statement_inverse = match euclid.a < 0 {
-        true => Some(inverse(statement, modulus)?),
-        false => None,
-    };
+    let statement_inverse = if euclid.a < 0 { Some(inverse(statement, modulus)?) } else { None };
     let a = u32::try_from(euclid.a.unsigned_abs()).ok()?;
     let first = power(statement_inverse.unwrap_or(statement), a, modulus);
     let second = power(quotient, u32::try_from(euclid.b).ok()?, modulus);

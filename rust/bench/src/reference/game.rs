@@ -1,10 +1,10 @@
 //! The game's text by a plain search, on sheets of one row and one column.
 
-use dimkhoros_sys::{Places, LONGEST_GAME};
+use dimkhoros_sys::{LONGEST_GAME, Places};
 
-use super::arithmetic::{places, Arithmetic};
+use super::arithmetic::{Arithmetic, places};
 use super::marker::{record_length, records, round};
-use super::sheet::{load, Kind, Sheet};
+use super::sheet::{Kind, Sheet, load};
 
 /// The most responses that are tried.
 const MOST: usize = 4096;
@@ -30,10 +30,7 @@ fn prepared<A: Arithmetic>(sheet: &[u8], file: &[u8]) -> Result<(Sheet<A>, Place
     if !sheet.is_commitment(&commitment) {
         return Err(14);
     }
-    match responses(&sheet) <= MOST {
-        true => Ok((sheet, commitment)),
-        false => Err(31),
-    }
+    if responses(&sheet) <= MOST { Ok((sheet, commitment)) } else { Err(31) }
 }
 
 /// How many numbers a response is searched among.

@@ -1,10 +1,10 @@
 //! The marker's text on a sheet, a round file and a level.
 
-use dimkhoros_sys::{Round, LONGEST_TEXT};
+use dimkhoros_sys::{LONGEST_TEXT, Round};
 
 use super::arithmetic::Arithmetic;
 use super::rounds::Verdict;
-use super::sheet::{load, word, words, Sheet};
+use super::sheet::{Sheet, load, word, words};
 
 /// Puts the marker's text at the start of text and answers its length.
 #[inline(never)]
@@ -60,11 +60,7 @@ pub fn record_length<A>(sheet: &Sheet<A>) -> usize {
 /// The round of a record.
 pub fn round<A>(sheet: &Sheet<A>, record: &[u8]) -> Round {
     let (commitment, rest) = record.split_at(4 * sheet.rows);
-    Round {
-        commitment: words(commitment),
-        challenge: word(rest, 0),
-        response: words(&rest[4..]),
-    }
+    Round { commitment: words(commitment), challenge: word(rest, 0), response: words(&rest[4..]) }
 }
 
 /// The lines that are written so far.

@@ -2,8 +2,8 @@
 
 use dimkhoros_sys::{Places, Round};
 
-use super::arithmetic::{inverse, mul_mod, places, Arithmetic};
-use super::sheet::{load, Kind, Sheet};
+use super::arithmetic::{Arithmetic, inverse, mul_mod, places};
+use super::sheet::{Kind, Sheet, load};
 
 /// What judging a round that is not refused answers.
 #[derive(PartialEq, Eq)]
@@ -64,12 +64,7 @@ impl<A: Arithmetic> Sheet<A> {
     /// What the image of the response has to be.
     pub fn expected_image(&self, commitment: &Places, challenge: u32) -> Places {
         let rows = self.rows;
-        A::products(
-            &commitment[..rows],
-            &self.statement[..rows],
-            challenge,
-            self.modulus,
-        )
+        A::products(&commitment[..rows], &self.statement[..rows], challenge, self.modulus)
     }
 
     /// The inverse of each value of the statement modulo m.
@@ -91,12 +86,7 @@ impl<A: Arithmetic> Sheet<A> {
             Kind::Root => (self.inverses(), challenge),
         };
         let (image, rows) = (self.image(response), self.rows);
-        Ok(A::products(
-            &image[..rows],
-            &bases[..rows],
-            exponent,
-            self.modulus,
-        ))
+        Ok(A::products(&image[..rows], &bases[..rows], exponent, self.modulus))
     }
 
     /// The number of 14 to 16, 18 and 19 that two rounds are refused with.

@@ -1,9 +1,9 @@
 //! Peggy's session: new, commit, respond.
 
-use dimkhoros_sys::{Memory, Places, MOST_ANSWERED};
+use dimkhoros_sys::{MOST_ANSWERED, Memory, Places};
 
-use super::arithmetic::{places, Arithmetic};
-use super::sheet::{load, Kind, Sheet};
+use super::arithmetic::{Arithmetic, places};
+use super::sheet::{Kind, Sheet, load};
 
 /// The states that these calls lead to.
 #[derive(Clone, Copy, PartialEq, Eq)]
@@ -26,12 +26,7 @@ impl Prover {
     /// A new session: New, with zeros, and with nothing saved or listed.
     #[inline(never)]
     pub fn new() -> Prover {
-        Prover {
-            phase: Phase::New,
-            nonce: [0; 8],
-            commitment: [0; 8],
-            memory: Memory::default(),
-        }
+        Prover { phase: Phase::New, nonce: [0; 8], commitment: [0; 8], memory: Memory::default() }
     }
 
     /// Commits to a nonce and answers the commitment.

@@ -46,9 +46,7 @@ pub fn load<A: Arithmetic>(bytes: &[u8]) -> Result<Sheet<A>, u32> {
     let sheet: Sheet<A> = shape(bytes)?;
     let entries = &sheet.entries[..sheet.rows];
     if sheet.kind == Kind::Exponent
-        && !entries
-            .iter()
-            .all(|row| sheet.all_elements(&row[..sheet.columns]))
+        && !entries.iter().all(|row| sheet.all_elements(&row[..sheet.columns]))
     {
         return Err(10);
     }
@@ -99,32 +97,14 @@ fn header<A: Arithmetic>(head: &[u8; 20]) -> Result<Header, u32> {
     if !(2..=65_536).contains(&challenges) || A::has_divisor(order, challenges) {
         return Err(8);
     }
-    Ok(Header {
-        kind,
-        modulus,
-        order,
-        challenges,
-        rows,
-        columns,
-    })
+    Ok(Header { kind, modulus, order, challenges, rows, columns })
 }
 
 /// The values of a sheet of the right shape: refusals 2 to 9.
 fn shape<A: Arithmetic>(bytes: &[u8]) -> Result<Sheet<A>, u32> {
     let (head, body) = bytes.split_first_chunk::<20>().ok_or(2u32)?;
-    let Header {
-        kind,
-        modulus,
-        order,
-        challenges,
-        rows,
-        columns,
-    } = header::<A>(head)?;
-    let count = if kind == Kind::Exponent {
-        rows * columns
-    } else {
-        0
-    };
+    let Header { kind, modulus, order, challenges, rows, columns } = header::<A>(head)?;
+    let count = if kind == Kind::Exponent { rows * columns } else { 0 };
     if body.len() != 4 * (count + rows) {
         return Err(9);
     }

@@ -22,10 +22,7 @@ impl Case for GameCase {
         let (length, memory) = lent::for_game(|text| library.game(&self.sheet, &self.file, text));
         let text = &memory[AROUND..];
         let shown = String::from_utf8_lossy(&text[..length.min(text.len())]).into_owned();
-        let answer = Answer::Told {
-            length,
-            text: shown,
-        };
+        let answer = Answer::Told { length, text: shown };
         Outcome::with_memory(Call::Game, answer, memory)
     }
 

@@ -12,16 +12,8 @@ use crate::sheets;
 /// A call with what it brings.
 #[derive(Clone, Copy, Debug, PartialEq, Eq)]
 pub enum OrStep {
-    Commit {
-        side: u32,
-        nonce: Places,
-        challenge: u32,
-        response: Places,
-    },
-    Respond {
-        challenge: u32,
-        witness: Places,
-    },
+    Commit { side: u32, nonce: Places, challenge: u32, response: Places },
+    Respond { challenge: u32, witness: Places },
     Drop,
 }
 
@@ -37,11 +29,7 @@ pub struct OrSessionCase {
 impl OrSessionCase {
     /// A case of one call on a session that is made by hand.
     pub fn one(sheets: [Vec<u8>; 2], made: OrSession, step: OrStep) -> OrSessionCase {
-        OrSessionCase {
-            sheets,
-            made: Some(made),
-            steps: vec![step],
-        }
+        OrSessionCase { sheets, made: Some(made), steps: vec![step] }
     }
 }
 
@@ -58,12 +46,7 @@ impl OrStep {
     fn take(&self, library: Library, sheets: &[Vec<u8>; 2], session: OrSession) -> OrAnswer {
         let [first, second] = sheets;
         match self {
-            OrStep::Commit {
-                side,
-                nonce,
-                challenge,
-                response,
-            } => {
+            OrStep::Commit { side, nonce, challenge, response } => {
                 library.or_prover_commit(first, second, session, *side, nonce, *challenge, response)
             }
             OrStep::Respond { challenge, witness } => {
@@ -87,10 +70,7 @@ impl Case for OrSessionCase {
             session = answer.session;
             answers.push((step.call(), Answer::OrProver(answer)));
         }
-        Outcome {
-            answers,
-            memory: Vec::new(),
-        }
+        Outcome { answers, memory: Vec::new() }
     }
 
     fn header(&self) -> Option<Header> {

@@ -39,10 +39,9 @@ impl Case for RoundCase {
         let sheet = &self.sheet;
         let answer = match &self.call {
             RoundCall::Judge(round) => Answer::Judged(library.judge(sheet, round)),
-            RoundCall::Simulate {
-                challenge,
-                response,
-            } => Answer::Computed(library.simulate(sheet, *challenge, response)),
+            RoundCall::Simulate { challenge, response } => {
+                Answer::Computed(library.simulate(sheet, *challenge, response))
+            }
             RoundCall::Extract { first, second } => {
                 Answer::Computed(library.extract(sheet, first, second))
             }
@@ -69,10 +68,7 @@ impl fmt::Display for RoundCase {
         writeln!(out, "    sheet {}", hex(&self.sheet))?;
         match &self.call {
             RoundCall::Judge(round) => write!(out, "    {round:x?}"),
-            RoundCall::Simulate {
-                challenge,
-                response,
-            } => {
+            RoundCall::Simulate { challenge, response } => {
                 writeln!(out, "    challenge {challenge:x}")?;
                 write!(out, "    response {}", numbers(response))
             }

@@ -18,19 +18,13 @@ pub struct Sessions {
 
 impl From<ProverSession> for Sessions {
     fn from(prover: ProverSession) -> Sessions {
-        Sessions {
-            prover,
-            ..Sessions::default()
-        }
+        Sessions { prover, ..Sessions::default() }
     }
 }
 
 impl From<VerifierSession> for Sessions {
     fn from(verifier: VerifierSession) -> Sessions {
-        Sessions {
-            verifier,
-            ..Sessions::default()
-        }
+        Sessions { verifier, ..Sessions::default() }
     }
 }
 
@@ -59,11 +53,7 @@ pub struct SessionCase {
 impl SessionCase {
     /// A case of one call on a session that is made by hand.
     pub fn one(sheet: Vec<u8>, made: impl Into<Sessions>, step: Step) -> Box<dyn Case> {
-        Box::new(SessionCase {
-            sheet,
-            made: Some(made.into()),
-            steps: vec![step],
-        })
+        Box::new(SessionCase { sheet, made: Some(made.into()), steps: vec![step] })
     }
 }
 
@@ -138,10 +128,7 @@ impl Case for SessionCase {
             let answer = step.take(library, &self.sheet, &mut sessions);
             answers.push((step.call(), answer));
         }
-        Outcome {
-            answers,
-            memory: Vec::new(),
-        }
+        Outcome { answers, memory: Vec::new() }
     }
 
     fn header(&self) -> Option<Header> {
@@ -161,12 +148,7 @@ impl fmt::Display for SessionCase {
         write!(out, "    sheet {}", hex(&self.sheet))?;
         match &self.made {
             Some(made) => {
-                write!(
-                    out,
-                    "\n    {}\n    {:x?}",
-                    prover(&made.prover),
-                    made.verifier
-                )?;
+                write!(out, "\n    {}\n    {:x?}", prover(&made.prover), made.verifier)?;
             }
             None => write!(out, "\n    new sessions")?,
         }

@@ -33,10 +33,7 @@ impl Case for StateCase {
             let answer = step.take(library, &self.sheets[*side], &mut sessions);
             answers.push((step.call(), answer));
         }
-        Outcome {
-            answers,
-            memory: Vec::new(),
-        }
+        Outcome { answers, memory: Vec::new() }
     }
 
     fn header(&self) -> Option<Header> {

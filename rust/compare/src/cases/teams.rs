@@ -4,7 +4,7 @@ use std::fmt;
 
 use crate::calls::Call;
 use crate::cases::Case;
-use crate::library::{Header, Library, Parts, Places, MOST_PLAYERS, PLACES};
+use crate::library::{Header, Library, MOST_PLAYERS, PLACES, Parts, Places};
 use crate::outcome::{Answer, Outcome};
 use crate::printing::{hex, numbers};
 use crate::sheets;
@@ -43,8 +43,7 @@ impl Case for TeamCase {
         }
         let players = MOST_PLAYERS.min(self.count as usize);
         let rows = self.parts.chunks_exact(PLACES).take(players);
-        rows.map(|row| std::array::from_fn(|column| row[column]))
-            .collect()
+        rows.map(|row| std::array::from_fn(|column| row[column])).collect()
     }
 }
 

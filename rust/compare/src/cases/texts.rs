@@ -55,10 +55,7 @@ impl Case for TextCase {
         };
         let text = lent.buffer();
         let shown = String::from_utf8_lossy(&text[..length.min(text.len())]).into_owned();
-        let answer = Answer::Told {
-            length,
-            text: shown,
-        };
+        let answer = Answer::Told { length, text: shown };
         Outcome::with_memory(self.call(), answer, lent.memory)
     }
 

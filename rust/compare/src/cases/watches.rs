@@ -60,20 +60,14 @@ impl Case for WatchCase {
             held = answer.watch;
             answers.push((Call::WatchRound, Answer::Watched(answer)));
         }
-        Outcome {
-            answers,
-            memory: Vec::new(),
-        }
+        Outcome { answers, memory: Vec::new() }
     }
 
     /// Calls that are handed different sheets have no fixed fields together.
     fn header(&self) -> Option<Header> {
         let mut sheets = self.sheets();
         let first = sheets.next()?;
-        match sheets.all(|other| other == first) {
-            true => sheets::header(first),
-            false => None,
-        }
+        if sheets.all(|other| other == first) { sheets::header(first) } else { None }
     }
 
     fn slots(&self) -> Vec<Places> {

@@ -13,31 +13,13 @@ use crate::sheets::{self, Sheet};
 /// What is written.
 #[derive(Debug)]
 pub enum Writing {
-    Encode {
-        sheet: Box<Sheet>,
-    },
+    Encode { sheet: Box<Sheet> },
     Patterns,
-    FromPattern {
-        patterns: Vec<u8>,
-        plan: Plan,
-        values: Vec<u32>,
-        statement: Vec<u32>,
-    },
-    Linear {
-        forms: Forms,
-    },
-    Empty {
-        version: u32,
-    },
-    Append {
-        sheet: Vec<u8>,
-        used: usize,
-        round: Round,
-    },
-    Convert {
-        sheet: Vec<u8>,
-        file: Vec<u8>,
-    },
+    FromPattern { patterns: Vec<u8>, plan: Plan, values: Vec<u32>, statement: Vec<u32> },
+    Linear { forms: Forms },
+    Empty { version: u32 },
+    Append { sheet: Vec<u8>, used: usize, round: Round },
+    Convert { sheet: Vec<u8>, file: Vec<u8> },
 }
 
 /// A call that writes into a lent buffer.
@@ -66,12 +48,9 @@ impl Writing {
                 library.encode(sheet.header, &sheet.entries, &sheet.statement, buffer)
             }
             Writing::Patterns => library.patterns(buffer),
-            Writing::FromPattern {
-                patterns,
-                plan,
-                values,
-                statement,
-            } => library.from_pattern(patterns, *plan, values, statement, buffer),
+            Writing::FromPattern { patterns, plan, values, statement } => {
+                library.from_pattern(patterns, *plan, values, statement, buffer)
+            }
             Writing::Linear { forms } => library.linear(forms, buffer),
             Writing::Empty { version } => library.empty(*version, buffer),
             Writing::Append { sheet, used, round } => library.append(sheet, buffer, *used, round),
@@ -115,12 +94,7 @@ impl fmt::Display for WriterCase {
                 writeln!(out, "    entries {}", numbers(&sheet.entries))?;
                 writeln!(out, "    statement {}", numbers(&sheet.statement))?;
             }
-            Writing::FromPattern {
-                patterns,
-                plan,
-                values,
-                statement,
-            } => {
+            Writing::FromPattern { patterns, plan, values, statement } => {
                 writeln!(out, "    patterns {}", hex(patterns))?;
                 writeln!(out, "    {plan:x?}")?;
                 writeln!(out, "    values {}", numbers(values))?;

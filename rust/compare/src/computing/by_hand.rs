@@ -1,7 +1,7 @@
 //! Ledgers made by hand: worked pages, counts, kinds, the names of lines, and each refusal
 //! beside each other one.
 
-use super::{refused, rejected, Both, ACCEPTED};
+use super::{ACCEPTED, Both, refused, rejected};
 use crate::ledgers::{
     commitment, entries_of, ledger_of, line_of, places, product, round, sheet, sum,
 };
@@ -9,13 +9,7 @@ use crate::library::lines::{COMMITMENT, PRODUCT, SUM};
 use crate::library::{Base, Checked, Entries, Entry, Ledger, Library, Line, MOST_LINES};
 
 /// g 2, h 3, m 23, q 11, K 11.
-const BASE: Base = Base {
-    g: 2,
-    h: 3,
-    modulus: 23,
-    order: 11,
-    challenges: 11,
-};
+const BASE: Base = Base { g: 2, h: 3, modulus: 23, order: 11, challenges: 11 };
 
 /// Counts of lines: those that there is room for, and more.
 const COUNTS: [u32; 11] = [0, 1, 2, 63, 64, 65, 66, 0x100, 0x101, 0x1_0040, u32::MAX];
@@ -45,12 +39,7 @@ pub fn check(both: &mut Both) -> Result<(), String> {
 
 /// 2 with 1, 3 with 0, their sum, and their product with 4.
 fn page(challenge: u32) -> Vec<Entry> {
-    vec![
-        commitment(2, 1),
-        commitment(3, 0),
-        sum(0, 1),
-        product([0, 1], 4, [1, 2, 3], challenge),
-    ]
+    vec![commitment(2, 1), commitment(3, 0), sum(0, 1), product([0, 1], 4, [1, 2, 3], challenge)]
 }
 
 /// The lines of that page.
@@ -265,9 +254,7 @@ fn first_of(faults: [(u32, usize); 2]) -> Checked {
 
 /// Each two of these numbers, the first of them at one line and the second at another.
 fn pairs(numbers: &[u32]) -> Vec<[(u32, usize); 2]> {
-    let both = numbers
-        .iter()
-        .flat_map(|one| numbers.iter().map(move |other| (*one, *other)));
+    let both = numbers.iter().flat_map(|one| numbers.iter().map(move |other| (*one, *other)));
     let placed = both.flat_map(|(one, other)| {
         [[3, 4], [4, 3], [3, 3], [4, 4]].map(|[a, b]| [(one, a), (other, b)])
     });
@@ -340,13 +327,7 @@ const BASES: [([u32; 5], u32); 18] = [
 fn bases(both: &mut Both) -> Result<(), String> {
     let square = [commitment(1, 0), product([0, 0], 1, [1, 0, 1], 1)];
     for ([g, h, modulus, order, challenges], number) in BASES {
-        let base = Base {
-            g,
-            h,
-            modulus,
-            order,
-            challenges,
-        };
+        let base = Base { g, h, modulus, order, challenges };
         let found = match number {
             0 => ACCEPTED,
             _ => refused(number),

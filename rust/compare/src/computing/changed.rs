@@ -1,11 +1,11 @@
 //! Made ledgers of which each number of each line is changed, and what they are made of with
 //! each number changed.
 
-use super::{of_entries, of_ledger, Both, ACCEPTED};
+use super::{ACCEPTED, Both, of_entries, of_ledger};
 use crate::groups::Group;
 use crate::ledgers::{
-    commitment, entries_of, entry_numbers, entry_of, entry_uses, judged, line_numbers, line_of,
-    line_uses, product, sum, OF_ENTRY, OF_LINE,
+    OF_ENTRY, OF_LINE, commitment, entries_of, entry_numbers, entry_of, entry_uses, judged,
+    line_numbers, line_of, line_uses, product, sum,
 };
 use crate::library::{Base, Entries, Ledger};
 use crate::random::Random;
@@ -46,13 +46,7 @@ pub fn check(both: &mut Both) -> Result<String, String> {
             entries(both, base, &of, change, &mut met)?;
         }
     }
-    let Met {
-        changes,
-        unused,
-        accepted,
-        rejected,
-        refused,
-    } = met;
+    let Met { changes, unused, accepted, rejected, refused } = met;
     Ok(format!(
         "{changes} times: {unused} change nothing, {accepted} are accepted, {rejected} rejected and {refused} refused"
     ))
@@ -72,13 +66,8 @@ fn changes(base: &Base, numbers: impl Iterator<Item = u32>) -> Vec<(usize, u32)>
 /// in a product, the value q − 1 and the blinding number 0.
 fn made_of(random: &mut Random, [modulus, order, challenges]: [u32; 3]) -> (Base, Entries) {
     let group = Group::new(1, modulus, order);
-    let base = Base {
-        g: group.element(random),
-        h: group.element(random),
-        modulus,
-        order,
-        challenges,
-    };
+    let base =
+        Base { g: group.element(random), h: group.element(random), modulus, order, challenges };
     let mut nonce = || [0; 3].map(|_| random.between(0, order - 1));
     let last = challenges - 1;
     let (first, second) = (nonce(), nonce());
@@ -97,12 +86,7 @@ fn made_of(random: &mut Random, [modulus, order, challenges]: [u32; 3]) -> (Base
 /// Numbers to put in the place of one: its neighbours, the bounds, and one that is the same if
 /// it is reduced.
 fn values(base: &Base, number: u32) -> Vec<u32> {
-    let Base {
-        modulus,
-        order,
-        challenges,
-        ..
-    } = *base;
+    let Base { modulus, order, challenges, .. } = *base;
     let mut values = vec![
         0,
         1,
@@ -148,13 +132,10 @@ fn lines(
     let first = judged.iter().find(|(_, rows)| *rows != 0);
     met.rejected += u64::from(found.accepted == 0);
     met.accepted += u64::from(found.accepted);
-    match first.map_or((1, 0), |(line, _)| (0, *line)) == (found.accepted, found.line) {
-        true => Ok(()),
-        false => Err(of_ledger(
-            "the judging call rejects another line",
-            base,
-            &changed,
-        )),
+    if first.map_or((1, 0), |(line, _)| (0, *line)) == (found.accepted, found.line) {
+        Ok(())
+    } else {
+        Err(of_ledger("the judging call rejects another line", base, &changed))
     }
 }
 
@@ -180,12 +161,9 @@ fn entries(
     let unused = !entry_uses(at.kind)[place % OF_ENTRY];
     met.unused += u64::from(unused);
     met.accepted += u64::from(!unused);
-    match unused && !same {
-        true => Err(of_entries(
-            "a number that is not used counts",
-            base,
-            &changed,
-        )),
-        false => both.expect(base, &made.ledger, ACCEPTED),
+    if unused && !same {
+        Err(of_entries("a number that is not used counts", base, &changed))
+    } else {
+        both.expect(base, &made.ledger, ACCEPTED)
     }
 }

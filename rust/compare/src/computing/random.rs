@@ -2,12 +2,12 @@
 //! Peggy's session give, two challenges give the openings away, and a changed ledger is
 //! rejected where the judging call rejects.
 
-use super::{of_entries, of_ledger, Both, ACCEPTED};
+use super::{ACCEPTED, Both, of_entries, of_ledger};
 use crate::arithmetic::{multiply, power};
 use crate::groups::Group;
 use crate::ledgers::{commitments, judged, line_numbers, line_uses, places, round, sheet};
 use crate::library::lines::{COMMITMENT, PRODUCT, SUM};
-use crate::library::{Base, Entries, Entry, Ledger, Library, Line, Places, MOST_LINES};
+use crate::library::{Base, Entries, Entry, Ledger, Library, Line, MOST_LINES, Places};
 use crate::making::{ledger_base, ledger_entries, reject_line};
 use crate::random::Random;
 
@@ -27,13 +27,7 @@ pub struct Met {
 
 /// Tries all and answers what was met.
 pub fn check(both: &mut Both) -> Result<String, String> {
-    let Met {
-        ledgers,
-        products,
-        extracted,
-        rejected,
-        later,
-    } = tried(both)?;
+    let Met { ledgers, products, extracted, rejected, later } = tried(both)?;
     Ok(format!(
         "{ledgers} random ones of 0 to 64 lines: {products} products are as Peggy makes them, {extracted} extract, \
          and {rejected} changed ledgers are rejected, {later} of them in several lines"
@@ -49,13 +43,7 @@ pub fn tried(both: &mut Both) -> Result<Met, String> {
         base.challenges = base.challenges.min(100);
         let of = ledger_entries(random, &group, &base, seed as usize % (MOST_LINES + 1));
         let held = both.expect_made(base, &of, 0)?;
-        let made = Made {
-            library: both.library,
-            base,
-            of,
-            held,
-            openings: openings(&base, &of),
-        };
+        let made = Made { library: both.library, base, of, held, openings: openings(&base, &of) };
         made.is_right(&mut met)?;
         made.extracts(both, random, &mut met)?;
         made.is_rejected(both, random, &group, &mut met)?;
@@ -241,9 +229,10 @@ impl Made {
         let found = both.checked(base, &held)?;
         met.rejected += 1;
         met.later += u64::from(wrong.next().is_some());
-        match (found.refusal, found.accepted, found.line) == (0, 0, *first) {
-            true => Ok(()),
-            false => Err(of_ledger("another line is rejected", base, &held)),
+        if (found.refusal, found.accepted, found.line) == (0, 0, *first) {
+            Ok(())
+        } else {
+            Err(of_ledger("another line is rejected", base, &held))
         }
     }
 }

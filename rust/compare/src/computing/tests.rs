@@ -5,11 +5,7 @@ use crate::library::Library::Faulty;
 #[test]
 fn the_judge_meets_the_card_and_all_is_met() {
     assert!(check(Judge).is_ok());
-    let met = random::tried(&mut Both {
-        library: Judge,
-        calls: 0,
-    })
-    .unwrap();
+    let met = random::tried(&mut Both { library: Judge, calls: 0 }).unwrap();
     let counts = [met.products, met.extracted, met.rejected, met.later];
     assert!(counts.iter().all(|times| *times > 50), "{met:?}");
 }

@@ -7,10 +7,7 @@ use crate::library::{Computed, Header, Places, Round};
 
 /// A refusal with this number.
 fn refused(refusal: u32) -> Computed {
-    Computed {
-        refusal,
-        values: [0; 8],
-    }
+    Computed { refusal, values: [0; 8] }
 }
 
 pub fn extract(fault: Fault, sheet: &[u8], first: &Round, second: &Round) -> Computed {
@@ -84,10 +81,7 @@ fn combine_exponents(
     }
     let factor = i128::from(inverse(inverted, inverted_mod));
     Some(std::array::from_fn(|j| {
-        let (r, other) = (
-            i128::from(first.response[j]),
-            i128::from(second.response[j]),
-        );
+        let (r, other) = (i128::from(first.response[j]), i128::from(second.response[j]));
         (factor * (r - other)).rem_euclid(i128::from(reduced_mod)) as u32
     }))
 }
@@ -100,11 +94,7 @@ fn combine_roots(fault: Fault, header: &Header, first: &Round, second: &Round) -
     }
     let b = inverse(difference(first.challenge, second.challenge, order), order);
     Some(std::array::from_fn(|j| {
-        let quotient = multiply(
-            first.response[j],
-            inverse(second.response[j], modulus),
-            modulus,
-        );
+        let quotient = multiply(first.response[j], inverse(second.response[j], modulus), modulus);
         power(quotient, b, modulus)
     }))
 }

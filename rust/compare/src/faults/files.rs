@@ -11,15 +11,8 @@ pub fn count(fault: Fault, sheet: &[u8], file: &[u8]) -> Counted {
     match (fault, right.refusal) {
         (Fault::ManyRounds, 12) if file.starts_with(b"RND") && file.get(5..7) == Some(&[2, 1]) => {
             let fits = file.len() == 7 + 513 * record_in(&header, file);
-            let many = Counted {
-                refusal: 0,
-                count: 513,
-            };
-            if fits {
-                many
-            } else {
-                right
-            }
+            let many = Counted { refusal: 0, count: 513 };
+            if fits { many } else { right }
         }
         (Fault::VersionLow, 12) if file.len() >= 7 => {
             let mut file = file.to_vec();
@@ -31,19 +24,13 @@ pub fn count(fault: Fault, sheet: &[u8], file: &[u8]) -> Counted {
             file[4] = 1;
             Judge.count(sheet, &file)
         }
-        (Fault::VersionOneOnly, 0) if version(file) == 2 => Counted {
-            refusal: 12,
-            count: 0,
-        },
+        (Fault::VersionOneOnly, 0) if version(file) == 2 => Counted { refusal: 12, count: 0 },
         (Fault::WidthFour, 0 | 12) if file.starts_with(b"RND\x00\x02") => {
             let mut file = file.to_vec();
             file[4] = 1;
             Judge.count(sheet, &file)
         }
-        (Fault::FileFirst, 2..=11) if file.len() < 7 => Counted {
-            refusal: 12,
-            count: 0,
-        },
+        (Fault::FileFirst, 2..=11) if file.len() < 7 => Counted { refusal: 12, count: 0 },
         _ => right,
     }
 }
@@ -66,10 +53,7 @@ pub fn part(fault: Fault, sheet: &[u8], file: &[u8], number: usize) -> Part {
         let record = record_in(&header, file);
         let offset = number.wrapping_mul(record).wrapping_add(7);
         if offset < file.len() {
-            return Part {
-                offset,
-                length: record,
-            };
+            return Part { offset, length: record };
         }
     }
     if fault == Fault::PartWide && right.length > 0 {
@@ -141,10 +125,7 @@ fn compared(
             let read = numbers.map(|number| Judge.read(sheet, file, number).round);
             let refused = |round| Judge.judge(sheet, round).refusal == 14;
             let refusal = if read.iter().any(refused) { 14 } else { 0 };
-            return Compared {
-                refusal,
-                same: if refusal == 0 { right.same } else { 0 },
-            };
+            return Compared { refusal, same: if refusal == 0 { right.same } else { 0 } };
         }
         _ => return right,
     };

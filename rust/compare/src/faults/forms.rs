@@ -1,8 +1,8 @@
 //! Faults of the maker of sheets from linear forms.
 
 use crate::arithmetic::{multiply, power};
-use crate::faults::writers::{refused, sheet_length};
 use crate::faults::Fault;
+use crate::faults::writers::{refused, sheet_length};
 use crate::groups::Group;
 use crate::library::Library::Judge;
 use crate::library::{Forms, Written};
@@ -26,10 +26,7 @@ pub fn linear(fault: Fault, forms: &Forms, buffer: &mut [u8]) -> Written {
     let answer = Judge.linear(&mended, buffer);
     if answer.refusal == 0 {
         let header = mended.header;
-        let read = Forms {
-            header,
-            ..forms.clone()
-        };
+        let read = Forms { header, ..forms.clone() };
         put(fault, &read, buffer);
     }
     answer
@@ -74,9 +71,7 @@ fn entry(fault: Fault, forms: &Forms, i: usize, j: usize) -> u32 {
 fn table(fault: Fault, forms: &Forms) -> Vec<u32> {
     let columns = forms.header.columns as usize;
     let cells = 0..forms.header.rows as usize * columns;
-    cells
-        .map(|cell| entry(fault, forms, cell / columns, cell % columns))
-        .collect()
+    cells.map(|cell| entry(fault, forms, cell / columns, cell % columns)).collect()
 }
 
 /// Puts the table into a sheet.
@@ -107,12 +102,7 @@ fn too_short(fault: Fault, forms: &Forms, buffer: &mut [u8]) -> Written {
     let Written { length, .. } = Judge.linear(forms, &mut whole);
     match fault {
         Fault::FormsShortWritten => buffer.copy_from_slice(&whole[..buffer.len()]),
-        Fault::FormsRefusedLength => {
-            return Written {
-                refusal: 22,
-                length,
-            }
-        }
+        Fault::FormsRefusedLength => return Written { refusal: 22, length },
         _ => {}
     }
     refused(22)
@@ -132,12 +122,7 @@ fn with_counts(fault: Fault, forms: &Forms) -> Option<Forms> {
     let rows = forms.header.rows as usize;
     let cells = rows * forms.header.columns as usize;
     let count = forms.generators.len();
-    let Forms {
-        generators,
-        coefficients,
-        statement,
-        ..
-    } = &mut mended;
+    let Forms { generators, coefficients, statement, .. } = &mut mended;
     match fault {
         Fault::FormsNone if count == 0 && coefficients.is_empty() => {
             generators.push(1);
@@ -166,9 +151,7 @@ fn with_coefficients(fault: Fault, forms: &Forms) -> Option<Forms> {
     let last = list.len() - 1;
     let untested = match fault {
         Fault::FormsOrderTaken => {
-            list.iter_mut()
-                .filter(|value| **value == order)
-                .for_each(|value| *value = 0);
+            list.iter_mut().filter(|value| **value == order).for_each(|value| *value = 0);
             &mut []
         }
         Fault::FormsReduced => &mut list[..],
@@ -187,8 +170,7 @@ fn with_generators(fault: Fault, forms: &Forms) -> Option<Forms> {
     let group = Group::new(1, header.modulus, header.order);
     let is_used = |g: usize| {
         let rows = forms.coefficients.chunks(columns * count);
-        rows.flat_map(|row| &row[g * columns..][..columns])
-            .any(|value| *value > 0)
+        rows.flat_map(|row| &row[g * columns..][..columns]).any(|value| *value > 0)
     };
     let entries_fit = || table(fault, forms).iter().all(|v| group.is_element(*v));
     let mut mended = forms.clone();
@@ -221,11 +203,7 @@ fn is_counted(forms: &Forms) -> bool {
 
 /// The number that is given in the place of this one.
 fn other_number(fault: Fault, forms: &Forms, length: usize, number: u32) -> u32 {
-    let Forms {
-        header,
-        coefficients,
-        ..
-    } = forms;
+    let Forms { header, coefficients, .. } = forms;
     let mut mended = forms.clone();
     match (fault, number) {
         (Fault::FormsCountsFirst, 7) | (Fault::FormsCountsEarly, 8) if !is_counted(forms) => 29,

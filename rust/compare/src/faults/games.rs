@@ -8,8 +8,8 @@ use crate::faults::Fault;
 use crate::files::version;
 use crate::groups::Group;
 use crate::library::Library::Judge;
-use crate::library::{Header, Places, Round, LONGEST_FILE, LONGEST_GAME, LONGEST_SHEET};
-use crate::search::{count, MOST};
+use crate::library::{Header, LONGEST_FILE, LONGEST_GAME, LONGEST_SHEET, Places, Round};
+use crate::search::{MOST, count};
 use crate::sheets::Sheet;
 
 thread_local! {
@@ -32,9 +32,7 @@ fn judged(sheet: &[u8], file: &[u8]) -> String {
 
 pub fn game(fault: Fault, sheet: &[u8], file: &[u8], text: &mut [u8; LONGEST_GAME]) -> usize {
     let right = judged(sheet, file);
-    let number = right
-        .strip_prefix("refused ")
-        .and_then(|number| number.trim().parse().ok());
+    let number = right.strip_prefix("refused ").and_then(|number| number.trim().parse().ok());
     let mut told = match (fault, number) {
         (Fault::GameSheetShort, _) => judge::game(shorter(sheet), file),
         (Fault::GameFileShort, _) => judge::game(sheet, shorter(file)),
@@ -91,13 +89,7 @@ fn refused(fault: Fault, number: u32, sheet: &[u8], file: &[u8]) -> Option<Strin
 
 /// The text where the first round's commitment is reduced before its test.
 fn reduced(sheet: &[u8], file: &[u8]) -> Option<String> {
-    let Header {
-        kind,
-        modulus,
-        order,
-        rows,
-        ..
-    } = Judge.load(sheet).header;
+    let Header { kind, modulus, order, rows, .. } = Judge.load(sheet).header;
     let mut round = *rounds(sheet, file).first()?;
     let group = Group::new(kind, modulus, order);
     for value in &mut round.commitment[..rows as usize] {
@@ -114,13 +106,7 @@ fn reduced(sheet: &[u8], file: &[u8]) -> Option<String> {
 /// Whether a sheet that loads is small, as the fault sees it.
 fn is_small(fault: Fault, sheet: &[u8]) -> bool {
     let header = Judge.load(sheet).header;
-    let Header {
-        kind,
-        order,
-        columns,
-        rows,
-        ..
-    } = header;
+    let Header { kind, order, columns, rows, .. } = header;
     let responses = match fault {
         Fault::GameOrderAlone if kind == 1 => order.into(),
         Fault::GamePowerCut if kind == 1 => order.wrapping_pow(columns).into(),
@@ -150,28 +136,11 @@ fn let_through(fault: Fault, sheet: &[u8], file: &[u8]) -> Option<String> {
     let number = match fault {
         Fault::GameVersionOne if version(file) == 2 => 12,
         Fault::GameChallengeTested if alone(first, 15) => 15,
-        Fault::GameResponseTested
-            if alone(
-                Round {
-                    challenge: 0,
-                    ..first
-                },
-                16,
-            ) =>
-        {
-            16
-        }
+        Fault::GameResponseTested if alone(Round { challenge: 0, ..first }, 16) => 16,
         Fault::GameAllRounds
-            if rounds(sheet, file).into_iter().any(|round| {
-                alone(
-                    Round {
-                        challenge: 0,
-                        response: one,
-                        ..round
-                    },
-                    14,
-                )
-            }) =>
+            if rounds(sheet, file)
+                .into_iter()
+                .any(|round| alone(Round { challenge: 0, response: one, ..round }, 14)) =>
         {
             14
         }

@@ -3,8 +3,8 @@
 use crate::arithmetic::{multiply, power};
 use crate::faults::Fault;
 use crate::ledgers::counted;
-use crate::library::lines::{COMMITMENT, PRODUCT, SUM};
 use crate::library::Library::Judge;
+use crate::library::lines::{COMMITMENT, PRODUCT, SUM};
 use crate::library::{Base, Entries, Entry, Ledger, LedgerWritten, Line, MOST_LINES};
 
 pub fn ledger_write(fault: Fault, base: Base, entries: &Entries) -> LedgerWritten {
@@ -27,10 +27,7 @@ pub fn ledger_write(fault: Fault, base: Base, entries: &Entries) -> LedgerWritte
 
 /// A refusal with this number.
 fn refused(refusal: u32) -> LedgerWritten {
-    LedgerWritten {
-        refusal,
-        ..LedgerWritten::default()
-    }
+    LedgerWritten { refusal, ..LedgerWritten::default() }
 }
 
 fn used(entries: &Entries) -> impl Iterator<Item = (u32, &Entry)> {
@@ -48,10 +45,9 @@ fn asked_too(fault: Fault, base: &Base, entries: &Entries, right: u32) -> Option
                 entry.kind == COMMITMENT && number > 0 && entry.first.max(entry.second) >= number
             }),
         ),
-        Fault::WriteCommitmentChallenge => (
-            15,
-            entries.any(|(_, entry)| entry.kind == COMMITMENT && entry.challenge >= k),
-        ),
+        Fault::WriteCommitmentChallenge => {
+            (15, entries.any(|(_, entry)| entry.kind == COMMITMENT && entry.challenge >= k))
+        }
         Fault::WriteCommitmentNonce => (
             16,
             entries
@@ -61,10 +57,9 @@ fn asked_too(fault: Fault, base: &Base, entries: &Entries, right: u32) -> Option
             16,
             entries.any(|(_, entry)| entry.kind == SUM && entry.value.max(entry.blinding) >= q),
         ),
-        Fault::WriteProductValue => (
-            16,
-            entries.any(|(_, entry)| entry.kind == PRODUCT && entry.value >= q),
-        ),
+        Fault::WriteProductValue => {
+            (16, entries.any(|(_, entry)| entry.kind == PRODUCT && entry.value >= q))
+        }
         _ => return None,
     };
     let earlier: &[u32] = match number {
@@ -106,23 +101,15 @@ fn let_through(fault: Fault, base: Base, entries: &Entries, right: LedgerWritten
 /// How many entries there are up to the first that is refused.
 fn first_refused(base: Base, entries: &Entries) -> u32 {
     let is_refused = |count: &u32| {
-        let front = Entries {
-            count: *count,
-            ..*entries
-        };
+        let front = Entries { count: *count, ..*entries };
         Judge.ledger_write(base, &front).refusal != 0
     };
-    (1..=entries.count)
-        .find(is_refused)
-        .unwrap_or(entries.count)
+    (1..=entries.count).find(is_refused).unwrap_or(entries.count)
 }
 
 /// Takes out what this fault lets through or asks later.
 fn mend(fault: Fault, base: &Base, number: u32, entry: &mut Entry) {
-    let one = Entry {
-        kind: COMMITMENT,
-        ..Entry::default()
-    };
+    let one = Entry { kind: COMMITMENT, ..Entry::default() };
     let [_, _, third] = &mut entry.nonce;
     match (fault, entry.kind) {
         (Fault::WriteOwnFirst, SUM | PRODUCT) if entry.first == number => *entry = one,
@@ -217,15 +204,8 @@ fn written(fault: Fault, base: &Base, entries: &Entries) -> Ledger {
 }
 
 fn committed(base: &Base, entry: &Entry) -> (Opening, Line) {
-    let own = Opening {
-        value: entry.value,
-        blinding: entry.blinding,
-    };
-    let line = Line {
-        kind: COMMITMENT,
-        commitment: commitment(base, own),
-        ..Line::default()
-    };
+    let own = Opening { value: entry.value, blinding: entry.blinding };
+    let line = Line { kind: COMMITMENT, commitment: commitment(base, own), ..Line::default() };
     (own, line)
 }
 
@@ -279,10 +259,7 @@ fn multiplied(fault: Fault, base: &Base, entry: &Entry, a: Opening, b: Opening) 
         Fault::WriteModM => multiply(a.value, b.value, base.modulus),
         _ => multiply(a.value, b.value, q),
     };
-    let own = Opening {
-        value,
-        blinding: entry.blinding,
-    };
+    let own = Opening { value, blinding: entry.blinding };
     let witness = witness(fault, base, entry.blinding, a, b);
     let slot = |place: usize| add(entry.nonce[place], multiply(c, witness[place], q), q);
     let second = commitment(base, b);

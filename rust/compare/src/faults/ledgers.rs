@@ -3,8 +3,8 @@
 use crate::arithmetic::power;
 use crate::faults::Fault;
 use crate::ledgers::{commitments, counted, judged};
-use crate::library::lines::{COMMITMENT, PRODUCT, SUM};
 use crate::library::Library::Judge;
+use crate::library::lines::{COMMITMENT, PRODUCT, SUM};
 use crate::library::{Base, Checked, Ledger, Line, MOST_LINES};
 
 /// The commitment to 0 with the blinding number 0.
@@ -44,10 +44,7 @@ pub fn ledger_check(fault: Fault, base: Base, ledger: &Ledger) -> Checked {
 
 /// A refusal with this number.
 fn refused(refusal: u32) -> Checked {
-    Checked {
-        refusal,
-        ..Checked::default()
-    }
+    Checked { refusal, ..Checked::default() }
 }
 
 /// The lines in use.
@@ -167,10 +164,7 @@ fn of_lines(fault: Fault, base: Base, ledger: &Ledger, right: Checked) -> Checke
 /// next.
 fn by_line(base: Base, ledger: &Ledger, passes: bool, right: Checked) -> Checked {
     let answers = (0..ledger.count).map(|last| {
-        let front = Ledger {
-            count: last + 1,
-            ..*ledger
-        };
+        let front = Ledger { count: last + 1, ..*ledger };
         Judge.ledger_check(base, &front)
     });
     let mut wrong = answers.filter(|answer| answer.accepted == 0);
@@ -223,10 +217,7 @@ fn let_through(fault: Fault, base: &Base, number: u32, line: &mut Line) {
 
 /// The same of the values that 14 is about.
 fn let_value_through(fault: Fault, base: &Base, line: &mut Line) {
-    let as_element = |v: u32| match is_element(base, v % base.modulus) {
-        true => v % base.modulus,
-        false => 1,
-    };
+    let as_element = |v: u32| if is_element(base, v % base.modulus) { v % base.modulus } else { 1 };
     let in_range = |v: u32| (1..base.modulus).contains(&v);
     match (fault, line.kind) {
         (Fault::LedgerCommitmentUntested, COMMITMENT) | (Fault::LedgerProductUntested, PRODUCT) => {
@@ -248,10 +239,9 @@ fn found(fault: Fault, base: Base, ledger: &Ledger, right: Checked) -> Checked {
         Fault::LedgerExchanged | Fault::LedgerSumStored | Fault::LedgerSumFirst => {
             with_lines(fault, &base, ledger)
         }
-        Fault::LedgerBeyond if counted(ledger.count) < MOST_LINES => Ledger {
-            count: ledger.count + 1,
-            ..*ledger
-        },
+        Fault::LedgerBeyond if counted(ledger.count) < MOST_LINES => {
+            Ledger { count: ledger.count + 1, ..*ledger }
+        }
         _ => return named(fault, base, ledger, right),
     };
     Judge.ledger_check(base, &changed)
@@ -299,9 +289,5 @@ fn named(fault: Fault, base: Base, ledger: &Ledger, right: Checked) -> Checked {
         }
         _ => return right,
     };
-    Checked {
-        accepted: line.is_none().into(),
-        line: line.unwrap_or(0),
-        refusal: 0,
-    }
+    Checked { accepted: line.is_none().into(), line: line.unwrap_or(0), refusal: 0 }
 }

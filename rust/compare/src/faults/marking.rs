@@ -1,10 +1,10 @@
 //! Faults of the marker.
 
-use crate::faults::rows::mark_rows;
 use crate::faults::Fault;
+use crate::faults::rows::mark_rows;
 use crate::files::version;
-use crate::library::Library::Judge;
 use crate::library::LONGEST_TEXT;
+use crate::library::Library::Judge;
 use crate::sheets::header;
 
 pub fn mark(
@@ -145,9 +145,7 @@ fn named(fault: Fault, right: &str, count: u32) -> String {
 
 /// The words but those of rows that are left out.
 fn without(rows: &str, is_left_out: impl Fn(u32) -> bool) -> String {
-    let kept = rows
-        .split(' ')
-        .filter(|word| !word.parse().is_ok_and(&is_left_out));
+    let kept = rows.split(' ').filter(|word| !word.parse().is_ok_and(&is_left_out));
     kept.collect::<Vec<_>>().join(" ")
 }
 

@@ -1,17 +1,14 @@
 //! Faults of extracting from rounds of the OR proof.
 
 use crate::arithmetic::{inverse, multiply, power};
-use crate::faults::or_rounds::sides;
 use crate::faults::Fault;
+use crate::faults::or_rounds::sides;
 use crate::library::Library::Judge;
 use crate::library::{Computed, OrExtracted, OrRound, Places, Round};
 
 /// A refusal with this number.
 fn refused(refusal: u32) -> OrExtracted {
-    OrExtracted {
-        refusal,
-        ..OrExtracted::default()
-    }
+    OrExtracted { refusal, ..OrExtracted::default() }
 }
 
 /// A witness of this side, or a refusal.
@@ -78,11 +75,7 @@ fn with_challenges(sheet: &[u8], [one, other]: [Round; 2], challenges: [u32; 2])
     let b = inverse(reduced, order);
     let a = (1 - i128::from(difference) * i128::from(b)) / i128::from(order);
     let mut witness = [0; 8];
-    for (j, slot) in witness
-        .iter_mut()
-        .enumerate()
-        .take(loaded.header.columns as usize)
-    {
+    for (j, slot) in witness.iter_mut().enumerate().take(loaded.header.columns as usize) {
         let (r, other) = (one.response[j], other.response[j]);
         *slot = if loaded.header.kind == 1 {
             let factor = i128::from(b) * (i128::from(r) - i128::from(other));
@@ -113,10 +106,7 @@ fn number(
             refused(verdicts[0].refusal)
         }
         (Fault::OrExtractOneCommitment, 18) => {
-            let changed = OrRound {
-                commitment1: a.commitment1,
-                ..*b
-            };
+            let changed = OrRound { commitment1: a.commitment1, ..*b };
             Judge.or_extract(first, second, a, &changed)
         }
         (Fault::OrExtractOneC, 19)

@@ -1,18 +1,14 @@
 //! Faults of Peggy's new session of the OR proof, of committing and of dropping.
 
-use crate::faults::rounds::{bad_beyond, slot_bound};
 use crate::faults::Fault;
-use crate::library::phases::prover::{ANSWERED, COMMITTED, DROPPED, NEW};
+use crate::faults::rounds::{bad_beyond, slot_bound};
 use crate::library::Library::Judge;
+use crate::library::phases::prover::{ANSWERED, COMMITTED, DROPPED, NEW};
 use crate::library::{OrAnswer, OrSession, Places};
 
 /// A refusal with this number, which hands the session back.
 pub fn refused(refusal: u32, session: OrSession) -> OrAnswer {
-    OrAnswer {
-        refusal,
-        session,
-        ..OrAnswer::default()
-    }
+    OrAnswer { refusal, session, ..OrAnswer::default() }
 }
 
 /// Of two things the one of the known side and the one of the other.
@@ -71,12 +67,7 @@ struct Brought<'a> {
 
 impl Brought<'_> {
     fn commit(&self, [first, second]: [&[u8]; 2], session: OrSession) -> OrAnswer {
-        let Brought {
-            side,
-            nonce,
-            challenge,
-            response,
-        } = *self;
+        let Brought { side, nonce, challenge, response } = *self;
         Judge.or_prover_commit(first, second, session, side, nonce, challenge, response)
     }
 }
@@ -92,12 +83,7 @@ pub fn or_prover_commit(
     challenge: u32,
     response: &Places,
 ) -> OrAnswer {
-    let brought = Brought {
-        side,
-        nonce,
-        challenge,
-        response,
-    };
+    let brought = Brought { side, nonce, challenge, response };
     with_phase(fault, session, |session| {
         let right = brought.commit([first, second], session);
         match right.refusal {
@@ -165,11 +151,7 @@ fn commit_early(
         (Fault::OrCommitStateFirst, _) if session.phase != NEW => refused(21, session),
         (Fault::OrCommitChallenge, 15) => {
             let challenge = brought.challenge % Judge.load(own).header.challenges;
-            Brought {
-                challenge,
-                ..brought
-            }
-            .commit(sheets, session)
+            Brought { challenge, ..brought }.commit(sheets, session)
         }
         (Fault::OrCommitResponse, 16) => without_response(sheets, session, brought),
         (Fault::OrCommitOwnSheet, 16) if own_slots(brought.response) => {
@@ -182,10 +164,7 @@ fn commit_early(
 /// What is answered where the response is not tested: ones stand for it, but for
 /// the session.
 fn without_response(sheets: [&[u8]; 2], session: OrSession, brought: Brought) -> OrAnswer {
-    let untested = Brought {
-        response: &[1; 8],
-        ..brought
-    };
+    let untested = Brought { response: &[1; 8], ..brought };
     let mut answer = untested.commit(sheets, session);
     if answer.refusal == 0 {
         answer.session.response = *brought.response;
@@ -209,10 +188,7 @@ fn dropped(fault: Fault, session: OrSession) -> OrAnswer {
             right.session.commitment1 = [0; 8];
         }
         (Fault::OrDropAnswered, 21) if session.phase == ANSWERED => {
-            return Judge.or_prover_drop(OrSession {
-                phase: COMMITTED,
-                ..session
-            });
+            return Judge.or_prover_drop(OrSession { phase: COMMITTED, ..session });
         }
         _ => {}
     }

@@ -1,11 +1,11 @@
 //! Faults of responding in Peggy's session of the OR proof.
 
 use crate::arithmetic::{multiply, power};
+use crate::faults::Fault;
 use crate::faults::or_prover::{own_and_other, refused, with_phase};
 use crate::faults::rounds::{bad_beyond, slot_bound};
-use crate::faults::Fault;
-use crate::library::phases::prover::{ANSWERED, COMMITTED};
 use crate::library::Library::Judge;
+use crate::library::phases::prover::{ANSWERED, COMMITTED};
 use crate::library::{Header, OrAnswer, OrSession, Places};
 
 pub fn or_prover_respond(
@@ -16,11 +16,7 @@ pub fn or_prover_respond(
     challenge: u32,
     witness: &Places,
 ) -> OrAnswer {
-    let asked = Asked {
-        sheets: [first, second],
-        challenge,
-        witness,
-    };
+    let asked = Asked { sheets: [first, second], challenge, witness };
     with_phase(fault, session, |session| {
         let right = asked.respond(session);
         match right.refusal {
@@ -77,9 +73,7 @@ fn answered(fault: Fault, asked: Asked, session: OrSession, mut right: OrAnswer)
         }
         Fault::OrRespondFirstSheet => {
             let first = asked.sheets[0];
-            let number = Judge
-                .prover_respond(first, Judge.prover_new(), 0, asked.witness)
-                .refusal;
+            let number = Judge.prover_respond(first, Judge.prover_new(), 0, asked.witness).refusal;
             if [16, 17].contains(&number) {
                 return refused(number, session);
             }
@@ -138,9 +132,7 @@ fn respond_early(fault: Fault, asked: Asked, session: OrSession, mut right: OrAn
 /// The sheet with the witness's image as its statement.
 fn restated(sheet: &[u8], witness: &Places) -> Vec<u8> {
     let rows = Judge.load(sheet).header.rows as usize;
-    let image = Judge
-        .prover_commit(sheet, Judge.prover_new(), witness)
-        .values;
+    let image = Judge.prover_commit(sheet, Judge.prover_new(), witness).values;
     let mut bytes = sheet[..sheet.len() - 4 * rows].to_vec();
     for value in &image[..rows] {
         bytes.extend(value.to_be_bytes());
@@ -195,13 +187,5 @@ fn respond_unfit(fault: Fault, asked: Asked, session: OrSession, mut right: OrAn
 fn made([first, second]: [&[u8]; 2], session: &OrSession) -> OrAnswer {
     let (side, challenge) = (session.side, session.challenge);
     let new = Judge.or_prover_new();
-    Judge.or_prover_commit(
-        first,
-        second,
-        new,
-        side,
-        &session.nonce,
-        challenge,
-        &session.response,
-    )
+    Judge.or_prover_commit(first, second, new, side, &session.nonce, challenge, &session.response)
 }

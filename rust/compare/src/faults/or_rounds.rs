@@ -1,28 +1,19 @@
 //! Faults of judging rounds of the OR proof.
 
 use crate::arithmetic::{multiply, power};
+use crate::faults::Fault;
 use crate::faults::rounds::{bad_beyond, slot_bound};
 use crate::faults::rows::misnamed;
-use crate::faults::sheets::{with_word, word, CHALLENGES};
-use crate::faults::Fault;
+use crate::faults::sheets::{CHALLENGES, with_word, word};
 use crate::library::Library::Judge;
 use crate::library::{OrJudgement, OrRound, Round};
 
 /// An accepted round.
-const ACCEPTED: OrJudgement = OrJudgement {
-    accepted: 1,
-    rows0: 0,
-    rows1: 0,
-    refusal: 0,
-};
+const ACCEPTED: OrJudgement = OrJudgement { accepted: 1, rows0: 0, rows1: 0, refusal: 0 };
 
 /// A round that is rejected in these rows of side 0 and of side 1.
 fn rejected(rows0: u32, rows1: u32) -> OrJudgement {
-    OrJudgement {
-        rows0,
-        rows1,
-        ..OrJudgement::default()
-    }
+    OrJudgement { rows0, rows1, ..OrJudgement::default() }
 }
 
 /// The verdict of a judge in which these rows differ.
@@ -35,10 +26,7 @@ fn compared(rows0: u32, rows1: u32) -> OrJudgement {
 
 /// A round that is refused with this number.
 fn refused(refusal: u32) -> OrJudgement {
-    OrJudgement {
-        refusal,
-        ..OrJudgement::default()
-    }
+    OrJudgement { refusal, ..OrJudgement::default() }
 }
 
 /// The challenge of side 1, (c − c0) mod K.
@@ -100,14 +88,12 @@ fn verdict(
         Fault::OrRowsExchanged => compared(rows1, rows0),
         Fault::OrRowsTogether => compared(rows0 | rows1, 0),
         Fault::OrRowsOfFirst => compared(rows0, rows1 & ((1 << one.rows) - 1)),
-        Fault::OrEndRow => compared(
-            misnamed(fault, rows0, one.rows),
-            misnamed(fault, rows1, two.rows),
-        ),
-        Fault::OrAgreeing | Fault::OrFirstRow if right != ACCEPTED => rejected(
-            misnamed(fault, rows0, one.rows),
-            misnamed(fault, rows1, two.rows),
-        ),
+        Fault::OrEndRow => {
+            compared(misnamed(fault, rows0, one.rows), misnamed(fault, rows1, two.rows))
+        }
+        Fault::OrAgreeing | Fault::OrFirstRow if right != ACCEPTED => {
+            rejected(misnamed(fault, rows0, one.rows), misnamed(fault, rows1, two.rows))
+        }
         Fault::OrRowsBeyond if rows1 != 0 => rejected(rows0, misnamed(fault, rows1, two.rows)),
         Fault::OrUnreadCommitment if bad_beyond(&round.commitment1, two.rows, two.modulus) => {
             refused(14)
@@ -130,10 +116,7 @@ fn with_second(first: &[u8], second: &[u8], round: &OrRound, challenge: u32) -> 
         let factor = power(loaded.statement[*row], challenge, m);
         image[*row] != multiply(round.commitment1[*row], factor, m)
     };
-    compared(
-        verdict.rows,
-        (0..rows).filter(differs).map(|row| 1 << row).sum(),
-    )
+    compared(verdict.rows, (0..rows).filter(differs).map(|row| 1 << row).sum())
 }
 
 /// Judging where a sheet is refused, or both are.

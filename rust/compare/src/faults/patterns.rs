@@ -2,11 +2,11 @@
 
 use judge::pattern_file::SHIPPED;
 
-use crate::faults::writers::refused;
 use crate::faults::Fault;
+use crate::faults::writers::refused;
 use crate::library::Library::Judge;
-use crate::library::{Plan, Written, SHIPPED_PATTERNS};
-use crate::pattern_files::{self, file, read, Pattern};
+use crate::library::{Plan, SHIPPED_PATTERNS, Written};
+use crate::pattern_files::{self, Pattern, file, read};
 
 pub fn patterns(fault: Fault, buffer: &mut [u8]) -> Written {
     let length = buffer.len();
@@ -43,21 +43,13 @@ pub fn from_pattern(
 ) -> Written {
     let mut before = buffer.to_vec();
     let right = Judge.from_pattern(patterns, plan, values, statement, &mut before);
-    let asked = Asked {
-        patterns: patterns.to_vec(),
-        number: plan.number,
-        values: values.to_vec(),
-    };
+    let asked = Asked { patterns: patterns.to_vec(), number: plan.number, values: values.to_vec() };
     let asked = match right.refusal {
         23 => of_shape(fault, asked),
         24 => of_digits(fault, asked),
         _ => of_number(fault, asked),
     };
-    let Asked {
-        patterns,
-        number,
-        values,
-    } = match asked {
+    let Asked { patterns, number, values } = match asked {
         Ok(asked) => asked,
         Err(number) => return refused(number),
     };
@@ -149,9 +141,7 @@ fn of_digits(fault: Fault, mut asked: Asked) -> Result<Asked, u32> {
             for pattern in &mut patterns {
                 let above = pattern.sizes[2] + 1;
                 let digits = pattern.digits.iter_mut();
-                digits
-                    .filter(|digit| **digit == above)
-                    .for_each(|digit| *digit = 0);
+                digits.filter(|digit| **digit == above).for_each(|digit| *digit = 0);
             }
         }
         Fault::ValueUnnamed => {

@@ -1,20 +1,16 @@
 //! Faults of the calls on Peggy's session.
 
 use crate::arithmetic::multiply;
+use crate::faults::Fault;
 use crate::faults::rounds::{bad_beyond, slot_bound};
 use crate::faults::states::{self, Asked};
-use crate::faults::Fault;
-use crate::library::phases::prover::{ANSWERED, COMMITTED, DROPPED, NEW};
 use crate::library::Library::Judge;
+use crate::library::phases::prover::{ANSWERED, COMMITTED, DROPPED, NEW};
 use crate::library::{Header, Places, ProverAnswer, ProverSession};
 
 /// A refusal with this number, which hands the session back.
 pub fn refused(refusal: u32, session: ProverSession) -> ProverAnswer {
-    ProverAnswer {
-        refusal,
-        session,
-        values: [0; 8],
-    }
+    ProverAnswer { refusal, session, values: [0; 8] }
 }
 
 pub fn prover_new(fault: Fault) -> ProverSession {
@@ -113,12 +109,7 @@ pub fn prover_respond(
             21 => respond_unfit(fault, sheet, session, challenge, witness, right),
             _ => right,
         };
-        let asked = Asked {
-            sheet,
-            session,
-            challenge,
-            witness,
-        };
+        let asked = Asked { sheet, session, challenge, witness };
         asked.answer(fault, answer)
     })
 }
@@ -165,9 +156,7 @@ fn respond_early(
     mut right: ProverAnswer,
 ) -> ProverAnswer {
     let (image, z) = (
-        Judge
-            .prover_commit(sheet, Judge.prover_new(), witness)
-            .values,
+        Judge.prover_commit(sheet, Judge.prover_new(), witness).values,
         Judge.load(sheet).statement,
     );
     match (fault, right.refusal) {
@@ -236,9 +225,7 @@ fn respond_unfit(
 }
 
 pub fn prover_drop(fault: Fault, session: ProverSession) -> ProverAnswer {
-    with_phase(fault, session, |session| {
-        states::dropped(fault, dropped(fault, session))
-    })
+    with_phase(fault, session, |session| states::dropped(fault, dropped(fault, session)))
 }
 
 fn dropped(fault: Fault, session: ProverSession) -> ProverAnswer {
@@ -250,10 +237,7 @@ fn dropped(fault: Fault, session: ProverSession) -> ProverAnswer {
         (Fault::DropClearsPart, 0) => right.session.nonce[7] = session.nonce[7],
         (Fault::DropClearsCommitment, 0) => right.session.commitment = [0; 8],
         (Fault::DropAnswered, 21) if session.phase == ANSWERED => {
-            return Judge.prover_drop(ProverSession {
-                phase: COMMITTED,
-                ..session
-            });
+            return Judge.prover_drop(ProverSession { phase: COMMITTED, ..session });
         }
         _ => {}
     }

@@ -1,11 +1,11 @@
 //! Faults of the reason.
 
-use crate::faults::rows::{reason_rows, told_rows};
 use crate::faults::Fault;
+use crate::faults::rows::{reason_rows, told_rows};
 use crate::files::{record_in, version, width};
 use crate::groups::Group;
-use crate::library::Library::Judge;
 use crate::library::LONGEST_REASON;
+use crate::library::Library::Judge;
 
 /// A line, by its parts: a refusal's number with an offset or a length, a
 /// rejected round's rows, each with its two sides.
@@ -22,10 +22,8 @@ impl Line {
         let mut text = [0; LONGEST_REASON];
         let length = Judge.reason(sheet, file, &mut text);
         let text = String::from_utf8_lossy(&text[..length]);
-        let numbers: Vec<usize> = text
-            .split_whitespace()
-            .filter_map(|word| word.parse().ok())
-            .collect();
+        let numbers: Vec<usize> =
+            text.split_whitespace().filter_map(|word| word.parse().ok()).collect();
         match numbers[..] {
             [number, found] if text.contains("length") => Line::Length(number as u32, found),
             [number, offset] => Line::At(number as u32, offset),
@@ -98,7 +96,7 @@ fn of_sheet(fault: Fault, right: Line, sheet: &[u8], file: &[u8]) -> Line {
 
 /// The faulty line on a file that is refused.
 fn of_file(fault: Fault, right: Line, sheet: &[u8], file: &[u8]) -> Line {
-    let fits = |record: usize| (file.len() - 7).is_multiple_of(record);
+    let fits = |record: usize| (file.len() - 7) % record == 0;
     match (fault, right) {
         (Fault::ReasonMarkFirst, Line::Length(_, 0..7)) if !begins(file, b"RND") => Line::At(12, 0),
         (Fault::ReasonLengthFirst, Line::At(12, _))

@@ -1,27 +1,20 @@
 //! Faults of judging and of simulating.
 
 use crate::arithmetic::{multiply, power};
+use crate::faults::Fault;
 use crate::faults::rows::misnamed;
 use crate::faults::sheets::{
-    below_order, one_in_range, restated, right_without, with_word, word, CHALLENGES, MODULUS,
+    CHALLENGES, MODULUS, below_order, one_in_range, restated, right_without, with_word, word,
 };
-use crate::faults::Fault;
 use crate::library::Library::Judge;
 use crate::library::{Computed, Header, Judgement, Places, Round};
 
 /// An accepted round.
-pub const ACCEPTED: Judgement = Judgement {
-    refusal: 0,
-    accepted: 1,
-    rows: 0,
-};
+pub const ACCEPTED: Judgement = Judgement { refusal: 0, accepted: 1, rows: 0 };
 
 /// A round that is rejected in these rows.
 pub fn rejected(rows: u32) -> Judgement {
-    Judgement {
-        rows,
-        ..Judgement::default()
-    }
+    Judgement { rows, ..Judgement::default() }
 }
 
 /// The verdict of a judge that compares these rows only, which are a mask.
@@ -34,10 +27,7 @@ pub fn compared(right: Judgement, rows: u32) -> Judgement {
 
 /// A round that is refused with this number.
 pub fn refused(refusal: u32) -> Judgement {
-    Judgement {
-        refusal,
-        ..Judgement::default()
-    }
+    Judgement { refusal, ..Judgement::default() }
 }
 
 /// Whether the place behind those in use holds no number below the bound.
@@ -71,10 +61,9 @@ fn verdict(fault: Fault, sheet: &[u8], round: &Round, right: Judgement) -> Judge
         Fault::JudgeLastRow => compared(right, 0x7f),
         Fault::JudgeEndRow => compared(right, misnamed(fault, right.rows, header.rows)),
         Fault::JudgeRejectsAll => rejected(right.rows.max(1)),
-        Fault::JudgeRowsAccepted if right == ACCEPTED => Judgement {
-            rows: (1 << header.rows) - 1,
-            ..right
-        },
+        Fault::JudgeRowsAccepted if right == ACCEPTED => {
+            Judgement { rows: (1 << header.rows) - 1, ..right }
+        }
         Fault::JudgeUnreadCommitment
             if bad_beyond(&round.commitment, header.rows, header.modulus) =>
         {
@@ -186,10 +175,7 @@ pub fn simulate(fault: Fault, sheet: &[u8], challenge: u32, response: &Places) -
         }
         (Fault::SimulateSlotFirst, 15) => Judge.simulate(sheet, 0, response),
         (Fault::SimulateUnread, 0) if bad_beyond(response, header.columns, slot_bound(&header)) => {
-            Computed {
-                refusal: 16,
-                values: [0; 8],
-            }
+            Computed { refusal: 16, values: [0; 8] }
         }
         _ => right,
     }

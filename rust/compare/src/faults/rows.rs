@@ -24,10 +24,7 @@ pub fn misnamed(fault: Fault, rows: u32, count: u32) -> u32 {
 
 /// The rows in a marker's line, `rejected` and these words, as a fault has them.
 pub fn mark_rows(fault: Fault, words: &str, count: u32) -> String {
-    let mut rows: Vec<u32> = words
-        .split(' ')
-        .filter_map(|word| word.parse().ok())
-        .collect();
+    let mut rows: Vec<u32> = words.split(' ').filter_map(|word| word.parse().ok()).collect();
     match fault {
         Fault::MarkFirstRow => rows.truncate(1),
         Fault::MarkRowsFalling => rows.reverse(),
@@ -70,16 +67,10 @@ pub fn reason_rows(fault: Fault, mut rows: Vec<[u32; 3]>, image: &[u32]) -> Opti
 pub fn told_rows(fault: Fault, rows: &[[u32; 3]]) -> String {
     let sides = rows.iter().flat_map(|row| &row[1..]);
     let words: Vec<String> = match fault {
-        Fault::ReasonRowsFirst => rows
-            .iter()
-            .map(|row| &row[0])
-            .chain(sides)
-            .map(u32::to_string)
-            .collect(),
-        _ => rows
-            .iter()
-            .map(|[row, left, right]| format!("{row} {left} {right}"))
-            .collect(),
+        Fault::ReasonRowsFirst => {
+            rows.iter().map(|row| &row[0]).chain(sides).map(u32::to_string).collect()
+        }
+        _ => rows.iter().map(|[row, left, right]| format!("{row} {left} {right}")).collect(),
     };
     match fault {
         Fault::ReasonRowLines => words.join("\n"),

@@ -11,9 +11,7 @@ pub const CHALLENGES: usize = 14;
 
 /// The 32-bit number at this place, or 0 where there is none.
 pub fn word(sheet: &[u8], at: usize) -> u32 {
-    let bytes = sheet
-        .get(at..at + 4)
-        .and_then(|bytes| bytes.try_into().ok());
+    let bytes = sheet.get(at..at + 4).and_then(|bytes| bytes.try_into().ok());
     bytes.map_or(0, u32::from_be_bytes)
 }
 
@@ -29,11 +27,7 @@ pub fn with_word(sheet: &[u8], at: usize, value: u32) -> Vec<u8> {
 fn places(sheet: &[u8], statement: bool) -> impl Iterator<Item = usize> {
     let (rows, columns) = (sheet[18] as usize, sheet[19] as usize);
     let entries = if sheet[5] == 1 { rows * columns } else { 0 };
-    let (from, count) = if statement {
-        (entries, rows)
-    } else {
-        (0, entries)
-    };
+    let (from, count) = if statement { (entries, rows) } else { (0, entries) };
     (from..from + count).map(|place| 20 + 4 * place)
 }
 
@@ -48,9 +42,8 @@ fn with_challenges(sheet: &[u8], count: u32) -> Loaded {
 
 /// A sheet of the right length with other statement values.
 pub fn restated(sheet: &[u8], change: impl Fn(u32) -> u32) -> Vec<u8> {
-    places(sheet, true).fold(sheet.to_vec(), |changed, at| {
-        with_word(&changed, at, change(word(sheet, at)))
-    })
+    places(sheet, true)
+        .fold(sheet.to_vec(), |changed, at| with_word(&changed, at, change(word(sheet, at))))
 }
 
 /// The number 1 for a statement value in range, and 0 for any other.
@@ -73,9 +66,7 @@ fn with_statement(sheet: &[u8], change: impl Fn(u32) -> u32) -> Loaded {
 /// and is then put back.
 fn without_last(sheet: &[u8], right: Loaded) -> Loaded {
     let modulus = word(sheet, MODULUS);
-    let last = places(sheet, true)
-        .last()
-        .filter(|at| (1..modulus).contains(&word(sheet, *at)));
+    let last = places(sheet, true).last().filter(|at| (1..modulus).contains(&word(sheet, *at)));
     let Some(last) = last else {
         return right;
     };
@@ -105,7 +96,7 @@ pub fn below_order(order: u32, d: u32) -> bool {
 /// Whether the challenge count is right where these d of the order are left out.
 pub fn right_without(sheet: &[u8], left_out: fn(u32, u32) -> bool) -> bool {
     let (order, challenges) = (word(sheet, ORDER), word(sheet, CHALLENGES));
-    let divides = |d: u32| order.is_multiple_of(d) && !left_out(order, d);
+    let divides = |d: u32| order % d == 0 && !left_out(order, d);
     (2..=65_536).contains(&challenges) && !(2..challenges).any(divides)
 }
 
@@ -162,12 +153,7 @@ fn load_values(fault: Fault, sheet: &[u8], mut right: Loaded) -> Loaded {
         (Fault::LastUnit, 11) if sheet[5] == 2 => return without_last(sheet, right),
         (Fault::LastStatement, 0) => right.statement[7] = 0,
         (Fault::HeaderKept, 11) => right.header = with_statement(sheet, |_| 1).header,
-        (Fault::RefusesAll, 0) => {
-            return Loaded {
-                refusal: 11,
-                ..Loaded::default()
-            }
-        }
+        (Fault::RefusesAll, 0) => return Loaded { refusal: 11, ..Loaded::default() },
         _ => {}
     }
     right
@@ -186,11 +172,7 @@ pub fn entries(fault: Fault, sheet: &[u8], entries: &mut [u32; 64]) -> u32 {
     if fault == Fault::EntriesPacked && right == 0 {
         let mut packed = [0; 64];
         let columns = loaded.header.columns as usize;
-        for (i, row) in entries
-            .chunks(8)
-            .enumerate()
-            .take(loaded.header.rows as usize)
-        {
+        for (i, row) in entries.chunks(8).enumerate().take(loaded.header.rows as usize) {
             packed[columns * i..][..columns].copy_from_slice(&row[..columns]);
         }
         *entries = packed;

@@ -1,10 +1,10 @@
 //! Faults of saved states and of the list of answered commitments.
 
-use crate::faults::prover::refused;
 use crate::faults::Fault;
-use crate::library::phases::prover::{ANSWERED, COMMITTED, DROPPED, NEW};
+use crate::faults::prover::refused;
 use crate::library::Library::Judge;
-use crate::library::{Listed, Memory, Places, ProverAnswer, ProverSession, Saved, MOST_ANSWERED};
+use crate::library::phases::prover::{ANSWERED, COMMITTED, DROPPED, NEW};
+use crate::library::{Listed, MOST_ANSWERED, Memory, Places, ProverAnswer, ProverSession, Saved};
 
 /// The listed commitments that are counted.
 fn counted(memory: &Memory) -> &[Listed] {
@@ -81,10 +81,7 @@ pub struct Asked<'a> {
 impl Asked<'_> {
     /// What is answered if nothing is listed, with this memory after it.
     fn answered(&self, memory: Memory) -> ProverAnswer {
-        let session = ProverSession {
-            memory: Memory::default(),
-            ..self.session
-        };
+        let session = ProverSession { memory: Memory::default(), ..self.session };
         let mut answer = Judge.prover_respond(self.sheet, session, self.challenge, self.witness);
         answer.session.memory = memory;
         answer

@@ -1,11 +1,11 @@
 //! Faults of multiplying a team's commitments and of joining its responses.
 
 use crate::arithmetic::multiply;
+use crate::faults::Fault;
 use crate::faults::rounds::{bad_beyond, slot_bound};
 use crate::faults::sheets::restated;
-use crate::faults::Fault;
 use crate::library::Library::{self, Judge};
-use crate::library::{Computed, Header, Parts, Places, MOST_PLAYERS, PARTS, PLACES};
+use crate::library::{Computed, Header, MOST_PLAYERS, PARTS, PLACES, Parts, Places};
 
 /// One of the two calls.
 type TeamCall = fn(Library, &[u8], u32, &Parts, &Parts) -> Computed;
@@ -22,10 +22,7 @@ struct Given<'a> {
 
 /// A call that is refused with this number.
 fn refused(refusal: u32) -> Computed {
-    Computed {
-        refusal,
-        values: [0; 8],
-    }
+    Computed { refusal, values: [0; 8] }
 }
 
 /// What each counted player brings.
@@ -65,10 +62,7 @@ impl Given<'_> {
         let loaded = Judge.load(self.sheet);
         let answer = self.with_right_images();
         let whole = product(&self.images, self.count, &loaded.header);
-        match answer.refusal == 0 && whole != loaded.statement {
-            true => refused(28),
-            false => answer,
-        }
+        if answer.refusal == 0 && whole != loaded.statement { refused(28) } else { answer }
     }
 
     /// The answer where this player brings nothing: ones, or zeros where these are
@@ -107,12 +101,7 @@ pub fn team_commitment(
 /// Multiplying where nothing is refused.
 fn multiplied(fault: Fault, given: &Given, mut right: Computed) -> Computed {
     let header = Judge.load(given.sheet).header;
-    let Given {
-        count,
-        images,
-        parts,
-        ..
-    } = *given;
+    let Given { count, images, parts, .. } = *given;
     match fault {
         Fault::TeamLastCommitment => given.without(count - 1, 1),
         Fault::TeamFirstCommitment => given.without(0, 1),
@@ -136,17 +125,11 @@ fn multiplied(fault: Fault, given: &Given, mut right: Computed) -> Computed {
         }
         Fault::TeamPlayerBehind => {
             let behind = images.get(PLACES * count as usize);
-            match behind.is_some_and(|value| *value >= header.modulus) {
-                true => refused(11),
-                false => right,
-            }
+            if behind.is_some_and(|value| *value >= header.modulus) { refused(11) } else { right }
         }
         Fault::TeamLastImage => {
             let whole = product(&images, count - 1, &header);
-            match whole == Judge.load(given.sheet).statement {
-                true => right,
-                false => refused(28),
-            }
+            if whole == Judge.load(given.sheet).statement { right } else { refused(28) }
         }
         _ => right,
     }
@@ -207,10 +190,7 @@ fn commitments_refused(fault: Fault, given: &Given, right: Computed) -> Computed
         (Fault::TeamProductRowZero, 28) if whole[0] == loaded.statement[0] => {
             given.with_right_images()
         }
-        (Fault::TeamRefusedValues, 28) => Computed {
-            refusal: 28,
-            ..given.with_right_images()
-        },
+        (Fault::TeamRefusedValues, 28) => Computed { refusal: 28, ..given.with_right_images() },
         _ => right,
     }
 }
@@ -222,13 +202,8 @@ pub fn team_response(
     images: &Parts,
     responses: &Parts,
 ) -> Computed {
-    let given = Given {
-        call: Library::team_response,
-        sheet,
-        count,
-        images: *images,
-        parts: *responses,
-    };
+    let given =
+        Given { call: Library::team_response, sheet, count, images: *images, parts: *responses };
     let right = given.right();
     match right.refusal {
         0 => joined(fault, &given, right),
@@ -242,28 +217,17 @@ pub fn team_response(
 /// Joining where nothing is refused.
 fn joined(fault: Fault, given: &Given, mut right: Computed) -> Computed {
     let header = Judge.load(given.sheet).header;
-    let Header {
-        kind,
-        modulus,
-        order,
-        columns,
-        ..
-    } = header;
+    let Header { kind, modulus, order, columns, .. } = header;
     let Given { count, parts, .. } = *given;
     let sum = |slot: usize| -> u64 { rows(&parts, count).map(|row| u64::from(row[slot])).sum() };
     let change = |change: &dyn Fn(usize) -> u32| {
-        let values = std::array::from_fn(|slot| match slot < columns as usize {
-            true => change(slot),
-            false => 0,
-        });
+        let values =
+            std::array::from_fn(|slot| if slot < columns as usize { change(slot) } else { 0 });
         Computed { refusal: 0, values }
     };
     match (fault, kind) {
         (Fault::TeamResponsesMultiplied, 1) => {
-            let squared = Header {
-                rows: columns,
-                ..header
-            };
+            let squared = Header { rows: columns, ..header };
             let values = product(&parts, count, &squared);
             Computed { refusal: 0, values }
         }
@@ -305,10 +269,7 @@ fn response_images(fault: Fault, given: &Given, right: Computed) -> Computed {
         }
         (Fault::TeamImagesOnly, 11) => {
             let sheet = restated(given.sheet, |_| 1);
-            let ones = Given {
-                sheet: &sheet,
-                ..*given
-            };
+            let ones = Given { sheet: &sheet, ..*given };
             match ones.right().refusal {
                 0 => refused(28),
                 number => refused(number),
@@ -336,10 +297,7 @@ fn responses_refused(fault: Fault, given: &Given, right: Computed) -> Computed {
         (Fault::TeamProductUntested, 28) => given.with_right_images(),
         (Fault::TeamProductLastRow, 28) => {
             let last = loaded.header.rows as usize - 1;
-            match differing.all(|row| row == last) {
-                true => given.with_right_images(),
-                false => right,
-            }
+            if differing.all(|row| row == last) { given.with_right_images() } else { right }
         }
         _ => right,
     }

@@ -1,9 +1,9 @@
 //! Faults of refusing a watch, and of what is refused before it.
 
-use crate::faults::watches::{hold, Given};
 use crate::faults::Fault;
+use crate::faults::watches::{Given, hold};
 use crate::library::Library::Judge;
-use crate::library::{Round, Watch, WatchAnswer, MOST_REMEMBERED};
+use crate::library::{MOST_REMEMBERED, Round, Watch, WatchAnswer};
 
 impl Given<'_> {
     /// Whether the watch holds exactly the sheet's bytes.
@@ -48,11 +48,7 @@ impl Given<'_> {
 
 /// Whether a fault takes the sheet that is held for the one that is handed in.
 fn takes_sheet(fault: Fault, Given { sheet, watch, .. }: &Given) -> bool {
-    let Watch {
-        sheet: held,
-        length,
-        ..
-    } = watch;
+    let Watch { sheet: held, length, .. } = watch;
     match fault {
         Fault::WatchSheetFront => held[..20] == sheet[..20],
         Fault::WatchSheetLength => *length as usize == sheet.len(),
@@ -70,11 +66,7 @@ fn takes_sheet(fault: Fault, Given { sheet, watch, .. }: &Given) -> bool {
 
 /// What is said if the watch does not fit or the named round is not accepted.
 pub fn unfit(fault: Fault, given: &Given, mut right: WatchAnswer) -> WatchAnswer {
-    let Given {
-        sheet,
-        watch,
-        round,
-    } = given;
+    let Given { sheet, watch, round } = given;
     let count = watch.count;
     match fault {
         _ if takes_sheet(fault, given) => given.fitted(count),
@@ -107,9 +99,7 @@ fn forged(fault: Fault, given: &Given, mut right: WatchAnswer) -> WatchAnswer {
     match fault {
         Fault::WatchForgedNone => given.without(&reused),
         Fault::WatchForgedFarther => {
-            let wrong = reused
-                .into_iter()
-                .filter(|place| !given.is_accepted(*place));
+            let wrong = reused.into_iter().filter(|place| !given.is_accepted(*place));
             given.without(&wrong.collect::<Vec<_>>())
         }
         Fault::WatchForgedNamed => {
@@ -131,10 +121,7 @@ pub fn early(fault: Fault, given: &Given, right: WatchAnswer) -> WatchAnswer {
     match (fault, right.verdict.refusal) {
         (Fault::WatchFitsFirst, 14..=16) if !given.fits() => given.refused(21),
         (Fault::WatchFitsBeforeSheet, 2..=11) if !given.is_on_sheet() => given.refused(21),
-        (Fault::WatchRefusedMoves, 14..=16) => WatchAnswer {
-            watch: given.remembered(),
-            ..right
-        },
+        (Fault::WatchRefusedMoves, 14..=16) => WatchAnswer { watch: given.remembered(), ..right },
         _ => right,
     }
 }

@@ -1,10 +1,10 @@
 //! Faults of the calls on Vic's session.
 
-use crate::faults::rounds::{bad_beyond, compared, refused, rejected, ACCEPTED};
-use crate::faults::rows::misnamed;
 use crate::faults::Fault;
-use crate::library::phases::verifier::{ASKED, HOLDING, JUDGED, WAITING};
+use crate::faults::rounds::{ACCEPTED, bad_beyond, compared, refused, rejected};
+use crate::faults::rows::misnamed;
 use crate::library::Library::Judge;
+use crate::library::phases::verifier::{ASKED, HOLDING, JUDGED, WAITING};
 use crate::library::{Places, VerifierAnswer, VerifierJudgement, VerifierSession};
 
 pub fn verifier_new(fault: Fault) -> VerifierSession {
@@ -22,10 +22,7 @@ pub fn verifier_new(fault: Fault) -> VerifierSession {
 
 /// The session as a call with a fault takes it.
 fn taken(fault: Fault, session: VerifierSession) -> VerifierSession {
-    let cut = VerifierSession {
-        phase: session.phase & 0xff,
-        ..session
-    };
+    let cut = VerifierSession { phase: session.phase & 0xff, ..session };
     match fault {
         Fault::VerifierPhaseCut => cut,
         _ => session,
@@ -44,20 +41,16 @@ fn handed(
         (Fault::VerifierStill, 0) => given,
         (_, 0) => back,
         (Fault::VerifierPhaseCut, _) => given,
-        (Fault::VerifierPhaseMended, _) => VerifierSession {
-            phase: given.phase.min(JUDGED),
-            ..given
-        },
+        (Fault::VerifierPhaseMended, _) => {
+            VerifierSession { phase: given.phase.min(JUDGED), ..given }
+        }
         _ => back,
     }
 }
 
 /// Refuses with 21, which hands the session back.
 fn unfit(session: VerifierSession) -> VerifierAnswer {
-    VerifierAnswer {
-        refusal: 21,
-        session,
-    }
+    VerifierAnswer { refusal: 21, session }
 }
 
 pub fn verifier_commitment(
@@ -140,10 +133,7 @@ fn asked_with(
     tested: Places,
     challenge: u32,
 ) -> VerifierAnswer {
-    let other = VerifierSession {
-        commitment: tested,
-        ..session
-    };
+    let other = VerifierSession { commitment: tested, ..session };
     let mut answer = Judge.verifier_challenge(sheet, other, challenge);
     answer.session.commitment = session.commitment;
     answer
@@ -237,9 +227,6 @@ fn answered_anyway(
     }
     VerifierJudgement {
         verdict: answer.verdict,
-        session: VerifierSession {
-            phase: JUDGED,
-            ..session
-        },
+        session: VerifierSession { phase: JUDGED, ..session },
     }
 }

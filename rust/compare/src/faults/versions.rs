@@ -1,7 +1,7 @@
 //! Faults of the record writer and of the converter in the versions of a file.
 
-use crate::faults::writers::refused;
 use crate::faults::Fault;
+use crate::faults::writers::refused;
 use crate::files::{self, record_in, record_length, version, wide_challenges};
 use crate::library::Library::Judge;
 use crate::library::{Header, Round, Written};
@@ -95,10 +95,7 @@ fn converted(
     match fault {
         Fault::ConvertOne if named == 1 => {
             buffer[..file.len()].copy_from_slice(file);
-            Written {
-                refusal: 0,
-                length: file.len(),
-            }
+            Written { refusal: 0, length: file.len() }
         }
         Fault::ConvertLosesLast if count > 0 => {
             let fewer = (count as u16 - 1).to_be_bytes();

@@ -1,10 +1,10 @@
 //! Faults of opening a watch, and of what it says of a round and remembers.
 
-use crate::faults::unfit_watches::{early, unfit};
 use crate::faults::Fault;
+use crate::faults::unfit_watches::{early, unfit};
 use crate::library::Library::Judge;
 use crate::library::{
-    Header, Judgement, Opened, Places, Round, Watch, WatchAnswer, LONGEST_SHEET, MOST_REMEMBERED,
+    Header, Judgement, LONGEST_SHEET, MOST_REMEMBERED, Opened, Places, Round, Watch, WatchAnswer,
 };
 
 /// Puts bytes and their length into a watch. Of more than 308 the first are held.
@@ -86,10 +86,7 @@ impl Given<'_> {
             watch: *self.watch,
             witness: [0; 8],
             back: 0,
-            verdict: Judgement {
-                refusal,
-                ..Judgement::default()
-            },
+            verdict: Judgement { refusal, ..Judgement::default() },
         }
     }
 
@@ -118,11 +115,7 @@ impl Given<'_> {
 }
 
 pub fn watch_round(fault: Fault, sheet: &[u8], watch: &Watch, round: &Round) -> WatchAnswer {
-    let given = Given {
-        sheet,
-        watch,
-        round,
-    };
+    let given = Given { sheet, watch, round };
     let right = given.with(watch);
     match (right.verdict.refusal, right.verdict.accepted) {
         (0, 1) => stored(fault, &given, named(fault, &given, right)),
@@ -166,19 +159,17 @@ fn named(fault: Fault, given: &Given, right: WatchAnswer) -> WatchAnswer {
         {
             given.refused(21)
         }
-        _ => WatchAnswer {
-            witness: witness(fault, given, &right),
-            ..right
-        },
+        _ => WatchAnswer { witness: witness(fault, given, &right), ..right },
     }
 }
 
 /// What is said if the round at the count is looked at too, and no other is named.
 fn beyond(given: &Given, rows: u32, right: WatchAnswer) -> WatchAnswer {
     let at = given.watch.count as usize;
-    match at < MOST_REMEMBERED && given.is_same(at, rows) && given.is_other(at) {
-        true => given.naming(Some(at), right),
-        false => right,
+    if at < MOST_REMEMBERED && given.is_same(at, rows) && given.is_other(at) {
+        given.naming(Some(at), right)
+    } else {
+        right
     }
 }
 

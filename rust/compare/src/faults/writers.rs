@@ -1,6 +1,6 @@
 //! Faults of the calls that write into a lent buffer.
 
-use crate::faults::{versions, Fault};
+use crate::faults::{Fault, versions};
 use crate::files;
 use crate::library::Library::Judge;
 use crate::library::{Header, Round, Written};
@@ -12,11 +12,7 @@ pub fn refused(refusal: u32) -> Written {
 
 /// The length of the sheet that a right header gives.
 pub fn sheet_length(header: &Header) -> usize {
-    let entries = if header.kind == 1 {
-        header.rows * header.columns
-    } else {
-        0
-    };
+    let entries = if header.kind == 1 { header.rows * header.columns } else { 0 };
     20 + 4 * (entries + header.rows) as usize
 }
 
@@ -61,10 +57,7 @@ pub fn encode(
             refused(unread(fault, &header, entries, statement))
         }
         (Fault::ByteAfter, 0) => {
-            buffer[right.length..]
-                .iter_mut()
-                .take(1)
-                .for_each(|byte| *byte = 0);
+            buffer[right.length..].iter_mut().take(1).for_each(|byte| *byte = 0);
             right
         }
         (Fault::ShortFirst, 10 | 11) if buffer.len() < sheet_length(&header) => refused(22),

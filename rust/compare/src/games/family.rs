@@ -35,9 +35,7 @@ fn groups(kind: u32, modulus: u32, order: u32) -> Vec<Group> {
 
 /// The sheets of a group with so many rows and columns.
 fn of_group(group: &Group, rows: u32, columns: u32) -> Vec<Sheet> {
-    let elements: Vec<u32> = (1..group.modulus)
-        .filter(|v| group.is_element(*v))
-        .collect();
+    let elements: Vec<u32> = (1..group.modulus).filter(|v| group.is_element(*v)).collect();
     let entries = match group.kind {
         1 => choices(&elements, (rows * columns) as usize),
         _ => vec![[0; 8]],
@@ -97,9 +95,6 @@ mod tests {
         }
         // A root sheet on which no two responses have one image has a witness.
         assert_eq!(met[4], 0);
-        assert!(
-            [0, 1, 2, 3, 5, 6, 7].iter().all(|place| met[*place] > 20),
-            "{met:?}"
-        );
+        assert!([0, 1, 2, 3, 5, 6, 7].iter().all(|place| met[*place] > 20), "{met:?}");
     }
 }

@@ -68,11 +68,7 @@ fn with_commitments(
     known: bool,
 ) -> (Sheet, Vec<Places>) {
     let last = sheet.header.challenges - 1;
-    let mut instance = Instance {
-        group,
-        sheet,
-        witness: None,
-    };
+    let mut instance = Instance { group, sheet, witness: None };
     let slots = [(); 3].map(|()| instance.slots(random));
     if known {
         instance.sheet.statement = instance.sheet.image(&slots[0]);
@@ -89,7 +85,7 @@ fn with_commitments(
 mod tests {
     use super::*;
     use crate::library::Library::Judge;
-    use crate::search::{is_small, Table};
+    use crate::search::{Table, is_small};
 
     #[test]
     fn the_largest_sheets_load_and_are_small_enough() {

@@ -98,11 +98,7 @@ fn prime(random: &mut Random) -> u32 {
 fn divisor(random: &mut Random, n: u32) -> u32 {
     let factors = prime_factors(n);
     match random.below(3) {
-        0 => factors
-            .iter()
-            .filter(|_| random.once_in(2))
-            .product::<u32>()
-            .max(2),
+        0 => factors.iter().filter(|_| random.once_in(2)).product::<u32>().max(2),
         1 => factors.last().copied().unwrap_or(2),
         _ => factors.iter().rev().take(2).product::<u32>().max(2),
     }

@@ -55,38 +55,22 @@ fn wish(entry: Entry) -> ledger::Wish {
 }
 
 pub fn ledger_check(base: Base, held: &Ledger) -> Checked {
-    let held = ledger::Ledger {
-        lines: held.lines.map(for_judge),
-        count: held.count,
-    };
+    let held = ledger::Ledger { lines: held.lines.map(for_judge), count: held.count };
     let (accepted, line, refusal) = match ledger::check(&shared(base), &held) {
         Ok(ledger::Checked::Accepted) => (1, 0, 0),
         Ok(ledger::Checked::Rejected { line }) => (0, line, 0),
         Err(refusal) => (0, 0, refusal),
     };
-    Checked {
-        accepted,
-        line,
-        refusal,
-    }
+    Checked { accepted, line, refusal }
 }
 
 pub fn ledger_write(base: Base, entries: &Entries) -> LedgerWritten {
-    let wishes = ledger::Wishes {
-        entries: entries.entries.map(wish),
-        count: entries.count,
-    };
+    let wishes = ledger::Wishes { entries: entries.entries.map(wish), count: entries.count };
     match ledger::write(&shared(base), &wishes) {
         Ok(made) => LedgerWritten {
-            ledger: Ledger {
-                lines: made.lines.map(from_judge),
-                count: made.count,
-            },
+            ledger: Ledger { lines: made.lines.map(from_judge), count: made.count },
             refusal: 0,
         },
-        Err(refusal) => LedgerWritten {
-            refusal,
-            ..LedgerWritten::default()
-        },
+        Err(refusal) => LedgerWritten { refusal, ..LedgerWritten::default() },
     }
 }

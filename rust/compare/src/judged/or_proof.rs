@@ -45,18 +45,10 @@ fn session(prover: OrProver) -> OrSession {
 fn answer(result: Result<([Places; 2], u32), u32>, next: OrProver) -> OrAnswer {
     let session = session(next);
     match result {
-        Ok(([values0, values1], challenge0)) => OrAnswer {
-            session,
-            values0,
-            values1,
-            challenge0,
-            refusal: 0,
-        },
-        Err(refusal) => OrAnswer {
-            session,
-            refusal,
-            ..OrAnswer::default()
-        },
+        Ok(([values0, values1], challenge0)) => {
+            OrAnswer { session, values0, values1, challenge0, refusal: 0 }
+        }
+        Err(refusal) => OrAnswer { session, refusal, ..OrAnswer::default() },
     }
 }
 
@@ -67,25 +59,13 @@ pub fn or_judge(first: &[u8], second: &[u8], judged: &OrRound) -> OrJudgement {
         OrVerdict::Refused(number) => (0, [0; 2], number),
     };
     let [rows0, rows1] = rows;
-    OrJudgement {
-        accepted,
-        rows0,
-        rows1,
-        refusal,
-    }
+    OrJudgement { accepted, rows0, rows1, refusal }
 }
 
 pub fn or_extract(first: &[u8], second: &[u8], a: &OrRound, b: &OrRound) -> OrExtracted {
     match or_proof::extract([first, second], &round(a), &round(b)) {
-        Ok(found) => OrExtracted {
-            values: found.witness,
-            side: found.side,
-            refusal: 0,
-        },
-        Err(refusal) => OrExtracted {
-            refusal,
-            ..OrExtracted::default()
-        },
+        Ok(found) => OrExtracted { values: found.witness, side: found.side, refusal: 0 },
+        Err(refusal) => OrExtracted { refusal, ..OrExtracted::default() },
     }
 }
 
@@ -115,10 +95,7 @@ pub fn or_prover_respond(
     witness: &Places,
 ) -> OrAnswer {
     let (result, next) = or_proof::respond([first, second], prover(&given), challenge, witness);
-    answer(
-        result.map(|answer| (answer.responses, answer.first_challenge)),
-        next,
-    )
+    answer(result.map(|answer| (answer.responses, answer.first_challenge)), next)
 }
 
 pub fn or_prover_drop(given: OrSession) -> OrAnswer {

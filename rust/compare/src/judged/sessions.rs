@@ -96,16 +96,8 @@ pub fn prover_answer(
     (result, session): (Result<Places, u32>, Prover),
 ) -> ProverAnswer {
     match result {
-        Ok(values) => ProverAnswer {
-            refusal: 0,
-            session: prover_session(&given, session),
-            values,
-        },
-        Err(refusal) => ProverAnswer {
-            refusal,
-            session: given,
-            values: [0; 8],
-        },
+        Ok(values) => ProverAnswer { refusal: 0, session: prover_session(&given, session), values },
+        Err(refusal) => ProverAnswer { refusal, session: given, values: [0; 8] },
     }
 }
 
@@ -143,14 +135,8 @@ pub fn verifier_answer(
     (result, session): (Result<(), u32>, Verifier),
 ) -> VerifierAnswer {
     match result {
-        Ok(()) => VerifierAnswer {
-            refusal: 0,
-            session: verifier_session(session),
-        },
-        Err(refusal) => VerifierAnswer {
-            refusal,
-            session: given,
-        },
+        Ok(()) => VerifierAnswer { refusal: 0, session: verifier_session(session) },
+        Err(refusal) => VerifierAnswer { refusal, session: given },
     }
 }
 
@@ -160,10 +146,7 @@ mod tests {
 
     /// A memory with numbers in every place.
     fn any_memory(phase: u32) -> Memory {
-        let mut memory = Memory {
-            count: u32::MAX - phase,
-            ..Memory::default()
-        };
+        let mut memory = Memory { count: u32::MAX - phase, ..Memory::default() };
         for (name, kept) in [0, 1, 2, u32::MAX].into_iter().cycle().take(8).enumerate() {
             let number = name as u32 + 10;
             memory.saved[name] = Saved {
@@ -188,19 +171,10 @@ mod tests {
                 commitment: [9; 8],
                 memory: any_memory(phase),
             };
-            let vic = VerifierSession {
-                phase,
-                commitment: [1, 2, 3, 4, 5, 6, 7, 8],
-                challenge: 9,
-            };
-            let (peggy_back, vic_back) = (
-                prover_session(&peggy, prover(&peggy)),
-                verifier_session(verifier(&vic)),
-            );
-            let expected = ProverSession {
-                phase: back,
-                ..peggy
-            };
+            let vic = VerifierSession { phase, commitment: [1, 2, 3, 4, 5, 6, 7, 8], challenge: 9 };
+            let (peggy_back, vic_back) =
+                (prover_session(&peggy, prover(&peggy)), verifier_session(verifier(&vic)));
+            let expected = ProverSession { phase: back, ..peggy };
             assert_eq!(peggy_back, expected);
             assert_eq!(vic_back, VerifierSession { phase: back, ..vic });
         }

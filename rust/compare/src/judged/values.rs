@@ -19,10 +19,7 @@ pub fn loaded(result: Result<judge::Sheet, u32>) -> Loaded {
             },
             statement: sheet.statement,
         },
-        Err(refusal) => Loaded {
-            refusal,
-            ..Loaded::default()
-        },
+        Err(refusal) => Loaded { refusal, ..Loaded::default() },
     }
 }
 
@@ -63,10 +60,7 @@ pub fn round(round: &Round) -> judge::Round {
 pub fn computed(result: Result<Places, u32>) -> Computed {
     match result {
         Ok(values) => Computed { refusal: 0, values },
-        Err(refusal) => Computed {
-            refusal,
-            values: [0; 8],
-        },
+        Err(refusal) => Computed { refusal, values: [0; 8] },
     }
 }
 
@@ -84,9 +78,5 @@ pub fn judgement(verdict: Verdict) -> Judgement {
         Verdict::Rejected(rows) => (0, 0, mask(&rows)),
         Verdict::Refused(refusal) => (refusal, 0, 0),
     };
-    Judgement {
-        refusal,
-        accepted,
-        rows,
-    }
+    Judgement { refusal, accepted, rows }
 }

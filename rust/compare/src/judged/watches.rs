@@ -32,10 +32,7 @@ fn from_judge(held: watch::Watch) -> Watch {
 
 pub fn watch_open(sheet: &[u8]) -> Opened {
     let (result, opened) = watch::open(sheet);
-    Opened {
-        watch: from_judge(opened),
-        refusal: result.err().unwrap_or(0),
-    }
+    Opened { watch: from_judge(opened), refusal: result.err().unwrap_or(0) }
 }
 
 pub fn watch_round(sheet: &[u8], held: &Watch, given: &Round) -> WatchAnswer {

@@ -22,10 +22,7 @@ fn empty_case(random: &mut Random) -> WriterCase {
         6 => random.pick(&[0x100, 0x1_0000, 0x100_0000]) + random.between(1, 2),
         _ => random.word(),
     };
-    WriterCase {
-        writing: Writing::Empty { version },
-        lent: Lent::for_result(random, 7),
-    }
+    WriterCase { writing: Writing::Empty { version }, lent: Lent::for_result(random, 7) }
 }
 
 /// A challenge, often one of the largest that version 2 of a file holds or of
@@ -67,10 +64,7 @@ fn append_case(random: &mut Random) -> WriterCase {
         writing: Writing::Append {
             sheet,
             used,
-            round: Round {
-                challenge: challenge(random),
-                ..files::any_round(random)
-            },
+            round: Round { challenge: challenge(random), ..files::any_round(random) },
         },
         lent: Lent::first(random, &file, length),
     }
@@ -101,10 +95,7 @@ fn convert_case(random: &mut Random) -> WriterCase {
     } else {
         Lent::for_result(random, 7 + count * other)
     };
-    WriterCase {
-        writing: Writing::Convert { sheet, file },
-        lent,
-    }
+    WriterCase { writing: Writing::Convert { sheet, file }, lent }
 }
 
 /// Makes every challenge of a file of version 1 fit 16 bits, now and then all but
@@ -229,10 +220,7 @@ mod tests {
             ("K or more", refusal == 0 && (0..count).any(beyond)),
             ("wide first", refusal == 15 && first),
             ("wide last", refusal == 15 && last),
-            (
-                "wide last and short",
-                refusal == 15 && last && length < 7 + 10 * count as usize,
-            ),
+            ("wide last and short", refusal == 15 && last && length < 7 + 10 * count as usize),
             ("12", refusal == 12),
         ];
         let names = names.into_iter().filter(|(_, holds)| *holds);
@@ -242,14 +230,7 @@ mod tests {
     #[test]
     fn files_are_converted_both_ways_into_buffers_that_just_fit() {
         let met = met(20_000, |random| converted(&convert_case(random)));
-        for name in [
-            "just fits",
-            "one byte short",
-            "no rounds",
-            "512 rounds",
-            "K or more",
-            "12",
-        ] {
+        for name in ["just fits", "one byte short", "no rounds", "512 rounds", "K or more", "12"] {
             for version in [1, 2] {
                 let wanted = format!("{version}: {name}");
                 assert!(met.get(&wanted) > Some(&20), "{wanted}: {met:?}");

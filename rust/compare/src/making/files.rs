@@ -34,12 +34,7 @@ fn of_call(random: &mut Random, call: FileCall) -> Box<dyn Case> {
         files::any(random, &header)
     };
     let number = files::round_number(random, files::record_in(&header, &file), &file);
-    Box::new(FileCase {
-        call,
-        sheet,
-        file,
-        number,
-    })
+    Box::new(FileCase { call, sheet, file, number })
 }
 
 /// A case of comparing the commitments of two rounds.
@@ -71,11 +66,7 @@ fn same_case(random: &mut Random) -> SameCase {
             numbers[random.below(2)] = files::round_number(random, record, &file);
         }
     }
-    SameCase {
-        sheet,
-        file,
-        numbers,
-    }
+    SameCase { sheet, file, numbers }
 }
 
 /// Makes two records the same, or the same but for a byte of the commitment, often
@@ -105,11 +96,7 @@ mod tests {
 
     /// What stands out in a case of two rounds that can be read, or its number.
     fn shape(case: &SameCase) -> String {
-        let SameCase {
-            sheet,
-            file,
-            numbers: [i, j],
-        } = case;
+        let SameCase { sheet, file, numbers: [i, j] } = case;
         let compared = Judge.same_commitment(sheet, file, *i, *j);
         let header = Judge.load(sheet).header;
         let count = Judge.count(sheet, file).count as usize;
@@ -123,9 +110,8 @@ mod tests {
             &file[part.offset..part.offset + part.length]
         });
         let bytes = 4 * header.rows as usize;
-        let differing: Vec<usize> = (0..one.len())
-            .filter(|byte| one[*byte] != other[*byte])
-            .collect();
+        let differing: Vec<usize> =
+            (0..one.len()).filter(|byte| one[*byte] != other[*byte]).collect();
         match differing[..] {
             [] if i == j => "i = j".to_string(),
             [] => "two equal rounds".to_string(),

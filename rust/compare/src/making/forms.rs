@@ -24,10 +24,7 @@ fn case(random: &mut Random) -> WriterCase {
             spoil(random, &group, &mut forms, fault);
         }
     }
-    WriterCase {
-        writing: Writing::Linear { forms },
-        lent: Lent::for_result(random, needed),
-    }
+    WriterCase { writing: Writing::Linear { forms }, lent: Lent::for_result(random, needed) }
 }
 
 /// The numbers that inputs can be spoilt with. The buffer is lent apart.
@@ -143,9 +140,7 @@ fn spoil_counts(random: &mut Random, group: &Group, forms: &mut Forms) {
         0 | 1 => {
             let count = random.pick(&[0, 0, 9, 9, 10, 16, 256, 256 + forms.generators.len()]);
             let of_one = forms.coefficients.len() / forms.generators.len();
-            forms
-                .generators
-                .resize_with(count, || group.element(random));
+            forms.generators.resize_with(count, || group.element(random));
             if !random.once_in(3) && count <= 16 {
                 let slot = || group.slot(random);
                 forms.coefficients.resize_with(of_one * count, slot);
@@ -202,11 +197,7 @@ mod tests {
             let group = Group::new(1, header.modulus, header.order);
             group.is_element(*v)
         };
-        let counts = [
-            forms.generators.len(),
-            forms.coefficients.len(),
-            forms.statement.len(),
-        ];
+        let counts = [forms.generators.len(), forms.coefficients.len(), forms.statement.len()];
         match number {
             5 => header.modulus < 3,
             6 => header.order < 2,
@@ -227,9 +218,7 @@ mod tests {
     /// The first number that applies, 0 for none, and the number behind it where that
     /// applies too.
     fn first_two(forms: &Forms, length: usize) -> (u32, u32) {
-        let first = NUMBERS
-            .iter()
-            .position(|number| applies(forms, length, *number));
+        let first = NUMBERS.iter().position(|number| applies(forms, length, *number));
         let Some(first) = first else {
             return (0, 0);
         };
@@ -319,10 +308,7 @@ mod tests {
             (unused, "a bad one not used"),
             (list.iter().any(|c| *c == order.wrapping_sub(1)), "q - 1"),
             (list.contains(&order), "q"),
-            (
-                list.iter().any(|c| *c >= modulus),
-                "an exponent of m or more",
-            ),
+            (list.iter().any(|c| *c >= modulus), "an exponent of m or more"),
             (length == needed, "just fits"),
             (length + 1 == needed, "one byte short"),
             (composite(modulus) && composite(order), "composite"),

@@ -7,20 +7,15 @@ use crate::damage::{self, faults, group_for};
 use crate::files;
 use crate::groups::Group;
 use crate::instance::Instance;
-use crate::library::{Header, Places, Round, MOST_ROUNDS};
+use crate::library::{Header, MOST_ROUNDS, Places, Round};
 use crate::making::brought::spoil_round;
 use crate::random::Random;
 use crate::search::count;
 use crate::sheets::Sheet;
 
 /// Groups of kind 1 and columns with 4,096 responses.
-const AT_BOUND: [(u32, u32, u32); 5] = [
-    (12_289, 4096, 1),
-    (193, 64, 2),
-    (97, 16, 3),
-    (73, 8, 4),
-    (13, 4, 6),
-];
+const AT_BOUND: [(u32, u32, u32); 5] =
+    [(12_289, 4096, 1), (193, 64, 2), (97, 16, 3), (73, 8, 4), (13, 4, 6)];
 
 /// Orders and columns with a little more than 4,096 responses, and some whose
 /// responses are few if they are counted in 32 or 64 bits.
@@ -131,9 +126,10 @@ fn small_group(random: &mut Random) -> Group {
         (103, 17),
         (4_294_967_291, 10),
     ]);
-    match random.once_in(4) {
-        true => Group::new(1, random.between(3, 60), random.between(2, 12)),
-        false => Group::new(1, modulus, order),
+    if random.once_in(4) {
+        Group::new(1, random.between(3, 60), random.between(2, 12))
+    } else {
+        Group::new(1, modulus, order)
     }
 }
 
@@ -198,11 +194,7 @@ fn sized(random: &mut Random, group: Group, [rows, columns]: [u32; 2]) -> Instan
             sheet.entries[8 * row + column] = entry;
         }
     }
-    let mut instance = Instance {
-        group,
-        sheet,
-        witness: None,
-    };
+    let mut instance = Instance { group, sheet, witness: None };
     if random.once_in(2) {
         let witness = instance.slots(random);
         instance.sheet.statement = instance.sheet.image(&witness);
@@ -272,7 +264,7 @@ mod tests {
 
     use super::*;
     use crate::library::Library::Judge;
-    use crate::search::{is_small, Table};
+    use crate::search::{Table, is_small};
 
     /// What a case shows, in a few words.
     fn shape(case: &GameCase) -> String {
@@ -303,12 +295,7 @@ mod tests {
         let mut all: Vec<String> = numbers.map(|number| format!("refused {number}")).collect();
         for kind in [1, 2] {
             for kernel in [false, true] {
-                for answered in [
-                    (true, "none"),
-                    (true, "all"),
-                    (false, "none"),
-                    (false, "one"),
-                ] {
+                for answered in [(true, "none"), (true, "all"), (false, "none"), (false, "one")] {
                     let (witness, answered) = answered;
                     let start = format!("kind {kind}, witness {witness}, kernel {kernel}");
                     // A root sheet on which no two responses have one image has all of them.

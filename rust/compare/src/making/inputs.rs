@@ -36,11 +36,7 @@ impl Inputs {
         };
         let group = damage::group_for(random, first);
         let instance = instance(random, group);
-        let faults = if first == 0 {
-            Vec::new()
-        } else {
-            faults(random, &call.numbers(), first)
-        };
+        let faults = if first == 0 { Vec::new() } else { faults(random, &call.numbers(), first) };
         Inputs { instance, faults }
     }
 

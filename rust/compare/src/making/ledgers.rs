@@ -8,8 +8,8 @@ use crate::ledgers::{
     commitment, counted, entries_of, entry_numbers, entry_of, entry_uses, line_numbers, line_of,
     line_uses, product, sum,
 };
-use crate::library::lines::{COMMITMENT, PRODUCT, SUM};
 use crate::library::Library::Judge;
+use crate::library::lines::{COMMITMENT, PRODUCT, SUM};
 use crate::library::{Base, Entries, Entry, Ledger, Line, MOST_LINES};
 use crate::random::Random;
 
@@ -26,10 +26,7 @@ pub fn write(random: &mut Random) -> Box<dyn Case> {
 /// The numbers of the faults to put in, the first to be tested last, and a group that can
 /// have them.
 fn wrong(random: &mut Random, call: Call) -> (Vec<u32>, Group) {
-    let first = match random.once_in(2) {
-        true => random.pick(call.others()),
-        false => 0,
-    };
+    let first = if random.once_in(2) { random.pick(call.others()) } else { 0 };
     let group = group_of_kind(random, 1, first);
     let faults = match first {
         0 => Vec::new(),
@@ -55,17 +52,10 @@ fn check_case(random: &mut Random) -> LedgerCase {
         line_of(filled(random, line.map(line_numbers), uses))
     });
     for fault in &faults {
-        let mut spoilt = Spoilt {
-            random,
-            group: &group,
-            base: &mut base,
-        };
+        let mut spoilt = Spoilt { random, group: &group, base: &mut base };
         spoilt.ledger(&mut ledger, *fault);
     }
-    LedgerCase {
-        base,
-        call: LedgerCall::Check(Box::new(ledger)),
-    }
+    LedgerCase { base, call: LedgerCall::Check(Box::new(ledger)) }
 }
 
 fn write_case(random: &mut Random) -> LedgerCase {
@@ -79,17 +69,10 @@ fn write_case(random: &mut Random) -> LedgerCase {
         entry_of(filled(random, entry.map(entry_numbers), uses))
     });
     for fault in &faults {
-        let mut spoilt = Spoilt {
-            random,
-            group: &group,
-            base: &mut base,
-        };
+        let mut spoilt = Spoilt { random, group: &group, base: &mut base };
         spoilt.entries(&mut entries, *fault);
     }
-    LedgerCase {
-        base,
-        call: LedgerCall::Write(Box::new(entries)),
-    }
+    LedgerCase { base, call: LedgerCall::Write(Box::new(entries)) }
 }
 
 /// What the lines of a ledger share. g and h are any elements, now and then 1 or the same.
@@ -101,13 +84,7 @@ pub fn base(random: &mut Random, group: &Group) -> Base {
         2 => (g, g),
         _ => (g, h),
     };
-    Base {
-        g,
-        h,
-        modulus: group.modulus,
-        order: group.order,
-        challenges: group.challenges(random),
-    }
+    Base { g, h, modulus: group.modulus, order: group.order, challenges: group.challenges(random) }
 }
 
 /// How many lines there are, mostly a few.
@@ -127,11 +104,7 @@ pub fn entries(random: &mut Random, group: &Group, base: &Base, count: usize) ->
     for number in 0..count as u32 {
         let last = number as usize + 1 == count;
         let names = [0; 2].map(|_| name(random, number));
-        let names = if random.once_in(6) {
-            [names[0]; 2]
-        } else {
-            names
-        };
+        let names = if random.once_in(6) { [names[0]; 2] } else { names };
         list.push(match random.below(8) {
             _ if number == 0 => commitment(group.slot(random), group.slot(random)),
             0..=2 if !last => commitment(group.slot(random), group.slot(random)),
@@ -150,9 +123,10 @@ pub fn entries(random: &mut Random, group: &Group, base: &Base, count: usize) ->
 /// A line above, often one of the last.
 fn name(random: &mut Random, number: u32) -> u32 {
     let above = number as usize;
-    match random.once_in(3) {
-        true => above.saturating_sub(1 + random.below(above.min(3))) as u32,
-        false => random.below(above) as u32,
+    if random.once_in(3) {
+        above.saturating_sub(1 + random.below(above.min(3))) as u32
+    } else {
+        random.below(above) as u32
     }
 }
 
@@ -231,9 +205,7 @@ fn no_kind(random: &mut Random) -> u32 {
 /// The number of a line that is not above this one.
 fn not_above(random: &mut Random, number: u32) -> u32 {
     let cut = random.pick(&[0x100, 0x1_0000, 0x8000_0000]) + random.between(0, number);
-    random
-        .pick(&[number, number, number, number + 1, 63, 64, cut, u32::MAX])
-        .max(number)
+    random.pick(&[number, number, number, number + 1, 63, 64, cut, u32::MAX]).max(number)
 }
 
 /// What a fault is put into.
@@ -253,10 +225,7 @@ impl Spoilt<'_> {
             8 => base.challenges = self.group.wrong_challenges(random),
             _ => {
                 let other = self.group.other(random);
-                match random.once_in(2) {
-                    true => base.g = other,
-                    false => base.h = other,
-                }
+                if random.once_in(2) { base.g = other } else { base.h = other }
             }
         }
     }
@@ -392,10 +361,7 @@ mod tests {
         let group = Group::new(1, base.modulus.max(3), base.order.max(2));
         let is_element = |v: u32| group.is_element(v);
         let rejected = match number {
-            0 => judged(Judge, base, ledger)
-                .iter()
-                .filter(|it| it.1 != 0)
-                .count(),
+            0 => judged(Judge, base, ledger).iter().filter(|it| it.1 != 0).count(),
             _ => 0,
         };
         let twice = |kind: u32| any(&|_, line| line.kind == kind && line.first == line.second);
@@ -416,16 +382,8 @@ mod tests {
             (twice(PRODUCT), "a product of one line"),
             (rejected == 1, "one rejected"),
             (rejected > 1, "several rejected"),
-            (
-                any(&|_, line| unused(line).any(|(value, used)| !used && value != 0)),
-                "junk",
-            ),
-            (
-                ledger.lines[counted(ledger.count)..]
-                    .iter()
-                    .any(|line| line.kind > 3),
-                "junk behind",
-            ),
+            (any(&|_, line| unused(line).any(|(value, used)| !used && value != 0)), "junk"),
+            (ledger.lines[counted(ledger.count)..].iter().any(|line| line.kind > 3), "junk behind"),
         ]
     }
 

@@ -7,9 +7,9 @@ use crate::files;
 use crate::groups::Group;
 use crate::instance::Instance;
 use crate::lent::Lent;
-use crate::library::{Round, LONGEST_TEXT};
+use crate::library::{LONGEST_TEXT, Round};
 use crate::making::brought::{round, spoil_round};
-use crate::making::levels::{self, needed, HIGHEST};
+use crate::making::levels::{self, HIGHEST, needed};
 use crate::random::Random;
 
 /// A case of the marker.
@@ -164,32 +164,20 @@ mod tests {
     #[test]
     fn levels_are_met_at_their_bounds() {
         let shapes: [Named; 12] = [
-            ("just reached", |(k, n, w, passes)| {
-                passes && w == [reached(k, n) as u8]
-            }),
-            ("just missed", |(k, n, w, passes)| {
-                !passes && n > 0 && w == [reached(k, n) as u8 + 1]
-            }),
+            ("just reached", |(k, n, w, passes)| passes && w == [reached(k, n) as u8]),
+            ("just missed", |(k, n, w, passes)| !passes && n > 0 && w == [reached(k, n) as u8 + 1]),
             ("equal", |(k, n, w, passes)| {
                 passes && k.is_power_of_two() && k.ilog2() as usize * n == w[0].into()
             }),
-            ("65,536 four times", |shape| {
-                shape == (65_536, 4, &[64], true)
-            }),
-            ("65,536 three times", |shape| {
-                shape == (65_536, 3, &[64], false)
-            }),
-            ("65,535 four times", |shape| {
-                shape == (65_535, 4, &[64], false)
-            }),
+            ("65,536 four times", |shape| shape == (65_536, 4, &[64], true)),
+            ("65,536 three times", |shape| shape == (65_536, 3, &[64], false)),
+            ("65,535 four times", |shape| shape == (65_535, 4, &[64], false)),
             ("2 64 times", |shape| shape == (2, 64, &[64], true)),
             ("2 63 times", |shape| shape == (2, 63, &[64], false)),
             ("no rounds", |(_, n, w, _)| n == 0 && w.len() == 1),
             ("no bytes", |(.., w, _)| w.is_empty()),
             ("0, 65", |(.., w, _)| w == [0] || w == [65]),
-            ("two bytes", |(.., w, _)| {
-                w.len() == 2 && (1..=64).contains(&w[0])
-            }),
+            ("two bytes", |(.., w, _)| w.len() == 2 && (1..=64).contains(&w[0])),
         ];
         let mut met = [0; 12];
         for seed in 0..30_000 {

@@ -2,22 +2,12 @@
 
 use crate::instance::Instance;
 use crate::library::phases::prover::COMMITTED;
-use crate::library::{Listed, Memory, Places, Saved, MOST_ANSWERED, SAVED_STATES};
+use crate::library::{Listed, MOST_ANSWERED, Memory, Places, SAVED_STATES, Saved};
 use crate::making::phases::any_phase;
 use crate::random::Random;
 
 /// Counts of a list that has no room. Some have room if they are cut.
-const FULL: [u32; 9] = [
-    64,
-    64,
-    65,
-    66,
-    0x100,
-    0x1_0001,
-    0x8000_0000,
-    u32::MAX - 1,
-    u32::MAX,
-];
+const FULL: [u32; 9] = [64, 64, 65, 66, 0x100, 0x1_0001, 0x8000_0000, u32::MAX - 1, u32::MAX];
 
 /// A number that says that a state was saved, mostly 1.
 fn kept(random: &mut Random) -> u32 {
@@ -31,12 +21,7 @@ fn kept(random: &mut Random) -> u32 {
 pub fn saved(random: &mut Random, instance: &Instance) -> Saved {
     let (phase, kept) = (any_phase(random), kept(random));
     if random.once_in(2) {
-        return Saved {
-            nonce: random.words(),
-            commitment: random.words(),
-            phase,
-            kept,
-        };
+        return Saved { nonce: random.words(), commitment: random.words(), phase, kept };
     }
     let nonce = instance.slots(random);
     Saved {
@@ -51,10 +36,7 @@ pub fn saved(random: &mut Random, instance: &Instance) -> Saved {
 fn any_state(random: &mut Random, instance: &Instance) -> Saved {
     match random.below(3) {
         0 => saved(random, instance),
-        1 if random.once_in(2) => Saved {
-            kept: 0,
-            ..saved(random, instance)
-        },
+        1 if random.once_in(2) => Saved { kept: 0, ..saved(random, instance) },
         _ => Saved::default(),
     }
 }
@@ -74,9 +56,10 @@ pub fn with_room(random: &mut Random, instance: &Instance, commitment: &Places) 
     };
     let count = memory.count as usize;
     for (place, listed) in memory.answered.iter_mut().enumerate() {
-        listed.commitment = match place < count {
-            true => unlike(random, instance, commitment),
-            false => behind(random, commitment),
+        listed.commitment = if place < count {
+            unlike(random, instance, commitment)
+        } else {
+            behind(random, commitment)
         };
     }
     memory
@@ -130,9 +113,7 @@ pub fn list(random: &mut Random, memory: &mut Memory, commitment: &Places) {
         2 => count.saturating_sub(2),
         _ => random.below(count),
     };
-    memory.answered[place] = Listed {
-        commitment: *commitment,
-    };
+    memory.answered[place] = Listed { commitment: *commitment };
 }
 
 /// Any memory, also one whose list has no room or that lists the commitment.

@@ -178,11 +178,7 @@ pub fn give_up(random: &mut Random) -> Box<dyn Case> {
     let inputs = PairInputs::of_call(random, Call::OrProverDrop, sheets(0));
     let mut session = any_held(random, &inputs.pair);
     session.phase = any_phase(random);
-    Box::new(OrSessionCase::one(
-        Default::default(),
-        session,
-        OrStep::Drop,
-    ))
+    Box::new(OrSessionCase::one(Default::default(), session, OrStep::Drop))
 }
 
 /// A session with any held values.
@@ -269,11 +265,7 @@ fn spoil_commitments(random: &mut Random, pair: &Pair, session: &mut OrSession) 
         }
         2 => {
             let value = &mut commitment[random.place(rows)];
-            *value = multiply(
-                *value,
-                instance.group.element(random),
-                instance.group.modulus,
-            );
+            *value = multiply(*value, instance.group.element(random), instance.group.modulus);
         }
         _ => change_rows(random, instance, commitment),
     }
@@ -298,15 +290,10 @@ mod tests {
     /// What stands out in a case of responding.
     fn shapes(case: &OrSessionCase) -> Vec<&'static str> {
         let [first, second] = &case.sheets;
-        let [OrStep::Respond { challenge, witness }] = case.steps[..] else {
-            unreachable!()
-        };
+        let [OrStep::Respond { challenge, witness }] = case.steps[..] else { unreachable!() };
         let session = case.made.unwrap();
-        let respond = |session| {
-            Judge
-                .or_prover_respond(first, second, session, challenge, &witness)
-                .refusal
-        };
+        let respond =
+            |session| Judge.or_prover_respond(first, second, session, challenge, &witness).refusal;
         let (number, phase) = (respond(session), session.phase);
         let headers = [first, second].map(|sheet| Judge.load(sheet).header);
         if headers.iter().any(|header| header.modulus == 0) {
@@ -325,30 +312,15 @@ mod tests {
             (number == 17 && session.side > 1, "17 of a side beyond 1"),
             (number == 21 && phase > 3, "an unknown state"),
             (mended(OrSession { side: 1, ..session }), "a side beyond 1"),
+            (mended(OrSession { nonce, ..session }), "a nonce out of range"),
+            (mended(OrSession { response, ..session }), "a simulated response out of range"),
             (
-                mended(OrSession { nonce, ..session }),
-                "a nonce out of range",
-            ),
-            (
-                mended(OrSession {
-                    response,
-                    ..session
-                }),
-                "a simulated response out of range",
-            ),
-            (
-                mended(OrSession {
-                    challenge: left,
-                    ..session
-                }),
+                mended(OrSession { challenge: left, ..session }),
                 "a simulated challenge out of range",
             ),
             (number == 0 && session.side == 0, "answered on side 0"),
             (number == 0 && session.side == 1, "answered on side 1"),
-            (
-                number == 0 && challenge < session.challenge,
-                "a challenge below the simulated one",
-            ),
+            (number == 0 && challenge < session.challenge, "a challenge below the simulated one"),
         ];
         let met = shapes.into_iter().filter(|(met, _)| *met);
         met.map(|(_, name)| name).collect()

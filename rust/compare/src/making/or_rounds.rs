@@ -24,10 +24,7 @@ fn judge_case(random: &mut Random) -> OrRoundCase {
         spoil_round(random, pair, &mut judged, *fault);
     }
     fill_round(random, pair, &mut judged);
-    OrRoundCase {
-        sheets: inputs.bytes(random),
-        call: OrRoundCall::Judge(Box::new(judged)),
-    }
+    OrRoundCase { sheets: inputs.bytes(random), call: OrRoundCall::Judge(Box::new(judged)) }
 }
 
 /// A round without a fault. In half of the cases one side or both are changed,
@@ -54,10 +51,7 @@ fn round(random: &mut Random, pair: &Pair) -> OrRound {
 
 /// c or c0.
 fn random_challenge<'a>(random: &mut Random, round: &'a mut OrRound) -> &'a mut u32 {
-    match random.once_in(2) {
-        true => &mut round.challenge,
-        false => &mut round.challenge0,
-    }
+    if random.once_in(2) { &mut round.challenge } else { &mut round.challenge0 }
 }
 
 /// Puts a fault with the number 14, 15 or 16 into one side or into both.
@@ -97,11 +91,7 @@ fn extract_case(random: &mut Random) -> OrRoundCase {
     let inputs = PairInputs::of_call(random, Call::OrExtract, [Instance::known; 2]);
     let pair = &inputs.pair;
     let mut sides = two_rounds(random, pair);
-    for fault in inputs
-        .faults
-        .iter()
-        .filter(|fault| [18, 20].contains(*fault))
-    {
+    for fault in inputs.faults.iter().filter(|fault| [18, 20].contains(*fault)) {
         spoil_sides(random, pair, &mut sides, *fault);
     }
     let mut rounds = sides.each_ref().map(|sides| pair.joined(sides));
@@ -115,10 +105,7 @@ fn extract_case(random: &mut Random) -> OrRoundCase {
     for round in &mut rounds {
         fill_round(random, pair, round);
     }
-    OrRoundCase {
-        sheets: inputs.bytes(random),
-        call: OrRoundCall::Extract(Box::new(rounds)),
-    }
+    OrRoundCase { sheets: inputs.bytes(random), call: OrRoundCall::Extract(Box::new(rounds)) }
 }
 
 /// Two accepted rounds with the same commitments. The challenges differ on side
@@ -142,10 +129,7 @@ fn two_rounds(random: &mut Random, pair: &Pair) -> [[Round; 2]; 2] {
     }
     let [i, j] = &pair.instances;
     [0, 1].map(|place| {
-        [
-            with_nonce(random, i, &first.0, one[place]),
-            with_nonce(random, j, &second.0, two[place]),
-        ]
+        [with_nonce(random, i, &first.0, one[place]), with_nonce(random, j, &second.0, two[place])]
     })
 }
 
@@ -205,19 +189,14 @@ mod tests {
         }
         if let [one, other] = rounds {
             let extracted = Judge.or_extract(first, second, one, other);
-            let (c, c0) = (
-                one.challenge == other.challenge,
-                one.challenge0 == other.challenge0,
-            );
+            let (c, c0) = (one.challenge == other.challenge, one.challenge0 == other.challenge0);
             match extracted.refusal {
                 0 => {
                     let one_wraps = wraps(one) != wraps(other);
                     let left =
                         |round: &OrRound| (round.challenge + count - round.challenge0) % count;
                     let c1 = left(one) == left(other);
-                    shapes.push(format!(
-                        "c0 equal {c0}, c1 equal {c1}, one wraps {one_wraps}"
-                    ));
+                    shapes.push(format!("c0 equal {c0}, c1 equal {c1}, one wraps {one_wraps}"));
                     assert_eq!(extracted.side, u32::from(c0));
                 }
                 number => shapes.push(format!("{number}, c equal {c}, c0 equal {c0}")),

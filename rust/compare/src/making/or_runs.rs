@@ -4,7 +4,7 @@ use crate::calls::Call;
 use crate::cases::{Case, OrSessionCase, OrStep};
 use crate::instance::Instance;
 use crate::making::brought::{fill_unread, spoil_slots, wrong_challenge};
-use crate::making::or_prover::{places, sheets, Held};
+use crate::making::or_prover::{Held, places, sheets};
 use crate::making::pairs::PairInputs;
 use crate::pair::Pair;
 use crate::random::Random;
@@ -23,15 +23,9 @@ pub fn run(random: &mut Random) -> Box<dyn Case> {
     let sheets = if random.once_in(10) {
         inputs.bytes(random)
     } else {
-        pair.instances
-            .each_ref()
-            .map(|instance| instance.sheet.bytes())
+        pair.instances.each_ref().map(|instance| instance.sheet.bytes())
     };
-    Box::new(OrSessionCase {
-        sheets,
-        made: None,
-        steps,
-    })
+    Box::new(OrSessionCase { sheets, made: None, steps })
 }
 
 /// The two calls of an honest run.
@@ -59,10 +53,7 @@ fn change(random: &mut Random, pair: &Pair, side: u32, steps: &mut Vec<OrStep>) 
         2 => steps.reverse(),
         3 => steps.insert(place, OrStep::Drop),
         4 => steps.push(step),
-        _ => steps.insert(
-            place,
-            changed(random, &pair.instances[places(side).0], step),
-        ),
+        _ => steps.insert(place, changed(random, &pair.instances[places(side).0], step)),
     }
 }
 

@@ -30,11 +30,7 @@ impl PairInputs {
             _ => 0,
         };
         let numbers = [&SHEET_NUMBERS, call.others()].concat();
-        let faults = if first == 0 {
-            Vec::new()
-        } else {
-            faults(random, &numbers, first)
-        };
+        let faults = if first == 0 { Vec::new() } else { faults(random, &numbers, first) };
         let spoilt = random.below(2);
         let group = damage::group_for(random, first);
         let mut groups = [Pair::beside(random, &group), group];
@@ -53,11 +49,7 @@ impl PairInputs {
     /// The bytes of both sheets with their faults, now and then one of them with
     /// any damage.
     pub fn bytes(&self, random: &mut Random) -> [Vec<u8>; 2] {
-        let mut sheets = self
-            .pair
-            .instances
-            .each_ref()
-            .map(|instance| instance.sheet.clone());
+        let mut sheets = self.pair.instances.each_ref().map(|instance| instance.sheet.clone());
         if self.faults.contains(&26) {
             let side = random.below(2);
             for side in [side, 1 - side] {
@@ -73,9 +65,10 @@ impl PairInputs {
             let group = &self.pair.instances[side].group;
             let faults = &self.sheet_faults[side];
             let bytes = damage::with_faults(random, group, sheets[side].clone(), faults);
-            match side == damaged && !bytes.is_empty() {
-                true => damage::damaged(random, bytes),
-                false => bytes,
+            if side == damaged && !bytes.is_empty() {
+                damage::damaged(random, bytes)
+            } else {
+                bytes
             }
         })
     }

@@ -169,9 +169,7 @@ mod tests {
 
     /// What stands out in a case, with its number in the judge.
     fn shapes(case: &WriterCase) -> Vec<String> {
-        let Writing::FromPattern { patterns, plan, .. } = &case.writing else {
-            unreachable!()
-        };
+        let Writing::FromPattern { patterns, plan, .. } = &case.writing else { unreachable!() };
         let (read, rest) = pattern_files::read(patterns, 8);
         let count = patterns.get(5).copied().unwrap_or(0).into();
         let number = plan.number as usize;

@@ -15,9 +15,5 @@ pub fn wrong_phase(random: &mut Random, right: u32) -> u32 {
 /// Any phase, also a number that stands for none.
 pub fn any_phase(random: &mut Random) -> u32 {
     let phase = random.between(0, 3);
-    if random.once_in(4) {
-        wrong_phase(random, phase)
-    } else {
-        phase
-    }
+    if random.once_in(4) { wrong_phase(random, phase) } else { phase }
 }

@@ -3,8 +3,8 @@
 use crate::calls::Call;
 use crate::cases::{Case, SessionCase, Step};
 use crate::instance::Instance;
-use crate::library::phases::prover::{COMMITTED, NEW};
 use crate::library::ProverSession;
+use crate::library::phases::prover::{COMMITTED, NEW};
 use crate::making::brought::{change_rows, change_slot, fill_unread, spoil_slots, wrong_challenge};
 use crate::making::inputs::Inputs;
 use crate::making::memories::{any, fill, list, with_room};

@@ -7,7 +7,7 @@ use crate::damage::spoil_length;
 use crate::files;
 use crate::instance::Instance;
 use crate::lent::Lent;
-use crate::library::{Round, LONGEST_REASON, MOST_ROUNDS};
+use crate::library::{LONGEST_REASON, MOST_ROUNDS, Round};
 use crate::making::brought::{round, spoil_round};
 use crate::making::inputs::Inputs;
 use crate::random::Random;

@@ -20,10 +20,7 @@ pub fn judge(random: &mut Random) -> Box<dyn Case> {
         spoil_round(random, instance, &mut judged, *fault);
     }
     fill_round(random, instance, &mut judged);
-    Box::new(RoundCase {
-        sheet: inputs.bytes(random),
-        call: RoundCall::Judge(judged),
-    })
+    Box::new(RoundCase { sheet: inputs.bytes(random), call: RoundCall::Judge(judged) })
 }
 
 /// A case of simulating.
@@ -42,10 +39,7 @@ pub fn simulate(random: &mut Random) -> Box<dyn Case> {
     fill_unread(random, &mut response, instance.columns());
     Box::new(RoundCase {
         sheet: inputs.bytes(random),
-        call: RoundCall::Simulate {
-            challenge,
-            response,
-        },
+        call: RoundCall::Simulate { challenge, response },
     })
 }
 
@@ -61,10 +55,7 @@ pub fn extract(random: &mut Random) -> Box<dyn Case> {
         fill_round(random, instance, round);
     }
     let [first, second] = rounds;
-    Box::new(RoundCase {
-        sheet: inputs.bytes(random),
-        call: RoundCall::Extract { first, second },
-    })
+    Box::new(RoundCase { sheet: inputs.bytes(random), call: RoundCall::Extract { first, second } })
 }
 
 /// Two accepted rounds with one commitment and two challenges, for a sheet
@@ -88,11 +79,7 @@ pub fn with_nonce(
     if random.once_in(3) {
         instance.shift(random, &mut response);
     }
-    Round {
-        commitment: instance.sheet.image(nonce),
-        challenge,
-        response,
-    }
+    Round { commitment: instance.sheet.image(nonce), challenge, response }
 }
 
 /// Puts a fault into one of two rounds or into both.

@@ -22,16 +22,8 @@ pub fn run(random: &mut Random) -> Box<dyn Case> {
             change(random, instance, &mut steps);
         }
     }
-    let sheet = if random.once_in(10) {
-        inputs.bytes(random)
-    } else {
-        instance.sheet.bytes()
-    };
-    Box::new(SessionCase {
-        sheet,
-        made: None,
-        steps,
-    })
+    let sheet = if random.once_in(10) { inputs.bytes(random) } else { instance.sheet.bytes() };
+    Box::new(SessionCase { sheet, made: None, steps })
 }
 
 /// The five calls of an honest run, with any numbers in places not to be read.

@@ -49,9 +49,7 @@ pub fn encode(random: &mut Random) -> Box<dyn Case> {
         }
     }
     Box::new(WriterCase {
-        writing: Writing::Encode {
-            sheet: Box::new(sheet),
-        },
+        writing: Writing::Encode { sheet: Box::new(sheet) },
         lent: Lent::for_result(random, needed),
     })
 }

@@ -32,10 +32,7 @@ pub fn run(random: &mut Random) -> Box<dyn Case> {
 pub fn of_calls(random: &mut Random, calls: u32) -> ([Vec<u8>; 2], Vec<StateStep>) {
     let group = Group::any(random);
     let run = Run::new(random, group);
-    let mut steps = vec![StateStep {
-        side: 0,
-        step: Step::Save { name: run.home },
-    }];
+    let mut steps = vec![StateStep { side: 0, step: Step::Save { name: run.home } }];
     for _ in 1..calls {
         steps.push(run.step(random));
     }
@@ -48,10 +45,7 @@ pub fn to_the_last(random: &mut Random) -> ([Vec<u8>; 2], Vec<StateStep>) {
     let group = watch_runs::group(random);
     let run = Run::new(random, group);
     let name = run.home;
-    let mut steps = vec![StateStep {
-        side: 0,
-        step: Step::Save { name },
-    }];
+    let mut steps = vec![StateStep { side: 0, step: Step::Save { name } }];
     let mut used = Vec::new();
     for round in 0..random.between(80, 90) {
         let (side, nonce) = match random.below(3) {
@@ -112,20 +106,14 @@ impl Run {
         let side = usize::from(random.once_in(3));
         let under = random.pick(&self.names);
         let step = match random.below(40) {
-            0..=9 => Step::Commit {
-                nonce: random.pick(&self.nonces),
-            },
+            0..=9 => Step::Commit { nonce: random.pick(&self.nonces) },
             10..=20 => self.respond(random, side),
             21..=25 => Step::Save { name: under },
             26..=30 => Step::Return { name: under },
             31..=35 => Step::Return { name: self.home },
             36 => Step::Drop,
-            37 => Step::Save {
-                name: no_name(random),
-            },
-            38 if random.once_in(2) => Step::Return {
-                name: no_name(random),
-            },
+            37 => Step::Save { name: no_name(random) },
+            38 if random.once_in(2) => Step::Return { name: no_name(random) },
             38 if random.once_in(2) => Step::Return { name: name(random) },
             38 if random.once_in(4) => Step::Save { name: self.home },
             _ => self.spoilt(random, side),
@@ -138,10 +126,7 @@ impl Run {
         let instance = &self.instances[side];
         let mut witness = instance.witness.unwrap_or_default();
         fill_unread(random, &mut witness, instance.columns());
-        Step::Respond {
-            challenge: instance.challenge(random),
-            witness,
-        }
+        Step::Respond { challenge: instance.challenge(random), witness }
     }
 
     /// A call with a wrong nonce, challenge or witness.
@@ -158,14 +143,8 @@ impl Run {
                 spoil_slots(random, instance, &mut slots);
                 Step::Commit { nonce: slots }
             }
-            1 => Step::Respond {
-                challenge: wrong_challenge(random, instance),
-                witness: slots,
-            },
-            _ => Step::Respond {
-                challenge: instance.challenge(random),
-                witness: slots,
-            },
+            1 => Step::Respond { challenge: wrong_challenge(random, instance), witness: slots },
+            _ => Step::Respond { challenge: instance.challenge(random), witness: slots },
         }
     }
 }
@@ -173,12 +152,7 @@ impl Run {
 /// The sheet with another witness, so that the table is the same, often with fewer rows,
 /// or in one of four any other sheet of the group.
 fn second(random: &mut Random, first: &Instance) -> Instance {
-    let Group {
-        kind,
-        modulus,
-        order,
-        ..
-    } = first.group;
+    let Group { kind, modulus, order, .. } = first.group;
     let group = Group::new(kind, modulus, order);
     if random.once_in(4) {
         return Instance::known(random, group);
@@ -190,11 +164,7 @@ fn second(random: &mut Random, first: &Instance) -> Instance {
         witness[sheet.header.columns as usize..].fill(0);
     }
     sheet.statement = sheet.image(&witness);
-    Instance {
-        group,
-        sheet,
-        witness: Some(witness),
-    }
+    Instance { group, sheet, witness: Some(witness) }
 }
 
 /// The first rows of a sheet. In kind 2 it has as many columns.

@@ -16,10 +16,7 @@ pub fn save(random: &mut Random) -> Box<dyn Case> {
     let inputs = inputs(random, Call::ProverSave);
     let mut session = any_held(random, &inputs.instance);
     session.phase = any_phase(random);
-    let name = match inputs.faults.is_empty() {
-        true => name(random),
-        false => no_name(random),
-    };
+    let name = if inputs.faults.is_empty() { name(random) } else { no_name(random) };
     let mut steps = vec![Step::Save { name }];
     if random.once_in(3) {
         steps.push(Step::Return { name });
@@ -62,9 +59,7 @@ fn inputs(random: &mut Random, call: Call) -> Inputs {
 /// Any of the five calls, which is right on this sheet.
 fn next(random: &mut Random, instance: &Instance, name: u32) -> Step {
     match random.below(6) {
-        0 => Step::Commit {
-            nonce: instance.slots(random),
-        },
+        0 => Step::Commit { nonce: instance.slots(random) },
         1 => Step::Drop,
         2 => Step::Save { name },
         3 => Step::Return { name },

@@ -4,7 +4,7 @@ use crate::arithmetic::multiply;
 use crate::calls::Call;
 use crate::cases::{Case, TeamCase};
 use crate::instance::Instance;
-use crate::library::{Parts, Places, MOST_PLAYERS, PARTS, PLACES};
+use crate::library::{MOST_PLAYERS, PARTS, PLACES, Parts, Places};
 use crate::making::brought::{change_rows, fill_unread, spoil_commitment, spoil_slots};
 use crate::making::inputs::Inputs;
 use crate::random::Random;
@@ -53,13 +53,7 @@ fn case(random: &mut Random, call: Call) -> TeamCase {
     if random.once_in(2) {
         inputs.faults.retain(|fault| *fault != 11);
     }
-    TeamCase {
-        sheet: inputs.bytes(random),
-        call,
-        count: team.count,
-        images,
-        parts,
-    }
+    TeamCase { sheet: inputs.bytes(random), call, count: team.count, images, parts }
 }
 
 /// The players' values one behind the other. In half of the cases any numbers
@@ -201,19 +195,12 @@ mod tests {
         add(!is_image(0), "a bad first image");
         add(is_image(0) && !is_image(1), "a bad second image");
         let whole = product(&case.images, case.count, &header);
-        let differing: Vec<usize> = (0..rows)
-            .filter(|row| whole[*row] != loaded.statement[*row])
-            .collect();
+        let differing: Vec<usize> =
+            (0..rows).filter(|row| whole[*row] != loaded.statement[*row]).collect();
         add(!differing.is_empty(), "a wrong product");
-        add(
-            rows > 1 && differing == [rows - 1],
-            "a product that is wrong in the last row",
-        );
+        add(rows > 1 && differing == [rows - 1], "a product that is wrong in the last row");
         let behind = case.images.get(PLACES * case.count as usize);
-        add(
-            behind.is_some_and(|value| *value >= header.modulus),
-            "junk behind the last image",
-        );
+        add(behind.is_some_and(|value| *value >= header.modulus), "junk behind the last image");
         shapes
     }
 

@@ -27,11 +27,7 @@ pub fn commitment(random: &mut Random) -> Box<dyn Case> {
         }
     }
     fill_unread(random, &mut commitment, instance.rows());
-    SessionCase::one(
-        inputs.bytes(random),
-        session,
-        Step::Commitment { commitment },
-    )
+    SessionCase::one(inputs.bytes(random), session, Step::Commitment { commitment })
 }
 
 /// A case of bringing the challenge. A challenge that is held is written over.
@@ -59,16 +55,8 @@ pub fn response(random: &mut Random) -> Box<dyn Case> {
     let instance = &inputs.instance;
     let mut held = round(random, instance);
     fill_round(random, instance, &mut held);
-    let Round {
-        commitment,
-        challenge,
-        mut response,
-    } = held;
-    let mut session = VerifierSession {
-        phase: ASKED,
-        commitment,
-        challenge,
-    };
+    let Round { commitment, challenge, mut response } = held;
+    let mut session = VerifierSession { phase: ASKED, commitment, challenge };
     for fault in &inputs.faults {
         match fault {
             16 => spoil_slots(random, instance, &mut response),
@@ -84,11 +72,7 @@ pub fn response(random: &mut Random) -> Box<dyn Case> {
 fn holding(random: &mut Random, instance: &Instance) -> VerifierSession {
     let mut commitment = instance.elements(random);
     fill_unread(random, &mut commitment, instance.rows());
-    VerifierSession {
-        phase: HOLDING,
-        commitment,
-        challenge: 0,
-    }
+    VerifierSession { phase: HOLDING, commitment, challenge: 0 }
 }
 
 /// A session with any held values.
@@ -96,11 +80,9 @@ fn any_held(random: &mut Random, instance: &Instance) -> VerifierSession {
     match random.below(3) {
         0 => VerifierSession::default(),
         1 => holding(random, instance),
-        _ => VerifierSession {
-            phase: HOLDING,
-            commitment: random.words(),
-            challenge: random.word(),
-        },
+        _ => {
+            VerifierSession { phase: HOLDING, commitment: random.words(), challenge: random.word() }
+        }
     }
 }
 

@@ -4,7 +4,7 @@ use crate::cases::{Case, Start, WatchCase, WatchStep};
 use crate::damage;
 use crate::groups::Group;
 use crate::instance::Instance;
-use crate::library::{Places, MOST_REMEMBERED};
+use crate::library::{MOST_REMEMBERED, Places};
 use crate::making::brought::{change, fill_round, spoil_round};
 use crate::making::rounds::with_nonce;
 use crate::making::watches::other_bytes;
@@ -22,10 +22,7 @@ pub fn run(random: &mut Random) -> Box<dyn Case> {
     if random.once_in(20) {
         sheet = damage::damaged(random, sheet);
     }
-    Box::new(WatchCase {
-        start: Start::Opened(sheet),
-        steps,
-    })
+    Box::new(WatchCase { start: Start::Opened(sheet), steps })
 }
 
 /// A sheet and so many rounds. Most come with the sheet's bytes and are accepted.
@@ -92,10 +89,13 @@ impl Run {
     fn next(&self, random: &mut Random) -> (Places, u32) {
         let instance = &self.instance;
         match self.earlier(random) {
-            Some((nonce, challenge)) if !random.once_in(3) => match random.once_in(3) {
-                true => (nonce, challenge),
-                false => (nonce, instance.other_challenge(random, challenge)),
-            },
+            Some((nonce, challenge)) if !random.once_in(3) => {
+                if random.once_in(3) {
+                    (nonce, challenge)
+                } else {
+                    (nonce, instance.other_challenge(random, challenge))
+                }
+            }
             _ => (instance.slots(random), instance.challenge(random)),
         }
     }

@@ -4,7 +4,7 @@ use crate::calls::{Call, SHEET_NUMBERS};
 use crate::cases::{Case, Start, WatchCase, WatchStep};
 use crate::damage;
 use crate::instance::Instance;
-use crate::library::{Places, Round, Watch, LONGEST_SHEET, MOST_REMEMBERED};
+use crate::library::{LONGEST_SHEET, MOST_REMEMBERED, Places, Round, Watch};
 use crate::making::brought::{
     change, change_rows, change_slot, fill_round, spoil_round, spoil_slots, wrong_challenge,
 };
@@ -17,10 +17,7 @@ use crate::sheets::Sheet;
 /// A case of opening.
 pub fn open(random: &mut Random) -> Box<dyn Case> {
     let (sheet, _) = sheets::bytes(random, 2);
-    Box::new(WatchCase {
-        start: Start::Opened(sheet),
-        steps: Vec::new(),
-    })
+    Box::new(WatchCase { start: Start::Opened(sheet), steps: Vec::new() })
 }
 
 /// A case of a round that is given to a watch made by hand.
@@ -44,10 +41,7 @@ fn made(random: &mut Random) -> WatchCase {
     fill_round(random, instance, &mut hand.round);
     WatchCase {
         start: Start::Made(hand.watch),
-        steps: vec![WatchStep {
-            sheet: inputs.bytes(random),
-            round: hand.round,
-        }],
+        steps: vec![WatchStep { sheet: inputs.bytes(random), round: hand.round }],
     }
 }
 
@@ -93,9 +87,10 @@ impl Hand {
     /// A round with the same commitment and another challenge or the same one. Now and
     /// then it is forged, or its commitment differs after all.
     fn related(&self, random: &mut Random, instance: &Instance) -> Round {
-        let challenge = match random.once_in(4) {
-            true => self.round.challenge,
-            false => instance.other_challenge(random, self.round.challenge),
+        let challenge = if random.once_in(4) {
+            self.round.challenge
+        } else {
+            instance.other_challenge(random, self.round.challenge)
         };
         let mut round = with_nonce(random, instance, &self.nonce, challenge);
         match random.below(8) {
@@ -152,11 +147,9 @@ fn watch(random: &mut Random, instance: &Instance) -> Watch {
     let zeros = random.once_in(4);
     let rounds = std::array::from_fn(|_| match random.below(4) {
         _ if zeros => Round::default(),
-        0 => Round {
-            commitment: random.words(),
-            challenge: random.word(),
-            response: random.words(),
-        },
+        0 => {
+            Round { commitment: random.words(), challenge: random.word(), response: random.words() }
+        }
         _ => random.pick(&others),
     });
     let most = MOST_REMEMBERED as u32;
@@ -190,10 +183,7 @@ fn wrong_length(random: &mut Random, right: u32) -> u32 {
     let cut = random.pick(&[0x100, 0x1_0000, 0x100_0000, 0x8000_0000]) + right;
     let longest = LONGEST_SHEET as u32;
     let wrong = random.pick(&[right - 1, right + 1, 0, longest + 1, cut, cut, u32::MAX]);
-    match wrong == right {
-        true => longest + 1,
-        false => wrong,
-    }
+    if wrong == right { longest + 1 } else { wrong }
 }
 
 /// A count above 63, often one that is below it if it is cut.
@@ -225,9 +215,10 @@ pub fn other_bytes(random: &mut Random, instance: &Instance) -> Vec<u8> {
             // Values of the same group in the same places.
             let mut other = sheet.clone();
             let row = random.place(instance.rows());
-            match random.once_in(2) {
-                true => other.statement[row] = group.element(random),
-                false => other.entries[8 * row] = group.element(random),
+            if random.once_in(2) {
+                other.statement[row] = group.element(random)
+            } else {
+                other.entries[8 * row] = group.element(random)
             }
             bytes = other.bytes();
         }

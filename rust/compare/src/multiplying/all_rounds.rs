@@ -1,8 +1,8 @@
 //! All rounds of sheets of small tables.
 
 use super::{Met, Pair, Product, Ways};
-use crate::demand_three::sheets::{exponent, root};
 use crate::demand_three::Small;
+use crate::demand_three::sheets::{exponent, root};
 use crate::library::{Judgement, Library, Places, Round};
 use crate::sheets::Sheet;
 use crate::whole_rounds::elements;
@@ -41,19 +41,14 @@ fn tables() -> Vec<(Sheet, Vec<Places>)> {
 /// Tries every two sheets of every table.
 pub fn check(library: Library, ways: Ways, met: &mut Met) -> Result<(), String> {
     for (table, statements) in tables() {
-        let sheets: Vec<Judged> = statements
-            .iter()
-            .map(|z| Judged::new(library, &table, z))
-            .collect();
+        let sheets: Vec<Judged> =
+            statements.iter().map(|z| Judged::new(library, &table, z)).collect();
         for one in &sheets {
             for other in &sheets {
                 try_pair(library, ways, [one, other], met)?;
             }
         }
-        met.calls += sheets
-            .iter()
-            .map(|sheet| sheet.all().count() as u64)
-            .sum::<u64>();
+        met.calls += sheets.iter().map(|sheet| sheet.all().count() as u64).sum::<u64>();
     }
     Ok(())
 }
@@ -73,20 +68,11 @@ impl Judged {
         let commitments = elements(&sheet);
         let judged = |challenge: u32| {
             let rounds = commitments.iter().flat_map(|t| {
-                small.domain.iter().map(move |r| Round {
-                    commitment: *t,
-                    challenge,
-                    response: *r,
-                })
+                small.domain.iter().map(move |r| Round { commitment: *t, challenge, response: *r })
             });
-            rounds
-                .map(|round| (round, library.judge(&small.bytes, &round)))
-                .collect()
+            rounds.map(|round| (round, library.judge(&small.bytes, &round))).collect()
         };
-        Judged {
-            rounds: (0..sheet.header.challenges).map(judged).collect(),
-            sheet,
-        }
+        Judged { rounds: (0..sheet.header.challenges).map(judged).collect(), sheet }
     }
 
     fn all(&self) -> impl Iterator<Item = &(Round, Judgement)> {
@@ -96,9 +82,7 @@ impl Judged {
     /// The accepted rounds of a challenge.
     fn accepted(&self, challenge: usize) -> impl Iterator<Item = &Round> {
         let rounds = self.rounds[challenge].iter();
-        rounds
-            .filter(|(_, verdict)| verdict.accepted == 1)
-            .map(|(round, _)| round)
+        rounds.filter(|(_, verdict)| verdict.accepted == 1).map(|(round, _)| round)
     }
 
     /// Every two accepted rounds of these challenges that have one commitment.
@@ -106,11 +90,7 @@ impl Judged {
         let mut pairs = Vec::new();
         for one in self.accepted(first) {
             let same = |other: &&Round| other.commitment == one.commitment;
-            pairs.extend(
-                self.accepted(second)
-                    .filter(same)
-                    .map(|other| [*one, *other]),
-            );
+            pairs.extend(self.accepted(second).filter(same).map(|other| [*one, *other]));
         }
         pairs
     }
@@ -136,10 +116,7 @@ fn try_pair(
     let challenges = (0..count).flat_map(|c| (0..count).map(move |d| [c, d]));
     for two in challenges.filter(|[c, d]| c != d) {
         let (pairs, others) = (one.pairs(two), other.pairs(two));
-        for (a, b) in pairs
-            .iter()
-            .flat_map(|a| others.iter().map(move |b| (a, b)))
-        {
+        for (a, b) in pairs.iter().flat_map(|a| others.iter().map(move |b| (a, b))) {
             product.check_extracted([a, b], met)?;
         }
     }

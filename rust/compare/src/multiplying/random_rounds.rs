@@ -17,9 +17,7 @@ pub fn check(library: Library, ways: Ways, met: &mut Met) -> Result<(), String> 
         let sheets = sheets(&mut random);
         let product = Product::new(library, ways, sheets.each_ref().map(|it| &it.sheet))?;
         let challenge = sheets[0].challenge(&mut random);
-        let rounds = sheets
-            .each_ref()
-            .map(|it| it.accepted_to(&mut random, challenge));
+        let rounds = sheets.each_ref().map(|it| it.accepted_to(&mut random, challenge));
         judge(&product, rounds, true, met)?;
         judge(&product, changed(&mut random, &sheets, rounds), false, met)?;
         if let Some(pairs) = pairs(&mut random, &sheets, challenge) {
@@ -98,10 +96,6 @@ fn pair(random: &mut Random, instance: &Instance, witness: &Places, challenges: 
     challenges.map(|challenge| {
         let mut response = instance.response(&nonce, challenge, witness);
         instance.shift(random, &mut response);
-        Round {
-            commitment: instance.sheet.image(&nonce),
-            challenge,
-            response,
-        }
+        Round { commitment: instance.sheet.image(&nonce), challenge, response }
     })
 }

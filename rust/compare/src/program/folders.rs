@@ -11,7 +11,7 @@ use crate::files;
 use crate::games::largest;
 use crate::groups::Group;
 use crate::instance::Instance;
-use crate::library::{Round, LONGEST_FILE, LONGEST_FILE_2, LONGEST_SHEET, MOST_ROUNDS};
+use crate::library::{LONGEST_FILE, LONGEST_FILE_2, LONGEST_SHEET, MOST_ROUNDS, Round};
 use crate::making::{game_case, mark_case, mark_file, reason_case};
 use crate::printing::hex;
 use crate::random::Random;
@@ -118,23 +118,14 @@ pub fn folders(seed: u64) -> Vec<Folder> {
 
 /// A sheet and a round file without a level.
 fn without_level(sheet: Vec<u8>, rounds: Vec<u8>) -> Folder {
-    Folder {
-        sheet: Place::File(sheet),
-        rounds: Place::File(rounds),
-        level: Place::Nothing,
-    }
+    Folder { sheet: Place::File(sheet), rounds: Place::File(rounds), level: Place::Nothing }
 }
 
 /// The game's largest sheets, with files of one round in both versions.
 fn played() -> Vec<Folder> {
-    let sheets = largest::sheets()
-        .into_iter()
-        .zip([1, 2].into_iter().cycle());
+    let sheets = largest::sheets().into_iter().zip([1, 2].into_iter().cycle());
     let folders = sheets.map(|((sheet, commitments), version)| {
-        let round = Round {
-            commitment: commitments[0],
-            ..Round::default()
-        };
+        let round = Round { commitment: commitments[0], ..Round::default() };
         let rounds = files::of_rounds(&sheet.header, version, &[round]);
         without_level(sheet.bytes(), rounds)
     });
@@ -167,14 +158,7 @@ fn examples() -> Vec<Folder> {
 fn levels() -> Vec<Folder> {
     let mut levels: Vec<Vec<u8>> = [1, 6, 7, 10, 11, 63, 64].map(|level| vec![level]).into();
     levels.extend([0, 65, 128, 255].map(|level| vec![level]));
-    levels.extend([
-        vec![],
-        vec![7, 7],
-        vec![7, 0],
-        vec![0, 7],
-        vec![7; 3],
-        vec![7; 5000],
-    ]);
+    levels.extend([vec![], vec![7, 7], vec![7, 0], vec![0, 7], vec![7; 3], vec![7; 5000]]);
     let (head, round) = (&EXAMPLE_ROUNDS[..6], &EXAMPLE_ROUNDS[7..19]);
     let folders = [2, 3].into_iter().flat_map(|count: u8| {
         let rounds = [head, &[count], &round.repeat(count.into())].concat();
@@ -246,14 +230,7 @@ fn longest(random: &mut Random) -> Vec<Folder> {
 /// the end of the first piece that is only counted, and these.
 fn lengths(longest: usize, others: &[usize]) -> Vec<usize> {
     let piece = longest + 1 + PIECE;
-    let bounds = [
-        longest - 1,
-        longest + 1,
-        longest + 2,
-        piece - 1,
-        piece,
-        piece + 1,
-    ];
+    let bounds = [longest - 1, longest + 1, longest + 2, piece - 1, piece, piece + 1];
     [&bounds, others].concat()
 }
 
@@ -318,11 +295,7 @@ mod tests {
     use crate::search;
 
     fn text(folder: &Folder) -> String {
-        let Folder {
-            sheet,
-            rounds,
-            level,
-        } = folder;
+        let Folder { sheet, rounds, level } = folder;
         judge::marker(sheet.bytes(), rounds.bytes(), level.bytes())
     }
 
@@ -392,9 +365,7 @@ mod tests {
         assert_eq!((sheet.len(), rounds.len()), (308, 34_823));
         assert!(text(whole).starts_with("rounds 512\n"));
         let (files, sheets) = others.split_at(8);
-        let bounds = [
-            34_822, 34_824, 34_825, 38_919, 38_920, 38_921, 100_000, 1_000_000,
-        ];
+        let bounds = [34_822, 34_824, 34_825, 38_919, 38_920, 38_921, 100_000, 1_000_000];
         for (folder, length) in files.iter().zip(bounds) {
             assert_eq!(folder.rounds.bytes().len(), length);
             assert!(folder.rounds.bytes().starts_with(&rounds[..34_822]));
@@ -436,10 +407,8 @@ mod tests {
 
     #[test]
     fn a_long_file_with_another_fault_is_told_by_that() {
-        let lines: Vec<String> = long_and_wrong(&mut Random::new(SEED))
-            .iter()
-            .map(reason)
-            .collect();
+        let lines: Vec<String> =
+            long_and_wrong(&mut Random::new(SEED)).iter().map(reason).collect();
         let words = ["4 5", "12 0", "12 3", "12 5"];
         assert_eq!(lines, words.map(|words| format!("refused {words}\n")));
     }

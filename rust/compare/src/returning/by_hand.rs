@@ -4,8 +4,8 @@
 use std::iter::once;
 
 use crate::cases::{Sessions, Step};
-use crate::library::phases::prover::{ANSWERED, COMMITTED, DROPPED};
 use crate::library::Library::{self, Judge};
+use crate::library::phases::prover::{ANSWERED, COMMITTED, DROPPED};
 use crate::library::{Header, Listed, Memory, Places, ProverAnswer, ProverSession, Saved};
 use crate::printing::prover;
 use crate::returning::made;
@@ -43,14 +43,7 @@ impl Page {
             _ => (35, 5, rows, [3, 2]),
         };
         let mut sheet = Sheet {
-            header: Header {
-                kind,
-                modulus,
-                order,
-                challenges: order,
-                rows,
-                columns,
-            },
+            header: Header { kind, modulus, order, challenges: order, rows, columns },
             entries: [0; 64],
             statement: [0; 8],
         };
@@ -73,10 +66,7 @@ impl Page {
     }
 
     fn respond(&self) -> Step {
-        Step::Respond {
-            challenge: 3,
-            witness: self.witness,
-        }
+        Step::Respond { challenge: 3, witness: self.witness }
     }
 
     /// The call in both libraries. An error says what is not as it is to be.
@@ -95,9 +85,7 @@ impl Page {
             _ => return Ok(answer),
         };
         let session = prover(session);
-        Err(format!(
-            "card 13 fails by hand: {what} in {step:?} on {session}"
-        ))
+        Err(format!("card 13 fails by hand: {what} in {step:?} on {session}"))
     }
 }
 
@@ -130,23 +118,15 @@ fn lists(page: &Page) -> Vec<List> {
         let places = PLACES.into_iter().chain(once(at_count));
         places.map(move |place| (*count, place))
     });
-    let lists = counted.flat_map(|(count, place)| {
-        changes.map(|changed| List {
-            count,
-            place,
-            changed,
-        })
-    });
+    let lists =
+        counted.flat_map(|(count, place)| changes.map(|changed| List { count, place, changed }));
     lists.collect()
 }
 
 impl List {
     /// A session that can answer but for its list.
     fn session(&self, page: &Page) -> ProverSession {
-        let mut memory = Memory {
-            count: self.count,
-            ..Memory::default()
-        };
+        let mut memory = Memory { count: self.count, ..Memory::default() };
         for (place, listed) in memory.answered.iter_mut().enumerate() {
             listed.commitment[0] = 100 + place as u32;
         }
@@ -155,12 +135,7 @@ impl List {
         if let Some(place) = self.changed {
             entry[place] ^= 1;
         }
-        ProverSession {
-            nonce: page.nonce,
-            commitment: page.commitment,
-            phase: COMMITTED,
-            memory,
-        }
+        ProverSession { nonce: page.nonce, commitment: page.commitment, phase: COMMITTED, memory }
     }
 
     /// The number that responding is to give.
@@ -176,9 +151,7 @@ impl List {
     /// The session after a response that is given.
     fn after(&self, page: &Page) -> ProverSession {
         let mut session = self.session(page);
-        session.memory.answered[self.count as usize] = Listed {
-            commitment: page.commitment,
-        };
+        session.memory.answered[self.count as usize] = Listed { commitment: page.commitment };
         session.memory.count += 1;
         session.phase = ANSWERED;
         session.nonce = [0; 8];
@@ -207,9 +180,10 @@ impl List {
         }
         let commit = Step::Commit { nonce: page.nonce };
         let committed = page.answer(library, &new, &commit)?;
-        match committed.refusal == 0 && committed.session == session {
-            true => Ok(4),
-            false => Err(fails("committing is another")),
+        if committed.refusal == 0 && committed.session == session {
+            Ok(4)
+        } else {
+            Err(fails("committing is another"))
         }
     }
 }
@@ -226,19 +200,11 @@ struct State {
 
 /// All states.
 fn states() -> Vec<State> {
-    let phases = PHASES
-        .iter()
-        .flat_map(|held| PHASES.map(|saved| (*held, saved)));
+    let phases = PHASES.iter().flat_map(|held| PHASES.map(|saved| (*held, saved)));
     let flags = phases.flat_map(|phases| FLAGS.map(|flag| (phases, flag)));
     let names = flags.flat_map(|flags| NAMES.map(|name| (flags, name)));
     let states = names.flat_map(|(((held, saved), flag), name)| {
-        [false, true].map(|listed| State {
-            held,
-            saved,
-            flag,
-            name,
-            listed,
-        })
+        [false, true].map(|listed| State { held, saved, flag, name, listed })
     });
     states.collect()
 }
@@ -246,17 +212,9 @@ fn states() -> Vec<State> {
 impl State {
     /// The session, in which another name has a state that no call makes.
     fn session(&self, page: &Page) -> ProverSession {
-        let mut memory = Memory {
-            count: self.listed.into(),
-            ..Memory::default()
-        };
+        let mut memory = Memory { count: self.listed.into(), ..Memory::default() };
         memory.answered[0].commitment = page.commitment;
-        memory.saved[3] = Saved {
-            nonce: [1; 8],
-            commitment: [2; 8],
-            phase: 5,
-            kept: 7,
-        };
+        memory.saved[3] = Saved { nonce: [1; 8], commitment: [2; 8], phase: 5, kept: 7 };
         memory.saved[(self.name % 8) as usize] = Saved {
             nonce: page.nonce,
             commitment: page.commitment,
@@ -315,9 +273,7 @@ impl State {
                 Step::Return { name },
             ];
             calls += 1 + next.len() as u64;
-            let mut answers = next
-                .iter()
-                .map(|step| page.answer(library, &answer.session, step));
+            let mut answers = next.iter().map(|step| page.answer(library, &answer.session, step));
             answers.try_for_each(|answer| answer.map(|_| ()))?;
         }
         Ok(calls)

@@ -18,21 +18,11 @@ const BOUNDS: [Fields; 11] = [
     ("8^4", |sheet| is(sheet, 8, 4)),
     ("4^6", |sheet| is(sheet, 4, 6)),
     ("q^n = 4,097", |sheet| is(sheet, 4097, 1)),
-    ("q^n to 4,999", |sheet| {
-        sheet.kind == 1 && (4098..5000).contains(&count(sheet))
-    }),
-    ("q^n above 2^32", |sheet| {
-        sheet.kind == 1 && count(sheet) >= 1 << 32
-    }),
-    ("m = 4,096", |sheet| {
-        sheet.kind == 2 && sheet.modulus == 4096 && sheet.rows == 1
-    }),
-    ("m = 4,097", |sheet| {
-        sheet.kind == 2 && sheet.modulus == 4097 && sheet.rows == 1
-    }),
-    ("m small, s above 1", |sheet| {
-        sheet.kind == 2 && sheet.modulus <= 4096 && sheet.rows > 1
-    }),
+    ("q^n to 4,999", |sheet| sheet.kind == 1 && (4098..5000).contains(&count(sheet))),
+    ("q^n above 2^32", |sheet| sheet.kind == 1 && count(sheet) >= 1 << 32),
+    ("m = 4,096", |sheet| sheet.kind == 2 && sheet.modulus == 4096 && sheet.rows == 1),
+    ("m = 4,097", |sheet| sheet.kind == 2 && sheet.modulus == 4097 && sheet.rows == 1),
+    ("m small, s above 1", |sheet| sheet.kind == 2 && sheet.modulus <= 4096 && sheet.rows > 1),
 ];
 
 /// Whether the sheet is of kind 1 with this order and so many columns.

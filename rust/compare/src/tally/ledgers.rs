@@ -43,9 +43,6 @@ impl Ledgers {
     pub fn rows(&self) -> Vec<(&'static str, Vec<(&'static str, u64)>)> {
         let found = FOUND.into_iter().zip(self.found).collect();
         let made = MADE.into_iter().zip(self.made).collect();
-        vec![
-            ("a ledger is checked", found),
-            ("a ledger is made of", made),
-        ]
+        vec![("a ledger is checked", found), ("a ledger is made of", made)]
     }
 }

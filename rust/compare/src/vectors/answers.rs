@@ -2,17 +2,17 @@
 //! values. A refused call that changed anything, or answered a value beside its
 //! number, is told apart.
 
+use super::Given;
 use super::bytes;
 use super::inputs::{Inputs, Phases, UNREAD, VERIFIER_PHASES};
 use super::ledger_answers;
 use super::or_answers;
 use super::prover_answers::prover;
-use super::Given;
 use crate::calls::Call;
 use crate::lent::{self, AROUND};
 use crate::library::{
-    Compared, Computed, Counted, Fetched, Judgement, Library, Loaded, Plan, VerifierSession,
-    Written, LONGEST_REASON, LONGEST_TEXT,
+    Compared, Computed, Counted, Fetched, Judgement, LONGEST_REASON, LONGEST_TEXT, Library, Loaded,
+    Plan, VerifierSession, Written,
 };
 
 /// A refusal, or the answer of a call that is carried out. `clean` says that a
@@ -68,11 +68,9 @@ pub fn verdict(judgement: Judgement) -> String {
 
 /// A buffer that a call was lent, and what it answered.
 fn written(answer: Written, before: &[u8], after: &[u8]) -> String {
-    told(
-        answer.refusal,
-        answer.length == 0 && before == after,
-        || format!("length={} buffer={}", answer.length, bytes::text(after)),
-    )
+    told(answer.refusal, answer.length == 0 && before == after, || {
+        format!("length={} buffer={}", answer.length, bytes::text(after))
+    })
 }
 
 /// The maker of sheets from linear forms, which is given no sheet and no file.
@@ -141,16 +139,8 @@ impl Given {
 
     fn load(&self, library: Library) -> String {
         let loaded = library.load(&self.sheet);
-        let Loaded {
-            header,
-            statement,
-            refusal,
-        } = loaded;
-        let clean = loaded
-            == Loaded {
-                refusal,
-                ..Loaded::default()
-            };
+        let Loaded { header, statement, refusal } = loaded;
+        let clean = loaded == Loaded { refusal, ..Loaded::default() };
         told(refusal, clean, || {
             let z = list(&statement, self.sizes().0);
             let (kind, m, l, k) = (header.kind, header.modulus, header.order, header.challenges);
@@ -182,9 +172,7 @@ impl Given {
         }
         let round = inputs.number("round")?;
         if call == Call::Check {
-            return Ok(told(library.check(sheet, file, round), true, || {
-                "0".to_string()
-            }));
+            return Ok(told(library.check(sheet, file, round), true, || "0".to_string()));
         }
         if call == Call::Part {
             let part = library.part(sheet, file, round);
@@ -192,11 +180,7 @@ impl Given {
         }
         let fetched = library.read(sheet, file, round);
         let Fetched { round, refusal } = fetched;
-        let clean = fetched
-            == Fetched {
-                refusal,
-                ..Fetched::default()
-            };
+        let clean = fetched == Fetched { refusal, ..Fetched::default() };
         let (s, n) = self.sizes();
         Ok(told(refusal, clean, || {
             let (t, r) = (list(&round.commitment, s), list(&round.response, n));
@@ -270,9 +254,7 @@ impl Given {
             (library.extract(&self.sheet, &first, &second), "x", n)
         };
         let Computed { values, refusal } = computed;
-        Ok(told(refusal, values == [0; 8], || {
-            format!("{name}={}", list(&values, used))
-        }))
+        Ok(told(refusal, values == [0; 8], || format!("{name}={}", list(&values, used))))
     }
 
     fn verifier_step(
@@ -322,8 +304,5 @@ impl Given {
 fn written_text(buffer: &[u8], length: usize) -> String {
     let (text, behind) = buffer.split_at(length);
     let shown = String::from_utf8_lossy(text).replace('\n', "\\n");
-    match behind.iter().all(|byte| *byte == 0xee) {
-        true => shown,
-        false => format!("{shown} and changed"),
-    }
+    if behind.iter().all(|byte| *byte == 0xee) { shown } else { format!("{shown} and changed") }
 }

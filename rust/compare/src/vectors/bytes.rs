@@ -30,7 +30,7 @@ pub fn read(text: &str) -> Result<Vec<u8>, String> {
 /// The bytes of pairs of digits.
 fn pairs(digits: &str) -> Option<Vec<u8>> {
     let digits = digits.as_bytes();
-    if digits.is_empty() || !digits.len().is_multiple_of(2) {
+    if digits.is_empty() || digits.len() % 2 != 0 {
         return None;
     }
     let digit = |digit: u8| char::from(digit).to_digit(16);

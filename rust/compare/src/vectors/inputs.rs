@@ -8,9 +8,9 @@ use super::bytes;
 use crate::ledgers::{entry_of, line_of};
 use crate::library::phases::{prover, verifier};
 use crate::library::{
-    Base, Entries, Forms, Header, Ledger, Listed, Memory, OrRound, OrSession, Places,
-    ProverSession, Round, Saved, VerifierSession, Watch, LONGEST_SHEET, MOST_ANSWERED, MOST_LINES,
-    MOST_REMEMBERED,
+    Base, Entries, Forms, Header, LONGEST_SHEET, Ledger, Listed, MOST_ANSWERED, MOST_LINES,
+    MOST_REMEMBERED, Memory, OrRound, OrSession, Places, ProverSession, Round, Saved,
+    VerifierSession, Watch,
 };
 
 /// What stands in places that no call may read.
@@ -38,10 +38,8 @@ pub struct Inputs<'a>(Vec<(&'a str, &'a str)>);
 
 impl<'a> Inputs<'a> {
     pub fn read(words: &'a str) -> Result<Inputs<'a>, String> {
-        let pair = |word: &'a str| {
-            word.split_once('=')
-                .ok_or_else(|| format!("{word} has no value"))
-        };
+        let pair =
+            |word: &'a str| word.split_once('=').ok_or_else(|| format!("{word} has no value"));
         let pairs: Result<Vec<_>, _> = words.split_whitespace().map(pair).collect();
         Ok(Inputs(pairs?))
     }
@@ -95,10 +93,7 @@ impl<'a> Inputs<'a> {
         let mut table = [UNREAD; 64];
         let rows = self.value(name)?.split('/');
         for (place, row) in rows.enumerate() {
-            let places = table
-                .chunks_mut(8)
-                .nth(place)
-                .ok_or("there are over eight rows")?;
+            let places = table.chunks_mut(8).nth(place).ok_or("there are over eight rows")?;
             fill(places, &numbers(row)?)?;
         }
         Ok(table)
@@ -225,10 +220,7 @@ impl<'a> Inputs<'a> {
         if self.has("length") {
             watch.length = self.number("length")?;
         }
-        let held = match self.has("held") {
-            true => self.bytes("held")?,
-            false => sheet.to_vec(),
-        };
+        let held = if self.has("held") { self.bytes("held")? } else { sheet.to_vec() };
         fill(&mut watch.sheet, &held)?;
         fill(&mut watch.rounds, &rounds(self.value("rounds")?)?)?;
         Ok(watch)
@@ -252,28 +244,19 @@ impl<'a> Inputs<'a> {
     ) -> Result<([[u32; N]; MOST_LINES], u32), String> {
         let (found, mut all) = (lists(self.value(name)?)?, [[0; N]; MOST_LINES]);
         fill(&mut all, &found)?;
-        let count = match self.has("count") {
-            true => self.number("count")?,
-            false => found.len() as u32,
-        };
+        let count = if self.has("count") { self.number("count")? } else { found.len() as u32 };
         Ok((all, count))
     }
 
     pub fn ledger(&mut self) -> Result<Ledger, String> {
         let (lines, count) = self.counted("lines")?;
-        Ok(Ledger {
-            lines: lines.map(line_of),
-            count,
-        })
+        Ok(Ledger { lines: lines.map(line_of), count })
     }
 
     /// What a ledger is made of.
     pub fn entries(&mut self) -> Result<Entries, String> {
         let (entries, count) = self.counted("entries")?;
-        Ok(Entries {
-            entries: entries.map(entry_of),
-            count,
-        })
+        Ok(Entries { entries: entries.map(entry_of), count })
     }
 }
 
@@ -294,11 +277,7 @@ fn saved(text: &str) -> Result<(usize, Saved), String> {
         [name, phase, nonce, commitment, kept] => (name, [phase, nonce, commitment], number(kept)?),
         _ => return Err(format!("{text} is no saved state")),
     };
-    let mut saved = Saved {
-        phase: phase(PROVER_PHASES, held[0])?,
-        kept,
-        ..Saved::default()
-    };
+    let mut saved = Saved { phase: phase(PROVER_PHASES, held[0])?, kept, ..Saved::default() };
     fill(&mut saved.nonce, &numbers(held[1])?)?;
     fill(&mut saved.commitment, &numbers(held[2])?)?;
     Ok((number(name)?, saved))
@@ -328,10 +307,7 @@ fn rounds(text: &str) -> Result<Vec<Round>, String> {
         let [t, c, r] = parts[..] else {
             return Err(format!("{piece} is no round"));
         };
-        let mut round = Round {
-            challenge: number(c)?,
-            ..Round::default()
-        };
+        let mut round = Round { challenge: number(c)?, ..Round::default() };
         fill(&mut round.commitment, &numbers(t)?)?;
         fill(&mut round.response, &numbers(r)?)?;
         let count = number::<usize>(count)?.min(MOST_REMEMBERED + 1);

@@ -24,9 +24,10 @@ fn lists<const N: usize>(name: &str, lists: &[[u32; N]], count: u32) -> String {
         [] => "-".to_string(),
         _ => pieces.collect::<Vec<_>>().join("/"),
     };
-    match count as usize == shown.len() {
-        true => format!("{name}={pieces}"),
-        false => format!("{name}={pieces} count={count}"),
+    if count as usize == shown.len() {
+        format!("{name}={pieces}")
+    } else {
+        format!("{name}={pieces} count={count}")
     }
 }
 
@@ -59,9 +60,6 @@ pub fn answer(library: Library, call: Call, inputs: &mut Inputs) -> Result<Strin
         let clean = checked.accepted == 0 && checked.line == 0;
         return Ok(told(checked.refusal, clean, || found(checked)));
     }
-    let LedgerWritten {
-        ledger: made,
-        refusal,
-    } = library.ledger_write(base, &inputs.entries()?);
+    let LedgerWritten { ledger: made, refusal } = library.ledger_write(base, &inputs.entries()?);
     Ok(told(refusal, made == Ledger::default(), || ledger(&made)))
 }

@@ -1,20 +1,15 @@
 //! The answers of the OR proof's calls as the vectors have them.
 
+use super::Given;
 use super::answers::{list, phase, rows, sizes, told};
 use super::inputs::{Inputs, PROVER_PHASES};
-use super::Given;
 use crate::calls::Call;
 use crate::library::{Library, OrAnswer, OrExtracted, OrJudgement, OrSession};
 
 /// What Peggy's session holds.
 pub fn session(held: &OrSession) -> String {
-    let [nonce, response, t0, t1] = [
-        held.nonce,
-        held.response,
-        held.commitment0,
-        held.commitment1,
-    ]
-    .map(|places| list(&places, 1));
+    let [nonce, response, t0, t1] = [held.nonce, held.response, held.commitment0, held.commitment1]
+        .map(|places| list(&places, 1));
     let (phase, side, challenge) = (phase(PROVER_PHASES, held.phase), held.side, held.challenge);
     format!(
         "phase={phase} side={side} nonce={nonce} challenge={challenge} response={response} \
@@ -39,12 +34,7 @@ impl Given {
         let round = inputs.or_round("")?;
         if call == Call::OrJudge {
             let judged = library.or_judge(first, second, &round);
-            let OrJudgement {
-                accepted,
-                rows0,
-                rows1,
-                refusal,
-            } = judged;
+            let OrJudgement { accepted, rows0, rows1, refusal } = judged;
             let clean = accepted == 0 && rows0 == 0 && rows1 == 0;
             let [rows0, rows1] = [rows0, rows1].map(|mask| match mask {
                 0 => "-".to_string(),
@@ -56,16 +46,11 @@ impl Given {
             }));
         }
         let other = inputs.or_round("_2")?;
-        let OrExtracted {
-            values,
-            side,
-            refusal,
-        } = library.or_extract(first, second, &round, &other);
+        let OrExtracted { values, side, refusal } =
+            library.or_extract(first, second, &round, &other);
         let columns = self.both_sizes()[usize::from(side == 1)].1;
         let clean = values == [0; 8] && side == 0;
-        Ok(told(refusal, clean, || {
-            format!("side={side} x={}", list(&values, columns))
-        }))
+        Ok(told(refusal, clean, || format!("side={side} x={}", list(&values, columns))))
     }
 
     pub fn or_prover_step(
@@ -89,13 +74,7 @@ impl Given {
             }
             _ => library.or_prover_drop(given),
         };
-        let OrAnswer {
-            session: next,
-            values0,
-            values1,
-            challenge0,
-            refusal,
-        } = answer;
+        let OrAnswer { session: next, values0, values1, challenge0, refusal } = answer;
         let nothing = values0 == [0; 8] && values1 == [0; 8] && challenge0 == 0;
         let clean = next == given && nothing;
         Ok(told(refusal, clean, || {

@@ -1,10 +1,10 @@
 //! Peggy's session, and the answers of the calls on it, as the vectors have them.
 
+use super::Given;
 use super::answers::{list, phase, told};
 use super::inputs::{Inputs, PROVER_PHASES};
-use super::Given;
 use crate::calls::Call;
-use crate::library::{Library, Listed, Memory, ProverAnswer, ProverSession, Saved, MOST_ANSWERED};
+use crate::library::{Library, Listed, MOST_ANSWERED, Memory, ProverAnswer, ProverSession, Saved};
 
 /// A saved state under its name: phase, nonce and commitment, and the flag if it is not
 /// 1.
@@ -81,11 +81,7 @@ impl Given {
             Call::ProverReturn => (library.prover_return(given, inputs.number("name")?), "", 0),
             _ => (library.prover_drop(given), "", 0),
         };
-        let ProverAnswer {
-            session,
-            values,
-            refusal,
-        } = answer;
+        let ProverAnswer { session, values, refusal } = answer;
         let clean = session == given && values == [0; 8];
         Ok(told(refusal, clean, || match (name, values) {
             ("", [0, 0, 0, 0, 0, 0, 0, 0]) => prover(&session),

@@ -1,8 +1,8 @@
 //! The answers of a team's calls as the vectors have them.
 
+use super::Given;
 use super::answers::{list, sizes, told};
 use super::inputs::Inputs;
-use super::Given;
 use crate::calls::Call;
 use crate::library::{Computed, Library};
 
@@ -25,8 +25,6 @@ impl Given {
             (answer, "r", n)
         };
         let Computed { values, refusal } = answer;
-        Ok(told(refusal, values == [0; 8], || {
-            format!("{name}={}", list(&values, used))
-        }))
+        Ok(told(refusal, values == [0; 8], || format!("{name}={}", list(&values, used))))
     }
 }

@@ -44,9 +44,7 @@ fn calls() -> Vec<(Call, &'static str, u32)> {
 /// text, where a round's own number may stand before the word.
 fn refusals(answer: &str) -> impl Iterator<Item = u32> + '_ {
     answer.split("\\n").filter_map(|line| {
-        let mut words = line
-            .split(' ')
-            .skip_while(|word| word.parse::<u32>().is_ok());
+        let mut words = line.split(' ').skip_while(|word| word.parse::<u32>().is_ok());
         let refused = ["refused", "sheet", "file", "level"].contains(&words.next()?);
         refused.then(|| words.next().unwrap().parse().unwrap())
     })
@@ -60,38 +58,27 @@ fn refusal(answer: &str) -> Option<u32> {
 /// The numbers that the answers of a call have.
 fn met(call: Call) -> BTreeSet<u32> {
     let answers = calls().into_iter().filter(|(of, ..)| *of == call);
-    answers
-        .flat_map(|(_, answer, _)| refusals(answer))
-        .collect()
+    answers.flat_map(|(_, answer, _)| refusals(answer)).collect()
 }
 
 /// The blocks of a page with their languages.
 fn blocks(page: &str) -> Vec<(&str, &str)> {
     let fenced = page.split("```").skip(1).step_by(2);
-    fenced
-        .map(|block| block.split_once('\n').unwrap())
-        .collect()
+    fenced.map(|block| block.split_once('\n').unwrap()).collect()
 }
 
 /// The bytes of a block: pairs of digits, up to a mark of a comment.
 fn block_bytes(block: &str) -> Vec<u8> {
-    let digits: String = block
-        .lines()
-        .flat_map(|line| line.split('#').next())
-        .collect();
+    let digits: String = block.lines().flat_map(|line| line.split('#').next()).collect();
     bytes::read(&digits.replace(' ', "")).unwrap()
 }
 
 /// The rows of a page's table under this heading, cell by cell.
 fn rows<'a>(page: &'a str, heading: &str) -> Vec<Vec<&'a str>> {
     let behind = page.split(heading).nth(1).unwrap();
-    let mut table = behind
-        .lines()
-        .skip_while(|line| !line.starts_with("|"))
-        .skip(2);
+    let mut table = behind.lines().skip_while(|line| !line.starts_with("|")).skip(2);
     let rows = std::iter::from_fn(|| table.next().filter(|line| line.starts_with("|")));
-    rows.map(|row| row.trim_matches('|').split('|').map(str::trim).collect())
-        .collect()
+    rows.map(|row| row.trim_matches('|').split('|').map(str::trim).collect()).collect()
 }
 
 #[test]
@@ -104,9 +91,7 @@ fn the_judge_and_the_library_make_every_line() {
 
 #[test]
 fn every_planted_fault_changes_a_line() {
-    let missed = FAULTS
-        .iter()
-        .filter(|planted| difference(Faulty(planted.fault)).is_none());
+    let missed = FAULTS.iter().filter(|planted| difference(Faulty(planted.fault)).is_none());
     let names: Vec<&str> = missed.map(|planted| planted.name).collect();
     assert!(names.is_empty(), "not found: {names:?}");
 }
@@ -121,34 +106,16 @@ fn a_line_that_cannot_be_read_is_named() {
         ("judge t=nine c=3 r=4 ->", "nine is no number"),
         ("sheet 4", "4 is no bytes"),
         ("watch_round count=0 t=9 c=3 r=4 ->", "rounds is missing"),
-        (
-            "watch_round count=1 rounds=9:3 t=9 c=3 r=4 ->",
-            "9:3 is no round",
-        ),
-        (
-            "watch_round count=1 rounds=9:3:4*64 t=9 c=3 r=4 ->",
-            "a list is too long",
-        ),
-        (
-            "watch_round count=0 rounds=- held=00*309 t=9 c=3 r=4 ->",
-            "a list is too long",
-        ),
-        (
-            "prover_drop phase=new nonce=0 commitment=0 saved=8:new:0:0 ->",
-            "8 is no name",
-        ),
+        ("watch_round count=1 rounds=9:3 t=9 c=3 r=4 ->", "9:3 is no round"),
+        ("watch_round count=1 rounds=9:3:4*64 t=9 c=3 r=4 ->", "a list is too long"),
+        ("watch_round count=0 rounds=- held=00*309 t=9 c=3 r=4 ->", "a list is too long"),
+        ("prover_drop phase=new nonce=0 commitment=0 saved=8:new:0:0 ->", "8 is no name"),
         (
             "prover_drop phase=new nonce=0 commitment=0 saved=7:new:0 ->",
             "7:new:0 is no saved state",
         ),
-        (
-            "prover_drop phase=new nonce=0 commitment=0 listed=9*65 ->",
-            "a list is too long",
-        ),
-        (
-            "ledger_check g=2 h=3 m=23 l=11 K=11 lines=1*65 ->",
-            "a list is too long",
-        ),
+        ("prover_drop phase=new nonce=0 commitment=0 listed=9*65 ->", "a list is too long"),
+        ("ledger_check g=2 h=3 m=23 l=11 K=11 lines=1*65 ->", "a list is too long"),
         (
             "ledger_write g=2 h=3 m=23 l=11 K=11 entries=1,0,0,2,1,0,0,0,0,0 ->",
             "a list is too long",
@@ -163,18 +130,12 @@ fn a_line_that_cannot_be_read_is_named() {
 #[test]
 fn each_refusal_has_lines_inside_and_outside_its_bounds() {
     for number in ORDER {
-        let calls = calls()
-            .into_iter()
-            .filter(|(.., section)| *section == number);
-        let (refused, others): (Vec<_>, Vec<_>) = calls
-            .map(|(_, answer, _)| refusal(answer))
-            .partition(Option::is_some);
+        let calls = calls().into_iter().filter(|(.., section)| *section == number);
+        let (refused, others): (Vec<_>, Vec<_>) =
+            calls.map(|(_, answer, _)| refusal(answer)).partition(Option::is_some);
         assert!(!others.is_empty(), "{number} has no line inside");
         assert!(!refused.is_empty(), "{number} has no line outside");
-        assert!(
-            refused.iter().all(|met| *met == Some(number)),
-            "{number}: {refused:?}"
-        );
+        assert!(refused.iter().all(|met| *met == Some(number)), "{number}: {refused:?}");
     }
 }
 
@@ -183,27 +144,16 @@ fn each_call_gives_its_numbers_and_no_others() {
     for call in Call::all() {
         let (name, met) = (call.name(), met(call));
         assert!(
-            calls()
-                .iter()
-                .any(|(of, answer, _)| *of == call && refusal(answer).is_none()),
+            calls().iter().any(|(of, answer, _)| *of == call && refusal(answer).is_none()),
             "{name}"
         );
-        assert!(
-            met.iter().all(|number| call.can_give(*number)),
-            "{name}: {met:?}"
-        );
+        assert!(met.iter().all(|number| call.can_give(*number)), "{name}: {met:?}");
         // A part answers no number.
         if call == Call::Part {
             continue;
         }
-        assert!(
-            call.others().iter().all(|number| met.contains(number)),
-            "{name}: {met:?}"
-        );
-        let of_sheet = SHEET_NUMBERS
-            .iter()
-            .filter(|number| met.contains(number))
-            .count();
+        assert!(call.others().iter().all(|number| met.contains(number)), "{name}: {met:?}");
+        let of_sheet = SHEET_NUMBERS.iter().filter(|number| met.contains(number)).count();
         let wanted = match call {
             Call::Load | Call::Reason => SHEET_NUMBERS.len(),
             _ => usize::from(call.can_give(SHEET_NUMBERS[0])),
@@ -215,18 +165,15 @@ fn each_call_gives_its_numbers_and_no_others() {
 /// The bytes that stand in the vectors: sheets, round files, pattern files, levels,
 /// and buffers that calls were lent or wrote to.
 fn stored_bytes() -> Vec<Vec<u8>> {
-    let words = STORED
-        .lines()
-        .filter(|line| !line.starts_with('#'))
-        .flat_map(|line| {
-            let given = ["sheet ", "second_sheet ", "file ", "pattern_file "]
-                .iter()
-                .find_map(|word| line.strip_prefix(word));
-            let written = line
-                .split(' ')
-                .filter_map(|word| word.strip_prefix("buffer=").or(word.strip_prefix("level=")));
-            given.into_iter().chain(written)
-        });
+    let words = STORED.lines().filter(|line| !line.starts_with('#')).flat_map(|line| {
+        let given = ["sheet ", "second_sheet ", "file ", "pattern_file "]
+            .iter()
+            .find_map(|word| line.strip_prefix(word));
+        let written = line
+            .split(' ')
+            .filter_map(|word| word.strip_prefix("buffer=").or(word.strip_prefix("level=")));
+        given.into_iter().chain(written)
+    });
     words.map(|word| bytes::read(word).unwrap()).collect()
 }
 
@@ -281,21 +228,14 @@ fn values_beyond_those_of_the_sheet_can_be_left_out() {
             sizes = answers::sizes(&sheet);
         }
         let both = line.starts_with("or_") || line.starts_with("team_");
-        let cut = if both {
-            line.to_string()
-        } else {
-            without_rest(line, sizes)
-        };
+        let cut = if both { line.to_string() } else { without_rest(line, sizes) };
         longer += usize::from(cut != line);
         text += &(cut + "\n");
     }
     assert!(longer >= 8, "{longer} lines have more values");
     let made = remade(&text, Proved).unwrap();
     for (made, stored) in made.lines().zip(STORED.lines()) {
-        assert_eq!(
-            made.split_once(" ->").map(|it| it.1),
-            stored.split_once(" ->").map(|it| it.1)
-        );
+        assert_eq!(made.split_once(" ->").map(|it| it.1), stored.split_once(" ->").map(|it| it.1));
     }
 }
 
@@ -357,10 +297,8 @@ fn the_page_has_a_row_for_each_refusal_and_each_call() {
             .replace("2 to 11,", &sheet)
             .replace("2 to 11", &sheet)
             .replace("2 to 9,", &shape);
-        let numbers: Vec<u32> = numbers
-            .split_whitespace()
-            .map(|word| word.parse().unwrap())
-            .collect();
+        let numbers: Vec<u32> =
+            numbers.split_whitespace().map(|word| word.parse().unwrap()).collect();
         let given = ORDER.into_iter().filter(|number| call.can_give(*number));
         assert_eq!(numbers, given.collect::<Vec<_>>(), "{}", call.name());
     }
@@ -421,9 +359,7 @@ fn the_offsets_of_the_page_are_those_of_the_vectors() {
     let of_lists: BTreeSet<&str> = of_lists.iter().map(|row| row[0]).collect();
     let fixed = fixed.iter().map(|row| (row[0], row[3]));
     let stored = calls().into_iter().filter_map(|(call, answer, _)| {
-        let line = answer
-            .strip_suffix("\\n")
-            .filter(|_| call == Call::Reason)?;
+        let line = answer.strip_suffix("\\n").filter(|_| call == Call::Reason)?;
         match line.split(' ').collect::<Vec<_>>()[..] {
             ["refused", number, "length", _] => Some((number, "the length")),
             ["refused", number, offset] => Some((number, offset)),
@@ -431,9 +367,6 @@ fn the_offsets_of_the_page_are_those_of_the_vectors() {
         }
     });
     let stored = stored.filter(|(number, _)| !of_lists.contains(number));
-    assert_eq!(
-        fixed.collect::<BTreeSet<_>>(),
-        stored.collect::<BTreeSet<_>>()
-    );
+    assert_eq!(fixed.collect::<BTreeSet<_>>(), stored.collect::<BTreeSet<_>>());
     assert_eq!(of_lists, ["10", "11", "14", "15", "16"].into());
 }

@@ -1,10 +1,10 @@
 //! Watches, and the answers of the calls on them, as the vectors have them.
 
+use super::Given;
 use super::answers::{list, sizes, told, verdict};
 use super::bytes;
 use super::inputs::Inputs;
-use super::Given;
-use crate::library::{Library, Round, Watch, LONGEST_SHEET};
+use crate::library::{LONGEST_SHEET, Library, Round, Watch};
 
 /// A round that a watch remembers: t, c and r.
 fn remembered(round: &Round) -> String {
@@ -34,10 +34,7 @@ fn memory(watch: &Watch) -> String {
 fn held(watch: &Watch) -> String {
     let last = watch.sheet.iter().rposition(|byte| *byte != 0);
     let shown = last.map_or(0, |last| last + 1).max(watch.length as usize);
-    format!(
-        "held={}",
-        bytes::text(&watch.sheet[..shown.min(LONGEST_SHEET)])
-    )
+    format!("held={}", bytes::text(&watch.sheet[..shown.min(LONGEST_SHEET)]))
 }
 
 /// All that a watch holds.

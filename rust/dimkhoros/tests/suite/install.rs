@@ -115,7 +115,7 @@ fn laid_out(test: &str) -> Home {
     }
     let tool = home.0.join("rust/target/release/dimkhoros");
     fs::write(&tool, TOOL).unwrap();
-    fs::set_permissions(&tool, fs::Permissions::from_mode(0o755)).unwrap();
+    fs::set_permissions(&tool, Permissions::from_mode(0o755)).unwrap();
     home
 }
 

@@ -2,7 +2,7 @@
 
 use super::{left, load_both};
 use crate::protocol::{
-    combine, differ, differing, test_challenge, test_commitment, test_slots, Round, Rows,
+    Round, Rows, combine, differ, differing, test_challenge, test_commitment, test_slots,
 };
 use crate::sheet::Sheet;
 
@@ -47,11 +47,7 @@ impl OrRound {
             0 => self.first_challenge,
             _ => left(sheets, self.challenge, self.first_challenge),
         };
-        Round {
-            commitment: self.commitments[side],
-            challenge,
-            response: self.responses[side],
-        }
+        Round { commitment: self.commitments[side], challenge, response: self.responses[side] }
     }
 }
 
@@ -82,11 +78,7 @@ fn both_sides(sheets: &[Sheet; 2], round: &OrRound) -> OrVerdict {
         let sheet = &sheets[side];
         differing(sheet, &part.commitment, part.challenge, &part.response)
     });
-    if rows == [[false; 8]; 2] {
-        OrVerdict::Accepted
-    } else {
-        OrVerdict::Rejected(rows)
-    }
+    if rows == [[false; 8]; 2] { OrVerdict::Accepted } else { OrVerdict::Rejected(rows) }
 }
 
 /// Judges an OR round: accepted when both sides are, otherwise rejected with
@@ -123,15 +115,9 @@ pub fn extract(sheets: [&[u8]; 2], first: &OrRound, second: &OrRound) -> Result<
     // Decision: each number is asked of both rounds and both sides before the
     // next, as 01's extractor does with its two rounds.
     let rounds = [first, second];
-    rounds
-        .iter()
-        .try_for_each(|round| test_commitments(&sheets, round))?;
-    rounds
-        .iter()
-        .try_for_each(|round| test_challenges(&sheets, round))?;
-    rounds
-        .iter()
-        .try_for_each(|round| test_responses(&sheets, round))?;
+    rounds.iter().try_for_each(|round| test_commitments(&sheets, round))?;
+    rounds.iter().try_for_each(|round| test_challenges(&sheets, round))?;
+    rounds.iter().try_for_each(|round| test_responses(&sheets, round))?;
     for (side, sheet) in sheets.iter().enumerate() {
         if differ(sheet, &first.commitments[side], &second.commitments[side]) {
             return Err(18);
@@ -148,8 +134,5 @@ pub fn extract(sheets: [&[u8]; 2], first: &OrRound, second: &OrRound) -> Result<
     // Where the c0 are equal the c1 differ, since the c do.
     let side = usize::from(first.first_challenge == second.first_challenge);
     let [one, other] = rounds.map(|round| round.of_side(&sheets, side));
-    Ok(OrWitness {
-        side: side as u32,
-        witness: combine(&sheets[side], &one, &other),
-    })
+    Ok(OrWitness { side: side as u32, witness: combine(&sheets[side], &one, &other) })
 }

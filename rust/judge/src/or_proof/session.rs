@@ -57,11 +57,7 @@ impl OrProver {
     /// The session in a last phase. It keeps the commitments in all eight
     /// places and nothing else.
     fn ended(&self, phase: u32) -> OrProver {
-        OrProver {
-            phase,
-            commitments: self.commitments,
-            ..OrProver::new()
-        }
+        OrProver { phase, commitments: self.commitments, ..OrProver::new() }
     }
 
     /// The commitments that the held values make: the nonce's image on Peggy's
@@ -71,11 +67,7 @@ impl OrProver {
         let mut made = [[0; 8]; 2];
         made[own] = sheets[own].image(&self.nonce);
         let simulated_challenge = self.simulated_challenge;
-        made[other] = simulated(
-            &sheets[other],
-            simulated_challenge,
-            &self.simulated_response,
-        );
+        made[other] = simulated(&sheets[other], simulated_challenge, &self.simulated_response);
         made
     }
 
@@ -101,11 +93,7 @@ impl Default for OrProver {
 /// The places of Peggy's side and of the other side among two.
 fn places(side: u32) -> (usize, usize) {
     // Decision: every side but 0 is 1.
-    if side == 0 {
-        (0, 1)
-    } else {
-        (1, 0)
-    }
+    if side == 0 { (0, 1) } else { (1, 0) }
 }
 
 /// Takes Peggy's side, a nonce for it and a challenge and a response for the
@@ -203,10 +191,7 @@ fn answered(
     let mut responses = [[0; 8]; 2];
     responses[own] = answers(&sheets[own], &session.nonce, challenges[own], witness);
     responses[other] = first(&session.simulated_response, sheets[other].n());
-    Ok(OrAnswer {
-        first_challenge: challenges[0],
-        responses,
-    })
+    Ok(OrAnswer { first_challenge: challenges[0], responses })
 }
 
 /// Gives the session up, from New or Committed. The held side, nonce and

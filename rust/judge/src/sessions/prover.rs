@@ -1,10 +1,10 @@
 //! Peggy's session.
 
-use super::states::{Saved, NAMES};
+use super::states::{NAMES, Saved};
 use crate::arithmetic::{multiply, power, reduce};
 use crate::bytes::first;
 use crate::protocol::{are_slots, test_challenge, test_slots};
-use crate::sheet::{load, Sheet};
+use crate::sheet::{Sheet, load};
 
 /// How many answered commitments a session lists at most.
 pub const MOST_ANSWERED: usize = 64;
@@ -212,11 +212,7 @@ pub fn drop_session(session: Prover) -> (Result<(), u32>, Prover) {
         // eight places. All eight nonce places become 0. "Saved copies keep
         // their nonce."
         ProverPhase::New | ProverPhase::Committed => {
-            let next = Prover {
-                phase: ProverPhase::Dropped,
-                nonce: [0; 8],
-                ..session
-            };
+            let next = Prover { phase: ProverPhase::Dropped, nonce: [0; 8], ..session };
             (Ok(()), next)
         }
         ProverPhase::Answered | ProverPhase::Dropped => (Err(21), session),

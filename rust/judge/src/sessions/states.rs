@@ -23,11 +23,7 @@ pub struct Saved {
 
 /// The place of a name, or 34 when it is outside 0 to 7.
 fn place(name: u64) -> Result<usize, u32> {
-    if name < NAMES as u64 {
-        Ok(name as usize)
-    } else {
-        Err(34)
-    }
+    if name < NAMES as u64 { Ok(name as usize) } else { Err(34) }
 }
 
 /// Saves the session's state, nonce and commitment, in all eight places, under
@@ -41,11 +37,8 @@ pub fn save(session: Prover, name: u64) -> (Result<(), u32>, Prover) {
         Ok(place) => place,
         Err(number) => return (Err(number), session),
     };
-    let state = Saved {
-        phase: session.phase,
-        nonce: session.nonce,
-        commitment: session.commitment,
-    };
+    let state =
+        Saved { phase: session.phase, nonce: session.nonce, commitment: session.commitment };
     let mut next = session;
     next.saved[place] = Some(state);
     (Ok(()), next)

@@ -2,7 +2,7 @@
 
 use crate::bytes::first;
 use crate::protocol::{
-    are_elements, test_challenge, test_commitment, test_slots, verdict, Verdict,
+    Verdict, are_elements, test_challenge, test_commitment, test_slots, verdict,
 };
 use crate::sheet::load;
 
@@ -33,11 +33,7 @@ pub struct Verifier {
 impl Verifier {
     /// Answers a new session, which holds zeros. Refuses nothing.
     pub fn new() -> Verifier {
-        Verifier {
-            phase: VerifierPhase::Waiting,
-            commitment: [0; 8],
-            challenge: 0,
-        }
+        Verifier { phase: VerifierPhase::Waiting, commitment: [0; 8], challenge: 0 }
     }
 }
 
@@ -103,11 +99,7 @@ fn asked(sheet: &[u8], session: &Verifier, challenge: u32) -> Result<Verifier, u
     if session.phase != VerifierPhase::Holding || !are_elements(&sheet, &session.commitment) {
         return Err(21);
     }
-    Ok(Verifier {
-        phase: VerifierPhase::Asked,
-        commitment: session.commitment,
-        challenge,
-    })
+    Ok(Verifier { phase: VerifierPhase::Asked, commitment: session.commitment, challenge })
 }
 
 /// Takes the response, answers the verdict on the round and leads from Asked
@@ -122,10 +114,7 @@ pub fn take_response(sheet: &[u8], session: Verifier, response: &[u32; 8]) -> (V
         // Decision: the call "answers the verdict", whichever it is. A rejected
         // round leads to Judged too. Both held values stay.
         Ok(verdict) => {
-            let next = Verifier {
-                phase: VerifierPhase::Judged,
-                ..session
-            };
+            let next = Verifier { phase: VerifierPhase::Judged, ..session };
             (verdict, next)
         }
         Err(number) => (Verdict::Refused(number), session),
@@ -141,10 +130,5 @@ fn judged(sheet: &[u8], session: &Verifier, response: &[u32; 8]) -> Result<Verdi
     {
         return Err(21);
     }
-    Ok(verdict(
-        &sheet,
-        &session.commitment,
-        session.challenge,
-        response,
-    ))
+    Ok(verdict(&sheet, &session.commitment, session.challenge, response))
 }

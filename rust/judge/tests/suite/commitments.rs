@@ -120,9 +120,7 @@ fn random_records_agree_as_their_values_do() {
         let count = 1 + shifts.below(4);
         // Few words are picked from, and so some commitments are equal.
         let words = [[0, 1], [5, 0x0500_0000]][shifts.below(2) as usize];
-        let words: Vec<u32> = (0..length * count as usize)
-            .map(|_| shifts.pick(&words))
-            .collect();
+        let words: Vec<u32> = (0..length * count as usize).map(|_| shifts.pick(&words)).collect();
         let rounds = file(count as u16, &words);
         for first in 0..count {
             for second in 0..count {

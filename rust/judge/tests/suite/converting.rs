@@ -169,12 +169,7 @@ fn refusals_in_order() {
         refused(&good, &[bytes, vec![0]].concat(), 60, 12);
     }
     refused(&good, &file(513, &[9, 3, 4].repeat(513)), 9000, 12);
-    refused(
-        &good,
-        &narrow(513, (1, 1), &[9, 3, 4].repeat(513)),
-        9000,
-        12,
-    );
+    refused(&good, &narrow(513, (1, 1), &[9, 3, 4].repeat(513)), 9000, 12);
 }
 
 #[test]

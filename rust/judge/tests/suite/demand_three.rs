@@ -24,10 +24,8 @@ fn accepted(bytes: &[u8], sheet: &Sheet, c: u32, responses: &[[u32; 8]]) -> BTre
         let in_group = used.iter().all(|v| slow_element(sheet, *v));
         for r in responses {
             let verdict = judge(bytes, &round(&t, c, r));
-            let expected = match in_group {
-                true => slow_verdict(sheet, &t, c, r),
-                false => Verdict::Refused(14),
-            };
+            let expected =
+                if in_group { slow_verdict(sheet, &t, c, r) } else { Verdict::Refused(14) };
             assert_eq!(verdict, expected);
             if verdict == Verdict::Accepted {
                 found.insert((t, *r));
@@ -49,19 +47,14 @@ fn whole(raw: Raw, witness_count: usize) {
     let bytes = raw.bytes();
     let sheet = load(&bytes).unwrap();
     let domain = choices(&slots(&sheet), sheet.columns as usize);
-    let witnesses: Vec<[u32; 8]> = domain
-        .iter()
-        .copied()
-        .filter(|x| slow_image(&sheet, x) == sheet.statement)
-        .collect();
+    let witnesses: Vec<[u32; 8]> =
+        domain.iter().copied().filter(|x| slow_image(&sheet, x) == sheet.statement).collect();
     assert_eq!(witnesses.len(), witness_count);
     let mut by_commitment: BTreeMap<[u32; 8], Vec<Round>> = BTreeMap::new();
     for c in 0..sheet.challenges {
         let accepted = accepted(&bytes, &sheet, c, &domain);
-        let simulated: Vec<Pair> = domain
-            .iter()
-            .map(|r| (simulate(&bytes, c, r).unwrap(), *r))
-            .collect();
+        let simulated: Vec<Pair> =
+            domain.iter().map(|r| (simulate(&bytes, c, r).unwrap(), *r)).collect();
         same_rounds(&simulated, &accepted);
         for x in &witnesses {
             let honest: Vec<Pair> = domain

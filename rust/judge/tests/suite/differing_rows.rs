@@ -158,14 +158,8 @@ fn each_row_has_its_own_two_values() {
     assert_eq!(judge(&sheet, &wrong), rejected(&rows));
     assert_eq!(in_session(&sheet, &wrong).0, rejected(&rows));
     let rounds = file(1, &words(&[wrong], 8, 1));
-    assert_eq!(
-        reason(&sheet, &rounds),
-        "rejected 0 4 2 1 9 3 3 13 6 4 18 8 6 6 12 7 8 13\n"
-    );
-    assert_eq!(
-        marker(&sheet, &rounds, &[1]),
-        "rounds 1\n0 rejected 0 1 3 4 6 7\nfail\n"
-    );
+    assert_eq!(reason(&sheet, &rounds), "rejected 0 4 2 1 9 3 3 13 6 4 18 8 6 6 12 7 8 13\n");
+    assert_eq!(marker(&sheet, &rounds, &[1]), "rounds 1\n0 rejected 0 1 3 4 6 7\nfail\n");
 }
 
 #[test]
@@ -173,23 +167,11 @@ fn one_bit_makes_a_row_differ() {
     // m is prime. c is 0, so the right side is t, and the left side is 1.
     let m = 4_294_967_291;
     let sheet = root(m, 65_537, 2, &[2; 8]).bytes();
-    let t = [
-        1,
-        1 + (1 << 8),
-        1 + (1 << 16),
-        1,
-        1 + (1 << 24),
-        3,
-        1 + (1 << 31),
-        1,
-    ];
+    let t = [1, 1 + (1 << 8), 1 + (1 << 16), 1, 1 + (1 << 24), 3, 1 + (1 << 31), 1];
     let wrong = round(&t, 0, &[1; 8]);
     assert_eq!(judge(&sheet, &wrong), rejected(&[1, 2, 4, 5, 6]));
     let line = reason(&sheet, &file(1, &words(&[wrong], 8, 8)));
-    assert_eq!(
-        line,
-        "rejected 1 1 257 2 1 65537 4 1 16777217 5 1 3 6 1 2147483649\n"
-    );
+    assert_eq!(line, "rejected 1 1 257 2 1 65537 4 1 16777217 5 1 3 6 1 2147483649\n");
 }
 
 #[test]
@@ -197,11 +179,7 @@ fn any_differing_row_makes_20() {
     // The right commitment is 9 in every row. The rounds agree in theirs.
     for bits in 0..256 {
         let first = power_round(bits);
-        let second = Round {
-            challenge: 1,
-            response: eight(&[1]),
-            ..first.clone()
-        };
+        let second = Round { challenge: 1, response: eight(&[1]), ..first.clone() };
         let witness = if bits == 0 { Ok(eight(&[7])) } else { Err(20) };
         assert_eq!(extract(&powers(8), &first, &second), witness);
     }

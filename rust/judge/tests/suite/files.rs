@@ -93,20 +93,7 @@ fn records_are_added_behind_the_bytes_in_use() {
         used = append(&sheet, &mut buffer, used, &next).unwrap();
         assert_eq!(used, 7 + 24 * u64::from(number + 1));
     }
-    let words = [
-        u32::MAX,
-        0,
-        u32::MAX,
-        1,
-        2,
-        3,
-        u32::MAX,
-        1,
-        u32::MAX - 1,
-        1,
-        2,
-        3,
-    ];
+    let words = [u32::MAX, 0, u32::MAX, 1, 2, 3, u32::MAX, 1, u32::MAX - 1, 1, 2, 3];
     assert_eq!(buffer[..55], file(2, &words));
     assert_eq!(buffer[55..], [0xAA; 5]);
 }

@@ -81,10 +81,7 @@ fn page_d_has_the_smallest_of_eleven_responses() {
 #[test]
 fn page_e_answers_all_or_none() {
     let sheet = exponent(23, 11, 11, &[&[2], &[16]], &[13, 18]);
-    assert_eq!(
-        named(&sheet, &[9, 6]),
-        lines(11, |c| vec![(5 + 7 * c) % 11])
-    );
+    assert_eq!(named(&sheet, &[9, 6]), lines(11, |c| vec![(5 + 7 * c) % 11]));
     // Row 0 alone would be answered.
     assert_eq!(named(&sheet, &[9, 1]), "none\n");
     assert_eq!(named(&sheet, &[1, 6]), "none\n");
@@ -110,15 +107,9 @@ fn page_g_answers_every_challenge() {
 fn the_first_slot_leads() {
     // One of the two columns is free.
     let sheet = exponent(23, 11, 11, &[&[2, 1]], &[13]);
-    assert_eq!(
-        named(&sheet, &[9]),
-        lines(11, |c| vec![(5 + 7 * c) % 11, 0])
-    );
+    assert_eq!(named(&sheet, &[9]), lines(11, |c| vec![(5 + 7 * c) % 11, 0]));
     let sheet = exponent(23, 11, 11, &[&[1, 2]], &[13]);
-    assert_eq!(
-        named(&sheet, &[9]),
-        lines(11, |c| vec![0, (5 + 7 * c) % 11])
-    );
+    assert_eq!(named(&sheet, &[9]), lines(11, |c| vec![0, (5 + 7 * c) % 11]));
     // Eight columns of order 2, and only the last one counts.
     let sheet = exponent(3, 2, 2, &[&[1, 1, 1, 1, 1, 1, 1, 2]], &[2]);
     let text = "0 0 0 0 0 0 0 0 1\n1 0 0 0 0 0 0 0 0\n";
@@ -204,10 +195,8 @@ fn whole(raw: Raw, witness_count: usize) {
             let accepts = |r: &&[u32; 8]| judge(&bytes, &round(&t, c, *r)) == Verdict::Accepted;
             // Arrays compare by the first place in which they differ.
             if let Some(r) = domain.iter().filter(accepts).min() {
-                let slots: Vec<String> = r[..sheet.columns as usize]
-                    .iter()
-                    .map(u32::to_string)
-                    .collect();
+                let slots: Vec<String> =
+                    r[..sheet.columns as usize].iter().map(u32::to_string).collect();
                 expected += &format!("{c} {}\n", slots.join(" "));
             }
         }

@@ -2,42 +2,22 @@
 //! choices.
 
 use judge::ledger::*;
-use judge::{extract, simulate, Round, Sheet};
+use judge::{Round, Sheet, extract, simulate};
 
 use crate::naive::*;
 use crate::tools::*;
 
 /// The line that has 0 everywhere.
-pub const NO_LINE: Line = Line {
-    kind: 0,
-    first: 0,
-    second: 0,
-    commitment: 0,
-    t: [0; 2],
-    challenge: 0,
-    response: [0; 3],
-};
+pub const NO_LINE: Line =
+    Line { kind: 0, first: 0, second: 0, commitment: 0, t: [0; 2], challenge: 0, response: [0; 3] };
 
 /// The wish that has 0 everywhere.
-pub const NO_WISH: Wish = Wish {
-    kind: 0,
-    first: 0,
-    second: 0,
-    value: 0,
-    blinding: 0,
-    nonce: [0; 3],
-    challenge: 0,
-};
+pub const NO_WISH: Wish =
+    Wish { kind: 0, first: 0, second: 0, value: 0, blinding: 0, nonce: [0; 3], challenge: 0 };
 
 /// A base of g, h, m, q and K.
 pub fn base([g, h, modulus, order, challenges]: [u32; 5]) -> Base {
-    Base {
-        g,
-        h,
-        modulus,
-        order,
-        challenges,
-    }
+    Base { g, h, modulus, order, challenges }
 }
 
 /// The base of the computed page.
@@ -46,20 +26,11 @@ pub fn page_base() -> Base {
 }
 
 pub fn committed(commitment: u32) -> Line {
-    Line {
-        kind: 1,
-        commitment,
-        ..NO_LINE
-    }
+    Line { kind: 1, commitment, ..NO_LINE }
 }
 
 pub fn sum(first: u32, second: u32) -> Line {
-    Line {
-        kind: 2,
-        first,
-        second,
-        ..NO_LINE
-    }
+    Line { kind: 2, first, second, ..NO_LINE }
 }
 
 /// A product line of two lines, with its commitment and its round.
@@ -68,43 +39,22 @@ pub fn product(
     commitment: u32,
     (t, challenge, response): ([u32; 2], u32, [u32; 3]),
 ) -> Line {
-    Line {
-        kind: 3,
-        first,
-        second,
-        commitment,
-        t,
-        challenge,
-        response,
-    }
+    Line { kind: 3, first, second, commitment, t, challenge, response }
 }
 
 /// A ledger of these lines, with 0 beyond them.
 pub fn ledger(lines: &[Line]) -> Ledger {
     let mut room = [NO_LINE; 64];
     room[..lines.len()].copy_from_slice(lines);
-    Ledger {
-        lines: room,
-        count: lines.len() as u32,
-    }
+    Ledger { lines: room, count: lines.len() as u32 }
 }
 
 pub fn value(value: u32, blinding: u32) -> Wish {
-    Wish {
-        kind: 1,
-        value,
-        blinding,
-        ..NO_WISH
-    }
+    Wish { kind: 1, value, blinding, ..NO_WISH }
 }
 
 pub fn sum_of(first: u32, second: u32) -> Wish {
-    Wish {
-        kind: 2,
-        first,
-        second,
-        ..NO_WISH
-    }
+    Wish { kind: 2, first, second, ..NO_WISH }
 }
 
 /// A wish for a product of two lines with this ρ, nonce and challenge.
@@ -114,35 +64,19 @@ pub fn product_of(
     nonce: [u32; 3],
     challenge: u32,
 ) -> Wish {
-    Wish {
-        kind: 3,
-        first,
-        second,
-        blinding,
-        nonce,
-        challenge,
-        ..NO_WISH
-    }
+    Wish { kind: 3, first, second, blinding, nonce, challenge, ..NO_WISH }
 }
 
 /// These wishes, with 0 beyond them.
 pub fn wishes(entries: &[Wish]) -> Wishes {
     let mut room = [NO_WISH; 64];
     room[..entries.len()].copy_from_slice(entries);
-    Wishes {
-        entries: room,
-        count: entries.len() as u32,
-    }
+    Wishes { entries: room, count: entries.len() as u32 }
 }
 
 /// The computed page: C(2,1), C(3,0), their sum and their product with ρ 4.
 pub fn page_wishes() -> Wishes {
-    wishes(&[
-        value(2, 1),
-        value(3, 0),
-        sum_of(0, 1),
-        product_of([0, 1], 4, [1, 2, 3], 3),
-    ])
+    wishes(&[value(2, 1), value(3, 0), sum_of(0, 1), product_of([0, 1], 4, [1, 2, 3], 3)])
 }
 
 /// The ledger of the computed page. The commitments are 4 · 3 = 12, 8 and
@@ -150,12 +84,7 @@ pub fn page_wishes() -> Wishes {
 /// (2, 1, 4 − 2 · 0). So t is (2 · 9, 8 · 27) = (18, 9) and r is
 /// (1 + 6, 2 + 3, 3 + 12) = (7, 5, 4).
 pub fn page_ledger() -> Ledger {
-    ledger(&[
-        committed(12),
-        committed(8),
-        sum(0, 1),
-        product([0, 1], 9, ([18, 9], 3, [7, 5, 4])),
-    ])
+    ledger(&[committed(12), committed(8), sum(0, 1), product([0, 1], 9, ([18, 9], 3, [7, 5, 4]))])
 }
 
 /// A sheet of kind 1 with the base's numbers, for the slow rules.
@@ -279,11 +208,7 @@ fn every_other_number_of_the_page_is_rejected() {
         let mut other = page_ledger();
         change(&mut other.lines);
         let same = other == page_ledger();
-        let expected = if same {
-            Ok(Checked::Accepted)
-        } else {
-            rejected
-        };
+        let expected = if same { Ok(Checked::Accepted) } else { rejected };
         assert_eq!(check(&page_base(), &other), expected);
     };
     for v in elements {
@@ -363,10 +288,7 @@ fn the_page_extracts_its_openings() {
     let expected = product([0, 1], 9, ([18, 9], 5, [0, 7, 1]));
     assert_eq!(other.lines[3], expected);
     assert_eq!(check(&page_base(), &other), Ok(Checked::Accepted));
-    let rounds = [
-        round(&[18, 9], 3, &[7, 5, 4]),
-        round(&[18, 9], 5, &[0, 7, 1]),
-    ];
+    let rounds = [round(&[18, 9], 3, &[7, 5, 4]), round(&[18, 9], 5, &[0, 7, 1])];
     let pair = [&rounds[0], &rounds[1]];
     let x = assert_extracted(&page_base(), [12, 8, 9], pair, [3, 0]);
     assert_eq!(x, eight(&[2, 1, 4]));
@@ -414,10 +336,8 @@ fn all_small_product_lines() {
                     let line = product([0, 1], e, ([t0, t1], c, [r[0], r[1], r[2]]));
                     let lines = ledger(&[committed(a), committed(b), line]);
                     let accepts = slow_accepts(&base, [a, b, e], &line);
-                    let expected = match accepts {
-                        true => Checked::Accepted,
-                        false => Checked::Rejected { line: 2 },
-                    };
+                    let expected =
+                        if accepts { Checked::Accepted } else { Checked::Rejected { line: 2 } };
                     assert_eq!(check(&base, &lines), Ok(expected));
                     met[usize::from(accepts)] += 1;
                 }
@@ -434,10 +354,8 @@ fn all_small_pairs_of_rounds_extract() {
         // In the group of m 15 and for q 9 only some statements are taken.
         let group = elements(&header(&base));
         let few = base.order > 3;
-        let slots: Vec<u32> = match few {
-            true => (0..base.order).step_by(2).collect(),
-            false => (0..base.order).collect(),
-        };
+        let slots: Vec<u32> =
+            if few { (0..base.order).step_by(2).collect() } else { (0..base.order).collect() };
         for places in choices(&group, 3).iter().step_by(if few { 5 } else { 1 }) {
             let abe = [places[0], places[1], places[2]];
             let sheet = product_sheet(&base, abe);

@@ -194,10 +194,7 @@ fn the_slow_product_is_the_power() {
     for k in 2..=20_u32 {
         for rounds in 0..=14 {
             let bits = slow_product(k, rounds);
-            let number = bits
-                .iter()
-                .rev()
-                .fold(0, |sum, bit| 2 * sum + u64::from(*bit));
+            let number = bits.iter().rev().fold(0, |sum, bit| 2 * sum + u64::from(*bit));
             assert_eq!(number, u64::from(k).pow(rounds));
             assert_eq!(bits.last(), Some(&true));
         }

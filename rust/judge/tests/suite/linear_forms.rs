@@ -146,12 +146,7 @@ fn the_first_five_patterns_as_linear_forms() {
         (2, 1, 2, &[1, 0, 0, 1]),
         (3, 2, 1, &[1, 0, 0, 1]),
         (4, 2, 1, &[1, 0, 0, 1]),
-        (
-            5,
-            2,
-            3,
-            &[1, 0, 0, 0, 1, 0, 0, 0, 0, 0, 0, 0, 0, 0, 1, 1, 0, 0],
-        ),
+        (5, 2, 3, &[1, 0, 0, 0, 1, 0, 0, 0, 0, 0, 0, 0, 0, 0, 1, 1, 0, 0]),
     ];
     let (values, statement) = ([2, 3, 4], [12, 9]);
     for (pattern, rows, columns, coefficients) in forms {
@@ -165,15 +160,7 @@ fn the_first_five_patterns_as_linear_forms() {
             ..one_form()
         };
         let mut buffer = [0; 80];
-        let length = make(
-            pattern,
-            23,
-            11,
-            11,
-            &plan.generators,
-            &plan.statement,
-            &mut buffer,
-        );
+        let length = make(pattern, 23, 11, 11, &plan.generators, &plan.statement, &mut buffer);
         assert_eq!(plan.bytes(), buffer[..length.unwrap()]);
     }
 }
@@ -218,11 +205,7 @@ fn the_widest_plan() {
 
 #[test]
 fn generators_of_1_and_the_same_generator_twice() {
-    let plan = Plan {
-        generators: vec![1, 2, 2],
-        coefficients: vec![9, 10, 5],
-        ..one_form()
-    };
+    let plan = Plan { generators: vec![1, 2, 2], coefficients: vec![9, 10, 5], ..one_form() };
     // 2^15 is 2^4 mod 23, since 2^11 is 1.
     let expected = exponent(23, 11, 11, &[&[16]], &[13]).bytes();
     assert_eq!(plan.bytes(), expected);

@@ -31,10 +31,7 @@ fn no_rounds_fail_at_every_level() {
 #[test]
 fn enough_accepted_rounds_pass() {
     let rounds = file(2, &[9, 3, 4, 9, 1, 1]);
-    assert_eq!(
-        marker(&page_a(), &rounds, &[6]),
-        "rounds 2\n0 accepted\n1 accepted\npass\n"
-    );
+    assert_eq!(marker(&page_a(), &rounds, &[6]), "rounds 2\n0 accepted\n1 accepted\npass\n");
 }
 
 #[test]

@@ -18,24 +18,18 @@ pub fn slow_element(sheet: &Sheet, v: u32) -> bool {
     if sheet.kind == 1 {
         slow_power(v, sheet.order, m) == 1
     } else {
-        !(2..=v).any(|d| v.is_multiple_of(d) && m.is_multiple_of(d))
+        !(2..=v).any(|d| v % d == 0 && m % d == 0)
     }
 }
 
 /// All group elements.
 pub fn elements(sheet: &Sheet) -> Vec<u32> {
-    (0..=sheet.modulus)
-        .filter(|v| slow_element(sheet, *v))
-        .collect()
+    (0..=sheet.modulus).filter(|v| slow_element(sheet, *v)).collect()
 }
 
 /// All domain slots.
 pub fn slots(sheet: &Sheet) -> Vec<u32> {
-    if sheet.kind == 1 {
-        (0..sheet.order).collect()
-    } else {
-        elements(sheet)
-    }
+    if sheet.kind == 1 { (0..sheet.order).collect() } else { elements(sheet) }
 }
 
 pub fn slow_image(sheet: &Sheet, x: &[u32; 8]) -> [u32; 8] {
@@ -89,10 +83,8 @@ pub fn slow_sides(sheet: &Sheet, t: &[u32; 8], c: u32, r: &[u32; 8], row: usize)
 /// The rows that differ, for values that are in range.
 pub fn slow_rows(sheet: &Sheet, t: &[u32; 8], c: u32, r: &[u32; 8]) -> Rows {
     std::array::from_fn(|row| {
-        let [left, right] = match row < sheet.rows as usize {
-            true => slow_sides(sheet, t, c, r, row),
-            false => [0, 0],
-        };
+        let [left, right] =
+            if row < sheet.rows as usize { slow_sides(sheet, t, c, r, row) } else { [0, 0] };
         left != right
     })
 }
@@ -100,10 +92,7 @@ pub fn slow_rows(sheet: &Sheet, t: &[u32; 8], c: u32, r: &[u32; 8]) -> Rows {
 /// The verdict, for values that are in range.
 pub fn slow_verdict(sheet: &Sheet, t: &[u32; 8], c: u32, r: &[u32; 8]) -> Verdict {
     let rows = slow_rows(sheet, t, c, r);
-    match rows.iter().any(|differs| *differs) {
-        true => Verdict::Rejected(rows),
-        false => Verdict::Accepted,
-    }
+    if rows.iter().any(|differs| *differs) { Verdict::Rejected(rows) } else { Verdict::Accepted }
 }
 
 /// The product of the parts mod m, row by row, with 0 beyond the rows.
@@ -111,9 +100,10 @@ pub fn slow_multiplied(sheet: &Sheet, parts: &[[u32; 8]]) -> [u32; 8] {
     std::array::from_fn(|row| {
         let values = parts.iter().map(|part| u64::from(part[row]));
         let m = u64::from(sheet.modulus);
-        match row < sheet.rows as usize {
-            true => values.fold(1, |product, value| product * value % m) as u32,
-            false => 0,
+        if row < sheet.rows as usize {
+            values.fold(1, |product, value| product * value % m) as u32
+        } else {
+            0
         }
     })
 }
@@ -125,9 +115,10 @@ pub fn slow_joined(sheet: &Sheet, parts: &[[u32; 8]]) -> [u32; 8] {
     }
     std::array::from_fn(|column| {
         let values = parts.iter().map(|part| u64::from(part[column]));
-        match column < sheet.columns as usize {
-            true => (values.sum::<u64>() % u64::from(sheet.order)) as u32,
-            false => 0,
+        if column < sheet.columns as usize {
+            (values.sum::<u64>() % u64::from(sheet.order)) as u32
+        } else {
+            0
         }
     })
 }

@@ -3,7 +3,7 @@
 use std::collections::{BTreeMap, BTreeSet};
 
 use judge::or_proof::*;
-use judge::{load, Sheet};
+use judge::{Sheet, load};
 
 use crate::naive::*;
 use crate::tools::*;
@@ -12,21 +12,11 @@ use crate::tools::*;
 type Numbers = ([[u32; 8]; 2], u32, u32, [[u32; 8]; 2]);
 
 fn numbers(round: &OrRound) -> Numbers {
-    (
-        round.commitments,
-        round.challenge,
-        round.first_challenge,
-        round.responses,
-    )
+    (round.commitments, round.challenge, round.first_challenge, round.responses)
 }
 
 fn whole_round((commitments, challenge, first_challenge, responses): Numbers) -> OrRound {
-    OrRound {
-        commitments,
-        challenge,
-        first_challenge,
-        responses,
-    }
+    OrRound { commitments, challenge, first_challenge, responses }
 }
 
 /// Two sheets and all that can stand in a round on them.
@@ -54,13 +44,7 @@ fn pair(raw: [Raw; 2]) -> Pair {
         all.retain(|x| slow_image(&sheets[side], x) == sheets[side].statement);
         all
     });
-    Pair {
-        bytes,
-        sheets,
-        commitments,
-        domains,
-        witnesses,
-    }
+    Pair { bytes, sheets, commitments, domains, witnesses }
 }
 
 /// The slow verdict of both sides, for values that are in range.
@@ -74,9 +58,10 @@ fn slow_or_verdict(sheets: &[Sheet; 2], round: &OrRound) -> OrVerdict {
         let (t, r) = (&round.commitments[side], &round.responses[side]);
         slow_rows(&sheets[side], t, challenge, r)
     });
-    match rows.as_flattened().contains(&true) {
-        true => OrVerdict::Rejected(rows),
-        false => OrVerdict::Accepted,
+    if rows.as_flattened().contains(&true) {
+        OrVerdict::Rejected(rows)
+    } else {
+        OrVerdict::Accepted
     }
 }
 

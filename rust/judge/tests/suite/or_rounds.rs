@@ -19,10 +19,7 @@ fn short(numbers: [u32; 6]) -> OrRound {
 
 /// The witness of a one by one sheet.
 fn found(side: u32, witness: u32) -> Result<OrWitness, u32> {
-    Ok(OrWitness {
-        side,
-        witness: eight(&[witness]),
-    })
+    Ok(OrWitness { side, witness: eight(&[witness]) })
 }
 
 #[test]

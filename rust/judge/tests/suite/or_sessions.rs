@@ -1,7 +1,7 @@
 //! Whole runs of Peggy's OR session, with numbers worked by hand.
 
-use judge::or_proof::*;
 use judge::Prover;
+use judge::or_proof::*;
 
 use crate::naive::slow_power;
 use crate::tools::*;
@@ -20,17 +20,11 @@ fn held(side: u32, nonce: u32, c: u32, r: u32, t: [u32; 2]) -> OrProver {
 
 /// A session that has ended with these commitments.
 fn ended(phase: u32, t: [u32; 2]) -> OrProver {
-    OrProver {
-        phase,
-        ..held(0, 0, 0, 0, t)
-    }
+    OrProver { phase, ..held(0, 0, 0, 0, t) }
 }
 
 fn answer(c0: u32, r: [u32; 2]) -> OrAnswer {
-    OrAnswer {
-        first_challenge: c0,
-        responses: [eight(&[r[0]]), eight(&[r[1]])],
-    }
+    OrAnswer { first_challenge: c0, responses: [eight(&[r[0]]), eight(&[r[1]])] }
 }
 
 #[test]
@@ -107,14 +101,8 @@ fn equal_challenges_leave_0_for_peggys_side() {
 fn every_side_but_0_is_1_in_committing() {
     let sheets = base_and_root();
     for side in [1, 2, 256, 65_536, u32::MAX] {
-        let (made, session) = commit(
-            lent(&sheets),
-            OrProver::new(),
-            side,
-            &eight(&[3]),
-            3,
-            &eight(&[4]),
-        );
+        let (made, session) =
+            commit(lent(&sheets), OrProver::new(), side, &eight(&[3]), 3, &eight(&[4]));
         assert_eq!(made, Ok([eight(&[9]), eight(&[33])]));
         assert_eq!(session, held(1, 3, 3, 4, [9, 33]));
     }
@@ -173,14 +161,8 @@ fn sheets_of_other_sizes_keep_their_own_places() {
     let sheets = [wide, tall];
     let nonce = eight_with(&[6, 2], 99);
     // Page D's nonce (6, 2) makes 1. Page E's r 4 and c 3 make (9, 6).
-    let (made, session) = commit(
-        lent(&sheets),
-        OrProver::new(),
-        0,
-        &nonce,
-        3,
-        &eight_with(&[4], 99),
-    );
+    let (made, session) =
+        commit(lent(&sheets), OrProver::new(), 0, &nonce, 3, &eight_with(&[4], 99));
     assert_eq!(made, Ok([eight(&[1]), eight(&[9, 6])]));
     assert_eq!(session.nonce, eight(&[6, 2]));
     assert_eq!(session.simulated_response, eight(&[4]));
@@ -246,10 +228,7 @@ fn wide_numbers_run_through() {
         assert_eq!(rounds[1].responses[side], *nonce);
         for [one, other] in [[0, 1], [1, 2], [2, 0]] {
             let given = extract(lent(&sheets), &rounds[one], &rounds[other]);
-            let OrWitness {
-                side: found,
-                witness,
-            } = given.unwrap();
+            let OrWitness { side: found, witness } = given.unwrap();
             assert_eq!(found, side as u32);
             let images = [&witness, x].map(|slots| image(&sheets[side], slots));
             assert_eq!(images[0], images[1]);

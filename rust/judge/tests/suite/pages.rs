@@ -8,11 +8,7 @@ use crate::tools::*;
 fn honest(sheet: &[u8], nonce: &[u32], c: u32, x: &[u32]) -> Round {
     let (t, session) = commit(sheet, Prover::new(), &eight(nonce));
     let (r, _) = respond(sheet, session, c, &eight(x));
-    Round {
-        commitment: t.unwrap(),
-        challenge: c,
-        response: r.unwrap(),
-    }
+    Round { commitment: t.unwrap(), challenge: c, response: r.unwrap() }
 }
 
 #[test]

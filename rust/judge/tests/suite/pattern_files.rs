@@ -1,7 +1,7 @@
 //! The sheet maker over a lecturer's own pattern file.
 
-use judge::pattern_file::{make, SHIPPED};
 use judge::Written;
+use judge::pattern_file::{SHIPPED, make};
 
 use crate::tools::*;
 
@@ -61,9 +61,8 @@ fn the_largest_pattern_and_the_longest_file() {
     assert_eq!(file.len(), 6 + 32 * 67);
     let values = [2, 3, 4, 6, 8, 9, 12, 13];
     let all = [1, 2, 3, 4, 6, 8, 9, 12, 13];
-    let table: Vec<Vec<u32>> = (0..8)
-        .map(|i| (0..8).map(|j| all[(8 * i + j) % 9]).collect())
-        .collect();
+    let table: Vec<Vec<u32>> =
+        (0..8).map(|i| (0..8).map(|j| all[(8 * i + j) % 9]).collect()).collect();
     let rows: Vec<&[u32]> = table.iter().map(Vec::as_slice).collect();
     let expected = exponent(23, 11, 11, &rows, &[18; 8]).bytes();
     for number in 1..=32 {

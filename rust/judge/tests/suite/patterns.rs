@@ -17,14 +17,8 @@ fn the_tables_of_the_first_five_patterns() {
     let expected = |table: &[&[u32]], z: &[u32]| exponent(23, 11, 11, table, z).bytes();
     assert_eq!(made(1, &[2], &[13]), expected(&[&[2]], &[13]));
     assert_eq!(made(2, &[2, 3], &[18]), expected(&[&[2, 3]], &[18]));
-    assert_eq!(
-        made(3, &[2, 3], &[13, 18]),
-        expected(&[&[2], &[3]], &[13, 18])
-    );
-    assert_eq!(
-        made(4, &[2, 16], &[13, 18]),
-        expected(&[&[2], &[16]], &[13, 18])
-    );
+    assert_eq!(made(3, &[2, 3], &[13, 18]), expected(&[&[2], &[3]], &[13, 18]));
+    assert_eq!(made(4, &[2, 16], &[13, 18]), expected(&[&[2], &[16]], &[13, 18]));
     let product: [&[u32]; 2] = [&[2, 3, 1], &[4, 1, 3]];
     assert_eq!(made(5, &[2, 3, 4], &[12, 9]), expected(&product, &[12, 9]));
 }
@@ -50,14 +44,7 @@ fn the_product_witness_of_the_paper() {
 
 #[test]
 fn refusal_1_pattern_numbers_and_counts() {
-    let counts = [
-        (1, 1, 1),
-        (2, 2, 1),
-        (3, 2, 2),
-        (4, 2, 2),
-        (5, 3, 2),
-        (6, 0, 1),
-    ];
+    let counts = [(1, 1, 1), (2, 2, 1), (3, 2, 2), (4, 2, 2), (5, 3, 2), (6, 0, 1)];
     let ones = [1; 10];
     for (pattern, values, statement) in counts {
         for v in 0..6 {

@@ -10,13 +10,9 @@ pub fn small(shifts: &mut Shifts) -> (Vec<u8>, Sheet) {
     let kind = 1 + shifts.below(2) as u32;
     let modulus = 3 + shifts.below(80) as u32;
     let order = 2 + shifts.below(40) as u32;
-    let most = (2..=order).find(|d| order.is_multiple_of(*d)).unwrap();
+    let most = (2..=order).find(|d| order % *d == 0).unwrap();
     let rows = 1 + shifts.below(8) as u32;
-    let columns = if kind == 1 {
-        1 + shifts.below(8) as u32
-    } else {
-        rows
-    };
+    let columns = if kind == 1 { 1 + shifts.below(8) as u32 } else { rows };
     let mut sheet = Sheet {
         kind,
         modulus,
@@ -157,11 +153,7 @@ pub fn bytes(shifts: &mut Shifts) -> Vec<u8> {
 }
 
 fn any_round(shifts: &mut Shifts) -> Round {
-    Round {
-        commitment: shifts.edges(),
-        challenge: shifts.edge(),
-        response: shifts.edges(),
-    }
+    Round { commitment: shifts.edges(), challenge: shifts.edge(), response: shifts.edges() }
 }
 
 /// The part and the values of a round are refused as the check says.
@@ -227,11 +219,7 @@ fn try_writer(before: &[u8], write: impl FnOnce(&mut [u8]) -> bool) {
 }
 
 fn try_file_writers(shifts: &mut Shifts, sheet: &[u8], before: &[u8], long: u64, round: &Round) {
-    let used = if shifts.below(3) == 0 {
-        long
-    } else {
-        shifts.below(before.len() as u64 + 2)
-    };
+    let used = if shifts.below(3) == 0 { long } else { shifts.below(before.len() as u64 + 2) };
     try_writer(before, |buffer| append(sheet, buffer, used, round).is_err());
     try_writer(before, |buffer| empty(long, buffer).is_err());
     try_writer(before, |buffer| empty(long % 4, buffer).is_err());

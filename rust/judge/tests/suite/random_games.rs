@@ -100,10 +100,7 @@ fn random_sheets_follow_the_slow_rules() {
             t[shifts.below(s as u64) as usize] = shifts.edge() % 90;
         }
         let words = [&t[..s], &[shifts.edge() % 65_536], &shifts.edges()[..n]].concat();
-        let texts = [
-            game(&bytes, &file(1, &words)),
-            game(&bytes, &narrow(1, (s, n), &words)),
-        ];
+        let texts = [game(&bytes, &file(1, &words)), game(&bytes, &narrow(1, (s, n), &words))];
         assert_eq!(texts[0], texts[1]);
         if !t[..s].iter().all(|value| slow_element(&sheet, *value)) {
             assert_eq!(texts[0], "refused 14\n");
@@ -119,9 +116,10 @@ fn random_sheets_follow_the_slow_rules() {
         assert_eq!(texts[0], expected);
         let all = choices(&slots(&sheet), n);
         let has_witness = all.iter().any(|x| slow_image(&sheet, x) == sheet.statement);
-        match has_witness {
-            true => assert!(answered == 0 || answered == sheet.challenges),
-            false => assert!(answered <= 1),
+        if has_witness {
+            assert!(answered == 0 || answered == sheet.challenges)
+        } else {
+            assert!(answered <= 1)
         }
         met[match answered {
             0 => 1,

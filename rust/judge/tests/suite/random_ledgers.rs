@@ -4,7 +4,7 @@
 use std::collections::BTreeSet;
 
 use judge::ledger::*;
-use judge::{extract, Round};
+use judge::{Round, extract};
 
 use crate::ledgers::*;
 use crate::naive::*;
@@ -33,7 +33,7 @@ fn slow_base(base: &Base) -> BTreeSet<u32> {
     if q <= 1 {
         broken.insert(6);
     }
-    if k <= 1 || k > 65_536 || (2..k).any(|d| q.is_multiple_of(d)) {
+    if k <= 1 || k > 65_536 || (2..k).any(|d| q % d == 0) {
         broken.insert(8);
     }
     if broken.is_empty() && !(is_element(base, base.g) && is_element(base, base.h)) {
@@ -94,13 +94,9 @@ fn slow_check(base: &Base, ledger: &Ledger) -> Result<Checked, u32> {
         let abe = [factors[0], factors[1], line.commitment];
         !slow_accepts(base, abe, line)
     };
-    let rejected = lines
-        .iter()
-        .position(|line| line.kind == 3 && rejects(line));
+    let rejected = lines.iter().position(|line| line.kind == 3 && rejects(line));
     Ok(match rejected {
-        Some(number) => Checked::Rejected {
-            line: number as u32,
-        },
+        Some(number) => Checked::Rejected { line: number as u32 },
         None => Checked::Accepted,
     })
 }
@@ -210,7 +206,7 @@ fn random_base(shifts: &mut Shifts) -> Base {
         group = [3 + shifts.below(80) as u32, 2 + shifts.below(40) as u32];
     }
     let [m, q] = group;
-    let most = (2..=q).find(|d| q.is_multiple_of(*d)).unwrap();
+    let most = (2..=q).find(|d| q % *d == 0).unwrap();
     let k = 2 + shifts.below(u64::from(most) - 1) as u32;
     let mut found = base([1, 1, m, q, k]);
     let elements = elements(&header(&found));
@@ -242,9 +238,7 @@ fn random_wishes(shifts: &mut Shifts, base: &Base) -> Wishes {
         0 => 64,
         _ => shifts.below(12) as u32,
     };
-    let list: Vec<Wish> = (0..count)
-        .map(|number| random_wish(shifts, base, number))
-        .collect();
+    let list: Vec<Wish> = (0..count).map(|number| random_wish(shifts, base, number)).collect();
     wishes(&list)
 }
 
@@ -505,20 +499,8 @@ fn wide_numbers() {
     // 4294967087 = 2 · 2147483543 + 1, both prime; and 4251949249 = 65267 ·
     // 65147 with q = 32633 · 32573.
     let bases = [
-        base([
-            1_703_988_234,
-            3_278_751_099,
-            4_294_967_087,
-            2_147_483_543,
-            65_536,
-        ]),
-        base([
-            559_663_012,
-            2_204_875_751,
-            4_251_949_249,
-            1_062_954_709,
-            32_573,
-        ]),
+        base([1_703_988_234, 3_278_751_099, 4_294_967_087, 2_147_483_543, 65_536]),
+        base([559_663_012, 2_204_875_751, 4_251_949_249, 1_062_954_709, 32_573]),
     ];
     let mut shifts = Shifts(0x071D_E1ED_071D_E1ED);
     for base in bases {
@@ -542,10 +524,7 @@ fn wide_numbers() {
         // (q − 1)^2 is 1 mod q, so line 3 is C(1, q − 1), and the witness is
         // (q − 1, q − 1, q − 1 − 1).
         let third = u128::from(made.lines[3].commitment);
-        assert_eq!(
-            third * u128::from(base.h) % u128::from(m),
-            u128::from(base.g)
-        );
+        assert_eq!(third * u128::from(base.h) % u128::from(m), u128::from(base.g));
         let answer = |x: u64| ((u64::from(top) + u64::from(k - 1) * x) % u64::from(q)) as u32;
         let [high, less] = [u64::from(top), u64::from(top) - 1];
         let expected = [answer(high), answer(high), answer(less)];

@@ -44,7 +44,7 @@ fn header(plan: &Plan) -> Sheet {
 /// A random plan that is refused by nothing, with a statement of any elements.
 fn random_plan(shifts: &mut Shifts) -> Plan {
     let order = 2 + shifts.below(40) as u32;
-    let most = (2..=order).find(|d| order.is_multiple_of(*d)).unwrap();
+    let most = (2..=order).find(|d| order % *d == 0).unwrap();
     let mut plan = Plan {
         modulus: 3 + shifts.below(80) as u32,
         order,
@@ -134,7 +134,7 @@ fn slow_number(plan: &Plan, length: usize) -> u32 {
     let [s, n] = [plan.rows, plan.columns].map(|count| count as usize);
     let g = plan.generators.len();
     let stranger = |v: &u32| !slow_element(&header(plan), *v);
-    let divides = |d: u32| plan.order.is_multiple_of(d);
+    let divides = |d: u32| plan.order % d == 0;
     if plan.modulus <= 2 {
         5
     } else if plan.order <= 1 {

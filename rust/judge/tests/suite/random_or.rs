@@ -1,7 +1,7 @@
 //! Random OR rounds and sessions against the slow rules.
 
 use judge::or_proof::*;
-use judge::{encode, load, Rows, Sheet};
+use judge::{Rows, Sheet, encode, load};
 
 use crate::naive::*;
 use crate::random::{bytes, small};
@@ -71,26 +71,16 @@ fn slow_refusal(sheets: &[Sheet; 2], round: &OrRound) -> Option<u32> {
     let side_is = |test: &dyn Fn(usize) -> bool| test(0) || test(1);
     first_of(&[
         (26, k != sheets[1].challenges),
-        (
-            14,
-            side_is(&|i| !slow_elements(&sheets[i], &round.commitments[i])),
-        ),
+        (14, side_is(&|i| !slow_elements(&sheets[i], &round.commitments[i]))),
         (15, round.challenge >= k || round.first_challenge >= k),
-        (
-            16,
-            side_is(&|i| !slow_slots(&sheets[i], &round.responses[i])),
-        ),
+        (16, side_is(&|i| !slow_slots(&sheets[i], &round.responses[i]))),
     ])
 }
 
 /// The differing rows of both sides, for values that are in range.
 fn slow_rejection(sheets: &[Sheet; 2], round: &OrRound) -> [Rows; 2] {
     let (c, c0) = (round.challenge, round.first_challenge);
-    let c1 = if c < c0 {
-        c + sheets[0].challenges - c0
-    } else {
-        c - c0
-    };
+    let c1 = if c < c0 { c + sheets[0].challenges - c0 } else { c - c0 };
     [(0, c0), (1, c1)].map(|(side, own): (usize, u32)| {
         let (t, r) = (&round.commitments[side], &round.responses[side]);
         slow_rows(&sheets[side], t, own, r)
@@ -170,10 +160,7 @@ fn committing(
     phase: u32,
     brought: &OrProver,
 ) -> (Result<[[u32; 8]; 2], u32>, OrProver) {
-    let start = OrProver {
-        phase,
-        ..OrProver::new()
-    };
+    let start = OrProver { phase, ..OrProver::new() };
     commit(
         lent(bytes),
         start,

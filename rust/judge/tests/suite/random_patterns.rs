@@ -24,10 +24,12 @@ fn slow_refusal(file: &[u8]) -> u32 {
         misnamed |= digits != (1..=values).collect();
         at = end;
     }
-    match at == file.len() {
-        false => 23,
-        true if misnamed => 24,
-        true => 0,
+    if at != file.len() {
+        23
+    } else if misnamed {
+        24
+    } else {
+        0
     }
 }
 
@@ -48,9 +50,8 @@ fn random_pattern_files_follow_the_slow_rules() {
     let mut shifts = Shifts(0x00C0_FFEE_00C0_FFEE);
     let mut seen = [0; 25];
     for _ in 0..20_000 {
-        let patterns: Vec<Vec<u8>> = (0..1 + shifts.below(4))
-            .map(|_| any_pattern(&mut shifts))
-            .collect();
+        let patterns: Vec<Vec<u8>> =
+            (0..1 + shifts.below(4)).map(|_| any_pattern(&mut shifts)).collect();
         let parts: Vec<&[u8]> = patterns.iter().map(Vec::as_slice).collect();
         let mut file = pattern_bytes(&parts);
         assert_eq!(refusal(&file), 0);
@@ -74,14 +75,11 @@ fn random_patterns_give_their_tables() {
     let elements = [1, 2, 3, 4, 6, 8, 9, 12, 13, 16, 18];
     let mut shifts = Shifts(0x7AB1_E5EE_D7AB_1E55);
     for _ in 0..3000 {
-        let patterns: Vec<Vec<u8>> = (0..1 + shifts.below(32))
-            .map(|_| any_pattern(&mut shifts))
-            .collect();
+        let patterns: Vec<Vec<u8>> =
+            (0..1 + shifts.below(32)).map(|_| any_pattern(&mut shifts)).collect();
         let parts: Vec<&[u8]> = patterns.iter().map(Vec::as_slice).collect();
         let which = shifts.below(parts.len() as u64) as usize;
-        let [rows, columns, count, digits @ ..] = parts[which] else {
-            unreachable!()
-        };
+        let [rows, columns, count, digits @ ..] = parts[which] else { unreachable!() };
         let values = &shifts.picks(&elements)[..usize::from(*count)];
         let z = &shifts.picks(&elements)[..usize::from(*rows)];
         // The digit 0 stands for 1, and the others count from 1.

@@ -10,9 +10,7 @@ use crate::tools::*;
 
 /// The number in a few bytes, high byte first.
 fn stored(bytes: &[u8]) -> u64 {
-    bytes
-        .iter()
-        .fold(0, |sum, byte| sum * 256 + u64::from(*byte))
+    bytes.iter().fold(0, |sum, byte| sum * 256 + u64::from(*byte))
 }
 
 /// The words from an offset on.
@@ -24,11 +22,7 @@ fn words(bytes: &[u8], from: usize) -> Vec<u32> {
 /// Whether the bytes from `at` on hold a right number, and otherwise the line.
 fn field(file: &[u8], rule: u32, at: usize, size: usize, good: &[u64]) -> Result<u64, String> {
     let value = stored(&file[at..at + size]);
-    if good.contains(&value) {
-        Ok(value)
-    } else {
-        Err(format!("refused {rule} {at}\n"))
-    }
+    if good.contains(&value) { Ok(value) } else { Err(format!("refused {rule} {at}\n")) }
 }
 
 /// The header's tests, for moduli, orders and challenge counts below 1000.
@@ -203,12 +197,7 @@ fn random_files_follow_the_slow_rules() {
         let mut file = rounds(&mut shifts, &sheet, &loaded);
         for _ in 0..shifts.below(3) {
             // Of m and ℓ only the low byte, so that the slow rules stay quick.
-            spoil(
-                &mut shifts,
-                &mut sheet,
-                &[0, 2, 4, 5, 9, 13, 15, 17, 18, 19],
-                20,
-            );
+            spoil(&mut shifts, &mut sheet, &[0, 2, 4, 5, 9, 13, 15, 17, 18, 19], 20);
         }
         for _ in 0..shifts.below(4) {
             spoil(&mut shifts, &mut file, &[0, 2, 3, 4, 5, 6], 7);

@@ -18,11 +18,7 @@ struct Model {
 impl Model {
     fn new() -> Model {
         Model {
-            state: Saved {
-                phase: ProverPhase::New,
-                nonce: [0; 8],
-                commitment: [0; 8],
-            },
+            state: Saved { phase: ProverPhase::New, nonce: [0; 8], commitment: [0; 8] },
             saved: BTreeMap::new(),
             answered: Vec::new(),
         }
@@ -30,11 +26,8 @@ impl Model {
 
     /// The session is what the model says.
     fn fits(&self, session: &Prover) {
-        let state = Saved {
-            phase: session.phase,
-            nonce: session.nonce,
-            commitment: session.commitment,
-        };
+        let state =
+            Saved { phase: session.phase, nonce: session.nonce, commitment: session.commitment };
         assert_eq!(state, self.state);
         for name in 0..8 {
             let saved = session.saved[name as usize];
@@ -186,9 +179,6 @@ fn no_commitment_gets_two_answers() {
             most = most.max(list.len());
         }
     }
-    assert!(
-        [0, 21, 32, 34].iter().all(|number| met[number] > 500),
-        "{met:?}"
-    );
+    assert!([0, 21, 32, 34].iter().all(|number| met[number] > 500), "{met:?}");
     assert!(most > 5, "{most}");
 }

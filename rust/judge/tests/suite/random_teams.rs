@@ -70,11 +70,7 @@ impl Team {
         let (bytes, count) = (self.bytes(), self.count as u64);
         let t = multiply_commitments(&bytes, count, &self.images, &self.commitments);
         let r = join_responses(&bytes, count, &self.images, &self.responses);
-        Round {
-            commitment: t.unwrap(),
-            challenge: self.challenge,
-            response: r.unwrap(),
-        }
+        Round { commitment: t.unwrap(), challenge: self.challenge, response: r.unwrap() }
     }
 
     /// The verdict on one player's round under the own image.
@@ -144,9 +140,7 @@ fn slow_refusals(team: &Team, count: usize) -> [u32; 2] {
         numbers[0] = 14;
     }
     let slots = slots(sheet);
-    if !all(&team.responses[..count], sheet.columns, |value| {
-        slots.contains(&value)
-    }) {
+    if !all(&team.responses[..count], sheet.columns, |value| slots.contains(&value)) {
         numbers[1] = 16;
     }
     numbers

@@ -58,11 +58,7 @@ fn slow_witness(sheet: &Sheet, first: &Round, second: &Round) -> [u32; 8] {
 /// The round with 0 in all places that are not read.
 fn cleared(sheet: &Sheet, given: &Round) -> Round {
     let (s, n) = (sheet.rows as usize, sheet.columns as usize);
-    round(
-        &given.commitment[..s],
-        given.challenge,
-        &given.response[..n],
-    )
+    round(&given.commitment[..s], given.challenge, &given.response[..n])
 }
 
 /// What a watch on a sheet that loads answers, and the watch after it.
@@ -110,11 +106,7 @@ fn likely(shifts: &mut Shifts, bytes: &[u8], sheet: &Sheet, responses: &[[u32; 8
     let [mut commitment, mut response] = [shifts.edges(), shifts.edges()];
     commitment[..s].copy_from_slice(&t[..s]);
     response[..n].copy_from_slice(&r[..n]);
-    Round {
-        commitment,
-        challenge: c,
-        response,
-    }
+    Round { commitment, challenge: c, response }
 }
 
 /// Changes one value of a round, often to one in range.

@@ -57,10 +57,7 @@ fn the_calculator_pages() {
     assert_eq!(on_page_a(9, 0, 11), "refused 16 15\n");
     // Page K.
     let nine: [&[u32]; 9] = [&[2]; 9];
-    assert_eq!(
-        line(exponent(23, 11, 11, &nine, &[13; 9])),
-        "refused 7 18\n"
-    );
+    assert_eq!(line(exponent(23, 11, 11, &nine, &[13; 9])), "refused 7 18\n");
     assert_eq!(line(root(35, 5, 5, &[32; 9])), "refused 7 18\n");
     let words = |rounds| [9, 3, 4].repeat(rounds);
     let most = reason(&page_a(), &file(512, &words(512)));

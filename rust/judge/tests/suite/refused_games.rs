@@ -127,13 +127,7 @@ fn kind_1_has_at_most_4096_responses() {
         }
     }
     // Powers that are 0 when cut to 32, 64 or 128 bits.
-    for (q, n) in [
-        (1 << 16, 2),
-        (1 << 8, 4),
-        (1 << 16, 4),
-        (1 << 8, 8),
-        (1 << 16, 8),
-    ] {
+    for (q, n) in [(1 << 16, 2), (1 << 8, 4), (1 << 16, 4), (1 << 8, 8), (1 << 16, 8)] {
         assert_eq!(of_order(q, n), "refused 31\n");
     }
 }
@@ -146,10 +140,7 @@ fn kind_1_may_have_any_modulus_and_many_rows() {
     assert_eq!(named(&sheet, &[1]), "0 0\n1 1\n");
     let eight: [&[u32]; 8] = [&[2]; 8];
     let sheet = exponent(23, 11, 11, &eight, &[13; 8]);
-    assert_eq!(
-        named(&sheet, &[9; 8]),
-        lines(11, |c| vec![(5 + 7 * c) % 11])
-    );
+    assert_eq!(named(&sheet, &[9; 8]), lines(11, |c| vec![(5 + 7 * c) % 11]));
 }
 
 #[test]

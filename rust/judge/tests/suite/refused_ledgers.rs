@@ -40,7 +40,7 @@ fn bounds_of_6() {
 #[test]
 fn bounds_of_8() {
     for q in 2..40_u32 {
-        let smallest = (2..=q).find(|d| q.is_multiple_of(*d)).unwrap();
+        let smallest = (2..=q).find(|d| q % *d == 0).unwrap();
         for k in 0..45 {
             let good = 2 <= k && k <= smallest;
             let number = if good { 0 } else { 8 };

@@ -104,12 +104,7 @@ fn each_refusal_stands_before_its_neighbour() {
 #[test]
 fn bounds_of_5_and_6() {
     // 1 is a group element for every modulus and order.
-    let ones = |m: u32, q: u32| Plan {
-        modulus: m,
-        order: q,
-        challenges: 2,
-        ..of_ones(1, 1, 1)
-    };
+    let ones = |m: u32, q: u32| Plan { modulus: m, order: q, challenges: 2, ..of_ones(1, 1, 1) };
     for (m, number) in [(0, 5), (1, 5), (2, 5), (3, 0), (4, 0), (u32::MAX, 0)] {
         assert_eq!(ones(m, 11).number(), number);
     }
@@ -137,15 +132,11 @@ fn bounds_of_7() {
 #[test]
 fn bounds_of_8() {
     let ones = |q: u32, k: u32| {
-        let plan = Plan {
-            order: q,
-            challenges: k,
-            ..of_ones(1, 1, 1)
-        };
+        let plan = Plan { order: q, challenges: k, ..of_ones(1, 1, 1) };
         plan.number()
     };
     for q in 2..40_u32 {
-        let smallest = (2..=q).find(|d| q.is_multiple_of(*d)).unwrap();
+        let smallest = (2..=q).find(|d| q % *d == 0).unwrap();
         for k in 0..45 {
             let good = 2 <= k && k <= smallest;
             assert_eq!(ones(q, k), if good { 0 } else { 8 });
@@ -190,14 +181,7 @@ fn bounds_of_29() {
 
 #[test]
 fn bounds_of_30() {
-    for (coefficient, number) in [
-        (0, 0),
-        (10, 0),
-        (11, 30),
-        (12, 30),
-        (23, 30),
-        (u32::MAX, 30),
-    ] {
+    for (coefficient, number) in [(0, 0), (10, 0), (11, 30), (12, 30), (23, 30), (u32::MAX, 30)] {
         let plan = of_ones(2, 2, 2);
         for place in 0..8 {
             let mut other = plan.clone();

@@ -142,10 +142,8 @@ fn extracting_refuses_in_order() {
 #[test]
 fn either_side_of_either_round_makes_20() {
     let sheets = two_bases();
-    let right = [
-        or_round([&[9], &[16]], 5, 3, [&[4], &[3]]),
-        or_round([&[9], &[16]], 0, 9, [&[2], &[3]]),
-    ];
+    let right =
+        [or_round([&[9], &[16]], 5, 3, [&[4], &[3]]), or_round([&[9], &[16]], 0, 9, [&[2], &[3]])];
     let given = extract(lent(&sheets), &right[0], &right[1]);
     assert_eq!(given.map(|given| given.side), Ok(0));
     for which in 0..2 {

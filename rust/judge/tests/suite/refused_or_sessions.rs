@@ -131,11 +131,7 @@ fn a_held_side_beyond_1_is_21_and_has_the_second_sheet() {
     for phase in PHASES {
         for side in [2, 3, 256, u32::MAX] {
             for start in [side_0(), side_1()] {
-                let session = OrProver {
-                    phase,
-                    side,
-                    ..start
-                };
+                let session = OrProver { phase, side, ..start };
                 let refusal = |c, x| responding(lent(&sheets), &session, c, x);
                 assert_eq!(refusal(5, 7), Some(15));
                 assert_eq!(refusal(4, 7), Some(16));
@@ -145,11 +141,7 @@ fn a_held_side_beyond_1_is_21_and_has_the_second_sheet() {
         }
     }
     // Neither committing nor dropping tests a held side.
-    let session = OrProver {
-        phase: NEW,
-        side: 2,
-        ..side_0()
-    };
+    let session = OrProver { phase: NEW, side: 2, ..side_0() };
     assert_eq!(committing(lent(&sheets), &session, 0, 5, 1, 6), None);
     assert_eq!(drop_session(session).0, Ok(()));
 }
@@ -241,11 +233,8 @@ fn dropping_tests_the_phase_only() {
         };
         let (answer, back) = drop_session(session.clone());
         if phase == NEW || phase == COMMITTED {
-            let next = OrProver {
-                phase: DROPPED,
-                commitments: [[93; 8], [94; 8]],
-                ..OrProver::new()
-            };
+            let next =
+                OrProver { phase: DROPPED, commitments: [[93; 8], [94; 8]], ..OrProver::new() };
             assert_eq!((answer, back), (Ok(()), next));
         } else {
             assert_eq!((answer, back), (Err(21), session));

@@ -49,16 +49,10 @@ fn unused_places_of_a_round_are_not_read() {
         assert_eq!(judge(&sheet, &full), Verdict::Accepted);
         assert_eq!(simulate(&sheet, c, &full.response), Ok(eight(&[t])));
     }
-    let first = Round {
-        commitment: eight_with(&[9], 1),
-        challenge: 3,
-        response: eight_with(&[4], 50),
-    };
-    let second = Round {
-        commitment: eight_with(&[9], 0),
-        challenge: 1,
-        response: eight_with(&[1], 60),
-    };
+    let first =
+        Round { commitment: eight_with(&[9], 1), challenge: 3, response: eight_with(&[4], 50) };
+    let second =
+        Round { commitment: eight_with(&[9], 0), challenge: 1, response: eight_with(&[1], 60) };
     assert_eq!(extract(&page_a(), &first, &second), Ok(eight(&[7])));
 }
 

@@ -4,35 +4,18 @@ use judge::*;
 
 use crate::tools::*;
 
-const PROVER_PHASES: [ProverPhase; 4] = [
-    ProverPhase::New,
-    ProverPhase::Committed,
-    ProverPhase::Answered,
-    ProverPhase::Dropped,
-];
+const PROVER_PHASES: [ProverPhase; 4] =
+    [ProverPhase::New, ProverPhase::Committed, ProverPhase::Answered, ProverPhase::Dropped];
 
-const VERIFIER_PHASES: [VerifierPhase; 4] = [
-    VerifierPhase::Waiting,
-    VerifierPhase::Holding,
-    VerifierPhase::Asked,
-    VerifierPhase::Judged,
-];
+const VERIFIER_PHASES: [VerifierPhase; 4] =
+    [VerifierPhase::Waiting, VerifierPhase::Holding, VerifierPhase::Asked, VerifierPhase::Judged];
 
 fn prover(phase: ProverPhase, nonce: [u32; 8], commitment: [u32; 8]) -> Prover {
-    Prover {
-        phase,
-        nonce,
-        commitment,
-        ..Prover::new()
-    }
+    Prover { phase, nonce, commitment, ..Prover::new() }
 }
 
 fn verifier(phase: VerifierPhase, commitment: [u32; 8], challenge: u32) -> Verifier {
-    Verifier {
-        phase,
-        commitment,
-        challenge,
-    }
+    Verifier { phase, commitment, challenge }
 }
 
 #[test]

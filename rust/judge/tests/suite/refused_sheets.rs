@@ -52,11 +52,7 @@ fn loading_refuses_in_order() {
 
 #[test]
 fn every_call_with_a_sheet_refuses_it_first() {
-    let bad = Round {
-        commitment: [5; 8],
-        challenge: 99,
-        response: [99; 8],
-    };
+    let bad = Round { commitment: [5; 8], challenge: 99, response: [99; 8] };
     for (number, sheet) in ladder() {
         if number == 0 {
             continue;
@@ -82,11 +78,7 @@ fn every_call_with_a_sheet_refuses_it_first() {
         assert_eq!((answer, &back), (Err(number), &prover));
         let (answer, back) = respond(&sheet, prover.clone(), 99, &[99; 8]);
         assert_eq!((answer, &back), (Err(number), &prover));
-        let verifier = Verifier {
-            phase: VerifierPhase::Judged,
-            commitment: [5; 8],
-            challenge: 99,
-        };
+        let verifier = Verifier { phase: VerifierPhase::Judged, commitment: [5; 8], challenge: 99 };
         let (answer, back) = take_commitment(&sheet, verifier.clone(), &[5; 8]);
         assert_eq!((answer, &back), (Err(number), &verifier));
         let (answer, back) = take_challenge(&sheet, verifier.clone(), 99);
@@ -115,10 +107,7 @@ fn refusal_2_short_sheets_and_marks() {
 #[test]
 fn refusal_3_versions() {
     for version in [0, 2, 256, 257, 65_535] {
-        let raw = Raw {
-            version,
-            ..exponent(23, 11, 11, &[&[2]], &[13])
-        };
+        let raw = Raw { version, ..exponent(23, 11, 11, &[&[2]], &[13]) };
         assert_eq!(load(&raw.bytes()), Err(3));
     }
 }
@@ -126,10 +115,7 @@ fn refusal_3_versions() {
 #[test]
 fn refusal_4_kinds() {
     for kind in (0..=255).filter(|kind| *kind != 1 && *kind != 2) {
-        let raw = Raw {
-            kind,
-            ..exponent(23, 11, 11, &[&[2]], &[13])
-        };
+        let raw = Raw { kind, ..exponent(23, 11, 11, &[&[2]], &[13]) };
         assert_eq!(load(&raw.bytes()), Err(4));
     }
 }
@@ -152,23 +138,12 @@ fn refusals_5_and_6_bounds() {
 fn refusal_7_rows_and_columns() {
     for rows in 0..=255 {
         for columns in 0..=255 {
-            let counts = |raw: Raw| Raw {
-                rows,
-                columns,
-                ..raw
-            };
+            let counts = |raw: Raw| Raw { rows, columns, ..raw };
             let in_range = (1..=8).contains(&rows) && (1..=8).contains(&columns);
-            let words = if in_range {
-                rows as usize * columns as usize + rows as usize
-            } else {
-                2
-            };
+            let words = if in_range { rows as usize * columns as usize + rows as usize } else { 2 };
             let mut raw = counts(exponent(23, 11, 11, &[&[1]], &[1]));
             raw.words = vec![1; words];
-            assert_eq!(
-                load(&raw.bytes()).err(),
-                if in_range { None } else { Some(7) }
-            );
+            assert_eq!(load(&raw.bytes()).err(), if in_range { None } else { Some(7) });
             let mut raw = counts(root(35, 5, 5, &[1]));
             raw.words = vec![1; rows as usize];
             let good = in_range && rows == columns;
@@ -181,7 +156,7 @@ fn refusal_7_rows_and_columns() {
 fn refusal_8_challenge_counts() {
     let refusal = |l, k| load(&root(35, l, k, &[1]).bytes()).err();
     for l in 2..120_u32 {
-        let smallest = (2..=l).find(|d| l.is_multiple_of(*d)).unwrap();
+        let smallest = (2..=l).find(|d| l % *d == 0).unwrap();
         for k in 0..130 {
             let expected = if k < 2 || k > smallest { Some(8) } else { None };
             assert_eq!(refusal(l, k), expected);

@@ -37,10 +37,7 @@ fn a_name_never_saved_is_34_in_returning_only() {
             let session = done(save(session, name));
             assert_eq!(return_to(session, name).0, Ok(()));
         }
-        let session = Prover {
-            phase,
-            ..Prover::new()
-        };
+        let session = Prover { phase, ..Prover::new() };
         for name in 0..8 {
             let answer = return_to(session.clone(), name);
             assert_eq!(answer, (Err(34), session.clone()));
@@ -52,12 +49,8 @@ fn a_name_never_saved_is_34_in_returning_only() {
 fn saving_and_returning_test_no_held_value() {
     // A list that counts too many, and values that fit no sheet.
     for phase in PHASES {
-        let session = Prover {
-            nonce: [u32::MAX; 8],
-            commitment: [0; 8],
-            count: u64::MAX,
-            ..full(phase)
-        };
+        let session =
+            Prover { nonce: [u32::MAX; 8], commitment: [0; 8], count: u64::MAX, ..full(phase) };
         assert_eq!(save(session.clone(), 0).0, Ok(()));
         assert_eq!(return_to(session, 0).0, Ok(()));
     }
@@ -89,11 +82,7 @@ fn responding_refuses_in_order() {
         assert_eq!(number(&session, 11, 11), 15);
         assert_eq!(number(&session, 10, 11), 16);
         assert_eq!(number(&session, 10, 6), 17);
-        let expected = if phase == ProverPhase::Committed {
-            32
-        } else {
-            21
-        };
+        let expected = if phase == ProverPhase::Committed { 32 } else { 21 };
         assert_eq!(number(&session, 10, 7), expected);
     }
     session.phase = ProverPhase::Committed;
@@ -169,12 +158,8 @@ fn an_answer_is_listed_at_the_count() {
     for count in 0..64_u64 {
         let session = listing(&list, count);
         let next = answered(&sheet, session.clone(), 3, 7, 4);
-        let mut expected = Prover {
-            phase: ProverPhase::Answered,
-            nonce: [0; 8],
-            count: count + 1,
-            ..session
-        };
+        let mut expected =
+            Prover { phase: ProverPhase::Answered, nonce: [0; 8], count: count + 1, ..session };
         expected.answered[count as usize] = eight(&[9]);
         assert_eq!(next, expected);
     }
@@ -184,11 +169,7 @@ fn an_answer_is_listed_at_the_count() {
 fn committing_and_dropping_do_not_read_the_list() {
     let sheet = page_a();
     for count in [0, 1, 64, 65, u64::MAX] {
-        let session = Prover {
-            count,
-            answered: [eight(&[9]); 64],
-            ..full(ProverPhase::New)
-        };
+        let session = Prover { count, answered: [eight(&[9]); 64], ..full(ProverPhase::New) };
         let next = committed(&sheet, session.clone(), 5, 9);
         let expected = Prover {
             phase: ProverPhase::Committed,
@@ -198,11 +179,7 @@ fn committing_and_dropping_do_not_read_the_list() {
         };
         assert_eq!(next, expected);
         let dropped = done(drop_session(next.clone()));
-        let expected = Prover {
-            phase: ProverPhase::Dropped,
-            nonce: [0; 8],
-            ..next
-        };
+        let expected = Prover { phase: ProverPhase::Dropped, nonce: [0; 8], ..next };
         assert_eq!(dropped, expected);
     }
 }

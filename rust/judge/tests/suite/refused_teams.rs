@@ -35,10 +35,7 @@ fn the_count_stands_between_9_and_10() {
 #[test]
 fn counts_from_2_to_8_are_teams() {
     let ones = [[1; 8]; 8];
-    for sheet in [
-        exponent(23, 11, 11, &[&[2]], &[1]).bytes(),
-        root(35, 5, 5, &[1]).bytes(),
-    ] {
+    for sheet in [exponent(23, 11, 11, &[&[2]], &[1]).bytes(), root(35, 5, 5, &[1]).bytes()] {
         for count in 0..12 {
             let number = if (2..=8).contains(&count) { 0 } else { 27 };
             assert_eq!(numbers(&sheet, count, &ones, &ones), [number; 2]);

@@ -31,11 +31,7 @@ fn moved(watch: &Watch, newest: Round) -> Watch {
         next.rounds[place] = watch.rounds[place - 1].clone();
     }
     next.rounds[0] = newest;
-    next.count = if watch.count < 63 {
-        watch.count + 1
-    } else {
-        63
-    };
+    next.count = if watch.count < 63 { watch.count + 1 } else { 63 };
     next
 }
 
@@ -128,12 +124,7 @@ fn other_bytes_are_21() {
         exponent(23, 11, 11, &[&[3]], &[13]).bytes(),
     ];
     let right = round(&[9, 1], 3, &[4, 0]);
-    let verdicts = [
-        Verdict::Accepted,
-        Verdict::Accepted,
-        Verdict::Accepted,
-        rejected(&[0]),
-    ];
+    let verdicts = [Verdict::Accepted, Verdict::Accepted, Verdict::Accepted, rejected(&[0])];
     for (other, verdict) in others.iter().zip(verdicts) {
         assert_eq!(judge(other, &right), verdict);
         assert_eq!(number(other, &opened(&sheet), &right), 21);
@@ -298,33 +289,21 @@ fn unused_columns_alone_are_not_read() {
     // Two rows and one column, then one row and two columns.
     let sheet = exponent(23, 11, 11, &[&[2], &[16]], &[13, 18]).bytes();
     let mut watch = opened(&sheet);
-    watch.rounds[0] = Round {
-        commitment: eight_with(&[9, 6], 5),
-        challenge: 3,
-        response: eight_with(&[4], 99),
-    };
+    watch.rounds[0] =
+        Round { commitment: eight_with(&[9, 6], 5), challenge: 3, response: eight_with(&[4], 99) };
     watch.count = 1;
-    let given = Round {
-        commitment: eight_with(&[9, 6], 8),
-        challenge: 1,
-        response: eight_with(&[1], 98),
-    };
+    let given =
+        Round { commitment: eight_with(&[9, 6], 8), challenge: 1, response: eight_with(&[1], 98) };
     let (answer, next) = take_round(&sheet, watch.clone(), &given);
     let newest = round(&[9, 6], 1, &[1]);
     assert_eq!((answer, next), (names(1, &[7]), moved(&watch, newest)));
     let sheet = exponent(23, 11, 11, &[&[2, 3]], &[18]).bytes();
     let mut watch = opened(&sheet);
-    watch.rounds[0] = Round {
-        commitment: eight_with(&[1], 5),
-        challenge: 0,
-        response: eight_with(&[6, 2], 99),
-    };
+    watch.rounds[0] =
+        Round { commitment: eight_with(&[1], 5), challenge: 0, response: eight_with(&[6, 2], 99) };
     watch.count = 1;
-    let given = Round {
-        commitment: eight_with(&[1], 8),
-        challenge: 1,
-        response: eight_with(&[1, 2], 98),
-    };
+    let given =
+        Round { commitment: eight_with(&[1], 8), challenge: 1, response: eight_with(&[1, 2], 98) };
     let (answer, next) = take_round(&sheet, watch.clone(), &given);
     let newest = round(&[1], 1, &[1, 2]);
     assert_eq!((answer, next), (names(1, &[6, 0]), moved(&watch, newest)));

@@ -35,10 +35,7 @@ fn a_run_of_both_boxes() {
     assert_eq!(peggy.phase, ProverPhase::Answered);
     assert_eq!((peggy.nonce, peggy.commitment), ([0; 8], t));
     let (verdict, vic) = take_response(&sheet, vic, &r);
-    assert_eq!(
-        (verdict, vic.phase),
-        (Verdict::Accepted, VerifierPhase::Judged)
-    );
+    assert_eq!((verdict, vic.phase), (Verdict::Accepted, VerifierPhase::Judged));
     assert_eq!((vic.commitment, vic.challenge), (t, 4));
 }
 
@@ -101,11 +98,7 @@ fn wide_numbers_run_through() {
     let round_of = |c: u32| {
         let (t, session) = commit(&sheet, Prover::new(), &eight(&[q - 1, 12_345_678]));
         let (r, _) = respond(&sheet, session, c, &eight(&[x, y]));
-        Round {
-            commitment: t.unwrap(),
-            challenge: c,
-            response: r.unwrap(),
-        }
+        Round { commitment: t.unwrap(), challenge: c, response: r.unwrap() }
     };
     let (first, second) = (round_of(65_535), round_of(2));
     for made in [&first, &second] {
@@ -128,11 +121,7 @@ fn wide_roots_run_through() {
     let round_of = |c: u32| {
         let (t, session) = commit(&sheet, Prover::new(), &eight(&[m - 1, 7]));
         let (r, _) = respond(&sheet, session, c, &x);
-        Round {
-            commitment: t.unwrap(),
-            challenge: c,
-            response: r.unwrap(),
-        }
+        Round { commitment: t.unwrap(), challenge: c, response: r.unwrap() }
     };
     let (first, second) = (round_of(65_535), round_of(1));
     assert_eq!(judge(&sheet, &first), Verdict::Accepted);

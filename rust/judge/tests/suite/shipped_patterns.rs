@@ -1,6 +1,6 @@
 //! The shipped pattern file: its bytes, and its sheets beside 01's.
 
-use judge::pattern_file::{self, shipped, SHIPPED};
+use judge::pattern_file::{self, SHIPPED, shipped};
 use judge::*;
 
 use crate::tools::*;

@@ -4,12 +4,8 @@ use judge::*;
 
 use crate::tools::*;
 
-pub const PHASES: [ProverPhase; 4] = [
-    ProverPhase::New,
-    ProverPhase::Committed,
-    ProverPhase::Answered,
-    ProverPhase::Dropped,
-];
+pub const PHASES: [ProverPhase; 4] =
+    [ProverPhase::New, ProverPhase::Committed, ProverPhase::Answered, ProverPhase::Dropped];
 
 /// A session in which nothing is zero: every name is saved and the list has
 /// two commitments.
@@ -62,11 +58,8 @@ fn saving_keeps_the_state_and_changes_nothing_else() {
             let session = full(phase);
             let next = done(save(session.clone(), name));
             let mut expected = session.clone();
-            expected.saved[name as usize] = Some(Saved {
-                phase,
-                nonce: session.nonce,
-                commitment: session.commitment,
-            });
+            expected.saved[name as usize] =
+                Some(Saved { phase, nonce: session.nonce, commitment: session.commitment });
             assert_eq!(next, expected);
             // Saving the same again changes nothing.
             assert_eq!(save(next.clone(), name), (Ok(()), next));
@@ -102,14 +95,8 @@ fn a_name_that_is_saved_again_is_replaced() {
     let session = done(drop_session(session));
     let session = done(return_to(session, 5));
     assert_eq!(session.phase, ProverPhase::Committed);
-    assert_eq!(
-        (session.nonce, session.commitment),
-        (eight(&[5]), eight(&[9]))
-    );
-    assert_eq!(
-        session.saved.iter().filter(|state| state.is_some()).count(),
-        1
-    );
+    assert_eq!((session.nonce, session.commitment), (eight(&[5]), eight(&[9])));
+    assert_eq!(session.saved.iter().filter(|state| state.is_some()).count(), 1);
 }
 
 #[test]

@@ -86,11 +86,7 @@ fn one_rejected_part_spoils_the_whole_and_two_may_not() {
     let sheet = page_a();
     let verdict = |players: [[u32; 3]; 2]| {
         let (t, r) = joined(&sheet, &players);
-        let whole = Round {
-            commitment: t.unwrap(),
-            challenge: 3,
-            response: r.unwrap(),
-        };
+        let whole = Round { commitment: t.unwrap(), challenge: 3, response: r.unwrap() };
         judge(&sheet, &whole)
     };
     assert_eq!(verdict([[8, 4, 0], [16, 8, 4]]), Verdict::Accepted);

@@ -122,11 +122,7 @@ pub fn eight_with(values: &[u32], rest: u32) -> [u32; 8] {
 }
 
 pub fn round(t: &[u32], c: u32, r: &[u32]) -> Round {
-    Round {
-        commitment: eight(t),
-        challenge: c,
-        response: eight(r),
-    }
+    Round { commitment: eight(t), challenge: c, response: eight(r) }
 }
 
 /// An OR round. Both sides' commitments and responses are given.

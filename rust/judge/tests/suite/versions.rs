@@ -69,9 +69,8 @@ fn records_of_every_size() {
             let table = vec![&[2; 8][..n]; s];
             let sheet = exponent(23, 11, 11, &table, &vec![13; s]).bytes();
             // No two values are the same, and no word has a zero byte.
-            let mut words: Vec<u32> = (1..=3 * (s + 1 + n) as u32)
-                .map(|place| 0x8181_8100 + place)
-                .collect();
+            let mut words: Vec<u32> =
+                (1..=3 * (s + 1 + n) as u32).map(|place| 0x8181_8100 + place).collect();
             for number in 0..3 {
                 words[number * (s + 1 + n) + s] &= 0xFFFF;
             }
@@ -162,20 +161,8 @@ fn empty_files_of_both_versions() {
 #[test]
 fn no_empty_file_of_another_version() {
     // The low 8, 16 or 32 bits of many of these are 1 or 2.
-    let versions = [
-        0,
-        3,
-        4,
-        257,
-        258,
-        65_535,
-        65_536,
-        65_537,
-        65_538,
-        (1 << 32) + 1,
-        (1 << 32) + 2,
-        u64::MAX,
-    ];
+    let versions =
+        [0, 3, 4, 257, 258, 65_535, 65_536, 65_537, 65_538, (1 << 32) + 1, (1 << 32) + 2, u64::MAX];
     for version in versions {
         // 12 comes before 22.
         for length in [0, 6, 7, 20] {
@@ -376,14 +363,7 @@ fn each_value_of_round_0_has_its_offset_in_version_2() {
     let good = [12, 9, 0, 2, 1, 0];
     let line = |words: &[u32; 6]| reason(&wide(), &narrow(1, (2, 3), words));
     assert_eq!(line(&good), "accepted\n");
-    let places = [
-        (14, 7, 5),
-        (14, 11, 5),
-        (15, 15, 11),
-        (16, 17, 11),
-        (16, 21, 11),
-        (16, 25, 11),
-    ];
+    let places = [(14, 7, 5), (14, 11, 5), (15, 15, 11), (16, 17, 11), (16, 21, 11), (16, 25, 11)];
     for (place, (number, offset, bad)) in places.into_iter().enumerate() {
         let mut words = good;
         words[place] = bad;

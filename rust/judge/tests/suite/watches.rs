@@ -30,27 +30,15 @@ fn last(sheet: &[u8], rounds: &[Round]) -> Watched {
 
 /// The answer that names a round.
 pub fn names(back: u32, witness: &[u32]) -> Watched {
-    Watched {
-        verdict: Verdict::Accepted,
-        back,
-        witness: eight(witness),
-    }
+    Watched { verdict: Verdict::Accepted, back, witness: eight(witness) }
 }
 
 /// The answer that names no round.
 pub fn no_name(verdict: Verdict) -> Watched {
-    Watched {
-        verdict,
-        back: 0,
-        witness: [0; 8],
-    }
+    Watched { verdict, back: 0, witness: [0; 8] }
 }
 
-const NONE: Watched = Watched {
-    verdict: Verdict::Accepted,
-    back: 0,
-    witness: [0; 8],
-};
+const NONE: Watched = Watched { verdict: Verdict::Accepted, back: 0, witness: [0; 8] };
 
 /// The accepted round of page A's sheet with this challenge and t 9. The nonce
 /// is 5 and the witness 7.
@@ -94,9 +82,7 @@ fn the_rounds_of_page_b_in_either_order() {
         assert_eq!(answer, names(1, &[7]));
         assert_eq!(watch.count, 2);
         assert_eq!([&watch.rounds[0], &watch.rounds[1]], [pair[1], pair[0]]);
-        assert!(watch.rounds[2..]
-            .iter()
-            .all(|held| *held == round(&[], 0, &[])));
+        assert!(watch.rounds[2..].iter().all(|held| *held == round(&[], 0, &[])));
     }
 }
 

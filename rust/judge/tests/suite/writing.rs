@@ -15,16 +15,7 @@ fn good() -> Sheet {
         challenges: 11,
         rows: 1,
         columns: 1,
-        entries: [
-            eight(&[2]),
-            [0; 8],
-            [0; 8],
-            [0; 8],
-            [0; 8],
-            [0; 8],
-            [0; 8],
-            [0; 8],
-        ],
+        entries: [eight(&[2]), [0; 8], [0; 8], [0; 8], [0; 8], [0; 8], [0; 8], [0; 8]],
         statement: eight(&[13]),
     }
 }

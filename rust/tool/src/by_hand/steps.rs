@@ -19,9 +19,10 @@ pub fn text(sheet: &Instance, numbers: [usize; 2], steps: &Steps) -> String {
     let order = sheet.values().header.order;
     let [first, second] = steps.rounds.map(|round| round.challenge);
     let Euclid { difference, .. } = steps.euclid;
-    let rule = match sheet.values().header.kind == EXPONENT {
-        true => format!("x = b·(r - r') mod {order}"),
-        false => format!("x = z^a · (r/r')^b mod {modulus}"),
+    let rule = if sheet.values().header.kind == EXPONENT {
+        format!("x = b·(r - r') mod {order}")
+    } else {
+        format!("x = z^a · (r/r')^b mod {modulus}")
     };
     [
         format!("1. Both rounds are accepted, since [r] = t · z^c mod {modulus} in every row:\n\n"),
@@ -51,11 +52,12 @@ fn left_out(sheet: &Instance, steps: &Steps) -> String {
     let rows = 0..sheets::row_count(sheet);
     powers.extend(rows.flat_map(|row| row_powers(sheet, row, &steps.witness)));
     let is_long = powers.iter().any(|power| power.whole().is_none());
-    match is_long && !shows_squares(modulus) {
-        true => format!(
+    if is_long && !shows_squares(modulus) {
+        format!(
             "\nThe squares of which powers are made are left out: modulo {modulus} they can have more than ten digits.\n"
-        ),
-        false => String::new(),
+        )
+    } else {
+        String::new()
     }
 }
 

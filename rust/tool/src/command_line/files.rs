@@ -18,9 +18,10 @@ const MOST: u64 = 1 << 20;
 
 /// The bytes of a file, or of standard input where it is called `-`.
 pub fn read(path: &Path) -> Outcome<Vec<u8>> {
-    let read = match is_standard(path) {
-        true => read_all(io::stdin().lock()),
-        false => File::open(path).and_then(read_all),
+    let read = if is_standard(path) {
+        read_all(io::stdin().lock())
+    } else {
+        File::open(path).and_then(read_all)
     };
     let bytes = read.map_err(|error| failure(path, "read", &error))?;
     match too_long(&bytes) {
@@ -167,10 +168,7 @@ fn replace(path: &Path, bytes: &[u8]) -> io::Result<()> {
 
 /// A file's name as it is printed.
 pub fn name(path: &Path) -> String {
-    match is_standard(path) {
-        true => "standard input".to_string(),
-        false => one_line(path.as_os_str()),
-    }
+    if is_standard(path) { "standard input".to_string() } else { one_line(path.as_os_str()) }
 }
 
 /// A name in one line: a control character is escaped, and so is a byte that is no UTF-8.
@@ -185,9 +183,8 @@ pub fn one_line(name: &OsStr) -> String {
 /// A text with its control characters and line ends escaped.
 fn escaped(text: &str) -> String {
     let breaks = |letter: char| letter.is_control() || letter.is_whitespace() && letter != ' ';
-    let written = |letter: char| match breaks(letter) {
-        true => letter.escape_default().to_string(),
-        false => letter.to_string(),
+    let written = |letter: char| {
+        if breaks(letter) { letter.escape_default().to_string() } else { letter.to_string() }
     };
     text.chars().map(written).collect()
 }

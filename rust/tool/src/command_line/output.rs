@@ -71,9 +71,10 @@ impl Output {
 
 impl Write for Output {
     fn write(&mut self, bytes: &[u8]) -> io::Result<usize> {
-        match CLOSED.load(Ordering::Relaxed) {
-            true => Err(io::Error::other("standard output is closed")),
-            false => self.0.write(bytes),
+        if CLOSED.load(Ordering::Relaxed) {
+            Err(io::Error::other("standard output is closed"))
+        } else {
+            self.0.write(bytes)
         }
     }
 

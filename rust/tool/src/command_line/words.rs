@@ -82,9 +82,10 @@ impl Words {
         } else if let Some((letter, numbers)) = letter_of(&text) {
             let letter =
                 find(grammar.letters, letter).ok_or_else(|| hints::no_letter(letter, grammar))?;
-            match FORMULAS.contains(&letter) {
-                true => self.formulas.push((letter, numbers.to_string())),
-                false => self.values.push(Value::read(letter, numbers)?),
+            if FORMULAS.contains(&letter) {
+                self.formulas.push((letter, numbers.to_string()))
+            } else {
+                self.values.push(Value::read(letter, numbers)?)
             }
         } else if word.is_empty() {
             return Err(Failure::words("a word is empty"));

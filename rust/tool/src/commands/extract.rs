@@ -2,7 +2,7 @@
 
 mod as_json;
 
-use crate::by_hand::{self, steps};
+use crate::by_hand::steps;
 use crate::command_line::failure::{Failure, Outcome, refused as refused_by};
 use crate::command_line::files;
 use crate::command_line::json::Json;
@@ -229,7 +229,7 @@ pub fn by_hand(
     out: &mut dyn Write,
 ) -> Outcome {
     let witness = sheet.extract(first, second)?;
-    let steps = by_hand::steps(sheet, first, second).filter(|steps| steps.witness == witness);
+    let steps = steps(sheet, first, second).filter(|steps| steps.witness == witness);
     let steps = steps.ok_or_else(|| {
         let witness = notation::by_column(sheet, &witness);
         Failure::failed(format!("the witness is {witness}, and the steps by hand end elsewhere"))

@@ -100,12 +100,13 @@ fn on_folders(names: &[OsString], out: &mut dyn Write) -> Outcome {
 /// Fails where the one word is a file, beside which a commitment is needed.
 fn check_folder(words: &Words) -> Outcome {
     let path = words.path(0);
-    match path.is_file() {
-        true => Err(Failure::words(format!(
+    if path.is_file() {
+        Err(Failure::words(format!(
             "{} is no folder, and beside SHEET the word t= is missing: a commitment",
             files::name(&path)
-        ))),
-        false => Ok(()),
+        )))
+    } else {
+        Ok(())
     }
 }
 

@@ -106,9 +106,10 @@ fn challenges(words: &Words, sheet: &Instance) -> Outcome<[u32; 2]> {
 fn witness(words: &Words, letter: &str, path: &Path, sheet: &Instance) -> Outcome<Option<Places>> {
     if let Some(value) = words.once(letter)? {
         let witness = sheets::by_column(sheet, value)?;
-        return match sheets::image(sheet, letter, &witness)? == sheet.values().statement {
-            true => Ok(Some(witness)),
-            false => Err(witness::no_witness(sheet, letter, &witness)),
+        return if sheets::image(sheet, letter, &witness)? == sheet.values().statement {
+            Ok(Some(witness))
+        } else {
+            Err(witness::no_witness(sheet, letter, &witness))
         };
     }
     let all = small::witnesses(sheet, small::MOST as usize).ok_or_else(|| {

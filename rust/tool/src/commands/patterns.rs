@@ -164,12 +164,13 @@ pub fn number(word: &str, shipped: bool) -> Outcome<u32> {
 /// Says that a pattern's name is none. The patterns of a file of one's own have numbers alone.
 fn no_pattern(word: &str, shipped: bool) -> Failure {
     let names = NAMES.map(|(name, _)| name);
-    Failure::words(match shipped {
-        true => format!(
+    Failure::words(if shipped {
+        format!(
             "there is no pattern {word}, but {}, and the word linear",
             notation::enumerated(&names, "and")
-        ),
-        false => format!("there is no pattern {word}: those of a file are named by their numbers"),
+        )
+    } else {
+        format!("there is no pattern {word}: those of a file are named by their numbers")
     })
 }
 

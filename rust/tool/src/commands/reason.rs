@@ -82,9 +82,10 @@ const GRAMMAR: Grammar = Grammar {
 pub fn run(words: Vec<OsString>, out: &mut dyn Write) -> Outcome {
     let words = Words::sort(words, &GRAMMAR)?;
     let course = Course::of(&words)?;
-    let asked = match words.path(0).is_dir() {
-        true => Asked::of_folder(&words, &course)?,
-        false => Asked::of_files(&words, &course)?,
+    let asked = if words.path(0).is_dir() {
+        Asked::of_folder(&words, &course)?
+    } else {
+        Asked::of_files(&words, &course)?
     };
     let text = asked.text()?;
     if words.flag("--json") {
@@ -233,11 +234,10 @@ impl Asked {
 /// Says that the one word is no folder.
 fn no_folder(path: &Path) -> Failure {
     let name = files::name(path);
-    match path.exists() {
-        true => Failure::words(format!(
-            "{name} is no folder, and after SHEET the word ROUNDS is missing"
-        )),
-        false => Failure::failed(format!("{name} cannot be read: there is no such folder")),
+    if path.exists() {
+        Failure::words(format!("{name} is no folder, and after SHEET the word ROUNDS is missing"))
+    } else {
+        Failure::failed(format!("{name} cannot be read: there is no such folder"))
     }
 }
 
@@ -248,9 +248,10 @@ fn broken(fault: &Fault, name: &str, header: &Header) -> String {
 
 /// The verdict on a round, with both sides of each row.
 fn judged(sheet: &Instance, number: usize, round: &Round) -> Outcome<String> {
-    let (verdict, holds) = match sheet.judge(round)?.is_accepted() {
-        true => ("accepts", "holds"),
-        false => ("rejects", "does not hold"),
+    let (verdict, holds) = if sheet.judge(round)?.is_accepted() {
+        ("accepts", "holds")
+    } else {
+        ("rejects", "does not hold")
     };
     let t = notation::by_row(sheet, &round.commitment);
     let (c, r) = (round.challenge, notation::by_column(sheet, &round.response));

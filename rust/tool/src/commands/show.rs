@@ -85,9 +85,10 @@ pub fn run(words: Vec<OsString>, out: &mut dyn Write) -> Outcome {
     let words = Words::sort(words, &GRAMMAR)?;
     let path = words.path(0);
     if path.is_dir() && words.plain().len() == 1 {
-        return match words.flag("--json") {
-            true => folder::show_json(&path, out),
-            false => folder::show(&path, out),
+        return if words.flag("--json") {
+            folder::show_json(&path, out)
+        } else {
+            folder::show(&path, out)
         };
     }
     let bytes = files::read(&path)?;

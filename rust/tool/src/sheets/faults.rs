@@ -192,9 +192,10 @@ fn told(sheet: &[u8], file: &[u8]) -> Option<Told> {
 impl Told {
     /// The fault in a file that has to have as many bytes as this says, and in which this value stands at an offset.
     fn fault(&self, needed: String, value: impl Fn(usize) -> String) -> Fault {
-        let found = match self.length {
-            true => Found::Length { found: self.number, needed },
-            false => Found::Value { offset: self.number, value: value(self.number) },
+        let found = if self.length {
+            Found::Length { found: self.number, needed }
+        } else {
+            Found::Value { offset: self.number, value: value(self.number) }
         };
         Fault { refusal: self.refusal, found }
     }
@@ -218,7 +219,7 @@ fn alone<'a>(
 
 /// How many rounds a round file has by its header, and how many bytes these make by its version.
 fn file_length(sheet: &Instance, file: &[u8]) -> Option<(usize, usize)> {
-    let [version, count] = fields::round_header(file)?;
+    let [version, count] = round_header(file)?;
     let mut buffer = [0; LONGEST_ROUND];
     let alone = alone(sheet, version as u32, &Round::default(), &mut buffer).ok()?;
     Some((count, EMPTY_FILE + count * (alone.len() - EMPTY_FILE)))

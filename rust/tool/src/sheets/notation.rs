@@ -67,10 +67,7 @@ fn row_powers(sheet: &Instance, row: usize, names: &[String]) -> String {
 pub fn powers(bases: impl Iterator<Item = Option<String>>, exponents: &[String]) -> String {
     let power = |(base, exponent): (Option<String>, &String)| Some(format!("{}^{exponent}", base?));
     let factors: Vec<String> = bases.zip(exponents).filter_map(power).collect();
-    match factors.is_empty() {
-        true => "1".to_string(),
-        false => factors.join(" · "),
-    }
+    if factors.is_empty() { "1".to_string() } else { factors.join(" · ") }
 }
 
 /// The homomorphism, such as `x ↦ [x] = 2^x mod 23`.

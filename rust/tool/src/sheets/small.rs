@@ -15,9 +15,10 @@ pub const UNANSWERED: &str = "A commitment answers one challenge at most.";
 /// The values of a coordinate, rising: none where there are too many to try.
 pub fn coordinates(sheet: &Instance) -> Option<Vec<u32>> {
     let header = sheet.values().header;
-    match header.kind == EXPONENT {
-        true => (header.order <= MOST).then(|| (0..header.order).collect()),
-        false => elements(sheet),
+    if header.kind == EXPONENT {
+        (header.order <= MOST).then(|| (0..header.order).collect())
+    } else {
+        elements(sheet)
     }
 }
 

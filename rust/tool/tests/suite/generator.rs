@@ -40,10 +40,7 @@ impl Random {
 
     /// A number, mostly below the bound and now and then at a border.
     pub fn number(&mut self, bound: usize) -> u32 {
-        match self.once_in(12) {
-            true => *self.pick(&BORDERS),
-            false => self.below(bound) as u32,
-        }
+        if self.once_in(12) { *self.pick(&BORDERS) } else { self.below(bound) as u32 }
     }
 
     /// So many bytes.

@@ -27,10 +27,8 @@ pub struct Material {
 impl Material {
     /// One of a few sheets or any small one, with rounds of which most are accepted.
     pub fn any(random: &mut Random) -> Material {
-        let sheet = match random.once_in(2) {
-            true => sheet(random.below(SHEETS)),
-            false => small_sheet(random),
-        };
+        let sheet =
+            if random.once_in(2) { sheet(random.below(SHEETS)) } else { small_sheet(random) };
         let count = random.below(6);
         let rounds: Vec<Round> = (0..count).map(|_| round(&sheet, random)).collect();
         let header = sheet.values().header;

@@ -124,9 +124,10 @@ impl Case {
 fn gather(folder: &Path, files: &mut BTreeMap<PathBuf, Vec<u8>>) {
     for entry in fs::read_dir(folder).unwrap() {
         let path = entry.unwrap().path();
-        match path.is_dir() {
-            true => gather(&path, files),
-            false => drop(files.insert(path.clone(), fs::read(path).unwrap())),
+        if path.is_dir() {
+            gather(&path, files)
+        } else {
+            drop(files.insert(path.clone(), fs::read(path).unwrap()))
         }
     }
 }

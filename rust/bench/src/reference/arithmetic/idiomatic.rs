@@ -3,7 +3,7 @@
 
 use dimkhoros_sys::Places;
 
-use super::{gcd, in_range, mul_mod, places, Arithmetic};
+use super::{Arithmetic, gcd, in_range, mul_mod, places};
 
 /// Idiomatic Rust.
 pub struct Idiomatic;
@@ -24,13 +24,11 @@ fn pow_mod(base: u32, mut exponent: u32, m: u32) -> u32 {
 
 impl Arithmetic for Idiomatic {
     fn has_divisor(order: u32, challenges: u32) -> bool {
-        (2..challenges).any(|d| order.is_multiple_of(d))
+        (2..challenges).any(|d| order % d == 0)
     }
 
     fn have_order(values: &[u32], order: u32, m: u32) -> bool {
-        values
-            .iter()
-            .all(|&v| in_range(v, m) && pow_mod(v, order, m) == 1)
+        values.iter().all(|&v| in_range(v, m) && pow_mod(v, order, m) == 1)
     }
 
     fn have_inverses(values: &[u32], m: u32) -> bool {
@@ -51,9 +49,9 @@ impl Arithmetic for Idiomatic {
     #[inline]
     fn row_products(rows: &[Places], exponents: &[u32], m: u32) -> Places {
         places(rows.iter().map(|row| {
-            row.iter().zip(exponents).fold(1, |product, (&entry, &x)| {
-                mul_mod(product, pow_mod(entry, x, m), m)
-            })
+            row.iter()
+                .zip(exponents)
+                .fold(1, |product, (&entry, &x)| mul_mod(product, pow_mod(entry, x, m), m))
         }))
     }
 }

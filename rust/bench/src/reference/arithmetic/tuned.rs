@@ -7,7 +7,7 @@ use std::array::from_fn;
 
 use dimkhoros_sys::Places;
 
-use super::{gcd, in_range, places, Arithmetic, Idiomatic};
+use super::{Arithmetic, Idiomatic, gcd, in_range, places};
 
 /// Tuned Rust.
 pub struct Tuned;
@@ -24,10 +24,7 @@ struct Modulus {
 impl Modulus {
     fn new(m: u32) -> Modulus {
         let m = u64::from(m);
-        Modulus {
-            m,
-            reciprocal: u64::MAX / m,
-        }
+        Modulus { m, reciprocal: u64::MAX / m }
     }
 
     /// The product of a and b. The quotient by the reciprocal is right or one too
@@ -127,7 +124,7 @@ impl Arithmetic for Tuned {
     /// of order; above it only order itself can be the first divisor.
     fn has_divisor(order: u32, challenges: u32) -> bool {
         let end = challenges.min(order.isqrt() + 1);
-        let divides = |d: u32| d < end && order.is_multiple_of(d);
+        let divides = |d: u32| d < end && order % d == 0;
         order < challenges
             || divides(2)
             || divides(3)

@@ -35,10 +35,7 @@ pub fn told(fault: Fault, right: String, sheet: &Sheet, rounds: &[Round]) -> Str
 /// A text of these lines, or `none`.
 fn of_lines(lines: impl Iterator<Item = String>) -> String {
     let text: String = lines.map(|line| line + "\n").collect();
-    match text.is_empty() {
-        true => String::from("none\n"),
-        false => text,
-    }
+    if text.is_empty() { String::from("none\n") } else { text }
 }
 
 /// Whether the fault is one of the search for responses.
@@ -128,12 +125,7 @@ fn chosen(fault: Fault, table: &Table, answers: &[Places]) -> Vec<Places> {
         Fault::GameLargerRoot if root => answers.iter().rev().take(1).copied().collect(),
         Fault::GameLastSlot => {
             let backwards = |answer: &&Places| answer.iter().rev().copied().collect::<Vec<_>>();
-            answers
-                .iter()
-                .min_by_key(backwards)
-                .copied()
-                .into_iter()
-                .collect()
+            answers.iter().min_by_key(backwards).copied().into_iter().collect()
         }
         Fault::GameRootZero if root && none => one(0),
         Fault::GameRootModulus if root && none => one(modulus),

@@ -92,10 +92,7 @@ impl Asked<'_> {
         let all_accepted = reused.iter().all(is_accepted);
         vec![
             (junk, "other junk beyond the rows"),
-            (
-                round.challenge == self.header.challenges,
-                "a named challenge K",
-            ),
+            (round.challenge == self.header.challenges, "a named challenge K"),
             (refusal == 16, "a named slot of q"),
             (forged && refusal == 0, "a rejected named round"),
             (forged && some_accepted, "forged before accepted"),
@@ -126,12 +123,7 @@ fn shapes(case: &WatchCase) -> Vec<String> {
     let mut shapes = held(watch, sheet);
     let loaded = Judge.load(sheet);
     if loaded.refusal == 0 {
-        let asked = Asked {
-            sheet,
-            header: loaded.header,
-            watch,
-            round,
-        };
+        let asked = Asked { sheet, header: loaded.header, watch, round };
         shapes.extend(asked.remembered());
         shapes.extend(asked.named());
     }
@@ -204,10 +196,7 @@ fn watches_of_every_shape_are_met() {
         }
     }
     let times = |shape: &String| met.get(shape).copied().unwrap_or(0);
-    let few: Vec<_> = wanted()
-        .into_iter()
-        .map(|shape| (times(&shape), shape))
-        .collect();
+    let few: Vec<_> = wanted().into_iter().map(|shape| (times(&shape), shape)).collect();
     let few: Vec<_> = few.into_iter().filter(|(times, _)| *times < 4).collect();
     assert!(few.is_empty(), "met too seldom: {few:?}");
 }

@@ -21,9 +21,10 @@ pub fn check_typed(word: &str) -> Outcome {
     if word.starts_with('=') {
         return Err(Failure::words("a value has no spaces in it, as in c=3"));
     }
-    match word.starts_with(['‐', '‑', '‒', '–', '—', '−']) {
-        true => Err(Failure::words(format!("{word} begins with a long dash; write -"))),
-        false => Ok(()),
+    if word.starts_with(['‐', '‑', '‒', '–', '—', '−']) {
+        Err(Failure::words(format!("{word} begins with a long dash; write -")))
+    } else {
+        Ok(())
     }
 }
 
@@ -41,9 +42,10 @@ pub fn no_letter(letter: &str, grammar: &Grammar) -> Failure {
 /// Says that an option is none of the grammar's.
 pub fn no_option(option: &str, grammar: &Grammar) -> Failure {
     let all: Vec<&str> = grammar.options.iter().chain(grammar.flags).copied().collect();
-    Failure::words(match all.is_empty() {
-        true => format!("there is no option {option} here"),
-        false => format!("there is no option {option} here, but {}", all.join(", ")),
+    Failure::words(if all.is_empty() {
+        format!("there is no option {option} here")
+    } else {
+        format!("there is no option {option} here, but {}", all.join(", "))
     })
 }
 
@@ -115,9 +117,10 @@ fn steps_between(one: &str, other: &str) -> usize {
         let mut row = vec![i + 1];
         for (j, wanted) in other.iter().enumerate() {
             let changed = steps[i][j] + usize::from(letter != wanted);
-            let swapped = match i > 0 && j > 0 && *letter == other[j - 1] && one[i - 1] == *wanted {
-                true => steps[i - 1][j - 1] + 1,
-                false => usize::MAX,
+            let swapped = if i > 0 && j > 0 && *letter == other[j - 1] && one[i - 1] == *wanted {
+                steps[i - 1][j - 1] + 1
+            } else {
+                usize::MAX
             };
             row.push(changed.min(swapped).min(row[j] + 1).min(steps[i][j + 1] + 1));
         }

@@ -25,10 +25,7 @@ pub fn read(path: &Path) -> Outcome<Vec<String>> {
         }
         names.push(name.to_string());
     }
-    match names.is_empty() {
-        true => Err(Failure::failed(format!("{file} has no names"))),
-        false => Ok(names),
-    }
+    if names.is_empty() { Err(Failure::failed(format!("{file} has no names"))) } else { Ok(names) }
 }
 
 /// Why a name is no safe name of a folder, if it is none.

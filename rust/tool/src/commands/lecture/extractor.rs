@@ -115,9 +115,10 @@ fn list(index: &str, sheet: &Instance, steps: &Steps, witness: &Places) -> Strin
     };
     let step = |words: &str, lines: &[String]| item(words, &step_lines(index, lines));
     let exponent = sheet.values().header.kind == EXPONENT;
-    let (quotient, witness_formula) = match exponent {
-        true => ("r - r'", "$u = 0$, so $x = u · a + (r - r') · b = b · (r - r')$:"),
-        false => ("r / r'", "$u = z$, so $x = u^a · (r / r')^b = z^a · (r / r')^b$:"),
+    let (quotient, witness_formula) = if exponent {
+        ("r - r'", "$u = 0$, so $x = u · a + (r - r') · b = b · (r - r')$:")
+    } else {
+        ("r / r'", "$u = z$, so $x = u^a · (r / r')^b = z^a · (r / r')^b$:")
     };
     let divided = format!(
         "$[r] = t · z^c$ and $[r'] = t · z^{{c'}}$. Divide: $[{quotient}] = z^{{c - c'}}$."
@@ -235,10 +236,7 @@ fn root_lines(sheet: &Instance, steps: &Steps, column: &Column) -> Vec<String> {
         1 => String::new(),
         exponent => format!("{}^{exponent} = ", first.base),
     };
-    let inverted = match a < 0 {
-        true => format!("{z}^{{{}}} = {power}", signed(a.into())),
-        false => power,
-    };
+    let inverted = if a < 0 { format!("{z}^{{{}}} = {power}", signed(a.into())) } else { power };
     let b = second.exponent;
     vec![
         format!("$r / r' = {r} · {second_r}^{{-1}} = {r} · {inverse} = {quotient} mod {m}$"),

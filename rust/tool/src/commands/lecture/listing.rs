@@ -64,9 +64,10 @@ impl Listing<'_> {
     pub fn sections(&self) -> Vec<Section> {
         let block = Block::of(self);
         let rows: Vec<Set> = self.rows.iter().map(|row| Set::new(&block, row)).collect();
-        let across = match self.fits() {
-            true => ((WIDTH + GAP) / (block.width() + GAP)).floor().max(1.0) as usize,
-            false => 1,
+        let across = if self.fits() {
+            ((WIDTH + GAP) / (block.width() + GAP)).floor().max(1.0) as usize
+        } else {
+            1
         };
         let across = across.min(rows.len().div_ceil(ROWS)).clamp(1, 3);
         let slides = slides(&rows, across);

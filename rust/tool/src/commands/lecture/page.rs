@@ -33,9 +33,10 @@ impl Section {
     fn html(&self, first: bool, reminder: &str) -> String {
         let (id, heading) = (&self.id, text::html(&self.heading));
         let level = if first { "h1" } else { "h2" };
-        let reminder = match first || reminder.is_empty() {
-            true => String::new(),
-            false => format!("<p class=\"reminder\">{}</p>\n", text::html(reminder)),
+        let reminder = if first || reminder.is_empty() {
+            String::new()
+        } else {
+            format!("<p class=\"reminder\">{}</p>\n", text::html(reminder))
         };
         format!(
             "<section id=\"{id}\" aria-labelledby=\"{id}-heading\">\n<header>\n\

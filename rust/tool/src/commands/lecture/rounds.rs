@@ -41,13 +41,12 @@ fn neutral(sheet: &Instance) -> Places {
 /// The inverse of coordinates. Those of a root sheet are elements of its group, which the simulator inverts.
 fn inverse(sheet: &Instance, coordinates: &Places) -> Result<Places, Refusal> {
     let header = sheet.values().header;
-    match header.kind == EXPONENT {
-        true => {
-            let negative =
-                |column: usize| (header.order - coordinates[column] % header.order) % header.order;
-            Ok(in_columns(sheet, negative))
-        }
-        false => sheet.with_statement(coordinates)?.simulate(1, &neutral(sheet)),
+    if header.kind == EXPONENT {
+        let negative =
+            |column: usize| (header.order - coordinates[column] % header.order) % header.order;
+        Ok(in_columns(sheet, negative))
+    } else {
+        sheet.with_statement(coordinates)?.simulate(1, &neutral(sheet))
     }
 }
 
@@ -118,9 +117,10 @@ impl Lists {
         let of_response = |response| simulated(sheet, challenge, response);
         let simulated =
             responses.iter().map(of_response).collect::<Result<Vec<Round>, Refusal>>()?;
-        match honest.iter().map(|honest| honest.round).eq(simulated.iter().copied()) {
-            true => Ok(Lists { honest, simulated }),
-            false => Err(Failure::failed("the honest and the simulated rounds differ")),
+        if honest.iter().map(|honest| honest.round).eq(simulated.iter().copied()) {
+            Ok(Lists { honest, simulated })
+        } else {
+            Err(Failure::failed("the honest and the simulated rounds differ"))
         }
     }
 }

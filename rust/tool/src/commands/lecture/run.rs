@@ -165,9 +165,10 @@ pub fn response(
     let computed = |column: usize| {
         let (k, x, value) = (nonce[column], witness[column], round.response[column]);
         let c = round.challenge;
-        match exponent {
-            true => format!("{k} + {c} · {x} mod {} = {value}", header.order),
-            false => format!("{k} · {x}^{c} mod {} = {value}", header.modulus),
+        if exponent {
+            format!("{k} + {c} · {x} mod {} = {value}", header.order)
+        } else {
+            format!("{k} · {x}^{c} mod {} = {value}", header.modulus)
         }
     };
     if columns == 1 {

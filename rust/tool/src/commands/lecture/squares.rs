@@ -202,14 +202,15 @@ pub fn grid(sheet: &Instance, commitment: &Places, known: bool) -> Option<Sectio
 
 /// What is said below the grid.
 fn grid_words(t: &str, known: bool) -> String {
-    match known {
-        true => format!(
+    if known {
+        format!(
             "The cells with $t = {t}$ are framed. There is one in every row at least: who knows a witness can answer every \
              challenge. Two of them in different rows give a witness away."
-        ),
-        false => format!(
+        )
+    } else {
+        format!(
             "The cells with $t = {t}$ are framed. They are in one row: without a witness each commitment answers at most one \
              challenge."
-        ),
+        )
     }
 }

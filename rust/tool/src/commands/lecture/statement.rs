@@ -20,12 +20,13 @@ pub fn sections(sheet: &Instance, heading: &str, witnesses: &str) -> Vec<Section
         heading: heading.to_string(),
         body,
     };
-    match row_count(sheet) > TALL {
-        false => vec![section("statement", heading, formulas(sheet) + &facts)],
-        true => vec![
+    if row_count(sheet) > TALL {
+        vec![
             section("statement", heading, formulas(sheet)),
             section("sheet", "The sheet's domain, group and challenges", facts),
-        ],
+        ]
+    } else {
+        vec![section("statement", heading, formulas(sheet) + &facts)]
     }
 }
 
@@ -57,10 +58,7 @@ fn lines(sheet: &Instance) -> Vec<String> {
 /// A short reminder of the statement, where it is short.
 pub fn reminder(sheet: &Instance) -> String {
     let words = notation::statement(sheet).join(", ");
-    match words.chars().count() <= LONG {
-        true => format!("${words}$"),
-        false => String::new(),
-    }
+    if words.chars().count() <= LONG { format!("${words}$") } else { String::new() }
 }
 
 /// The sheet's sets and numbers, each with its name. The last says what is known of witnesses.
@@ -92,17 +90,19 @@ fn facts(sheet: &Instance, caption: &str, witnesses: &str) -> String {
 /// The domain in words.
 fn domain(sheet: &Instance) -> String {
     let (header, columns) = (sheet.values().header, column_count(sheet));
-    let each = match header.kind == EXPONENT {
-        true => format!("0 to {}, added modulo {}", header.order - 1, header.order),
-        false => format!("the numbers prime to {0}, multiplied modulo {0}", header.modulus),
+    let each = if header.kind == EXPONENT {
+        format!("0 to {}, added modulo {}", header.order - 1, header.order)
+    } else {
+        format!("the numbers prime to {0}, multiplied modulo {0}", header.modulus)
     };
     let many = match columns {
         1 => each,
         _ => format!("{columns} coordinates, each {each}"),
     };
-    let each_count = match header.kind == EXPONENT {
-        true => Some(u64::from(header.order)),
-        false => small::elements(sheet).map(|elements| elements.len() as u64),
+    let each_count = if header.kind == EXPONENT {
+        Some(u64::from(header.order))
+    } else {
+        small::elements(sheet).map(|elements| elements.len() as u64)
     };
     many + &size(each_count, columns)
 }
@@ -110,12 +110,13 @@ fn domain(sheet: &Instance) -> String {
 /// The group in words.
 fn group(sheet: &Instance) -> String {
     let (header, rows) = (sheet.values().header, row_count(sheet));
-    let each = match header.kind == EXPONENT {
-        true => format!(
+    let each = if header.kind == EXPONENT {
+        format!(
             "the $v$ with $v^{} = 1$ modulo {1}, multiplied modulo {1}",
             header.order, header.modulus
-        ),
-        false => format!("the numbers prime to {0}, multiplied modulo {0}", header.modulus),
+        )
+    } else {
+        format!("the numbers prime to {0}, multiplied modulo {0}", header.modulus)
     };
     let many = match rows {
         1 => each,
@@ -142,9 +143,10 @@ fn law(sheet: &Instance) -> String {
 /// The numbers that the extractor has besides rounds.
 fn extractor(sheet: &Instance) -> String {
     let header = sheet.values().header;
-    match header.kind == EXPONENT {
-        true => format!("$ℓ = {}$ and $u = 0$, with $[u] = z^{{ℓ}} = 1$", header.order),
-        false => format!("$ℓ = {}$ and $u = z$, with $[u] = z^{{ℓ}}$", header.order),
+    if header.kind == EXPONENT {
+        format!("$ℓ = {}$ and $u = 0$, with $[u] = z^{{ℓ}} = 1$", header.order)
+    } else {
+        format!("$ℓ = {}$ and $u = z$, with $[u] = z^{{ℓ}}$", header.order)
     }
 }
 

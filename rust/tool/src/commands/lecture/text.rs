@@ -101,10 +101,12 @@ pub fn formula_with_index(formula: &str, index: &str) -> String {
         let near = near.iter().flatten().filter_map(|place| characters.get(*place));
         near.into_iter().all(|near| !near.is_ascii_alphanumeric())
     };
-    let indexed = |(place, letter): (usize, &char)| match "tcrxzu".contains(*letter) && alone(place)
-    {
-        true => format!("{letter}{index}"),
-        false => letter.to_string(),
+    let indexed = |(place, letter): (usize, &char)| {
+        if "tcrxzu".contains(*letter) && alone(place) {
+            format!("{letter}{index}")
+        } else {
+            letter.to_string()
+        }
     };
     characters.iter().enumerate().map(indexed).collect()
 }

@@ -36,9 +36,10 @@ pub fn several(
     let listed = witnesses.iter().take(LISTED).map(row).collect::<Result<Vec<_>, Refusal>>()?;
     rows.extend(listed);
     let count = witnesses.len();
-    let caption = match count > LISTED {
-        true => format!("The first {LISTED} of {count} witnesses"),
-        false => format!("All {count} witnesses"),
+    let caption = if count > LISTED {
+        format!("The first {LISTED} of {count} witnesses")
+    } else {
+        format!("All {count} witnesses")
     };
     let words = "Each witness has a nonce that makes this round, so the round does not tell which one Peggy knows.";
     let own = witnesses.iter().take(LISTED).position(|witness| witness == known);

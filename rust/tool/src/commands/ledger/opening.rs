@@ -54,10 +54,11 @@ fn committed(base: &Base, opening: Opening, commitment: u32) -> Outcome<String> 
     let Base { g, h, modulus, .. } = *base;
     let powers = [power(g, opening.value, modulus), power(h, opening.blinding, modulus)];
     let rest = product(powers[0].rest, powers[1].rest, modulus);
-    match rest == commitment {
-        true => Ok(format!("{INDENT}{}\n", powers_text(&powers, rest, modulus))),
-        false => Err(Failure::failed(format!(
+    if rest == commitment {
+        Ok(format!("{INDENT}{}\n", powers_text(&powers, rest, modulus)))
+    } else {
+        Err(Failure::failed(format!(
             "the commitment is {commitment}, and the opening by hand is one of {rest}"
-        ))),
+        )))
     }
 }

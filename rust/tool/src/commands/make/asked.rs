@@ -48,9 +48,10 @@ impl Asked {
     fn by_table(words: &Words, rows: &[Vec<u32>]) -> Outcome<Asked> {
         words.without(&["h"], "for a table")?;
         without_patterns(words, "for a table")?;
-        match rows.iter().any(|row| row.len() != rows[0].len()) {
-            true => Err(Failure::words("table= has rows of different lengths")),
-            false => Ok(Asked::Table(rows.to_vec())),
+        if rows.iter().any(|row| row.len() != rows[0].len()) {
+            Err(Failure::words("table= has rows of different lengths"))
+        } else {
+            Ok(Asked::Table(rows.to_vec()))
         }
     }
 

@@ -33,9 +33,10 @@ impl Linear {
         };
         let rows = texts.iter().map(row).collect::<Outcome<Vec<Vec<Power>>>>()?;
         let linear = Linear { generators, columns: columns(&rows), rows };
-        match linear.terms().any(|(_, _, term)| term.secret.is_none()) && linear.columns > 1 {
-            true => Err(Failure::words("a secret x has no number, where there are several")),
-            false => Ok(linear),
+        if linear.terms().any(|(_, _, term)| term.secret.is_none()) && linear.columns > 1 {
+            Err(Failure::words("a secret x has no number, where there are several"))
+        } else {
+            Ok(linear)
         }
     }
 
@@ -152,10 +153,7 @@ fn columns(rows: &[Vec<Power>]) -> usize {
 /// The coefficient of a term: what is taken away is added as often as is left of the order. One of the order or more is left as it
 /// is, for the library to refuse.
 fn coefficient(term: &Term, order: u32) -> u32 {
-    match term.minus && (1..order).contains(&term.factor) {
-        true => order - term.factor,
-        false => term.factor,
-    }
+    if term.minus && (1..order).contains(&term.factor) { order - term.factor } else { term.factor }
 }
 
 /// Says what is wrong with a row over so many generators.

@@ -98,16 +98,14 @@ const FORMULA: [char; 8] = ['=', '+', '-', '@', '＝', '＋', '－', '＠'];
 
 /// A field that a spreadsheet does not take for a formula. Only a path can begin like one, and `./` leaves it the same path.
 fn no_formula(field: &str) -> String {
-    match field.trim_start().starts_with(FORMULA) {
-        true => format!("./{field}"),
-        false => field.to_string(),
-    }
+    if field.trim_start().starts_with(FORMULA) { format!("./{field}") } else { field.to_string() }
 }
 
 /// A field, in quotes if it needs them. Some spreadsheets split at a semicolon.
 fn quoted(field: &str) -> String {
-    match field.contains([',', ';', '"', '\r', '\n']) {
-        true => format!("\"{}\"", field.replace('"', "\"\"")),
-        false => field.to_string(),
+    if field.contains([',', ';', '"', '\r', '\n']) {
+        format!("\"{}\"", field.replace('"', "\"\""))
+    } else {
+        field.to_string()
     }
 }

@@ -59,9 +59,10 @@ impl Form {
     pub fn text(&self) -> String {
         let named = value_names(self.pattern).iter().zip(&self.values);
         let named: Vec<String> = named.map(|(name, value)| format!("{name} = {value}")).collect();
-        match named.is_empty() {
-            true => self.name.to_string(),
-            false => format!("{} with {}", self.name, named.join(", ")),
+        if named.is_empty() {
+            self.name.to_string()
+        } else {
+            format!("{} with {}", self.name, named.join(", "))
         }
     }
 }

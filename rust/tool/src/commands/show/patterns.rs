@@ -22,9 +22,12 @@ pub fn text(name: Option<&str>, patterns: &Patterns) -> String {
 
 /// The shipped patterns with the digits of a pattern, each with its name. A pattern of the shipped file is itself alone.
 fn names(shipped: &Patterns, patterns: &Patterns, number: u32) -> Vec<(&'static str, Pattern)> {
-    let same = |other: u32| match patterns == shipped {
-        true => other == number,
-        false => other > 0 && shipped.layout(other) == patterns.layout(number),
+    let same = |other: u32| {
+        if patterns == shipped {
+            other == number
+        } else {
+            other > 0 && shipped.layout(other) == patterns.layout(number)
+        }
     };
     NAMES.into_iter().filter(|(_, pattern)| same(pattern.number())).collect()
 }

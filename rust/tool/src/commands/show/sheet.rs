@@ -67,15 +67,12 @@ fn challenges(header: &Header) -> String {
 fn domain(sheet: &Instance) -> String {
     let header = sheet.values().header;
     let columns = column_count(sheet);
-    match header.kind == EXPONENT {
-        true => {
-            let which = format!("0 to {}", header.order - 1);
-            size(Some(header.order as usize), "value", columns, "column", &which)
-        }
-        false => {
-            let count = small::coordinates(sheet).map(|values| values.len());
-            size(count, "value", columns, "column", "those of the group")
-        }
+    if header.kind == EXPONENT {
+        let which = format!("0 to {}", header.order - 1);
+        size(Some(header.order as usize), "value", columns, "column", &which)
+    } else {
+        let count = small::coordinates(sheet).map(|values| values.len());
+        size(count, "value", columns, "column", "those of the group")
     }
 }
 
@@ -97,10 +94,7 @@ fn size(each: Option<usize>, thing: &str, places: usize, place: &str, which: &st
         Some(all) => format!("{}, {each} in each {place}", counted(all, thing)),
         None => format!("{} in each {place}", counted(each, thing)),
     };
-    match which.is_empty() {
-        true => count,
-        false => format!("{count}: {which}"),
-    }
+    if which.is_empty() { count } else { format!("{count}: {which}") }
 }
 
 /// The table of the entries, each below the coordinate to whose power it is taken, with the statement.

@@ -20,9 +20,10 @@ pub struct Column<'a> {
 impl Column<'_> {
     /// A value as it is printed.
     pub fn text(&self, value: &Places) -> String {
-        match is_by_row(self.letter) {
-            true => notation::by_row(self.sheet, value),
-            false => notation::by_column(self.sheet, value),
+        if is_by_row(self.letter) {
+            notation::by_row(self.sheet, value)
+        } else {
+            notation::by_column(self.sheet, value)
         }
     }
 
@@ -31,9 +32,10 @@ impl Column<'_> {
         let header = self.sheet.values().header;
         let values: Vec<String> = self.values.iter().map(|value| self.text(value)).collect();
         let joined = self.text(&self.joined);
-        match header.kind == EXPONENT && !is_by_row(self.letter) {
-            true => format!("({}) mod {} = {joined}", values.join(" + "), header.order),
-            false => format!("{} mod {} = {joined}", values.join(" · "), header.modulus),
+        if header.kind == EXPONENT && !is_by_row(self.letter) {
+            format!("({}) mod {} = {joined}", values.join(" + "), header.order)
+        } else {
+            format!("{} mod {} = {joined}", values.join(" · "), header.modulus)
         }
     }
 }
@@ -93,10 +95,7 @@ fn join(sheet: &Instance, letter: &str, values: &[Places]) -> Result<Places, Ref
     let ones = [1; PLACES];
     let sheet = sheet.with_statement(&ones)?;
     let team = Team::new(&sheet, &vec![ones; values.len()])?;
-    match is_by_row(letter) {
-        true => team.join_commitments(values),
-        false => team.join_responses(values),
-    }
+    if is_by_row(letter) { team.join_commitments(values) } else { team.join_responses(values) }
 }
 
 /// What the players bring under a letter.

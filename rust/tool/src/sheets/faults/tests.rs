@@ -132,9 +132,10 @@ fn a_sheet_that_is_cut_or_extended_is_told_how_long_it_has_to_be() {
     let damaged = |sheet| cut_and_extended(Instance::bytes(sheet)).map(move |cut| (sheet, cut));
     for (sheet, damaged) in sheets.iter().flat_map(damaged) {
         let fault = in_sheet(&damaged).unwrap();
-        let needed = match damaged.len() >= 20 {
-            true => format!("its header asks for {}", sheet.bytes().len()),
-            false => "the header of a sheet has 20".to_string(),
+        let needed = if damaged.len() >= 20 {
+            format!("its header asks for {}", sheet.bytes().len())
+        } else {
+            "the header of a sheet has 20".to_string()
         };
         assert_eq!(fault.found, Found::Length { found: damaged.len(), needed });
         assert_eq!(Some(fault.refusal), Instance::load(&damaged).err());
@@ -194,9 +195,10 @@ fn a_round_file_that_is_cut_or_extended_is_told_how_long_it_has_to_be() {
         cut.map(|damaged| (sheet.clone(), file.len(), damaged)).collect::<Vec<_>>()
     };
     for (sheet, length, damaged) in files.iter().flat_map(damaged) {
-        let needed = match damaged.len() >= 7 {
-            true => format!("3 rounds of this sheet make {length}"),
-            false => "the header of a round file has 7".to_string(),
+        let needed = if damaged.len() >= 7 {
+            format!("3 rounds of this sheet make {length}")
+        } else {
+            "the header of a round file has 7".to_string()
         };
         let found = Found::Length { found: damaged.len(), needed };
         assert_eq!(in_rounds(&sheet, &damaged).map(|fault| fault.found), Some(found));
