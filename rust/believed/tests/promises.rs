@@ -110,15 +110,24 @@ fn the_page_of_the_exports_names_the_call_of_each() {
     }
 }
 
-#[test]
-fn the_page_of_the_theorems_has_each_field_of_the_demands() {
-    let fields = sections(&Specs::read()).into_iter().map(|section| section.field);
-    let whole = |field: &String| field != "code" && !field.contains(": ");
-    let fields: Vec<String> = fields.filter(whole).collect();
+/// The words in code font of a column of the rows that begin so, in the part on the demands of the page of the theorems.
+fn told_of_demands(begin: &str, column: usize) -> Vec<String> {
     let page = text_of(&root().join("docs/THEOREMS.md"));
     let part = page.split("\n## The demands\n").nth(1).and_then(|part| part.split("\n## ").next());
-    let lines =
-        part.expect("the part on the demands").lines().filter(|line| line.starts_with("| `"));
-    let told: Vec<String> = lines.flat_map(|line| code(cells(line)[0])).collect();
-    assert_eq!(told, fields);
+    let part = part.expect("the part on the demands");
+    let rows = part.lines().filter(|line| line.starts_with(begin));
+    rows.flat_map(|row| code(cells(row)[column])).collect()
+}
+
+#[test]
+fn the_page_of_the_theorems_has_each_field_of_the_demands_and_of_the_cards() {
+    let fields: Vec<String> =
+        sections(&Specs::read()).into_iter().map(|section| section.field).collect();
+    let whole = |field: &&String| *field != "code" && !field.contains(": ");
+    let wholes: Vec<&String> = fields.iter().filter(whole).collect();
+    assert_eq!(told_of_demands("| `", 0).iter().collect::<Vec<_>>(), wholes);
+    let cards: Vec<&str> =
+        fields.iter().filter_map(|field| field.strip_prefix("cards: ")).collect();
+    assert!(cards.len() > 10, "{} fields of the cards", cards.len());
+    assert_eq!(told_of_demands("| [", 1), cards);
 }
