@@ -11,8 +11,11 @@ const FORMATS: &str = include_str!("../../../../docs/FORMATS.md");
 const AUTHORS: &str = include_str!("../../../../docs/AUTHORS.md");
 /// The page on which refusals, worked pages and cards are looked up.
 const SCOPE: &str = include_str!("../../../../docs/SCOPE.md");
-/// The header for C, which has the refusals and their order too.
+/// The header for C, which has the refusals and their order too, and what has
+/// them for Rust and for Python.
 const HEADER: &str = include_str!("../../../../include/dimkhoros.h");
+const IN_RUST: &str = include_str!("../../../dimkhoros/src/refusal.rs");
+const IN_PYTHON: &str = include_str!("../../../../python/dimkhoros/refusals.py");
 
 /// The first stored line that this library does not make.
 fn difference(library: Library) -> Option<String> {
@@ -446,11 +449,23 @@ fn listed(list: &str) -> Vec<u32> {
     list.split(", ").flat_map(ends).collect()
 }
 
+/// The order of the refusals that a comment of a source tells.
+fn order_in(source: &str) -> Vec<u32> {
+    let marks = ["*", "///"];
+    let words = source
+        .split_whitespace()
+        .filter(|word| !marks.contains(word));
+    let text = words.collect::<Vec<_>>().join(" ");
+    let order = text.split("the earliest in the order ").nth(1).unwrap();
+    let order = order.split(" is given").next().unwrap();
+    listed(order.split(". ").next().unwrap())
+}
+
 #[test]
-fn the_header_has_the_refusals_in_the_same_order() {
-    let text = HEADER.replace("\n *", "");
-    let order = text.split("it is the earliest in the order ").nth(1);
-    assert_eq!(listed(order.unwrap().split(". ").next().unwrap()), ORDER);
+fn the_header_and_the_wrappers_have_the_refusals_in_the_same_order() {
+    for source in [HEADER, IN_RUST, IN_PYTHON] {
+        assert_eq!(order_in(source), ORDER);
+    }
     let numbers = HEADER.split("    REFUSAL(").skip(1);
     let numbers: Vec<&str> = numbers.filter_map(|rest| rest.split(',').next()).collect();
     let mut rising = ORDER;
