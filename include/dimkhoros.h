@@ -28,12 +28,16 @@
  * refused with 32. "The pure form", at the end, has the same calls with sessions that are handed in and back by value.
  * dimkhoros_box.h, beside this header, has what else a box needs: a store, random numbers and the lines of a wire.
  *
- * What a call takes. Any bytes and any numbers: every call ends in an answer, and it is proved to be the one that the call's
- * definition gives (docs/promises/exports.md lists the definitions). The caller must see to four things. A pointer with a length
- * after it must point to that many bytes or numbers (if the length is 0, the pointer is not used and may be NULL). A pointer that
- * is written with the size of an array must point to that many numbers or bytes, one to a session or any other struct must point
- * to one, and a store to a function. What a call writes to must share no byte with anything else that the same call is given.
- * Nobody else may change these bytes during the call.
+ * What a call takes. Any bytes and any numbers: every call ends in an answer. Of the calls of the archive it is proved that the
+ * answer is the one that the call's definition gives (docs/promises/exports.md lists the definitions). The functions that this
+ * header defines in C are tested. The caller must see to four things:
+ *
+ *     - A pointer with a length after it must point to that many bytes or numbers. If the length is 0, the pointer is not used and
+ *       may be NULL.
+ *     - A pointer that is written with the size of an array must point to that many numbers or bytes. A pointer to a session or
+ *       any other struct must point to one, and a store to a function.
+ *     - What a call writes to must share no byte with anything else that the same call is given.
+ *     - Nobody else may change these bytes during the call.
  *
  * Sheets. A sheet is the table of a homomorphism, with a statement, and comes as bytes. Each call that takes a sheet tests it
  * from the start, and refuses a bad one with 2 to 11. m is the modulus, q the order and e the exponent, K the challenge count, s
@@ -45,10 +49,12 @@
  * arrays of eight. The places after these values are not read in what a call takes, and are 0 in what a call answers. A session
  * keeps what it holds in all eight places, and the commitments that Peggy's session holds are tested in all eight (by 21 and 32).
  *
- * Refusals. A call answers a number, or a struct with a field `refusal`. The number is 0, or says what was refused. If several
- * numbers apply, it is the earliest in the order 23, 24, 1 to 9, 27, 29, 30, 10, 11, 26, 37, 35, 36, 12, 25, 13 to 16, 28, 31, 17
- * to 21, 32 to 34, 22. A refused call changes no session, watch, ledger, array or buffer, and has 0 in every other field of its
- * answer. Compilers warn of a call whose answer is thrown away.
+ * Refusals. A call that can be refused answers a number, or a struct with a field `refusal`. The number is 0, or says what was
+ * refused. If several numbers apply, it is the earliest in the order 23, 24, 1 to 9, 27, 29, 30, 10, 11, 26, 37, 35, 36, 12, 25, 13
+ * to 16, 28, 31, 17 to 21, 32 to 34, 22. A refused call changes no session, watch, ledger, array or buffer, and has 0 in every
+ * other field of its answer. Four calls answer no number: dimkhoros_part, of which dimkhoros_check gives the number, and
+ * dimkhoros_mark, dimkhoros_reason and dimkhoros_game, which name it in their text. Compilers warn if an answer that must be
+ * looked at is thrown away.
  *
  * Random numbers. The caller draws them: nonces, challenges and simulated responses are handed in. Draw a new nonce for each
  * session, at random from all coordinates. Else the responses give the witness away.
@@ -197,7 +203,10 @@ enum {
 #undef DIMKHOROS_REFUSAL
 };
 
-/* What dimkhoros_respond_after answers if nothing is refused, but the session is not stored. No refusal has this number. */
+/*
+ * What dimkhoros_respond_after and dimkhoros_or_respond_after answer if nothing is refused, but the session is not stored. No
+ * refusal has this number.
+ */
 #define DIMKHOROS_NOT_STORED 1000
 
 /*
@@ -331,7 +340,7 @@ typedef struct {
     uint32_t nonce[DIMKHOROS_PLACES];
     uint32_t commitment[DIMKHOROS_PLACES];
     uint32_t phase; /* any number beyond the four is taken as Dropped */
-    uint32_t kept;  /* 0 if nothing was saved under this name, 1 after a save; any other number is taken as 1 */
+    uint32_t kept;  /* 0 if nothing was saved under this name, 1 after a save; any other number counts as saved too */
 } DimkhorosSaved;
 
 /* A commitment that was answered. */
@@ -496,8 +505,8 @@ uint32_t dimkhoros_entries(const uint8_t *sheet, size_t sheet_length, uint32_t e
 
 /*
  * Writes the sheet of these values to the start of `buffer`, and answers its length. The values are given as dimkhoros_load and
- * dimkhoros_entries answer them. The entries of a root sheet are not read. No byte after the sheet is changed. Refuses 4 to 8,
- * 10, 11 and 22.
+ * dimkhoros_entries answer them. The entries of a root sheet are not read, nor are numbers outside the rows and columns. No byte
+ * after the sheet is changed. Refuses 4 to 8, 10, 11 and 22.
  */
 DIMKHOROS_CHECKED
 DimkhorosWritten dimkhoros_encode(DimkhorosHeader header, const uint32_t entries[DIMKHOROS_ENTRIES],
@@ -506,17 +515,9 @@ DimkhorosWritten dimkhoros_encode(DimkhorosHeader header, const uint32_t entries
 /* --- Patterns of sheets --- */
 
 /*
- * A pattern file has 1 to 32 patterns, each a table of digits:
- *
- *     0 to 2   PAT
- *     3, 4     the version, 1, with the high byte first
- *     5        how many patterns there are, 1 to 32
- *     6 on     the patterns, one straight after the other: rows, columns and number of public values, a byte each, 1 to 8,
- *              and rows times columns digits of a byte each, row by row
- *
- * Digit i stands for the i-th public value, and 0 for the entry 1. Nothing stands after the last pattern. No digit is above the
- * number of values, and each value is named by a digit. share/patterns.bin of the repository is the file that dimkhoros_patterns
- * writes. docs/FORMATS.md has another as an example.
+ * A pattern file has 1 to 32 patterns. A pattern is a table of digits: digit i stands for the i-th public value, and 0 for the
+ * entry 1. docs/FORMATS.md has the bytes, and an example. share/patterns.bin of the repository is the file that
+ * dimkhoros_patterns writes.
  */
 
 /*
@@ -586,11 +587,12 @@ static inline uint32_t dimkhoros_commit(const uint8_t *sheet, size_t sheet_lengt
 
 /*
  * Gives the response of a committed session to a challenge, by a witness. Sets the nonce to zeros, and lists the commitment as
- * answered. Leads to Answered. Saved states stay, with their nonces. Refuses 2 to 11, 15 to 17, 21, then 32 if the held
- * commitment is listed, compared in all eight places, and 33 if the list holds 64. A committed session that is refused stays
- * committed. After 2 to 21 it can still answer. After 32 and 33 it can be dropped or returned from.
+ * answered. Leads to Answered. Saved states stay, with their nonces. Refuses 2 to 11, 15 to 17, 21, 32 and 33. 32 is given if the
+ * held commitment is listed, compared in all eight places, and 33 if 64 or more are listed. A committed session that is refused
+ * stays committed. After 2 to 21 it can still answer on the sheet on which it was committed. After 32 and 33 it can be dropped or
+ * returned from.
  *
- * If the count is above 64, which no call makes, the first 64 commitments are looked at by 32, and then 33 is given.
+ * If the count is above 64, which no call makes, 32 looks at the first 64 commitments. If it is not given, 33 is.
  */
 DIMKHOROS_CHECKED
 static inline uint32_t dimkhoros_respond(const uint8_t *sheet, size_t sheet_length, DimkhorosProverSession *session,
@@ -636,7 +638,7 @@ static inline uint32_t dimkhoros_save(DimkhorosProverSession *session, uint32_t 
 
 /*
  * Brings back the state, nonce and commitment that were saved under a name. The session can be in any phase. Nothing else
- * changes: the saved states and the list of answered commitments stay, so the return can be made again. Refuses 34 for a name of
+ * changes: the saved states and the list of answered commitments stay, so the return can be made again. Refuses 34: for a name of
  * 8 or more, and for one that was never saved.
  */
 DIMKHOROS_CHECKED
@@ -674,23 +676,13 @@ static inline DimkhorosJudgement dimkhoros_take_response(const uint8_t *sheet, s
 /* --- Stored sessions --- */
 
 /*
- * The bytes of a stored session, numbers with the high byte first:
+ * A session can be stored as bytes: a mark, a version, the length of the whole, all numbers of the session, and a CRC-32 of all
+ * bytes before it. docs/FORMATS.md has the bytes. Anything else is damaged, version 1 of Peggy's too, which has no saved states. So
+ * a file that is empty, cut, longer or changed in one byte is never taken for a session. One that is damaged otherwise is taken
+ * for a session, by chance, once in four billion times.
  *
- *     0 to 2   PRV for Peggy's, VRF for Vic's, ORP for Peggy's of the OR proof
- *     3, 4     the version: 2 for PRV, 1 for VRF and ORP
- *     5, 6     the length of the whole, 2707, 51 or 151
- *     7 on     32-bit numbers. Peggy's: nonce (8), commitment (8) and phase; for each name from 0 to 7 the saved nonce (8),
- *              commitment (8), phase, and 1 if it is saved, else 0; 64 answered commitments (8 each); how many they are.
- *              Vic's: commitment (8), challenge and phase. In the OR proof: nonce (8), simulated response (8), commitments
- *              (8 and 8), simulated challenge, side and phase
- *     last 4   the CRC-32 of IEEE 802.3 of all bytes before
- *
- * Anything else is refused, version 1 of PRV too, which has 79 bytes and no saved states. So a file that is empty, cut, longer or
- * changed in one byte is never taken for a session. One that is damaged otherwise is taken for a session, by chance, once in four
- * billion times.
- *
- * A session that no call makes can be stored, but is refused when it is read back: one with a phase beyond the four, held or
- * saved, a number above 1 for saved, more than 64 answered commitments, or a side beyond 1.
+ * Some sessions can be stored, but are damaged when they are read back: those with a phase beyond the four, held or saved, a
+ * number above 1 for saved, more than 64 answered commitments, or a side beyond 1. No call makes such a session from any other.
  *
  * A committed Peggy's bytes hold her nonce: whoever reads them computes the witness from her response. So do the bytes of any
  * session of hers with a saved state that holds a nonce, even after she has answered or was dropped.
@@ -703,17 +695,17 @@ static inline void dimkhoros_prover_store(const DimkhorosProverSession *session,
  * Reads a stored Peggy back without the nonce that she holds. Answers what these bytes are found to be, DIMKHOROS_FOUND_NEW to
  * DIMKHOROS_FOUND_DAMAGED. Sets the session to the one to go on with:
  *
- *     found        the session is                                     the box
- *     NEW          New                                                commits it
- *     COMMITTED    Dropped: its nonce is zeros                        stores it over these bytes, then begins another
- *     ANSWERED     Answered                                           begins another
- *     DROPPED      Dropped                                            begins another
- *     DAMAGED      New, as of dimkhoros_prover_new                    stores it over these bytes, then commits it
+ *     found        the session is
+ *     NEW          New
+ *     COMMITTED    Dropped: its nonce is zeros
+ *     ANSWERED     Answered
+ *     DROPPED      Dropped
+ *     DAMAGED      New, as of dimkhoros_prover_new
  *
  * So the session is never Committed. This is rule 1 of docs/BOXES.md: only what this run has drawn is answered. The bytes may be
  * an old copy, from a backup or a write that the disk lost, of a session whose challenge was answered long ago. Saved states and
- * the list come back as they were stored. For the same reason a box must not return to a state that it finds saved. Bytes are
- * damaged if dimkhoros_prover_store does not write them of any session that calls can make.
+ * the list come back as they were stored. For the same reason a box must not return to a state that it finds saved. docs/BOXES.md
+ * says what a box does with each of the five.
  */
 DIMKHOROS_CHECKED
 static inline uint32_t dimkhoros_prover_reopen(const uint8_t *stored, size_t length, DimkhorosProverSession *session);
@@ -734,10 +726,7 @@ static inline int dimkhoros_prover_restore_with_nonce(const uint8_t *stored, siz
 static inline void dimkhoros_verifier_store(const DimkhorosVerifierSession *session,
                                             uint8_t stored[DIMKHOROS_STORED_VERIFIER]);
 
-/*
- * Sets Vic's session to the one that these bytes hold and answers 1. If dimkhoros_verifier_store does not write these bytes of
- * one of the four phases, it answers 0 and leaves the session alone.
- */
+/* Sets Vic's session to the one that these bytes hold and answers 1. If they are damaged, answers 0 and leaves the session alone. */
 DIMKHOROS_CHECKED
 static inline int dimkhoros_verifier_restore(const uint8_t *stored, size_t length, DimkhorosVerifierSession *session);
 
@@ -746,8 +735,8 @@ static inline void dimkhoros_or_prover_store(const DimkhorosOrSession *session,
                                              uint8_t stored[DIMKHOROS_STORED_OR_PROVER]);
 
 /*
- * Reads a stored Peggy of the OR proof back without nonce, side and simulated values, as dimkhoros_prover_reopen does. Bytes are
- * damaged if dimkhoros_or_prover_store does not write them of one of the four phases and of side 0 or 1.
+ * Reads a stored Peggy of the OR proof back, as dimkhoros_prover_reopen does. If she is found Committed, nonce, side and simulated
+ * values are zeros.
  */
 DIMKHOROS_CHECKED
 static inline uint32_t dimkhoros_or_prover_reopen(const uint8_t *stored, size_t length, DimkhorosOrSession *session);
@@ -814,7 +803,7 @@ static inline uint32_t dimkhoros_or_commit(const uint8_t *first, size_t first_le
 /*
  * Answers a challenge by a witness of the side that the session holds. Sets `round` to the whole round, with the held
  * commitments. Sets nonce, side, simulated challenge and simulated response to zeros. Leads to Answered. Refuses 2 to 11, 26, 15
- * to 17 and 21. A committed session that is refused stays committed and can still answer.
+ * to 17 and 21. A committed session that is refused stays committed, and can still answer on the sheets on which it was committed.
  */
 DIMKHOROS_CHECKED
 static inline uint32_t dimkhoros_or_respond(const uint8_t *first, size_t first_length, const uint8_t *second,
@@ -912,10 +901,10 @@ static inline uint32_t dimkhoros_open_watch(const uint8_t *sheet, size_t sheet_l
  * named round stands, and the witness that the two give away. An accepted round is then the newest that `watch` remembers, with
  * zeros beyond its s and n values. Of 63 older ones the oldest is forgotten. A rejected round leaves `watch` as it is.
  *
- * Refuses 2 to 11 and 14 to 16, by the sheet that is handed in, and then 21. It gives 21 if that sheet has other bytes than the
- * one that the watch was opened on, or more or fewer; if the watch counts more than 63 rounds; or if the round is accepted and
- * the one that it would name is not. A refused call leaves `watch` as it is. Its answer has the number in `verdict.refusal` and 0
- * in every other field.
+ * Refuses 2 to 11, 14 to 16 and 21. 14 to 16 are tested by the sheet that is handed in. Then 21 is given if that sheet has other
+ * bytes than the one that the watch was opened on, or more or fewer; if the watch counts more than 63 rounds; or if the round is
+ * accepted and the one that the watch would name is not. A refused call leaves `watch` as it is. Its answer has the number in
+ * `verdict.refusal` and 0 in every other field.
  */
 DIMKHOROS_CHECKED
 static inline DimkhorosHeard dimkhoros_hear(const uint8_t *sheet, size_t sheet_length, DimkhorosWatch *watch,
@@ -975,7 +964,7 @@ static inline uint32_t dimkhoros_add_product(DimkhorosEntries *entries, uint32_t
  * added modulo q. A product's value is those of its lines, multiplied modulo q. dimkhoros_check_ledger accepts what this call
  * makes: this is proved.
  *
- * Refuses, in this order:
+ * Refuses 5, 6, 8, 10, 37, 35, 36, 15 and 16. In this order:
  *
  *     5, 6, 8   by m, q and K
  *     10        g or h is not a group element
@@ -993,8 +982,8 @@ static inline uint32_t dimkhoros_write_ledger(const DimkhorosBase *base, const D
                                               DimkhorosLedger *ledger);
 
 /*
- * Checks a ledger: accepted, or the first product whose round is rejected. A ledger of no lines is accepted. Refuses, in this
- * order:
+ * Checks a ledger: accepted, or the first product whose round is rejected. A ledger of no lines is accepted. Refuses 5, 6, 8, 10,
+ * 37, 35, 36 and 14 to 16. In this order:
  *
  *     5, 6, 8   by m, q and K
  *     10        g or h is not a group element
@@ -1045,14 +1034,14 @@ static inline DimkhorosRound dimkhoros_line_round(const DimkhorosLine *line);
 DIMKHOROS_CHECKED
 DimkhorosCounted dimkhoros_count(const uint8_t *sheet, size_t sheet_length, const uint8_t *file, size_t file_length);
 
-/* Answers the refusal of the round of this number, from 0, in a file: 2 to 13, or 0 if it can be read. */
+/* Answers the number that the round of this number, from 0, is refused with in a file, or 0 if it can be read. Refuses 2 to 13. */
 DIMKHOROS_CHECKED
 uint32_t dimkhoros_check(const uint8_t *sheet, size_t sheet_length, const uint8_t *file, size_t file_length,
                          size_t number);
 
 /*
- * Answers where the round of this number stands in the caller's own file. If it is refused, offset and length are 0, and
- * dimkhoros_check answers the refusal, 2 to 13.
+ * Answers where the round of this number stands in the caller's own file. Refuses 2 to 13: offset and length are then 0, and
+ * dimkhoros_check answers the number.
  */
 DIMKHOROS_CHECKED
 DimkhorosPart dimkhoros_part(const uint8_t *sheet, size_t sheet_length, const uint8_t *file, size_t file_length,
@@ -1073,7 +1062,7 @@ DimkhorosCompared dimkhoros_same_commitment(const uint8_t *sheet, size_t sheet_l
 
 /*
  * Writes a file of this version without rounds to the start of `buffer`, and answers its length, 7. No byte after it is changed.
- * Refuses 12, if the version is neither 1 nor 2, and 22.
+ * Refuses 12 and 22. 12 is given if the version is neither 1 nor 2.
  */
 DIMKHOROS_CHECKED
 DimkhorosWritten dimkhoros_empty(uint32_t version, uint8_t *buffer, size_t buffer_length);
@@ -1121,7 +1110,7 @@ size_t dimkhoros_mark(const uint8_t *sheet, size_t sheet_length, const uint8_t *
  * Says in one line what is wrong with a sheet, a round file or its round 0, and writes the line, in ASCII and without a zero at
  * its end, to the start of `text`. Answers its length. No byte after it is changed. The line ends in a newline and is one of
  *
- *     refused N OFFSET           rule N, 2 to 16, is the lowest that is broken, by the value at OFFSET and by none before it
+ *     refused N OFFSET           rule N, 2 to 16, is the lowest that is broken, and the value at OFFSET is the first that breaks it
  *     refused N length LENGTH    the same for 2, 9 or 12, if the length of the sheet or the file, LENGTH bytes, breaks it
  *     rejected ROW LEFT RIGHT .. nothing is refused; each ROW, from 0 and rising, is one in which the two sides of round 0
  *                                differ, LEFT is the value of [r] there and RIGHT that of t * z^c

@@ -56,16 +56,17 @@ extern "C" {
 #endif
 
 /*
- * Reads a file of a folder, as much of it as there is room for, and answers how many bytes these are. If the file cannot be read,
- * it answers -1, with the reason in errno: ENOENT if there is no such file.
+ * Reads a file of a folder, as much of it as there is room for, and answers how many bytes these are. Give it one byte more than
+ * the longest file that you want: a longer file then shows. If the file cannot be read, it answers -1, with the reason in errno,
+ * which is ENOENT if the file does not exist.
  */
 DIMKHOROS_CHECKED
 static inline ssize_t dimkhoros_box_find(int folder, const char *name, void *bytes, size_t room);
 
 /*
  * Puts the bytes of a session in the place of the stored ones. Only the owner can read them (mode 600). Answers 0 after they are
- * on the disk. Wherever the box ends, the file holds either what it held or all of the new bytes. If it fails, it answers the
- * error's number, as in errno, and the box must not send anything.
+ * on the disk. At whatever step the box ends, the file holds either what it held or all of the new bytes. If the call fails, it
+ * answers the error's number, as in errno. The file then holds either of the two, and the box must not send anything.
  */
 DIMKHOROS_CHECKED
 static inline int dimkhoros_box_store(int folder, const uint8_t *bytes, size_t length);
@@ -107,9 +108,9 @@ typedef struct {
 } DimkhorosBoxLine;
 
 /*
- * Waits for a line and answers 1, or 0 if the other box has closed its end. It reads no further than the newline, so the lines
- * after it stay in the pipe for the box that is started next. If a line is not of the wire's form, `word` is 0. If a line is too
- * long, `word` is 0 too, and its text is cut.
+ * Waits for a line and answers 1, or 0 if the other box has closed its end or the wire cannot be read. It reads no further than
+ * the newline, so the lines after it stay in the pipe for the box that is started next. If a line is not of the wire's form,
+ * `word` is 0. If a line has more than 255 bytes, `word` is 0 too, and its text is cut.
  */
 DIMKHOROS_CHECKED
 static inline int dimkhoros_box_hear(int wire, DimkhorosBoxLine *line);
@@ -122,9 +123,10 @@ DIMKHOROS_CHECKED
 static inline int dimkhoros_box_is(const DimkhorosBoxLine *line, const char *word, size_t count);
 
 /*
- * Sends a word and two runs of numbers, of at most 16 in all, as one line in one write, so no part of a line ever goes over
- * alone. Answers 0, or the error's number, as in errno. The word has at most 30 letters. If nobody reads the wire any more, the
- * system ends the program (SIGPIPE). If the program ignores this signal, the call answers EPIPE.
+ * Sends a word and two runs of numbers as one line in one write. A pipe takes so few bytes whole or not at all, so no part of a
+ * line ever goes over alone. Answers 0, or the error's number, as in errno. The word has at most 30 letters, and there are at
+ * most 16 numbers in all: else the call answers EINVAL and sends nothing. If nobody reads the wire any more, the system ends the
+ * program (SIGPIPE). If the program ignores this signal, the call answers EPIPE.
  */
 DIMKHOROS_CHECKED
 static inline int dimkhoros_box_send(int wire, const char *word, const uint32_t *first, size_t first_count,
@@ -253,7 +255,7 @@ static inline void dimkhoros_box_take_apart(DimkhorosBoxLine *line) {
     }
 }
 
-/* Waits for a byte. Answers 0 if the other box has closed its end. */
+/* Waits for a byte. Answers 0 if the other box has closed its end or the wire cannot be read. */
 static inline int dimkhoros_box_byte(int wire, char *byte) {
     ssize_t got;
     do {

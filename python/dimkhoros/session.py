@@ -82,7 +82,7 @@ class Session:
         return self._of(self._STRUCT.from_buffer_copy(answer.session)), answer
 
     def to_stored(self) -> bytes:
-        """The session's stored form, as include/dimkhoros.h describes it. Peggy's bytes hold her nonce and every saved
+        """The session's stored form, as docs/FORMATS.md describes it. Peggy's bytes hold her nonce and every saved
         one, these also after she has answered or was dropped."""
         held = self._look()
         words = (U32 * (ctypes.sizeof(held) // 4)).from_buffer_copy(held)

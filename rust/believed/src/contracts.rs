@@ -6,7 +6,8 @@ use crate::reach::words;
 use crate::specs::{Place, crates, files_in, root, text_of};
 
 /// The functions over whole files that the programs call, with the crates that have them.
-const OF_PROGRAMS: [(&str, &str); 2] = [("report", "mark_files"), ("diagnosis", "reason_files")];
+const OF_PROGRAMS: [(&str, &str); 3] =
+    [("report", "mark_files"), ("diagnosis", "reason_files"), ("game_lines", "game_files")];
 
 /// A function with a contract.
 pub struct Contract {

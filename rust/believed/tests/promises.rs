@@ -1,7 +1,7 @@
 //! The tables of docs/promises that name functions beside the definitions of their contracts agree with each other and with the
 //! sources, and the page of the theorems has the fields of the demands.
 
-use std::collections::BTreeMap;
+use std::collections::{BTreeMap, BTreeSet};
 
 use believed::calls::{Call, ours};
 use believed::contracts::{Contract, exports, public_in};
@@ -82,6 +82,19 @@ fn the_pages_give_each_function_one_definition() {
 }
 
 #[test]
+fn the_page_of_the_contracts_has_a_row_for_each_call() {
+    let rows = rows("function");
+    let rows = rows.iter().filter(|row| row.page == "contracts" && row.functions.len() == 1);
+    let mut told: Vec<&str> =
+        rows.filter_map(|row| Some(row.definitions.first()?.as_str())).collect();
+    let calls = ours(&Specs::read());
+    let mut calls: Vec<&str> = calls.iter().map(|call| call.definition.as_str()).collect();
+    told.sort_unstable();
+    calls.sort_unstable();
+    assert_eq!(told, calls);
+}
+
+#[test]
 fn the_contract_of_each_function_on_the_pages_names_its_definition() {
     for (path, definition, page) in told(&rows("function"), &ours(&Specs::read())) {
         let Some(function) = function(&path) else {
@@ -97,7 +110,10 @@ fn the_page_of_the_exports_names_the_call_of_each() {
     let calls = ours(&Specs::read());
     let exports = exports();
     let rows = rows("export");
-    assert!(rows.len() > 20, "{} rows on exports", rows.len());
+    let told =
+        rows.iter().flat_map(|row| &row.functions).filter(|name| name.starts_with("dimkhoros_"));
+    let told: BTreeSet<&String> = told.collect();
+    assert_eq!(told, exports.iter().map(|export| &export.name).collect());
     for row in &rows {
         for name in row.functions.iter().filter(|name| name.starts_with("dimkhoros_")) {
             let export = exports.iter().find(|export| export.name == *name);
@@ -110,15 +126,24 @@ fn the_page_of_the_exports_names_the_call_of_each() {
     }
 }
 
-#[test]
-fn the_page_of_the_theorems_has_each_field_of_the_demands() {
-    let fields = sections(&Specs::read()).into_iter().map(|section| section.field);
-    let whole = |field: &String| field != "code" && !field.contains(": ");
-    let fields: Vec<String> = fields.filter(whole).collect();
+/// The words in code font of a column of the rows that begin so, in the part on the demands of the page of the theorems.
+fn told_of_demands(begin: &str, column: usize) -> Vec<String> {
     let page = text_of(&root().join("docs/THEOREMS.md"));
     let part = page.split("\n## The demands\n").nth(1).and_then(|part| part.split("\n## ").next());
-    let lines =
-        part.expect("the part on the demands").lines().filter(|line| line.starts_with("| `"));
-    let told: Vec<String> = lines.flat_map(|line| code(cells(line)[0])).collect();
-    assert_eq!(told, fields);
+    let part = part.expect("the part on the demands");
+    let rows = part.lines().filter(|line| line.starts_with(begin));
+    rows.flat_map(|row| code(cells(row)[column])).collect()
+}
+
+#[test]
+fn the_page_of_the_theorems_has_each_field_of_the_demands_and_of_the_cards() {
+    let fields: Vec<String> =
+        sections(&Specs::read()).into_iter().map(|section| section.field).collect();
+    let whole = |field: &&String| *field != "code" && !field.contains(": ");
+    let wholes: Vec<&String> = fields.iter().filter(whole).collect();
+    assert_eq!(told_of_demands("| `", 0).iter().collect::<Vec<_>>(), wholes);
+    let cards: Vec<&str> =
+        fields.iter().filter_map(|field| field.strip_prefix("cards: ")).collect();
+    assert!(cards.len() > 10, "{} fields of the cards", cards.len());
+    assert_eq!(told_of_demands("| [", 1), cards);
 }

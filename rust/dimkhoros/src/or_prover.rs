@@ -227,7 +227,7 @@ impl OrProver {
         [&self.session.commitment0, &self.session.commitment1]
     }
 
-    /// The session's stored form, as include/dimkhoros.h describes it: 151 bytes with a mark, a version, a length and a check
+    /// The session's stored form, as docs/FORMATS.md describes it: 151 bytes with a mark, a version, a length and a check
     /// value. They hold the nonce and the side. See [`ProverParts`](crate::ProverParts) for what a box that stores sessions has
     /// to see to.
     ///

@@ -322,7 +322,7 @@ impl Prover {
         &self.session.commitment
     }
 
-    /// The session's stored form, as include/dimkhoros.h describes it: 2,707 bytes with a mark, a version, a length and a check
+    /// The session's stored form, as docs/FORMATS.md describes it: 2,707 bytes with a mark, a version, a length and a check
     /// value. They hold the nonce and every saved nonce, these also after the session has answered or was dropped. See
     /// [`ProverParts`] for what a box that stores sessions has to see to.
     ///

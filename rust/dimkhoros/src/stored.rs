@@ -1,4 +1,4 @@
-//! The stored form of sessions: mark, version, length, values and check value, as include/dimkhoros.h has it.
+//! The stored form of sessions: mark, version, length, values and check value, as docs/FORMATS.md has it.
 
 use core::error::Error;
 use core::fmt;

@@ -210,7 +210,7 @@ impl Verifier {
         self.session.challenge
     }
 
-    /// The session's stored form, as include/dimkhoros.h describes it: 51 bytes with a mark, a version, a length and a check
+    /// The session's stored form, as docs/FORMATS.md describes it: 51 bytes with a mark, a version, a length and a check
     /// value.
     ///
     /// ```

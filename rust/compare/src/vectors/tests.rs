@@ -11,8 +11,11 @@ const FORMATS: &str = include_str!("../../../../docs/FORMATS.md");
 const AUTHORS: &str = include_str!("../../../../docs/AUTHORS.md");
 /// The page on which refusals, worked pages and cards are looked up.
 const SCOPE: &str = include_str!("../../../../docs/SCOPE.md");
-/// The header for C, which has the refusals and their order too.
+/// The header for C, which has the refusals and their order too, and what has
+/// them for Rust and for Python.
 const HEADER: &str = include_str!("../../../../include/dimkhoros.h");
+const IN_RUST: &str = include_str!("../../../dimkhoros/src/refusal.rs");
+const IN_PYTHON: &str = include_str!("../../../../python/dimkhoros/refusals.py");
 
 /// The first stored line that this library does not make.
 fn difference(library: Library) -> Option<String> {
@@ -304,8 +307,52 @@ fn the_page_has_a_row_for_each_refusal_and_each_call() {
     }
 }
 
-/// What the page's table of the reason tells of each number, but for values of
-/// lists, whose offsets depend on the sheet.
+/// The tables of calls and of sessions say of each call what it takes and does.
+#[test]
+fn the_page_tells_each_call_once() {
+    let part = FORMATS.split("\n## Calls\n").nth(1).unwrap();
+    let part = part.split("\n## Refusals\n").next().unwrap();
+    let rows = part.lines().filter(|line| line.starts_with("| `"));
+    let cells = rows.filter_map(|row| row.split('|').nth(1));
+    let mut told: Vec<&str> = cells
+        .flat_map(|cell| cell.split('`').skip(1).step_by(2))
+        .collect();
+    let mut names: Vec<&str> = Call::all().map(|call| call.name()).collect();
+    told.sort_unstable();
+    names.sort_unstable();
+    assert_eq!(told, names);
+}
+
+#[test]
+fn the_games_of_the_page_are_those_of_the_vectors() {
+    let games = calls().into_iter().filter(|(call, ..)| *call == Call::Game);
+    let stored: BTreeSet<&str> = games.map(|(_, answer, _)| answer).collect();
+    let rows = rows(FORMATS, "## The game's text\n");
+    assert!(rows.len() >= 6, "{} games", rows.len());
+    for row in rows {
+        let text = row[2].trim_matches('`').replace(" / ", "\\n") + "\\n";
+        assert!(stored.contains(text.as_str()), "not stored: {text}");
+    }
+}
+
+/// The fewest rounds of a sheet with this many challenges that are enough for
+/// a level.
+fn fewest(challenges: u128, level: u32) -> u32 {
+    let enough = |count: &u32| challenges.pow(*count) >= 1 << level;
+    (0..).find(enough).unwrap()
+}
+
+#[test]
+fn the_levels_of_the_page_are_computed() {
+    let rows = rows(FORMATS, "A level w needs the fewest rounds");
+    assert!(rows.len() >= 7, "{} counts", rows.len());
+    for row in rows {
+        let challenges = row[0].replace(',', "").parse().unwrap();
+        let counts = [7, 16, 32, 64].map(|level| fewest(challenges, level).to_string());
+        assert_eq!(row[1..], counts, "K = {challenges}");
+    }
+}
+
 /// What stands behind the marks of a kind on docs/SCOPE.md, which links lead
 /// to, such as `refusal-`.
 fn marks(kind: &str) -> Vec<&'static str> {
@@ -340,11 +387,23 @@ fn listed(list: &str) -> Vec<u32> {
     list.split(", ").flat_map(ends).collect()
 }
 
+/// The order of the refusals that a comment of a source tells.
+fn order_in(source: &str) -> Vec<u32> {
+    let marks = ["*", "///"];
+    let words = source
+        .split_whitespace()
+        .filter(|word| !marks.contains(word));
+    let text = words.collect::<Vec<_>>().join(" ");
+    let order = text.split("the earliest in the order ").nth(1).unwrap();
+    let order = order.split(" is given").next().unwrap();
+    listed(order.split(". ").next().unwrap())
+}
+
 #[test]
-fn the_header_has_the_refusals_in_the_same_order() {
-    let text = HEADER.replace("\n *", "");
-    let order = text.split("it is the earliest in the order ").nth(1);
-    assert_eq!(listed(order.unwrap().split(". ").next().unwrap()), ORDER);
+fn the_header_and_the_wrappers_have_the_refusals_in_the_same_order() {
+    for source in [HEADER, IN_RUST, IN_PYTHON] {
+        assert_eq!(order_in(source), ORDER);
+    }
     let numbers = HEADER.split("    REFUSAL(").skip(1);
     let numbers: Vec<&str> = numbers.filter_map(|rest| rest.split(',').next()).collect();
     let mut rising = ORDER;
@@ -352,6 +411,50 @@ fn the_header_has_the_refusals_in_the_same_order() {
     assert_eq!(numbers, rising.map(|number| number.to_string()));
 }
 
+/// What the header says above the declaration of a function, on one line.
+fn said_of(name: &str) -> String {
+    let start = format!("dimkhoros_{name}(");
+    let before = HEADER
+        .match_indices(&start)
+        .map(|(place, _)| &HEADER[..place]);
+    // A line of a comment, which may show a call, begins with a star.
+    let mut declared = before.filter(|text| !text.lines().last().unwrap().starts_with(" *"));
+    let comment = declared.next().unwrap().rsplit("/*").next().unwrap();
+    comment.split("*/").next().unwrap().replace("\n *", "")
+}
+
+/// The numbers that the header says a function refuses, in its order. Those of
+/// the pure form of a call stand at the call that takes an address.
+fn refused_by(name: &str) -> Vec<u32> {
+    let said = said_of(name);
+    if let Some((_, other)) = said.split_once("The pure form of dimkhoros_") {
+        return refused_by(other.split('.').next().unwrap());
+    }
+    let numbers = said.split("Refuses ").nth(1);
+    let numbers = numbers.and_then(|rest| rest.split(['.', ':', ';']).next());
+    numbers.map_or(Vec::new(), |numbers| {
+        listed(&numbers.replace(" and ", ", "))
+    })
+}
+
+/// The marker, the reason and the game are never refused: their texts have the
+/// numbers.
+#[test]
+fn the_header_has_the_numbers_of_each_call_in_their_order() {
+    let texts = [Call::Mark, Call::Reason, Call::Game];
+    for call in Call::all().filter(|call| !texts.contains(call)) {
+        let given = ORDER.into_iter().filter(|number| call.can_give(*number));
+        assert_eq!(
+            refused_by(call.name()),
+            given.collect::<Vec<_>>(),
+            "{}",
+            call.name()
+        );
+    }
+}
+
+/// What the page's table of the reason tells of each number, but for values of
+/// lists, whose offsets depend on the sheet.
 #[test]
 fn the_offsets_of_the_page_are_those_of_the_vectors() {
     let rows = rows(FORMATS, "## The reason's line\n");

@@ -33,6 +33,7 @@ mod run;
 mod saved_states;
 mod sessions;
 mod sheets;
+mod sizes;
 mod stored;
 mod storing;
 mod teams;

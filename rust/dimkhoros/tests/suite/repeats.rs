@@ -11,7 +11,7 @@ fn chance(commitments: u64, sessions: u64) -> f64 {
 }
 
 /// A number with a comma before every third digit from the right.
-fn with_commas(number: u64) -> String {
+pub fn with_commas(number: u64) -> String {
     match number {
         0..1000 => number.to_string(),
         _ => format!("{},{:03}", with_commas(number / 1000), number % 1000),

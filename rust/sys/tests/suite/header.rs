@@ -1,4 +1,4 @@
-//! The header, this crate and the archive have the same calls and numbers.
+//! The header, this crate and the archive have the same calls and numbers, and the pages name calls that the headers have.
 
 use crate::cc;
 
@@ -88,6 +88,21 @@ fn names(bytes: &[u8], end: Option<u8>) -> BTreeSet<String> {
         }
     }
     names
+}
+
+#[test]
+fn the_pages_name_functions_of_the_headers() {
+    let read = |file: &str| fs::read(cc::root().join(file)).unwrap();
+    let headers = ["include/dimkhoros.h", "include/dimkhoros_box.h"].map(read).concat();
+    let functions = names(&headers, Some(b'('));
+    for page in ["docs/C.md", "docs/BOXES.md", "docs/promises/exports.md"] {
+        let mut told = names(&read(page), Some(b'`'));
+        // What ends in a line is the beginning of several names.
+        told.retain(|name| !name.ends_with('_'));
+        assert!(told.len() > 10, "{page} names {} functions", told.len());
+        let unknown: Vec<_> = told.difference(&functions).collect();
+        assert!(unknown.is_empty(), "{page} names {unknown:?}, which no header has");
+    }
 }
 
 #[test]
