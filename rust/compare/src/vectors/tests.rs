@@ -314,9 +314,7 @@ fn the_page_tells_each_call_once() {
     let part = part.split("\n## Refusals\n").next().unwrap();
     let rows = part.lines().filter(|line| line.starts_with("| `"));
     let cells = rows.filter_map(|row| row.split('|').nth(1));
-    let mut told: Vec<&str> = cells
-        .flat_map(|cell| cell.split('`').skip(1).step_by(2))
-        .collect();
+    let mut told: Vec<&str> = cells.flat_map(|cell| cell.split('`').skip(1).step_by(2)).collect();
     let mut names: Vec<&str> = Call::all().map(|call| call.name()).collect();
     told.sort_unstable();
     names.sort_unstable();
@@ -390,9 +388,7 @@ fn listed(list: &str) -> Vec<u32> {
 /// The order of the refusals that a comment of a source tells.
 fn order_in(source: &str) -> Vec<u32> {
     let marks = ["*", "///"];
-    let words = source
-        .split_whitespace()
-        .filter(|word| !marks.contains(word));
+    let words = source.split_whitespace().filter(|word| !marks.contains(word));
     let text = words.collect::<Vec<_>>().join(" ");
     let order = text.split("the earliest in the order ").nth(1).unwrap();
     let order = order.split(" is given").next().unwrap();
@@ -414,9 +410,7 @@ fn the_header_and_the_wrappers_have_the_refusals_in_the_same_order() {
 /// What the header says above the declaration of a function, on one line.
 fn said_of(name: &str) -> String {
     let start = format!("dimkhoros_{name}(");
-    let before = HEADER
-        .match_indices(&start)
-        .map(|(place, _)| &HEADER[..place]);
+    let before = HEADER.match_indices(&start).map(|(place, _)| &HEADER[..place]);
     // A line of a comment, which may show a call, begins with a star.
     let mut declared = before.filter(|text| !text.lines().last().unwrap().starts_with(" *"));
     let comment = declared.next().unwrap().rsplit("/*").next().unwrap();
@@ -432,9 +426,7 @@ fn refused_by(name: &str) -> Vec<u32> {
     }
     let numbers = said.split("Refuses ").nth(1);
     let numbers = numbers.and_then(|rest| rest.split(['.', ':', ';']).next());
-    numbers.map_or(Vec::new(), |numbers| {
-        listed(&numbers.replace(" and ", ", "))
-    })
+    numbers.map_or(Vec::new(), |numbers| listed(&numbers.replace(" and ", ", ")))
 }
 
 /// The marker, the reason and the game are never refused: their texts have the
@@ -444,12 +436,7 @@ fn the_header_has_the_numbers_of_each_call_in_their_order() {
     let texts = [Call::Mark, Call::Reason, Call::Game];
     for call in Call::all().filter(|call| !texts.contains(call)) {
         let given = ORDER.into_iter().filter(|number| call.can_give(*number));
-        assert_eq!(
-            refused_by(call.name()),
-            given.collect::<Vec<_>>(),
-            "{}",
-            call.name()
-        );
+        assert_eq!(refused_by(call.name()), given.collect::<Vec<_>>(), "{}", call.name());
     }
 }
 
