@@ -88,7 +88,7 @@ def parts(brought: list[tuple[int, ...]]) -> ctypes.Array[U32]:
     """What a team's players bring, eight places for each and one player after the other."""
     all_parts = Parts()
     for player, values in enumerate(brought):
-        all_parts[PLACES * player : PLACES * player + len(values)] = values
+        all_parts[PLACES * player : PLACES * player + len(values)] = list(values)
     return all_parts
 
 

@@ -235,5 +235,5 @@ def _table(values: Values) -> ctypes.Array[_structs.U32]:
     table = _structs.Table()
     for row in range(expected):
         entries = exactly(header.columns, values.entries[row], f"row {row} of the table")
-        table[PLACES * row : PLACES * row + header.columns] = entries
+        table[PLACES * row : PLACES * row + header.columns] = list(entries)
     return table
