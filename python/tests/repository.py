@@ -26,7 +26,7 @@ def run_c(path: str, given: str = "") -> str:
 
 @contextlib.contextmanager
 def refused(test: unittest.TestCase, number: int) -> Iterator[None]:
-    """What is done in here has to be refused with this number."""
+    """What is done in here must be refused with this number."""
     with test.assertRaises(Refusal) as caught:
         yield
     test.assertEqual(caught.exception.number, number)

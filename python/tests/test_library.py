@@ -155,7 +155,7 @@ class Finding(unittest.TestCase):
     def test_a_relative_folder_is_refused(self) -> None:
         """As it is in C and in Rust."""
         said = self.failed(imported(self.copied("python"), DIMKHOROS_LIB="target/staticlib"))
-        expected = "DIMKHOROS_LIB has to be the whole path of a folder, and is target/staticlib."
+        expected = "DIMKHOROS_LIB must be the whole path of a folder, and is target/staticlib."
         self.assertEqual(said, f"ImportError: {expected}")
 
     def test_a_file_that_is_no_library_is_refused(self) -> None:

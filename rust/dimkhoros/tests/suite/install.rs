@@ -539,7 +539,7 @@ fn what_is_old_is_built_once() {
     home.date("rust/target/release/dimkhoros", true);
     home.put_tool("rt", "echo \"$@\" >>asked\necho 'rt: ok'");
     let run = home.run(&["prefix"]);
-    let begins = "install: proving 7 crates and building libdimkhoros.a with marker, reason and game; where none is proved \
+    let begins = "install: proving 7 crates and building libdimkhoros.a with marker, reason and game; if none is proved \
                   yet, about 5 minutes on two processors\n";
     assert_eq!(run.stderr, begins);
     let asked = "check laws others code marker reason game\nstaticlib dimkhoros\n";
