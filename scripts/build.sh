@@ -57,7 +57,7 @@ begin_build() {
     command -v rt >/dev/null 2>&1 ||
         fail 1 "$file is missing or older than its sources, and the command rt, which builds it, is not on PATH"
     begin_log
-    echo "$me: proving $(count $(made_of "$@")) crates and building $what; where none is proved yet, about $minutes minutes on two" \
+    echo "$me: proving $(count $(made_of "$@")) crates and building $what; if none is proved yet, about $minutes minutes on two" \
         "processors" >&2
 }
 

@@ -25,7 +25,7 @@ def folders(module: Path, named: str | None) -> list[Path]:
     `./install` made, and target/staticlib of the repository."""
     if named:
         if not os.path.isabs(named):
-            raise ImportError(f"DIMKHOROS_LIB has to be the whole path of a folder, and is {named}.")
+            raise ImportError(f"DIMKHOROS_LIB must be the whole path of a folder, and is {named}.")
         return [Path(named)]
     installed = [folder for folder in module.parents if folder.name == "lib"][:1]
     return [module.parent, *installed, module.parents[2] / "target" / "staticlib"]

@@ -9,8 +9,8 @@ LAST_PHASE = 3
 
 
 class Damaged(ValueError):
-    """The bytes are no stored session: they are of another length, mark or version, or the check value is another, or
-    no call makes a session of these numbers."""
+    """The bytes are not a stored session. Their length, mark, version or check value is wrong, or no call makes a
+    session of these numbers."""
 
     def __init__(self) -> None:
         """The error, in a sentence."""

@@ -160,9 +160,9 @@ class Entries:
         """Adds the product of two lines above, which may be the same: a commitment to it with a blinding number of its
         own, and a round with this nonce of three numbers and this challenge. It is refused as `sum` is.
 
-        The round is evidence only if another has drawn the challenge, after t was fixed. A nonce that is used twice, in
-        two products or for two challenges, tells of the values: two challenges on one product give its first value
-        away."""
+        The round is evidence only if someone else has drawn the challenge, after t was fixed. A nonce that is used
+        twice, in two products or for two challenges, tells of the values: two challenges on one product give its
+        first value away."""
         slots = _exactly(3, nonce, "the nonce")
         made = _structs.Entry(LINE_PRODUCT, *self._above(first, second))
         made.blinding, made.challenge = number(blinding, "the blinding number"), number(challenge, "the challenge")
@@ -202,7 +202,7 @@ class Ledger:
 
     g^v * h^b modulo m commits to the value v with the blinding number b. Commitments multiplied are one to the sum of
     their values. A product has a commitment of its own and a round which shows that it is one to the product of the two
-    values. Who makes a ledger knows the values and writes it of `Entries`; who checks it knows none of them.
+    values. Whoever makes a ledger knows the values and writes it from `Entries`. Whoever checks it knows none of them.
 
     A ledger cannot be changed."""
 
@@ -263,7 +263,8 @@ class Ledger:
         return tuple(found)
 
     def product(self, line: int) -> tuple[Instance, Round] | None:
-        """The sheet and the round of a product, or `None` if the line of this number is none; or a refusal of `check`.
+        """The sheet and the round of a product, or `None` if the line of this number is not a product; or a refusal of
+        `check`.
 
         The sheet is that of `Pattern.PRODUCT` with the values g, h and B and the statement A and E. A is the
         commitment of the product's first line, B that of its second and E its own. Rounds of two ledgers on one t are
@@ -318,5 +319,5 @@ def _exactly(count: int, values: Iterable[int], name: str) -> tuple[int, ...]:
     """The values as a tuple, if there are so many and each is a number of 32 bits."""
     found = numbers(values, name)
     if len(found) != count:
-        raise ValueError(f"{name} has to have {count} values in a ledger, and has {len(found)}")
+        raise ValueError(f"{name} must have {count} values in a ledger, and has {len(found)}")
     return found

@@ -29,8 +29,8 @@ def reason(sheet: bytes, file: bytes) -> str:
 def game(sheet: bytes, file: bytes) -> str:
     """Which challenges Peggy can answer on the commitment of a file's round 0, with or without a witness: a line for
     each challenge that has an accepting response, rising, with the smallest one; or `none`; or `refused` with the
-    number, 2 to 14, or 31 for a sheet that is not small: q^n above 4,096, or in a root sheet m above 4,096 or more rows
-    than one. The challenge and the response of round 0 are not tested."""
+    number, 2 to 14, or 31 for a sheet that is not small: q^n above 4,096, or in a root sheet m above 4,096 or
+    several rows. The challenge and the response of round 0 are not tested."""
     text = buffer(LONGEST_GAME)
     length = calls.game(*given(data(sheet, "the sheet")), *given(data(file, "the round file")), text)
     return text.raw[:length].decode("ascii")

@@ -35,7 +35,7 @@ class OrProver(ProverSession):
         """Commits a new session: to a nonce of the side whose witness is known, and to a challenge and a response
         with which the other side is simulated. Answers the session and both commitments. Refused with 15, 16 or 21.
 
-        Nonce, challenge and response are the caller's, and have to be drawn at random, anew for each session."""
+        You must draw nonce, challenge and response at random, anew for each session."""
         both, side = sheets(pair), Side(number(known, "the side"))
         k = places(exactly(_columns(pair, side), nonce, "the nonce"))
         d = number(challenge, "the simulated challenge")

@@ -26,7 +26,7 @@ class ProverPhase(IntEnum):
 
 
 class Found(IntEnum):
-    """What `reopen` found: a session in one of the prover's phases, or bytes that are none."""
+    """What `reopen` found: a session in one of the prover's phases, or bytes that are not a session."""
 
     NEW = _sizes.PROVER_NEW
     """Nothing had happened."""
@@ -64,7 +64,7 @@ class ProverSession(Session):
 
     @classmethod
     def from_stored_with_nonce(cls: type[_Peggy], stored: bytes) -> _Peggy:
-        """Reads a stored session back with its nonce. Raises `Damaged` if the bytes are no stored form.
+        """Reads a stored session back with its nonce. Raises `Damaged` if the bytes are not a stored session.
 
         A box must not answer on what this returns. Rule 1 of docs/BOXES.md: only what this run has drawn is
         answered, and a committed session that is found in a file is dropped. If the same nonce was answered before,
@@ -91,7 +91,7 @@ class Prover(ProverSession):
     `respond_after` and reads it back by `reopen`. Nor does anything wipe the memory that a nonce stood in.
 
     A session can be saved under eight names and returned to, by `save` and `return_to`. That is for demonstrations,
-    and a box does not save: a saved copy keeps its nonce, also after the session has answered or was dropped."""
+    and a box must not save: a saved copy keeps its nonce, also after the session has answered or was dropped."""
 
     __slots__ = ()
     _MARK = b"PRV"
@@ -105,8 +105,8 @@ class Prover(ProverSession):
     def commit(self, instance: Instance, nonce: Iterable[int]) -> tuple[Prover, tuple[int, ...]]:
         """Commits a new session to a nonce, and answers the session and the commitment. Refused with 16 or 21.
 
-        The nonce is the caller's. It has to be drawn at random from all coordinates, anew for each commitment. A
-        commitment that was answered before is not refused here: responding to it is, with 32."""
+        You must draw the nonce at random from all coordinates, anew for each commitment. A commitment that was
+        answered before is not refused here: responding to it is, with 32."""
         sheet, k = sheet_of(instance), places(exactly(instance.header.columns, nonce, "the nonce"))
         session, answer = self._step(lambda found: calls.prover_commit(*sheet, found, k))
         return session, tuple(answer.values[: instance.header.rows])
@@ -126,10 +126,10 @@ class Prover(ProverSession):
     ) -> tuple[Prover, tuple[int, ...]]:
         """Responds as `respond` does, and returns the response only after `store` has succeeded.
 
-        `store` is given the stored form of the whole session as it is after the response, with its saved states and its
-        list. It has to write it over the one that was stored before, and to return only once it would be found again
-        after the box is switched off. If it raises an error, `NotStored` is raised and the response is gone. If the
-        call is refused, `store` is not called."""
+        `store` is given the stored form of the whole session as it is after the response, with its saved states and
+        its list. It must write this over the one that was stored before, and must return only once it would be found
+        again after the box is switched off. If it raises an error, `NotStored` is raised and the response is gone.
+        If the call is refused, `store` is not called."""
         function(store, "the store")
         session, response = self.respond(instance, challenge, witness)
         store_or_raise(session, store)
@@ -145,8 +145,8 @@ class Prover(ProverSession):
         """Saves the state, nonce and commitment of a session, in whatever phase, under a name from 0 to 7, in the place
         of what was saved there. Nothing else changes. Refused with 34.
 
-        Saving is for demonstrations: a box does not save. The saved copy keeps its nonce until the same name is saved
-        again, whatever the session does, and it stands in `to_stored` too."""
+        Saving is for demonstrations: a box must not save. The saved copy keeps its nonce until the same name is
+        saved again, whatever the session does, and it stands in `to_stored` too."""
         under = number(name, "the name")
         session, _ = self._step(lambda found: calls.prover_save(found, under))
         return session
@@ -160,7 +160,7 @@ class Prover(ProverSession):
         return session
 
     def saved(self, name: int) -> ProverPhase | None:
-        """The phase that is saved under a name, none for a name of 8 or more and for one that was never saved."""
+        """The phase that is saved under a name, `None` for a name of 8 or more and for one that was never saved."""
         under, saved = number(name, "the name"), self._look().memory.saved
         if under >= len(saved) or saved[under].kept == 0:
             return None

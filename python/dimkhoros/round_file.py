@@ -143,7 +143,7 @@ class RoundWriter:
         opened = RoundFile(instance, file)
         writer = cls(instance)
         writer._used = len(opened.bytes)
-        writer._buffer[: writer._used] = opened.bytes
+        writer._buffer.raw = opened.bytes
         return writer
 
     def append(self, round: Round) -> None:

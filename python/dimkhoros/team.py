@@ -49,16 +49,16 @@ class Team:
         return self._players
 
     def join_commitments(self, commitments: Iterable[Iterable[int]]) -> tuple[int, ...]:
-        """The players' commitments, in the order of their images, multiplied modulo m row by row; or refusal 14.
-        Another number of commitments than of players is refused with 27."""
+        """The players' commitments, in the order of their images, multiplied modulo m row by row; or refusal 14. If
+        there are not as many commitments as players, they are refused with 27."""
         rows = self._instance.header.rows
         brought = [exactly(rows, values, "a commitment") for values in listed(commitments, "the commitments")]
         return self._joined(brought, calls.team_commitment)[:rows]
 
     def join_responses(self, responses: Iterable[Iterable[int]]) -> tuple[int, ...]:
         """The players' responses, in the order of their images, joined column by column: added modulo q (exponent
-        sheets) or multiplied modulo m (root sheets); or refusal 16. Another number of responses than of players is
-        refused with 27."""
+        sheets) or multiplied modulo m (root sheets); or refusal 16. If there are not as many responses as players,
+        they are refused with 27."""
         columns = self._instance.header.columns
         brought = [exactly(columns, values, "a response") for values in listed(responses, "the responses")]
         return self._joined(brought, calls.team_response)[:columns]

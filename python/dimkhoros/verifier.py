@@ -43,8 +43,8 @@ class Verifier(Session):
         return session
 
     def take_challenge(self, instance: Instance, challenge: int) -> Verifier:
-        """Brings the challenge to a session that holds a commitment. Refused with 15 or 21. The challenge is the
-        caller's, and has to be drawn at random below the sheet's challenge count."""
+        """Brings the challenge to a session that holds a commitment. Refused with 15 or 21. You must draw the
+        challenge at random below the sheet's challenge count."""
         sheet, c = sheet_of(instance), number(challenge, "the challenge")
         session, _ = self._step(lambda found: calls.verifier_challenge(*sheet, found, c))
         return session
@@ -58,7 +58,7 @@ class Verifier(Session):
 
     @classmethod
     def from_stored(cls, stored: bytes) -> Verifier:
-        """Reads a stored session back. Raises `Damaged` if the bytes are no stored form.
+        """Reads a stored session back. Raises `Damaged` if the bytes are not a stored session.
 
         Vic goes on with what he finds: it holds no secret, and he asks the stored challenge again and never another."""
         return cls._read(stored)

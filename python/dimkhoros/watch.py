@@ -14,7 +14,7 @@ from .rounds import Round, Verdict, round_struct
 
 @dataclass(frozen=True)
 class Reuse:
-    """An earlier use of a nonce: a remembered round with the same commitment and another challenge."""
+    """An earlier use of a nonce: a remembered round with the same commitment and a different challenge."""
 
     back: int
     """How many accepted rounds back it stands, 1 to 63: 1 is the accepted round just before."""
@@ -39,7 +39,7 @@ class Watch:
     """A watch for used nonces: it is opened on one sheet, is given rounds one by one, and remembers the last 63
     accepted ones.
 
-    For each accepted round it names the nearest remembered round with the same commitment and another challenge. It
+    For each accepted round it names the nearest remembered round with the same commitment and a different challenge. It
     names none exactly if it remembers no such round. So two uses of a nonce that are more than 63 accepted rounds apart
     are not seen. Rounds that are rejected or refused are not remembered, and do not count.
 
@@ -74,9 +74,9 @@ class Watch:
         """Gives the watch a round, and answers the verdict on it and the reuse that the watch sees. An accepted round
         is then the newest that it remembers, and of 63 older ones the oldest is forgotten.
 
-        `instance` is the sheet of the round, if it may differ from the watch's. Refused with 14 to 16 by that
-        sheet, and then with 21 if its bytes are other than the watch's. A round that is rejected or refused leaves the
-        watch as it is."""
+        `instance` is the sheet of the round, if it may differ from the watch's. Refused with 14 to 16 by that sheet,
+        and then with 21 if its bytes differ from the watch's. A round that is rejected or refused leaves the watch
+        as it is."""
         sheet = self._instance if instance is None else instance
         given = sheet_of(sheet)
         made = round_struct(round, sheet.header.rows, sheet.header.columns)

@@ -1,9 +1,13 @@
 """The calls without sessions: what they answer, refuse and do not take."""
 
+from __future__ import annotations
+
 import dataclasses
 import pickle
 import random
 import unittest
+from collections.abc import Callable, Iterable
+from typing import Any, TypeVar
 
 import dimkhoros
 from dimkhoros import (
@@ -45,7 +49,10 @@ from .repository import ROOT as REPOSITORY
 from .repository import refused
 
 
-def changed(place, byte):
+Answer = TypeVar("Answer")
+
+
+def changed(place: int, byte: int) -> bytes:
     """Page A's sheet with another byte."""
     sheet = bytearray(page_a().bytes)
     sheet[place] = byte
@@ -55,18 +62,18 @@ def changed(place, byte):
 class Refusals(unittest.TestCase):
     """Refusals are exceptions."""
 
-    def test_every_number_is_given(self):
+    def test_every_number_is_given(self) -> None:
         """But 25 and 31, which stand in texts alone, and 22, since no buffer is lent."""
         a, first = page_a(), round_of(9, 3, 4)
         empty = RoundWriter.start(a).file
-        made = {"modulus": 23, "order": 11, "challenges": 11, "values": [2], "statement": [13]}
+        made: dict[str, Any] = {"modulus": 23, "order": 11, "challenges": 11, "values": [2], "statement": [13]}
         peggy, _ = Prover().commit(a, [5])
         answered, _ = Prover().commit(a, [5])[0].save(1).respond(a, 3, [7])
         back = answered.return_to(1)
         base = Base(2, 3, 23, 11, 11)
         held = (5,) + (0,) * 7 + (9,) + (0,) * 7 + (1,)
         full = Prover.from_stored_with_nonce(_stored.write(b"PRV", 2, held + (0,) * 656 + (64,)))
-        given = {
+        given: dict[int, Callable[[], object]] = {
             1: lambda: Instance.from_pattern(Patterns.shipped(), 257, **made),
             2: lambda: Instance.load(changed(0, 0)),
             3: lambda: Instance.load(changed(4, 2)),
@@ -107,7 +114,7 @@ class Refusals(unittest.TestCase):
             with refused(self, number):
                 call()
 
-    def test_a_refusal_has_number_and_sentence(self):
+    def test_a_refusal_has_number_and_sentence(self) -> None:
         """In words, and after it was pickled too."""
         with self.assertRaises(Refusal) as caught:
             Instance.load(b"HAM")
@@ -120,11 +127,11 @@ class Refusals(unittest.TestCase):
 class Taken(unittest.TestCase):
     """What is no number or no bytes, or of a wrong count, is not taken."""
 
-    def test_wrong_counts_are_told(self):
+    def test_wrong_counts_are_told(self) -> None:
         """In a sentence with both counts."""
-        with self.assertRaisesRegex(ValueError, "^the response has to have 2 values on this sheet, and has 1$"):
+        with self.assertRaisesRegex(ValueError, "^the response must have 2 values on this sheet, and has 1$"):
             page_d().judge(Round([1], 1, [1]))
-        with self.assertRaisesRegex(ValueError, "^the commitment has to have 1 value on this sheet, and has 2$"):
+        with self.assertRaisesRegex(ValueError, "^the commitment must have 1 value on this sheet, and has 2$"):
             page_d().judge(Round([1, 1], 1, [1, 2]))
         for call in [
             lambda: page_d().simulate(1, [1]),
@@ -137,12 +144,12 @@ class Taken(unittest.TestCase):
         ]:
             self.assertRaises(ValueError, call)
 
-    def test_numbers_outside_32_bits_are_told(self):
+    def test_numbers_outside_32_bits_are_told(self) -> None:
         """Negative ones and those above."""
         for value in [-1, 2**32, 10**30]:
-            with self.assertRaisesRegex(ValueError, "^the challenge has to be a number from 0 to 4294967295$"):
+            with self.assertRaisesRegex(ValueError, "^the challenge must be a number from 0 to 4294967295$"):
                 page_a().simulate(value, [0])
-            with self.assertRaisesRegex(ValueError, "^a value of the response has to be a number from 0 to"):
+            with self.assertRaisesRegex(ValueError, "^a value of the response must be a number from 0 to"):
                 page_a().simulate(3, [value])
             self.assertRaises(ValueError, Round, [value], 3, [4])
             self.assertRaises(ValueError, Header, 1, value, 11, 11, 1, 1)
@@ -150,7 +157,7 @@ class Taken(unittest.TestCase):
         self.assertRaises(ValueError, RoundWriter.start(page_a()).file.read, -1)
         self.assertRaises(ValueError, RoundWriter.start(page_a()).file.part, 2**64)
 
-    def test_what_is_no_number_or_no_bytes(self):
+    def test_what_is_no_number_or_no_bytes(self) -> None:
         """A number is no bytes, though Python would make bytes of it."""
         for value in ["3", 3.0, None, b"3", True, False]:
             self.assertRaises(TypeError, page_a().simulate, value, [0])
@@ -164,16 +171,17 @@ class Taken(unittest.TestCase):
             self.assertRaises(TypeError, reason, b"", value)
             self.assertRaises(TypeError, game, b"", value)
 
-    def test_a_list_has_an_order_and_no_truth_values(self):
+    def test_a_list_has_an_order_and_no_truth_values(self) -> None:
         """A set has no order, so a nonce of two values could be held either way round. `True` is no 1."""
-        for nonce in [{5}, {5: 7}, True, None, 5]:
+        wrong: list[Any] = [{5}, {5: 7}, True, None, 5]
+        for nonce in wrong:
             with self.assertRaisesRegex(TypeError, "^a list of values is needed for the nonce$"):
                 Prover().commit(page_a(), nonce)
-        with self.assertRaisesRegex(TypeError, "^a value of the nonce has to be a whole number$"):
+        with self.assertRaisesRegex(TypeError, "^a value of the nonce must be a whole number$"):
             Prover().commit(page_a(), [True])
         with self.assertRaisesRegex(TypeError, "^a list of values is needed for the images$"):
             Team(page_a(), {(8,), (16,)})
-        for call in [
+        asked: list[Callable[[], object]] = [
             lambda: Prover().commit(page_d(), {7, 8}),
             lambda: Round({9}, 3, [4]),
             lambda: Round([9], True, [4]),
@@ -185,15 +193,18 @@ class Taken(unittest.TestCase):
             lambda: Pair(page_a(), page_a()).instance(True),
             lambda: RoundWriter.start(page_a(), True),
             lambda: RoundWriter.start(page_a()).file.read(False),
-        ]:
+        ]
+        for call in asked:
             self.assertRaises(TypeError, call)
-        for nonce in [(5,), range(5, 6), iter([5]), (k for k in [5])]:
+        taken: list[Iterable[int]] = [(5,), range(5, 6), iter([5]), (k for k in [5])]
+        for nonce in taken:
             self.assertEqual(Prover().commit(page_a(), nonce)[1], (9,))
 
-    def test_what_is_no_sheet(self):
+    def test_what_is_no_sheet(self) -> None:
         """In a sentence, wherever a sheet is asked for. So are pairs, patterns, values and headers."""
-        for value in [None, page_a().bytes, 5]:
-            for call in [
+        wrong: list[Any] = [None, page_a().bytes, 5]
+        for value in wrong:
+            of_sheets: list[Callable[[], object]] = [
                 lambda: Prover().commit(value, [5]),
                 lambda: Prover().respond(value, 3, [7]),
                 lambda: Verifier().take_commitment(value, [9]),
@@ -205,30 +216,34 @@ class Taken(unittest.TestCase):
                 lambda: Watch.open(value),
                 lambda: RoundFile.open(value, b"RND\0\1\0\0"),
                 lambda: RoundWriter.start(value),
-            ]:
-                with self.assertRaisesRegex(TypeError, "^the sheet has to be of the type Instance$"):
+            ]
+            for call in of_sheets:
+                with self.assertRaisesRegex(TypeError, "^the sheet must be of the type Instance$"):
                     call()
-            for call in [
+            of_others: list[Callable[[], object]] = [
                 lambda: OrProver().commit(value, Side.FIRST, [5], 3, [0]),
                 lambda: OrProver().respond(value, 3, [7]),
                 lambda: Instance.from_pattern(value, 1, modulus=23, order=11, challenges=11, statement=[13]),
                 lambda: Instance.encode(value),
                 lambda: Values(value, [[2]], [13]),
-            ]:
-                with self.assertRaisesRegex(TypeError, "has to be of the type"):
+            ]
+            for call in of_others:
+                with self.assertRaisesRegex(TypeError, "must be of the type"):
                     call()
 
-    def test_what_is_no_round(self):
+    def test_what_is_no_round(self) -> None:
         """A tuple is none, nor is a round of the other proof."""
         either = OrRound([9], [9], 1, 1, [4], [4])
-        for value in [(9, 3, 4), None, either]:
-            with self.assertRaisesRegex(TypeError, "^the round has to be of the type Round$"):
+        wrong: list[Any] = [(9, 3, 4), None, either]
+        for value in wrong:
+            with self.assertRaisesRegex(TypeError, "^the round must be of the type Round$"):
                 page_a().judge(value)
-        for value in [(9, 3, 4), Round([9], 3, [4])]:
-            with self.assertRaisesRegex(TypeError, "^the round has to be of the type OrRound$"):
+        wrong = [(9, 3, 4), Round([9], 3, [4])]
+        for value in wrong:
+            with self.assertRaisesRegex(TypeError, "^the round must be of the type OrRound$"):
                 Pair(page_a(), page_a()).judge(value)
 
-    def test_bytes_in_other_forms_are_taken(self):
+    def test_bytes_in_other_forms_are_taken(self) -> None:
         """And kept as they were when they were given."""
         sheet = bytearray(page_a().bytes)
         loaded = Instance.load(memoryview(sheet))
@@ -239,20 +254,20 @@ class Taken(unittest.TestCase):
 class Sheets(unittest.TestCase):
     """Sheets and patterns."""
 
-    def test_values_make_the_sheet_again(self):
+    def test_values_make_the_sheet_again(self) -> None:
         """Of every page."""
         for page in [page_a(), page_d(), page_e(), page_f(), page_g()]:
             self.assertEqual(Instance.encode(page.values), page)
             self.assertEqual(Instance.load(page.bytes).values, page.values)
 
-    def test_values_are_of_just_the_sheet(self):
+    def test_values_are_of_just_the_sheet(self) -> None:
         """Rows of columns, and none in a root sheet."""
         self.assertEqual(page_f().values.entries, ((2, 3, 1), (3, 1, 3)))
         self.assertEqual(page_f().values.statement, (12, 9))
         self.assertEqual(page_g().values, Values(Header(ROOT, 35, 5, 5, 1, 1), (), (32,)))
         self.assertEqual(page_a().header, Header(EXPONENT, 23, 11, 11, 1, 1))
 
-    def test_the_image_of_a_witness_is_its_statement(self):
+    def test_the_image_of_a_witness_is_its_statement(self) -> None:
         """Whatever statement the sheet has. A value that is no coordinate is refused."""
         witnesses = [(page_a(), [7]), (page_d(), [1, 2]), (page_e(), [7]), (page_f(), [2, 1, 0]), (page_g(), [2])]
         for page, witness in witnesses:
@@ -264,7 +279,7 @@ class Sheets(unittest.TestCase):
             page_a().image([11])
         self.assertRaises(TypeError, page_a().image, {7})
 
-    def test_a_table_of_another_shape_is_told(self):
+    def test_a_table_of_another_shape_is_told(self) -> None:
         """A row too few, a column too many, and a statement value too many."""
         header = page_e().header
         for entries, statement in [([[2]], [13, 18]), ([[2], [16, 1]], [13, 18]), ([[2], [16]], [13])]:
@@ -272,17 +287,18 @@ class Sheets(unittest.TestCase):
         with refused(self, 7):
             Instance.encode(Values(dataclasses.replace(header, rows=9), [], []))
 
-    def test_patterns(self):
+    def test_patterns(self) -> None:
         """The shipped file, and a lecturer's own."""
         shipped = Patterns.shipped()
         self.assertEqual(shipped.bytes, (REPOSITORY / "share" / "patterns.bin").read_bytes())
         self.assertEqual((len(shipped), len(shipped.layouts)), (5, 5))
         self.assertEqual(shipped.layouts[Pattern.PRODUCT - 1].digits, ((1, 2, 0), (3, 0, 2)))
         own = Patterns.load(b"PAT\0\1\1\2\2\2\0\1\1\2")
-        plan = {"modulus": 23, "order": 11, "challenges": 11, "values": [2, 3], "statement": [9, 8]}
-        self.assertEqual(Instance.from_pattern(own, 1, **plan).values.entries, ((1, 2), (2, 3)))
+        plan = {"modulus": 23, "order": 11, "challenges": 11}
+        made = Instance.from_pattern(own, 1, **plan, values=[2, 3], statement=[9, 8])
+        self.assertEqual(made.values.entries, ((1, 2), (2, 3)))
 
-    def test_nothing_can_be_changed(self):
+    def test_nothing_can_be_changed(self) -> None:
         """Rounds, verdicts and values are frozen, and lists in them became tuples."""
         made = Round([9], 3, [4])
         self.assertEqual(made, Round((9,), 3, (4,)))
@@ -295,7 +311,7 @@ class Sheets(unittest.TestCase):
 class Rounds(unittest.TestCase):
     """Verdicts, pairs, teams and round files."""
 
-    def test_a_rejected_verdict_is_false(self):
+    def test_a_rejected_verdict_is_false(self) -> None:
         """So that `if instance.judge(round)` means what it says."""
         self.assertFalse(page_a().judge(round_of(9, 1, 2)))
         self.assertFalse(OrVerdict(False, (0, 2), (1,)))
@@ -305,7 +321,7 @@ class Rounds(unittest.TestCase):
         )
         self.assertEqual(str(OrVerdict(False, (), (1,))), "rejected on side 1 in row 1")
 
-    def test_the_or_proof(self):
+    def test_the_or_proof(self) -> None:
         """Both extractions of FORMATS.md's example."""
         pair = Pair(page_a(5), page_g())
         one = OrRound([16], [33], 2, 4, [10], [24])
@@ -314,7 +330,7 @@ class Rounds(unittest.TestCase):
         self.assertEqual(pair.extract(one, OrRound([16], [33], 4, 1, [0], [24])), OrWitness(Side.FIRST, (7,)))
         self.assertEqual(pair.instance(Side.SECOND), page_g())
 
-    def test_a_team(self):
+    def test_a_team(self) -> None:
         """Its joined round is page A's."""
         team = Team(page_a(), [[8], [6], [18]])
         self.assertEqual(team.players, 3)
@@ -325,7 +341,7 @@ class Rounds(unittest.TestCase):
         with refused(self, 27):
             Team(page_a(), [[1]] * 300)
 
-    def test_a_round_file(self):
+    def test_a_round_file(self) -> None:
         """Written, read, compared, converted and marked."""
         writer = RoundWriter.start(page_a())
         rounds = [round_of(9, 3, 4), round_of(9, 1, 1), round_of(9, 1, 2), round_of(5, 0, 0)]
@@ -342,7 +358,7 @@ class Rounds(unittest.TestCase):
             self.assertEqual(mark(page_a().bytes, found.bytes, b"\7"), expected)
             self.assertEqual(reason(page_a().bytes, found.bytes), "accepted\n")
 
-    def test_rounds_are_found_by_their_numbers(self):
+    def test_rounds_are_found_by_their_numbers(self) -> None:
         """As in a list of them."""
         writer = RoundWriter.start(page_a())
         rounds = [round_of(9, 3, 4), round_of(9, 1, 1), round_of(5, 0, 0)]
@@ -362,12 +378,13 @@ class Rounds(unittest.TestCase):
         writer.append(rounds[0])
         with self.assertRaisesRegex(IndexError, "^the file has 1 round, and none of this number$"):
             writer.file[1]
-        for number in [True, "0", 0.0, None]:
-            with self.assertRaisesRegex(TypeError, "^the number of a round has to be a whole number$"):
-                file[number]
+        wrong: list[Any] = [True, "0", 0.0, None]
+        for value in wrong:
+            with self.assertRaisesRegex(TypeError, "^the number of a round must be a whole number$"):
+                file[value]
         self.assertEqual((rounds[1] in file, round_of(9, 2, 2) in file), (True, False))
 
-    def test_a_writer_goes_on(self):
+    def test_a_writer_goes_on(self) -> None:
         """In the version that it finds, and up to 512 rounds."""
         narrow = RoundWriter.start(page_a(), 2)
         narrow.append(round_of(9, 3, 4))
@@ -384,11 +401,11 @@ class Rounds(unittest.TestCase):
 class AnyBytes(unittest.TestCase):
     """Any bytes and numbers end in an answer or a refusal."""
 
-    def setUp(self):
+    def setUp(self) -> None:
         """The bytes are the same in every run."""
         self.random = random.Random(23)
 
-    def bytes_like(self, right):
+    def bytes_like(self, right: bytes) -> bytes:
         """Random bytes, or these with some changed or cut."""
         if self.random.randrange(4) == 0:
             return self.random.randbytes(self.random.randrange(len(right) + 9))
@@ -397,22 +414,23 @@ class AnyBytes(unittest.TestCase):
             found[self.random.randrange(len(found))] = self.random.randrange(256)
         return bytes(found[: self.random.choice([len(found), self.random.randrange(len(found) + 1)])])
 
-    def number(self):
+    def number(self) -> int:
         """A number of 32 bits, small ones more often."""
         return self.random.randrange(2 ** self.random.choice([1, 3, 5, 32]))
 
-    def numbers(self, count):
+    def numbers(self, count: int) -> list[int]:
         """So many of them."""
         return [self.number() for _ in range(count)]
 
-    def tried(self, call, *others):
+    def tried(self, call: Callable[[], Answer], *others: type[Exception]) -> Answer | None:
         """The call's answer, or nothing where it is refused; no other error is let through."""
+        let_through: tuple[type[Exception], ...] = (Refusal, *others)
         try:
             return call()
-        except (Refusal, *others):
+        except let_through:
             return None
 
-    def test_files_of_any_bytes(self):
+    def test_files_of_any_bytes(self) -> None:
         """Sheets, patterns, round files, levels and stored sessions."""
         writer = RoundWriter.start(page_a())
         writer.append(round_of(9, 3, 4))
@@ -427,10 +445,10 @@ class AnyBytes(unittest.TestCase):
             self.assertTrue(reason(sheet, file).endswith("\n"))
             self.assertTrue(game(sheet, file).endswith("\n"))
             for kind, right in zip((Prover, Verifier, OrProver), stored):
-                read = kind.from_stored if kind is Verifier else kind.reopen
+                read: Callable[[bytes], object] = getattr(kind, "from_stored" if kind is Verifier else "reopen")
                 self.tried(lambda: read(self.bytes_like(right)), Damaged)
 
-    def test_calls_of_any_numbers(self):
+    def test_calls_of_any_numbers(self) -> None:
         """On sheets of many shapes that load."""
         pages = [page_a(), page_d(), page_e(), page_f(), page_g()]
         for _ in range(1000):
@@ -450,7 +468,7 @@ class AnyBytes(unittest.TestCase):
 class Face(unittest.TestCase):
     """What the module shows."""
 
-    def test_every_name_is_there(self):
+    def test_every_name_is_there(self) -> None:
         """`__all__` names what is there, and what stands there by an import is in it."""
         found = vars(dimkhoros).items()
         public = {name for name, value in found if getattr(value, "__module__", "").startswith("dimkhoros")}

@@ -1,7 +1,11 @@
 """Sheets of linear forms."""
 
+from __future__ import annotations
+
 import itertools
 import unittest
+from collections.abc import Callable, Sequence
+from typing import Any
 
 import dimkhoros
 from dimkhoros import Forms, Instance
@@ -10,7 +14,9 @@ from .pages import MAURER, linear, page_a
 from .repository import refused
 
 
-def formula(forms, generators, x, order, modulus):
+def formula(
+    forms: list[list[list[int]]], generators: list[int], x: Sequence[int], order: int, modulus: int
+) -> tuple[int, ...]:
     """The image of x as the paper writes it."""
     image = []
     for row in forms:
@@ -25,7 +31,7 @@ def formula(forms, generators, x, order, modulus):
 class LinearForms(unittest.TestCase):
     """Sheets that are made, and plans that are refused or not taken."""
 
-    def test_the_papers_example(self):
+    def test_the_papers_example(self) -> None:
         """Its entries, its statement and the image of its witness."""
         sheet = linear()
         self.assertEqual(sheet.values.entries, ((3, 1, 2, 1), (4, 2, 1, 3)))
@@ -33,7 +39,7 @@ class LinearForms(unittest.TestCase):
         self.assertEqual(sheet.image([1, 2, 3, 4]), (1, 8))
         self.assertEqual(len(sheet.bytes), 60)
 
-    def test_the_image_is_the_papers_formula(self):
+    def test_the_image_is_the_papers_formula(self) -> None:
         """For every secret, with rows, generators and columns of different counts."""
         forms = [
             [[1, 10], [0, 3], [7, 0]],
@@ -45,11 +51,11 @@ class LinearForms(unittest.TestCase):
         for x in itertools.product(range(11), repeat=2):
             self.assertEqual(sheet.image(x), formula(forms, [2, 3, 13], x, 11, 23))
 
-    def test_one_form_over_one_generator_is_schnorrs(self):
+    def test_one_form_over_one_generator_is_schnorrs(self) -> None:
         """The sheet of the pattern and that of the form are the same."""
         self.assertEqual(linear([[[1]]], generators=[2], statement=[13]), page_a())
 
-    def test_nested_lists_and_forms_are_the_same(self):
+    def test_nested_lists_and_forms_are_the_same(self) -> None:
         """Also of tuples, and of what can be gone through once."""
         flat = tuple(value for row in MAURER for form in row for value in form)
         self.assertEqual(Forms.of(MAURER), Forms(2, 4, flat))
@@ -58,10 +64,10 @@ class LinearForms(unittest.TestCase):
         self.assertEqual(linear(((iter(form) for form in row) for row in MAURER)), linear())
         self.assertEqual(hash(Forms.of(MAURER)), hash(Forms(2, 4, flat)))
 
-    def test_plans_are_refused_in_their_order(self):
+    def test_plans_are_refused_in_their_order(self) -> None:
         """Each with two faults, of which the first is told, and the counts one by one."""
         large = [[[11] * 4] * 3] * 2
-        for number, call in [
+        plans: list[tuple[int, Callable[[], Instance]]] = [
             (5, lambda: linear(modulus=2, order=1)),
             (6, lambda: linear([], order=1)),
             (7, lambda: linear([], challenges=12)),
@@ -78,22 +84,24 @@ class LinearForms(unittest.TestCase):
             (10, lambda: linear(generators=[2, 3, 5], statement=[5, 5])),
             (10, lambda: linear([[[1], [0]]], generators=[2, 5], statement=[2])),
             (11, lambda: linear(statement=[1, 5])),
-        ]:
+        ]
+        for number, call in plans:
             with refused(self, number):
                 call()
 
-    def test_rows_and_forms_of_different_lengths_are_told(self):
+    def test_rows_and_forms_of_different_lengths_are_told(self) -> None:
         """In a sentence with both counts."""
-        rows = "^row 1 of the forms has to have 2 forms, as the first has, and has 1$"
+        rows = "^row 1 of the forms must have 2 forms, as the first has, and has 1$"
         with self.assertRaisesRegex(ValueError, rows):
             linear([[[1], [2]], [[3]]])
-        forms = "^a form of row 0 has to have 1 coefficient, as the first has, and has 2$"
-        with self.assertRaisesRegex(ValueError, forms):
+        of_row = "^a form of row 0 must have 1 coefficient, as the first has, and has 2$"
+        with self.assertRaisesRegex(ValueError, of_row):
             linear([[[1], [2, 3]]])
         for forms in [[[[-1]]], [[[2**32]]]]:
             self.assertRaises(ValueError, linear, forms)
-        for forms in [None, 3, [3], [[3]], [[["3"]]], [[[True]]], [[{3}]], {1: 2}, "abc", b"abc"]:
-            self.assertRaises(TypeError, linear, forms)
+        wrong: list[Any] = [None, 3, [3], [[3]], [[["3"]]], [[[True]]], [[{3}]], {1: 2}, "abc", b"abc"]
+        for value in wrong:
+            self.assertRaises(TypeError, linear, value)
         for count in [-1, 2**32]:
             self.assertRaises(ValueError, Forms, count, 1, [1])
         self.assertRaises(TypeError, linear, generators=5)

@@ -1,8 +1,11 @@
 """Ledgers: what is made, checked, extracted and refused."""
 
-import unittest
+from __future__ import annotations
 
-from dimkhoros import Base, Checked, Entries, Ledger, Line, LineKind, _structs
+import unittest
+from collections.abc import Callable
+
+from dimkhoros import Base, Checked, Entries, Instance, Ledger, Line, LineKind, Round, _structs
 
 from .repository import refused
 
@@ -10,7 +13,7 @@ BASE = Base(g=2, h=3, modulus=23, order=11, challenges=11)
 COMPOSITE = Base(g=4, h=9, modulus=143, order=30, challenges=2)
 
 
-def page(challenge):
+def page(challenge: int) -> Entries:
     """The entries of the worked page: 2, 3, their sum, and their product by a round with this challenge."""
     entries = Entries()
     two, three = entries.commitment(2, 1), entries.commitment(3, 0)
@@ -19,12 +22,19 @@ def page(challenge):
     return entries
 
 
-def committed(base, value, blinding):
+def committed(base: Base, value: int, blinding: int) -> int:
     """The commitment to a value with a blinding number."""
     return pow(base.g, value, base.modulus) * pow(base.h, blinding, base.modulus) % base.modulus
 
 
-def changed(change):
+def product(ledger: Ledger, line: int) -> tuple[Instance, Round]:
+    """The sheet and the round of a line that is a product."""
+    found = ledger.product(line)
+    assert found is not None
+    return found
+
+
+def changed(change: Callable[[_structs.Ledger], object]) -> Ledger:
     """The worked page's ledger with its numbers changed."""
     held = _structs.Ledger.from_buffer_copy(Ledger.write(BASE, page(3))._held)
     change(held)
@@ -34,7 +44,7 @@ def changed(change):
 class Made(unittest.TestCase):
     """What is made and accepted."""
 
-    def test_the_worked_page(self):
+    def test_the_worked_page(self) -> None:
         """Its lines, and the numbers that two challenges give."""
         ledger, other = Ledger.write(BASE, page(3)), Ledger.write(BASE, page(5))
         above = (Line.commit(12), Line.commit(8), Line.sum(0, 1))
@@ -43,15 +53,15 @@ class Made(unittest.TestCase):
         self.assertEqual(ledger.commitments, (12, 8, 4, 9))
         self.assertEqual(ledger.check(), Checked(True))
         self.assertTrue(ledger.check())
-        sheet, first = ledger.product(3)
-        same, second = other.product(3)
+        sheet, first = product(ledger, 3)
+        same, second = product(other, 3)
         self.assertEqual(sheet, same)
         self.assertTrue(sheet.judge(first))
         for pair in [(first, second), (second, first)]:
             self.assertEqual(sheet.extract(*pair), (2, 1, 4))
         self.assertEqual([ledger.product(line) for line in [0, 1, 2, 4, 2**63]], [None] * 5)
 
-    def test_a_page_with_unequal_factors(self):
+    def test_a_page_with_unequal_factors(self) -> None:
         """The factors have other values and blinding numbers, and a line is multiplied by itself."""
         entries = Entries()
         entries.commitment(2, 1), entries.commitment(5, 4), entries.sum(0, 1)
@@ -64,7 +74,7 @@ class Made(unittest.TestCase):
         exchanged = Line.product(0, 2, 13, [4, 16], 7, [8, 6, 9])
         self.assertEqual(Ledger(BASE, [*ledger.lines[:3], exchanged]).check(), Checked(False, 3))
 
-    def test_commitments_are_those_of_the_values(self):
+    def test_commitments_are_those_of_the_values(self) -> None:
         """Sums of sums and products of products, modulo q."""
         for base in [BASE, COMPOSITE]:
             q, entries = base.order, Entries()
@@ -82,7 +92,7 @@ class Made(unittest.TestCase):
             self.assertEqual(hash(Ledger(base, ledger.lines)), hash(ledger))
             self.assertEqual((len(ledger), ledger.base), (6, base))
 
-    def test_two_challenges_open_a_product(self):
+    def test_two_challenges_open_a_product(self) -> None:
         """By an opening of the second factor."""
         for base in [BASE, COMPOSITE]:
             for b, beta in [(0, 0), (7, 5), (base.order - 1, base.order - 1)]:
@@ -91,14 +101,14 @@ class Made(unittest.TestCase):
                     entries = Entries()
                     entries.commitment(6, 2), entries.commitment(b, beta)
                     entries.product(0, 1, 4, [1, 2, 3], challenge)
-                    sheet, made = Ledger.write(base, entries).product(2)
+                    sheet, made = product(Ledger.write(base, entries), 2)
                     rounds.append(made)
                 a, alpha, delta = sheet.extract(*rounds)
                 self.assertEqual((a, alpha), (6, 2))
                 e = committed(base, a * b % base.order, (a * beta + delta) % base.order)
                 self.assertEqual(sheet.values.statement, (committed(base, 6, 2), e))
 
-    def test_64_lines(self):
+    def test_64_lines(self) -> None:
         """A ledger of no lines, and the longest one."""
         self.assertTrue(Ledger(BASE, []).check())
         entries = Entries()
@@ -109,15 +119,20 @@ class Made(unittest.TestCase):
         ledger = Ledger.write(BASE, entries)
         self.assertTrue(ledger.check())
         self.assertEqual(len(ledger), 64)
-        for call in [lambda: entries.commitment(0, 0), lambda: entries.sum(0, 0), lambda: Ledger(BASE, ledger.lines * 2)]:
+        more: list[Callable[[], object]] = [
+            lambda: entries.commitment(0, 0),
+            lambda: entries.sum(0, 0),
+            lambda: Ledger(BASE, ledger.lines * 2),
+        ]
+        for call in more:
             with refused(self, 37):
                 call()
         self.assertEqual(Ledger.write(BASE, entries), ledger)
 
-    def test_unused_numbers_play_no_part(self):
+    def test_unused_numbers_play_no_part(self) -> None:
         """Nor do lines beyond the count."""
 
-        def junk(held):
+        def junk(held: _structs.Ledger) -> None:
             """Changes what is not read."""
             held.lines[0].first, held.lines[2].commitment, held.lines[1].challenge = 77, 5, 99
             held.lines[4].kind = 9
@@ -130,7 +145,7 @@ class Made(unittest.TestCase):
 class Refused(unittest.TestCase):
     """What is rejected or refused."""
 
-    def test_the_first_rejected_product_is_named(self):
+    def test_the_first_rejected_product_is_named(self) -> None:
         """And is no accepted ledger."""
         lines = [*Ledger.write(BASE, page(3)).lines, Line.product(0, 1, 9, [18, 9], 3, [7, 5, 5])]
         self.assertEqual(Ledger(BASE, lines).check(), Checked(False, 4))
@@ -138,14 +153,14 @@ class Refused(unittest.TestCase):
         self.assertEqual(Ledger(BASE, lines).check(), Checked(False, 3))
         self.assertFalse(Ledger(BASE, lines).check())
 
-    def test_what_is_checked(self):
+    def test_what_is_checked(self) -> None:
         """Each number, by all calls."""
 
-        def put(line, name, value):
+        def put(line: int, name: str, value: int) -> Callable[[_structs.Ledger], None]:
             """Sets a number of a line."""
             return lambda held: setattr(held.lines[line], name, value)
 
-        cases = [
+        cases: list[tuple[Callable[[_structs.Ledger], object], int]] = [
             (lambda held: setattr(held, "count", 65), 37),
             (put(3, "kind", 4), 35),
             (put(2, "second", 2), 36),
@@ -156,11 +171,12 @@ class Refused(unittest.TestCase):
         ]
         for change, number in cases:
             ledger = changed(change)
-            for call in [ledger.check, lambda: ledger.commitments, lambda: ledger.product(3)]:
+            asked: list[Callable[[], object]] = [ledger.check, lambda: ledger.commitments, lambda: ledger.product(3)]
+            for call in asked:
                 with refused(self, number):
                     call()
 
-    def test_what_is_made(self):
+    def test_what_is_made(self) -> None:
         """By the base, and by values that are too large."""
         bases = {5: (2, 3, 2, 11, 11), 6: (2, 3, 23, 1, 11), 8: (2, 3, 23, 11, 12), 10: (5, 3, 23, 11, 11)}
         for number, base in bases.items():
@@ -168,19 +184,20 @@ class Refused(unittest.TestCase):
                 Ledger.write(Base(*base), page(3))
             with refused(self, number):
                 Ledger(Base(*base), []).check()
-        for add, number in [
+        added: list[tuple[Callable[[Entries], object], int]] = [
             (lambda entries: entries.commitment(11, 0), 16),
             (lambda entries: entries.commitment(0, 11), 16),
             (lambda entries: entries.product(0, 0, 11, [0, 0, 0], 0), 16),
             (lambda entries: entries.product(0, 0, 0, [0, 0, 11], 0), 16),
             (lambda entries: entries.product(0, 0, 0, [0, 0, 0], 11), 15),
-        ]:
+        ]
+        for add, number in added:
             entries = page(3)
             add(entries)
             with refused(self, number):
                 Ledger.write(BASE, entries)
 
-    def test_lines_that_are_not_above(self):
+    def test_lines_that_are_not_above(self) -> None:
         """They are not added."""
         entries = page(3)
         for pair in [(4, 0), (0, 4), (2**32, 0), (0, 2**64 - 1)]:
@@ -194,30 +211,30 @@ class Refused(unittest.TestCase):
         with refused(self, 35):
             Ledger(BASE, [Line(4)]).check()
 
-    def test_what_is_not_taken(self):
+    def test_what_is_not_taken(self) -> None:
         """In a sentence, which shows no value."""
         entries = Entries()
-        with self.assertRaisesRegex(ValueError, "^the value has to be a number from 0 to 4294967295$"):
+        with self.assertRaisesRegex(ValueError, "^the value must be a number from 0 to 4294967295$"):
             entries.commitment(-1, 0)
-        with self.assertRaisesRegex(TypeError, "^the blinding number has to be a whole number$"):
+        with self.assertRaisesRegex(TypeError, "^the blinding number must be a whole number$"):
             entries.commitment(1, True)
-        with self.assertRaisesRegex(ValueError, "^the nonce has to have 3 values in a ledger, and has 2$"):
+        with self.assertRaisesRegex(ValueError, "^the nonce must have 3 values in a ledger, and has 2$"):
             entries.product(0, 0, 0, [1, 2], 0)
-        with self.assertRaisesRegex(ValueError, "^t has to have 2 values in a ledger, and has 0$"):
+        with self.assertRaisesRegex(ValueError, "^t must have 2 values in a ledger, and has 0$"):
             Ledger(BASE, [Line(LineKind.PRODUCT, 0, 0, 9, ())])
-        with self.assertRaisesRegex(TypeError, "^the base has to be of the type Base$"):
-            Ledger((2, 3, 23, 11, 11), [])
-        with self.assertRaisesRegex(TypeError, "^a line has to be of the type Line$"):
-            Ledger(BASE, [12])
-        with self.assertRaisesRegex(TypeError, "^the list of entries has to be of the type Entries$"):
-            Ledger.write(BASE, [])
+        with self.assertRaisesRegex(TypeError, "^the base must be of the type Base$"):
+            Ledger((2, 3, 23, 11, 11), [])  # type: ignore[arg-type]
+        with self.assertRaisesRegex(TypeError, "^a line must be of the type Line$"):
+            Ledger(BASE, [12])  # type: ignore[list-item]
+        with self.assertRaisesRegex(TypeError, "^the list of entries must be of the type Entries$"):
+            Ledger.write(BASE, [])  # type: ignore[arg-type]
         self.assertEqual(len(entries), 0)
 
 
 class Shown(unittest.TestCase):
     """What is shown."""
 
-    def test_entries_are_shown_without_their_numbers(self):
+    def test_entries_are_shown_without_their_numbers(self) -> None:
         """And a ledger with all that it has."""
         entries = Entries()
         entries.commitment(1234567, 7654321)

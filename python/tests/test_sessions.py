@@ -1,12 +1,16 @@
 """Sessions: each object answers once, a refused call spends nothing, and none is copied."""
 
+from __future__ import annotations
+
 import copy
 import ctypes
 import pickle
 import threading
 import time
 import unittest
+from collections.abc import Callable
 from concurrent.futures import ThreadPoolExecutor
+from typing import Any, NoReturn
 
 from dimkhoros import (
     Damaged,
@@ -28,19 +32,19 @@ from .pages import page_a, page_d
 from .repository import refused, run_c
 
 
-def committed():
+def committed() -> Prover:
     """Peggy's session on page A's sheet with the nonce 5."""
     peggy, _ = Prover().commit(page_a(), [5])
     return peggy
 
 
-def remembering():
+def remembering() -> Prover:
     """The same session, saved under 3, after it has answered and was returned to 3."""
     peggy, _ = committed().save(3).respond(page_a(), 3, [7])
     return peggy.return_to(3)
 
 
-def or_committed():
+def or_committed() -> tuple[Pair, OrProver]:
     """Peggy's session of the OR proof on page A's sheet beside page D's, of which she knows (1, 2). The nonce gives
     2^4 * 3^9, which leaves 12, and the simulated side 2^2 * 13^(-6), which leaves 16."""
     pair = Pair(page_a(), page_d())
@@ -52,15 +56,16 @@ def or_committed():
 NO_MEMORY = (0,) * 657
 
 
-def whole(kind):
+def whole(kind: type) -> Callable[[bytes], Any]:
     """The call that reads all that a stored session of this kind holds."""
-    return kind.from_stored if kind is Verifier else kind.from_stored_with_nonce
+    read: Callable[[bytes], Any] = getattr(kind, "from_stored" if kind is Verifier else "from_stored_with_nonce")
+    return read
 
 
 class Spending(unittest.TestCase):
     """A call spends the object that it is made on."""
 
-    def test_a_second_challenge_is_not_answered(self):
+    def test_a_second_challenge_is_not_answered(self) -> None:
         """Neither by the spent object nor by the one that was handed back."""
         a, peggy = page_a(), committed()
         after, _ = peggy.respond(a, 3, [7])
@@ -70,26 +75,27 @@ class Spending(unittest.TestCase):
             after.respond(a, 1, [7])
         self.assertEqual(after.phase, ProverPhase.ANSWERED)
 
-    def test_a_spent_object_allows_nothing(self):
+    def test_a_spent_object_allows_nothing(self) -> None:
         """Not even to be looked at or stored."""
         pair, either = or_committed()
         vic = Verifier()
-        spent = [committed(), vic, either]
-        spent[0].drop()
+        peggy = committed()
+        peggy.drop()
         vic.take_commitment(page_a(), [9])
         either.respond(pair, 4, [1, 2])
+        spent: list[Prover | Verifier | OrProver] = [peggy, vic, either]
         for session in spent:
             for use in [lambda: session.phase, session.to_stored]:
                 self.assertRaises(SessionSpent, use)
             self.assertIn("spent", repr(session))
-        self.assertRaises(SessionSpent, lambda: spent[0].commitment)
-        self.assertRaises(SessionSpent, spent[0].drop)
+        self.assertRaises(SessionSpent, lambda: peggy.commitment)
+        self.assertRaises(SessionSpent, peggy.drop)
         self.assertRaises(SessionSpent, lambda: vic.take_commitment(page_a(), [9]))
         self.assertRaises(SessionSpent, lambda: vic.challenge)
         self.assertRaises(SessionSpent, lambda: either.respond(pair, 4, [1, 2]))
         self.assertRaises(SessionSpent, lambda: either.commitments)
 
-    def test_a_refused_call_spends_nothing(self):
+    def test_a_refused_call_spends_nothing(self) -> None:
         """A wrong witness, a challenge that is none, and values that are none."""
         a, peggy = page_a(), committed()
         before = peggy.to_stored()
@@ -103,7 +109,7 @@ class Spending(unittest.TestCase):
         self.assertEqual(peggy.to_stored(), before)
         self.assertEqual(peggy.respond(a, 3, [7])[1], (4,))
 
-    def test_a_challenge_cannot_come_first(self):
+    def test_a_challenge_cannot_come_first(self) -> None:
         """Vic hears the commitment before he asks."""
         vic = Verifier()
         with refused(self, 21):
@@ -111,12 +117,12 @@ class Spending(unittest.TestCase):
         self.assertRaises(TypeError, vic.take_challenge, b"no instance", 3)
         self.assertEqual(vic.take_commitment(page_a(), [9]).phase, VerifierPhase.HOLDING)
 
-    def test_threads_get_one_answer(self):
+    def test_threads_get_one_answer(self) -> None:
         """Of many threads that ask one object, one is answered."""
         answers, spent, peggy, sheet = [], [], committed(), page_a()
         start = threading.Barrier(8)
 
-        def ask(challenge):
+        def ask(challenge: int) -> None:
             """Asks, and keeps how it went."""
             start.wait()
             try:
@@ -131,12 +137,12 @@ class Spending(unittest.TestCase):
             thread.join()
         self.assertEqual((len(answers), len(spent)), (1, 7))
 
-    def test_a_thread_waits_for_a_call_that_is_refused(self):
+    def test_a_thread_waits_for_a_call_that_is_refused(self) -> None:
         """And is answered then."""
         peggy, sheet = committed(), page_a()
         inside, go_on = threading.Event(), threading.Event()
 
-        def slow(held):
+        def slow(held: ctypes.Structure) -> Any:
             """A call that is refused, once it may go on."""
             inside.set()
             go_on.wait()
@@ -148,10 +154,10 @@ class Spending(unittest.TestCase):
             second = threads.submit(peggy.respond, sheet, 3, [7])
             time.sleep(0.05)
             go_on.set()
-            self.assertEqual(first.exception().number, 15)
+            self.assertEqual(getattr(first.exception(), "number", None), 15)
             self.assertEqual(second.result()[1], (4,))
 
-    def test_whatever_ends_a_call_leaves_the_object_spent(self):
+    def test_whatever_ends_a_call_leaves_the_object_spent(self) -> None:
         """An answer that got lost is not asked for again."""
         peggy = committed()
         with self.assertRaises(KeyboardInterrupt):
@@ -159,23 +165,25 @@ class Spending(unittest.TestCase):
         self.assertRaises(SessionSpent, peggy.respond, page_a(), 3, [7])
 
     @staticmethod
-    def interrupted(_):
+    def interrupted(_: object) -> NoReturn:
         """A call that is ended by its user."""
         raise KeyboardInterrupt
 
-    def test_no_session_is_copied(self):
+    def test_no_session_is_copied(self) -> None:
         """Neither by copying nor by pickling."""
         for session in [committed(), Verifier(), or_committed()[1]]:
-            for way in [copy.copy, copy.deepcopy, pickle.dumps, lambda held: copy.deepcopy([held])]:
+            ways: list[Callable[[object], object]] = [copy.copy, copy.deepcopy, pickle.dumps]
+            for way in [*ways, lambda held: copy.deepcopy([held])]:
                 self.assertRaisesRegex(TypeError, "a session cannot be copied", way, session)
 
-    def test_no_secret_is_shown(self):
+    def test_no_secret_is_shown(self) -> None:
         """Neither the nonce nor the known side, nor a value in a message."""
         peggy, _ = Prover().commit(page_d(), [7, 8])
         self.assertEqual(repr(peggy), f"Prover(phase=COMMITTED, commitment={peggy.commitment})")
         shown = repr(or_committed()[1])
         self.assertEqual(shown, "OrProver(phase=COMMITTED, commitments=((16,), (12,)))")
-        for nonce in [[77777777777, 0], [77777777777], ["77777777777", 0], 77777777777]:
+        wrong: list[Any] = [[77777777777, 0], [77777777777], ["77777777777", 0], 77777777777]
+        for nonce in wrong:
             with self.assertRaises((TypeError, ValueError)) as caught:
                 Prover().commit(page_d(), nonce)
             self.assertNotIn("7777", str(caught.exception))
@@ -184,7 +192,7 @@ class Spending(unittest.TestCase):
 class Saved(unittest.TestCase):
     """Saved states, and returns to them."""
 
-    def test_a_commitment_is_not_answered_again(self):
+    def test_a_commitment_is_not_answered_again(self) -> None:
         """Whatever is returned to. From a new session another round begins."""
         a = page_a()
         peggy, _ = Prover().save(0).commit(a, [5])
@@ -198,7 +206,7 @@ class Saved(unittest.TestCase):
         peggy, commitment = peggy.return_to(0).commit(a, [6])
         self.assertEqual((commitment, peggy.respond(a, 1, [7])[0].answered), ((18,), 2))
 
-    def test_a_name_is_0_to_7(self):
+    def test_a_name_is_0_to_7(self) -> None:
         """And a return needs one that was saved. A refused call spends nothing."""
         peggy = Prover().save(7)
         for name in [8, 256, 2**32 - 1]:
@@ -213,7 +221,7 @@ class Saved(unittest.TestCase):
             self.assertRaises(ValueError, peggy.save, name)
         self.assertEqual(peggy.drop().return_to(7).phase, ProverPhase.NEW)
 
-    def test_a_saved_copy_keeps_its_nonce(self):
+    def test_a_saved_copy_keeps_its_nonce(self) -> None:
         """In the stored bytes too, and shows it to nobody."""
         peggy, _ = committed().save(3).respond(page_a(), 3, [7])
         for ended in [peggy, committed().save(3).drop()]:
@@ -227,7 +235,7 @@ class Saved(unittest.TestCase):
 class Or(unittest.TestCase):
     """The OR proof's session on two sheets of different columns."""
 
-    def test_a_round_is_accepted(self):
+    def test_a_round_is_accepted(self) -> None:
         """By a witness of two values."""
         pair, peggy = or_committed()
         for witness in [[1], [1, 2, 3]]:
@@ -242,21 +250,21 @@ class Or(unittest.TestCase):
         with refused(self, 21):
             after.respond(pair, 4, [7])
 
-    def test_a_side_is_0_or_1(self):
+    def test_a_side_is_0_or_1(self) -> None:
         """Any other number is none."""
         pair, _ = or_committed()
-        self.assertRaisesRegex(ValueError, "a side has to be 0 or 1", OrProver().commit, pair, 2, [5], 3, [0, 0])
+        self.assertRaisesRegex(ValueError, "a side must be 0 or 1", OrProver().commit, pair, 2, [5], 3, [0, 0])
 
 
 class Storing(unittest.TestCase):
     """The stored form, and answering after it is stored."""
 
-    def sessions(self):
+    def sessions(self) -> list[Prover | Verifier | OrProver]:
         """A session of each kind."""
         vic = Verifier().take_commitment(page_a(), [9]).take_challenge(page_a(), 3)
         return [remembering(), vic, or_committed()[1]]
 
-    def test_c_reads_the_sessions_and_writes_the_same_bytes(self):
+    def test_c_reads_the_sessions_and_writes_the_same_bytes(self) -> None:
         """The program prints of each session its values, its bytes, and how many damaged forms it takes."""
         sessions = self.sessions()
         stored = [session.to_stored().hex() for session in sessions]
@@ -269,7 +277,7 @@ class Storing(unittest.TestCase):
         self.assertEqual(printed[3], f"vic 9{zeros} 3 2")
         self.assertEqual(printed[6], f"either 4 9{zeros[2:]} 2{zeros} 16{zeros} 12{zeros} 6 1 1")
 
-    def test_an_old_copy_answers_no_second_challenge(self):
+    def test_an_old_copy_answers_no_second_challenge(self) -> None:
         """The accident of document 00: the file of a committed session comes back."""
         peggy = committed()
         copy = peggy.to_stored()
@@ -280,25 +288,27 @@ class Storing(unittest.TestCase):
         with refused(self, 21):
             old.respond(page_a(), 1, [7])
         pair, either = or_committed()
-        old, found = OrProver.reopen(either.to_stored())
-        self.assertEqual((found, old.phase, old.commitments), (Found.COMMITTED, ProverPhase.DROPPED, ((16,), (12,))))
+        other, found = OrProver.reopen(either.to_stored())
+        self.assertEqual((found, other.phase), (Found.COMMITTED, ProverPhase.DROPPED))
+        self.assertEqual(other.commitments, ((16,), (12,)))
         expected = (0,) * 16 + (16,) + (0,) * 7 + (12,) + (0,) * 9 + (3,)
-        self.assertEqual(old.to_stored(), _stored.write(b"ORP", 1, expected))
+        self.assertEqual(other.to_stored(), _stored.write(b"ORP", 1, expected))
         with refused(self, 21):
-            old.respond(pair, 1, [7])
+            other.respond(pair, 1, [7])
 
-    def test_what_is_reopened_in_another_phase_is_as_it_was(self):
+    def test_what_is_reopened_in_another_phase_is_as_it_was(self) -> None:
         """And is never committed."""
         answered, _ = committed().respond(page_a(), 3, [7])
         pair, either = or_committed()
         either, _ = either.respond(pair, 4, [1, 2])
+        sessions: list[tuple[Prover | OrProver, Found]]
         sessions = [(Prover(), Found.NEW), (answered, Found.ANSWERED), (committed().drop(), Found.DROPPED)]
         sessions += [(OrProver(), Found.NEW), (either, Found.ANSWERED), (or_committed()[1].drop(), Found.DROPPED)]
         for session, expected in sessions:
             found, what = type(session).reopen(session.to_stored())
             self.assertEqual((found.to_stored(), what), (session.to_stored(), expected))
 
-    def test_damaged_bytes_are_reopened_as_a_new_session(self):
+    def test_damaged_bytes_are_reopened_as_a_new_session(self) -> None:
         """Which is told. What is no bytes is a wrong type."""
         for session in [committed(), or_committed()[1]]:
             kind, stored = type(session), session.to_stored()
@@ -307,7 +317,7 @@ class Storing(unittest.TestCase):
                 self.assertEqual((found.to_stored(), what), (kind().to_stored(), Found.DAMAGED))
             self.assertRaises(TypeError, kind.reopen, None)
 
-    def test_the_call_that_keeps_the_nonce_has_a_long_name(self):
+    def test_the_call_that_keeps_the_nonce_has_a_long_name(self) -> None:
         """The short one, which Vic has, is not there for Peggy."""
         for kind in [Prover, OrProver]:
             self.assertFalse(hasattr(kind, "from_stored"))
@@ -317,7 +327,7 @@ class Storing(unittest.TestCase):
             stored = session.to_stored()
             self.assertEqual(whole(type(session))(bytearray(stored)).to_stored(), stored)
 
-    def test_damaged_bytes_are_refused(self):
+    def test_damaged_bytes_are_refused(self) -> None:
         """Every bit changed, every cut, a byte behind, and another's session."""
         for session in self.sessions():
             kind, stored = type(session), session.to_stored()
@@ -328,7 +338,7 @@ class Storing(unittest.TestCase):
             for bad in [*changed, *cut, *others, stored + b"\0"]:
                 self.assertRaises(Damaged, whole(kind), bad)
 
-    def test_a_phase_or_side_that_is_none_is_refused(self):
+    def test_a_phase_or_side_that_is_none_is_refused(self) -> None:
         """Though the check value is right."""
         for values, mark, kind in [(10, b"VRF", Verifier), (35, b"ORP", OrProver)]:
             self.assertEqual(whole(kind)(_stored.write(mark, 1, (0,) * values)).to_stored()[:3], mark)
@@ -338,7 +348,7 @@ class Storing(unittest.TestCase):
         self.assertRaises(Damaged, OrProver.from_stored_with_nonce, side)
         self.assertEqual(OrProver.reopen(side)[1], Found.DAMAGED)
 
-    def test_what_no_call_makes_of_peggys_session_is_refused(self):
+    def test_what_no_call_makes_of_peggys_session_is_refused(self) -> None:
         """A phase above 3, held or saved, a flag above 1, a count above 64, and version 1."""
         saved = [bound for name in range(8) for bound in [(33 + 18 * name, 3), (34 + 18 * name, 1)]]
         for place, last in [(16, 3), *saved, (673, 64)]:
@@ -346,12 +356,12 @@ class Storing(unittest.TestCase):
                 values = (0,) * place + (value,) + (0,) * (673 - place)
                 _, found = Prover.reopen(_stored.write(b"PRV", 2, values))
                 self.assertEqual(found == Found.DAMAGED, value > last)
-        for values in [17, 674]:
-            self.assertEqual(Prover.reopen(_stored.write(b"PRV", 1, (0,) * values))[1], Found.DAMAGED)
+        for count in [17, 674]:
+            self.assertEqual(Prover.reopen(_stored.write(b"PRV", 1, (0,) * count))[1], Found.DAMAGED)
 
-    def test_the_response_comes_after_the_store(self):
+    def test_the_response_comes_after_the_store(self) -> None:
         """What is stored answers no challenge. It is the whole session, with its saved states and its list."""
-        disk = []
+        disk: list[bytes] = []
         after, response = committed().save(6).respond_after(page_a(), 3, [7], disk.append)
         self.assertEqual((response, after.to_stored()), ((4,), disk[0]))
         found, what = Prover.reopen(disk[0])
@@ -360,39 +370,43 @@ class Storing(unittest.TestCase):
         with refused(self, 21):
             found.respond(page_a(), 1, [7])
         pair, peggy = or_committed()
-        after, made = peggy.respond_after(pair, 4, [1, 2], disk.append)
+        other, made = peggy.respond_after(pair, 4, [1, 2], disk.append)
         self.assertTrue(pair.judge(made))
-        self.assertEqual(after.to_stored(), disk[1])
+        self.assertEqual(other.to_stored(), disk[1])
 
-    def test_a_store_that_fails_hands_out_no_response(self):
+    def test_a_store_that_fails_hands_out_no_response(self) -> None:
         """The error has the session, and the object is spent."""
         peggy = committed()
         with self.assertRaises(NotStored) as caught:
             peggy.respond_after(page_a(), 3, [7], self.full)
         self.assertEqual(str(caught.exception), "the session is not stored: the disk is full")
         self.assertIsInstance(caught.exception.error, OSError)
-        self.assertEqual(caught.exception.session.phase, ProverPhase.ANSWERED)
+        after = caught.exception.session
+        assert isinstance(after, Prover)
+        self.assertEqual(after.phase, ProverPhase.ANSWERED)
         self.assertRaises(SessionSpent, peggy.respond, page_a(), 3, [7])
 
-    def test_what_is_no_store_spends_nothing(self):
+    def test_what_is_no_store_spends_nothing(self) -> None:
         """A store is a function, and whoever has none can still answer."""
         peggy, (pair, either) = committed(), or_committed()
-        for store in [None, "session.bin", []]:
-            with self.assertRaisesRegex(TypeError, "^the store has to be a function$"):
+        wrong: list[Any] = [None, "session.bin", []]
+        for store in wrong:
+            with self.assertRaisesRegex(TypeError, "^the store must be a function$"):
                 peggy.respond_after(page_a(), 3, [7], store)
-            with self.assertRaisesRegex(TypeError, "^the store has to be a function$"):
+            with self.assertRaisesRegex(TypeError, "^the store must be a function$"):
                 either.respond_after(pair, 4, [1, 2], store)
         self.assertEqual(peggy.respond(page_a(), 3, [7])[1], (4,))
         self.assertTrue(pair.judge(either.respond(pair, 4, [1, 2])[1]))
 
     @staticmethod
-    def full(_):
+    def full(_: bytes) -> NoReturn:
         """A store that fails."""
         raise OSError("the disk is full")
 
-    def test_a_refused_call_stores_nothing(self):
+    def test_a_refused_call_stores_nothing(self) -> None:
         """And the session can still answer."""
-        disk, peggy = [], committed()
+        disk: list[bytes] = []
+        peggy = committed()
         with refused(self, 17):
             peggy.respond_after(page_a(), 3, [8], disk.append)
         self.assertEqual(disk, [])

@@ -1,6 +1,8 @@
 """The package's types: all of them are written down, can be read, and say something.
 
-This is what can be tested without a type checker."""
+This is what can be tested without a type checker. rust/dimkhoros/tests/suite/python.rs runs one, if it is installed."""
+
+from __future__ import annotations
 
 import ast
 import collections.abc
@@ -10,6 +12,8 @@ import inspect
 import sys
 import typing
 import unittest
+from collections.abc import Iterator
+from typing import Any
 
 import dimkhoros
 
@@ -19,13 +23,13 @@ from .repository import PACKAGE
 BARE = {dict, list, set, tuple, ctypes.Array, *map(vars(collections.abc).get, ["Callable", "Iterable", "Iterator"])}
 
 
-def sources():
+def sources() -> list[tuple[str, ast.Module]]:
     """The modules of the package with their text, parsed, and the build backend."""
     files = [*sorted(PACKAGE.glob("*.py")), PACKAGE.parent / "wheel_backend.py"]
     return [(file.name, ast.parse(file.read_text())) for file in files]
 
 
-def functions(tree):
+def functions(tree: ast.AST) -> Iterator[tuple[ast.FunctionDef, ast.ClassDef | None]]:
     """The functions of a module, each with the class that it stands in, if any."""
     for node in ast.walk(tree):
         for child in ast.iter_child_nodes(node):
@@ -33,7 +37,7 @@ def functions(tree):
                 yield child, node if isinstance(node, ast.ClassDef) else None
 
 
-def annotations(function, own):
+def written_types(function: ast.FunctionDef, own: ast.ClassDef | None) -> list[ast.expr | None]:
     """The annotations of a function of a class or of none: of its parameters but for the object or class that it is
     called on, and of its answer. One that is missing is `None`."""
     given = function.args
@@ -42,24 +46,25 @@ def annotations(function, own):
     return [*(parameter.annotation for parameter in parameters), function.returns]
 
 
-def incomplete(tree):
+def incomplete(tree: ast.AST) -> list[str]:
     """The names of the functions of a module that lack an annotation."""
-    return [function.name for function, own in functions(tree) if None in annotations(function, own)]
+    return [function.name for function, own in functions(tree) if None in written_types(function, own)]
 
 
-def hidden(own):
+def hidden(own: ast.ClassDef) -> list[str]:
     """The names that an annotation in a class uses after a member of the class has taken them. A type checker reads
     them as the member."""
-    taken, found = set(), []
+    taken: set[str] = set()
+    found: list[str] = []
     for function in (node for node in own.body if isinstance(node, ast.FunctionDef)):
-        written = [node for node in annotations(function, own) if node]
+        written = [node for node in written_types(function, own) if node]
         used = {part.id for node in written for part in ast.walk(node) if isinstance(part, ast.Name)}
         found += sorted(used & taken)
         taken.add(function.name)
     return found
 
 
-def parts(hint):
+def parts(hint: Any) -> Iterator[Any]:
     """A type and all that stand in its brackets."""
     yield hint
     for part in typing.get_args(hint):
@@ -68,13 +73,13 @@ def parts(hint):
             yield from parts(inner)
 
 
-def says_too_little(hint):
+def says_too_little(hint: Any) -> bool:
     """Whether a type, or one in its brackets, is bare, or an array type that is made while the program runs."""
     made = [part for part in parts(hint) if isinstance(part, type) and not typing.get_args(part)]
     return any(part in BARE or issubclass(part, ctypes.Array) for part in made)
 
 
-def written(holder):
+def written(holder: Any) -> Iterator[tuple[str, Any]]:
     """The functions, methods, properties and classes that a module or class defines itself, by name."""
     module = getattr(holder, "__module__", getattr(holder, "__name__", None))
     for name, found in vars(holder).items():
@@ -83,7 +88,7 @@ def written(holder):
             yield name, plain
 
 
-def hints(holder):
+def hints(holder: Any) -> Iterator[tuple[str, Any]]:
     """The types of all that a module or class defines itself, with names."""
     for name, found in written(holder):
         for of, hint in typing.get_type_hints(found).items():
@@ -95,25 +100,27 @@ def hints(holder):
 class Written(unittest.TestCase):
     """The annotations as they are written."""
 
-    def test_every_parameter_and_answer_has_one(self):
+    def test_every_parameter_and_answer_has_one(self) -> None:
         """In all modules."""
         self.assertEqual({name: incomplete(tree) for name, tree in sources() if incomplete(tree)}, {})
 
-    def test_a_missing_one_is_seen(self):
+    def test_a_missing_one_is_seen(self) -> None:
         """Of a parameter of each kind and of an answer."""
         for given in ["x", "*x", "**x", "*, x", "x: int, y"]:
             self.assertEqual(incomplete(ast.parse(f"def f({given}) -> int: ...")), ["f"])
         self.assertEqual(incomplete(ast.parse("class A:\n    def f(self, x: int): ...")), ["f"])
         self.assertEqual(incomplete(ast.parse("class A:\n    def f(self, x: int) -> int: ...")), [])
 
-    def test_none_names_a_member_of_its_class(self):
+    def test_none_names_a_member_of_its_class(self) -> None:
         """`Instance.bytes` is a member, so `bytes` is no type after it."""
         classes = [node for _, tree in sources() for node in ast.walk(tree) if isinstance(node, ast.ClassDef)]
         self.assertEqual({own.name: hidden(own) for own in classes if hidden(own)}, {})
         late = "class A:\n    def bytes(self) -> bytes: ...\n    def g(self, x: list[bytes]) -> int: ..."
-        self.assertEqual(hidden(ast.parse(late).body[0]), ["bytes"])
+        found = ast.parse(late).body[0]
+        assert isinstance(found, ast.ClassDef)
+        self.assertEqual(hidden(found), ["bytes"])
 
-    def test_the_package_says_that_it_has_them(self):
+    def test_the_package_says_that_it_has_them(self) -> None:
         """By the file that type checkers look for."""
         self.assertTrue((PACKAGE / "py.typed").is_file())
 
@@ -122,7 +129,7 @@ class Written(unittest.TestCase):
 class Read(unittest.TestCase):
     """The types that the annotations name."""
 
-    def test_each_names_types_in_full(self):
+    def test_each_names_types_in_full(self) -> None:
         """In all modules, private ones too."""
         names = [file.stem for file in PACKAGE.glob("*.py") if file.stem != "__init__"]
         modules = [importlib.import_module(f"dimkhoros.{name}") for name in names]
@@ -130,14 +137,15 @@ class Read(unittest.TestCase):
         self.assertGreater(len(found), 300)
         self.assertEqual([name for name, hint in found if says_too_little(hint)], [])
 
-    def test_one_that_says_too_little_is_seen(self):
+    def test_one_that_says_too_little_is_seen(self) -> None:
         """On its own or in brackets."""
-        for hint in [list, ctypes.Array, ctypes.c_uint32 * 8, tuple[list, int], typing.Optional[dict]]:
+        nested = tuple[list, int]  # type: ignore[type-arg]
+        for hint in [list, ctypes.Array, ctypes.c_uint32 * 8, nested, typing.Optional[dict]]:
             self.assertTrue(says_too_little(hint), hint)
         for hint in [int, list[int], ctypes.Array[ctypes.c_uint32], collections.abc.Callable[[bytes], object]]:
             self.assertFalse(says_too_little(hint), hint)
 
-    def test_no_public_name_leaves_a_type_open(self):
+    def test_no_public_name_leaves_a_type_open(self) -> None:
         """`Any` stands in no function, method, property or field that a caller uses."""
         for name in dimkhoros.__all__:
             public = getattr(dimkhoros, name)

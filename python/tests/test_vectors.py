@@ -1,9 +1,13 @@
 """Every line of docs/vectors.txt that a call of the module can ask has its answer, and each call is asked by a line."""
 
+from __future__ import annotations
+
 import ctypes
 import re
 import unittest
 from collections import Counter
+from collections.abc import Callable
+from typing import Any
 
 from dimkhoros import Refusal
 from dimkhoros._exports import EXPORTS
@@ -13,10 +17,10 @@ from .answers import Answers
 from .vectors import Inputs, NoCall, bytes_of, lines
 
 
-def answer(given, name, words, expected):
+def answer(given: dict[str, bytes], name: str, words: list[str], expected: str) -> str:
     """What the module answers to the call of a line."""
     try:
-        return getattr(Answers(given, expected), name)(Inputs(words))
+        return str(getattr(Answers(given, expected), name)(Inputs(words)))
     except Refusal as refusal:
         return f"refused {refusal.number}"
     except ValueError as error:
@@ -25,15 +29,17 @@ def answer(given, name, words, expected):
         raise NoCall("a list has another count of values than the sheet asks for") from error
 
 
-def spread(expected):
+def spread(expected: str) -> str:
     """An answer with the bytes of its buffer, or of a watch's sheet, written out."""
     return re.sub(r"(buffer|held)=([^\s-]+)", lambda found: f"{found[1]}={bytes_of(found[2]).hex()}", expected)
 
 
-def compared(wanted=None):
+def compared(wanted: str | None = None) -> tuple[Counter[str], Counter[str], list[str]]:
     """How many lines of each call were asked, why others were not, and each line whose answer is another; of the
     calls of this name, if one is named."""
-    asked, left, wrong = Counter(), Counter(), []
+    asked: Counter[str] = Counter()
+    left: Counter[str] = Counter()
+    wrong: list[str] = []
     for number, given, name, words, expected in lines():
         if wanted not in (None, name):
             continue
@@ -48,10 +54,10 @@ def compared(wanted=None):
     return asked, left, wrong
 
 
-def faulty(call):
+def faulty(call: Callable[..., Any]) -> Callable[..., Any]:
     """The call with a bit of its answer changed."""
 
-    def wrapped(*arguments):
+    def wrapped(*arguments: object) -> Any:
         """What the call answers, but for that bit."""
         answered = call(*arguments)
         if isinstance(answered, ctypes.Structure):
@@ -66,14 +72,14 @@ def faulty(call):
 class Vectors(unittest.TestCase):
     """The module against the stored answers."""
 
-    def test_every_line_has_its_answer(self):
+    def test_every_line_has_its_answer(self) -> None:
         """The lines that are not asked are few, and each call is asked."""
         asked, left, wrong = compared()
         self.assertEqual(wrong, [])
         self.assertEqual(set(asked), set(EXPORTS) - {"version"})
         self.assertLess(10 * sum(left.values()), sum(asked.values()), left)
 
-    def test_a_fault_in_any_call_is_found(self):
+    def test_a_fault_in_any_call_is_found(self) -> None:
         """Some line of the call has another answer where a bit of the library's is changed."""
         for name in set(EXPORTS) - {"version"}:
             right = getattr(calls, name)

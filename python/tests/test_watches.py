@@ -1,8 +1,11 @@
 """Watches: which nonces they see again, and what they refuse."""
 
+from __future__ import annotations
+
 import copy
 import threading
 import unittest
+from collections.abc import Callable
 
 from dimkhoros import Heard, Prover, Reuse, Round, Verdict, Watch, _structs
 
@@ -13,7 +16,7 @@ FIRST, SECOND = round_of(9, 3, 4), round_of(9, 1, 1)
 OTHER = round_of(2, 3, 0)
 
 
-def seen(back, *witness):
+def seen(back: int, *witness: int) -> Heard:
     """An accepted round whose nonce was used so many accepted rounds back, or before no round that is known."""
     return Heard(Verdict(True), Reuse(back, witness) if back else None)
 
@@ -21,7 +24,7 @@ def seen(back, *witness):
 class Reuses(unittest.TestCase):
     """What a watch names."""
 
-    def test_page_a(self):
+    def test_page_a(self) -> None:
         """The two rounds give 7, in either order."""
         for first, second in [(FIRST, SECOND), (SECOND, FIRST)]:
             watch = Watch.open(page_a())
@@ -29,14 +32,14 @@ class Reuses(unittest.TestCase):
             self.assertEqual(watch.hear(second), seen(1, 7))
             self.assertEqual(watch.remembered, (second, first))
 
-    def test_a_round_with_the_same_challenge_is_passed_over_and_counted(self):
+    def test_a_round_with_the_same_challenge_is_passed_over_and_counted(self) -> None:
         """And so is a round with another commitment."""
         watch = Watch.open(page_a())
         expected = [(FIRST, 0), (FIRST, 0), (SECOND, 1), (SECOND, 2), (OTHER, 0), (SECOND, 4)]
         for made, back in expected:
             self.assertEqual(watch.hear(made), seen(back, 7))
 
-    def test_rounds_that_are_not_accepted_are_not_remembered(self):
+    def test_rounds_that_are_not_accepted_are_not_remembered(self) -> None:
         """They get their verdict, or are refused."""
         watch = Watch.open(page_a())
         watch.hear(FIRST)
@@ -49,7 +52,7 @@ class Reuses(unittest.TestCase):
         self.assertEqual(watch.remembered, (FIRST,))
         self.assertEqual(watch.hear(SECOND), seen(1, 7))
 
-    def test_a_use_63_rounds_back_is_seen_and_one_64_back_is_not(self):
+    def test_a_use_63_rounds_back_is_seen_and_one_64_back_is_not(self) -> None:
         """Accepted rounds alone count."""
         for between in [0, 61, 62, 63, 64]:
             watch = Watch.open(page_a())
@@ -60,7 +63,7 @@ class Reuses(unittest.TestCase):
             self.assertEqual(len(watch.remembered), min(between + 1, 63))
             self.assertEqual(watch.hear(SECOND), seen(between + 1 if between < 63 else 0, 7))
 
-    def test_sheets_of_other_shapes(self):
+    def test_sheets_of_other_shapes(self) -> None:
         """A witness of each, whose values are as many as the sheet has columns."""
         witnesses = [(page_d(), [1, 2]), (page_e(), [7]), (page_f(), [2, 1, 0]), (page_g(), [2])]
         for page, witness in witnesses:
@@ -69,13 +72,13 @@ class Reuses(unittest.TestCase):
                 peggy, t = Prover().commit(page, [3] * page.header.columns)
                 _, r = peggy.respond(page, c, witness)
                 heard = watch.hear(Round(t, c, r))
-            self.assertEqual((heard.reuse.back, heard.reuse.witness), (1, tuple(witness)))
+            self.assertEqual(heard.reuse, Reuse(1, tuple(witness)))
 
 
 class Refused(unittest.TestCase):
     """What a watch refuses with 21."""
 
-    def test_another_sheet(self):
+    def test_another_sheet(self) -> None:
         """By any of its bytes, also for a round that would be rejected. The round's own numbers come before."""
         watch = Watch.open(page_a())
         watch.hear(FIRST, page_a())
@@ -89,7 +92,7 @@ class Refused(unittest.TestCase):
             watch.hear(Round([9, 6], 3, [4]), page_e())
         self.assertEqual(watch.hear(SECOND, page_a()), seen(1, 7))
 
-    def test_a_watch_that_was_made_by_hand(self):
+    def test_a_watch_that_was_made_by_hand(self) -> None:
         """One that counts more than 63 rounds, or names a round that is not accepted."""
         watch = Watch.open(page_a())
         watch.hear(FIRST)
@@ -106,23 +109,24 @@ class Refused(unittest.TestCase):
                 odd.hear(SECOND)
             self.assertEqual(bytes(odd._held), bytes(held))
 
-    def test_what_is_no_sheet_or_no_round(self):
+    def test_what_is_no_sheet_or_no_round(self) -> None:
         """In a sentence."""
         watch = Watch.open(page_a())
-        with self.assertRaisesRegex(TypeError, "^the sheet has to be of the type Instance$"):
-            watch.hear(FIRST, page_a().bytes)
-        with self.assertRaisesRegex(TypeError, "^the round has to be of the type Round$"):
-            watch.hear((9, 3, 4))
-        with self.assertRaisesRegex(ValueError, "^the commitment has to have 1 value on this sheet, and has 2$"):
+        with self.assertRaisesRegex(TypeError, "^the sheet must be of the type Instance$"):
+            watch.hear(FIRST, page_a().bytes)  # type: ignore[arg-type]
+        with self.assertRaisesRegex(TypeError, "^the round must be of the type Round$"):
+            watch.hear((9, 3, 4))  # type: ignore[arg-type]
+        with self.assertRaisesRegex(ValueError, "^the commitment must have 1 value on this sheet, and has 2$"):
             watch.hear(Round([9, 9], 3, [4]))
 
 
 class Copies(unittest.TestCase):
     """A watch is a value."""
 
-    def test_copies_go_on_apart(self):
+    def test_copies_go_on_apart(self) -> None:
         """However they are made."""
-        for way in [Watch.copy, copy.copy, copy.deepcopy]:
+        ways: list[Callable[[Watch], Watch]] = [Watch.copy, copy.copy, copy.deepcopy]
+        for way in ways:
             watch = Watch.open(page_a())
             watch.hear(FIRST)
             other = way(watch)
@@ -131,11 +135,11 @@ class Copies(unittest.TestCase):
             self.assertEqual(other.hear(SECOND), seen(1, 7))
             self.assertEqual(other.instance, page_a())
 
-    def test_threads_lose_no_round(self):
+    def test_threads_lose_no_round(self) -> None:
         """All that they give are remembered."""
         watch = Watch.open(page_a())
 
-        def give():
+        def give() -> None:
             """Gives six rounds."""
             for _ in range(6):
                 watch.hear(OTHER)
@@ -147,7 +151,7 @@ class Copies(unittest.TestCase):
             thread.join()
         self.assertEqual(watch.remembered, (OTHER,) * 48)
 
-    def test_it_is_shown_in_short(self):
+    def test_it_is_shown_in_short(self) -> None:
         """With its sheet."""
         watch = Watch.open(page_a())
         watch.hear(FIRST)

@@ -33,7 +33,7 @@ const NO_MODULE: [&str; 7] = [
 ];
 
 /// What an install puts under PREFIX, with the modes.
-const TREE: [&str; 44] = [
+const TREE: [&str; 49] = [
     "bin/ 755",
     "bin/dimkhoros 755",
     "bin/game 755",
@@ -68,6 +68,11 @@ const TREE: [&str; 44] = [
     "share/doc/dimkhoros/docs/AUTHORS.md 644",
     "share/doc/dimkhoros/examples/ 755",
     "share/doc/dimkhoros/examples/team.c 644",
+    "share/doc/dimkhoros/python/ 755",
+    "share/doc/dimkhoros/python/README.md 644",
+    "share/doc/dimkhoros/rust/ 755",
+    "share/doc/dimkhoros/rust/tool/ 755",
+    "share/doc/dimkhoros/rust/tool/README.md 644",
     "share/fish/ 755",
     "share/fish/vendor_completions.d/ 755",
     "share/fish/vendor_completions.d/dimkhoros.fish 644",
@@ -110,7 +115,7 @@ fn laid_out(test: &str) -> Home {
     home.put_programs();
     write(&home, "target/staticlib/libdimkhoros.a");
     write(&home, "target/staticlib/libdimkhoros.so");
-    for file in ["README.md", "docs/AUTHORS.md", "examples/team.c"] {
+    for file in ["README.md", "docs/AUTHORS.md", "examples/team.c", "rust/tool/README.md"] {
         write(&home, file);
     }
     let tool = home.0.join("rust/target/release/dimkhoros");
@@ -534,7 +539,7 @@ fn what_is_old_is_built_once() {
     home.date("rust/target/release/dimkhoros", true);
     home.put_tool("rt", "echo \"$@\" >>asked\necho 'rt: ok'");
     let run = home.run(&["prefix"]);
-    let begins = "install: proving 7 crates and building libdimkhoros.a with marker, reason and game; where none is proved \
+    let begins = "install: proving 7 crates and building libdimkhoros.a with marker, reason and game; if none is proved \
                   yet, about 5 minutes on two processors\n";
     assert_eq!(run.stderr, begins);
     let asked = "check laws others code marker reason game\nstaticlib dimkhoros\n";

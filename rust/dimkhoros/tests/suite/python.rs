@@ -1,8 +1,9 @@
-//! The Python module passes its own tests over the shared library that is made of the archive, and pip installs it with that
-//! library. This is tried if there is a Python of a version that the module is for, and pip; if one is missing, a line on standard
-//! error says so.
+//! The Python module passes its own tests over the shared library that is made of the archive, a type checker finds nothing in it,
+//! and pip installs it with that library. This is tried if there is a Python of a version that the module is for, mypy and pip; if
+//! one is missing, a line on standard error says so.
 
 use crate::cc;
+use crate::home::on_path;
 use crate::tree::untried;
 
 use dimkhoros_sys::ARCHIVE;
@@ -48,6 +49,24 @@ fn the_python_module_passes_its_tests() {
     python.args(["-m", "unittest", "discover"]).current_dir(cc::root().join("python"));
     python.env("DIMKHOROS_LIB", folder()).env("PYTHONDONTWRITEBYTECODE", "1");
     cc::succeed(&mut python);
+}
+
+/// What mypy says of these, in the module's folder. It says nothing if it finds nothing.
+fn checked(words: &[&str]) -> String {
+    let mut mypy = Command::new("mypy");
+    mypy.args(["--strict", "--no-error-summary", "--cache-dir=/dev/null"]).args(words);
+    let said = mypy.current_dir(cc::root().join("python")).output().unwrap();
+    String::from_utf8_lossy(&[said.stdout, said.stderr].concat()).into_owned()
+}
+
+#[test]
+fn a_type_checker_finds_nothing() {
+    if on_path("mypy").is_none() {
+        return untried("mypy is not on PATH", "mypy --strict on the Python module and its tests");
+    }
+    assert_eq!(checked(&["dimkhoros", "tests", "wheel_backend.py"]), "");
+    let wrong = checked(&["-c", "import dimkhoros\ndimkhoros.Prover().commit(b'HOM', [5])"]);
+    assert!(wrong.contains("expected \"Instance\"  [arg-type]"), "{wrong}");
 }
 
 /// pip is given the folder python alone and may look nowhere else. The installed module is imported away from the repository, and
