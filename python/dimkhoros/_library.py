@@ -25,7 +25,7 @@ def folders(module: Path, named: str | None) -> list[Path]:
     `./install` made, and target/staticlib of the repository."""
     if named:
         if not os.path.isabs(named):
-            raise ImportError(f"DIMKHOROS_LIB has to be the whole path of a folder, and is {named}.")
+            raise ImportError(f"DIMKHOROS_LIB must be the whole path of a folder, and is {named}.")
         return [Path(named)]
     installed = [folder for folder in module.parents if folder.name == "lib"][:1]
     return [module.parent, *installed, module.parents[2] / "target" / "staticlib"]
@@ -52,7 +52,7 @@ def opened(path: Path) -> SimpleNamespace:
         library = ctypes.CDLL(str(path))
         found = {name: library["dimkhoros_" + name] for name in EXPORTS}
     except (OSError, AttributeError) as error:
-        raise ImportError(f"{path} is no library of this module: {error}. {ADVICE}") from error
+        raise ImportError(f"{path} is not a library of this module: {error}. {ADVICE}") from error
     for name, function in found.items():
         function.restype, function.argtypes = EXPORTS[name]
     return SimpleNamespace(**found)

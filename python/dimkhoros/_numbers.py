@@ -25,14 +25,14 @@ def whole(value: int, name: str) -> int:
             return operator.index(value)
     except TypeError:
         pass
-    raise TypeError(f"{name} has to be a whole number")
+    raise TypeError(f"{name} must be a whole number")
 
 
 def _bounded(value: int, most: int, name: str) -> int:
     """The value, if it is a whole number from 0 to `most`."""
     found = whole(value, name)
     if not 0 <= found <= most:
-        raise ValueError(f"{name} has to be a number from 0 to {most}")
+        raise ValueError(f"{name} must be a number from 0 to {most}")
     return found
 
 
@@ -65,7 +65,7 @@ def exactly(count: int, values: Iterable[int], name: str) -> tuple[int, ...]:
     """The values as a tuple, if there are so many and each is a number of 32 bits."""
     found = numbers(values, name)
     if len(found) != count:
-        raise ValueError(f"{name} has to have {counted(count, 'value')} on this sheet, and has {len(found)}")
+        raise ValueError(f"{name} must have {counted(count, 'value')} on this sheet, and has {len(found)}")
     return found
 
 
@@ -106,7 +106,7 @@ def rows(mask: int) -> tuple[int, ...]:
 def data(value: bytes | bytearray | memoryview, name: str) -> bytes:
     """The value as bytes. A number is none, though bytes could be made of it."""
     if not isinstance(value, (bytes, bytearray, memoryview)):
-        raise TypeError(f"{name} has to be bytes")
+        raise TypeError(f"{name} must be bytes")
     return bytes(value)
 
 
@@ -118,7 +118,7 @@ def given(value: bytes) -> tuple[bytes, int]:
 def function(value: object, name: str) -> None:
     """Raises an error if the value cannot be called."""
     if not callable(value):
-        raise TypeError(f"{name} has to be a function")
+        raise TypeError(f"{name} must be a function")
 
 
 def hold(made: object, name: str, value: object) -> None:
@@ -129,4 +129,4 @@ def hold(made: object, name: str, value: object) -> None:
 def of_kind(kind: type, value: object, name: str) -> None:
     """Raises an error if the value is of another kind."""
     if not isinstance(value, kind):
-        raise TypeError(f"{name} has to be of the type {kind.__name__}")
+        raise TypeError(f"{name} must be of the type {kind.__name__}")

@@ -52,4 +52,4 @@ def _row(row: Iterable[Iterable[int]], place: int) -> tuple[tuple[int, ...], ...
 def _same(first: int, found: int, what: str, name: str) -> None:
     """Raises an error if the count of something differs from that of the first one."""
     if found != first:
-        raise ValueError(f"{name} has to have {counted(first, what)}, as the first has, and has {found}")
+        raise ValueError(f"{name} must have {counted(first, what)}, as the first has, and has {found}")

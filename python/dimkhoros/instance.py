@@ -230,7 +230,7 @@ def _table(values: Values) -> ctypes.Array[_structs.U32]:
     expected = header.rows if header.kind == EXPONENT else 0
     if header.kind == EXPONENT and len(values.entries) != expected:
         raise ValueError(
-            f"the table has to have {counted(expected, 'row')} on this sheet, and has {len(values.entries)}"
+            f"the table must have {counted(expected, 'row')} on this sheet, and has {len(values.entries)}"
         )
     table = _structs.Table()
     for row in range(expected):

@@ -318,5 +318,5 @@ def _exactly(count: int, values: Iterable[int], name: str) -> tuple[int, ...]:
     """The values as a tuple, if there are so many and each is a number of 32 bits."""
     found = numbers(values, name)
     if len(found) != count:
-        raise ValueError(f"{name} has to have {count} values in a ledger, and has {len(found)}")
+        raise ValueError(f"{name} must have {count} values in a ledger, and has {len(found)}")
     return found

@@ -116,7 +116,7 @@ class Side(IntEnum):
     @classmethod
     def _missing_(cls, value: object) -> Side:
         """No other number is a side."""
-        raise ValueError("a side has to be 0 or 1")
+        raise ValueError("a side must be 0 or 1")
 
     @property
     def other(self) -> Side:

@@ -122,9 +122,9 @@ class Taken(unittest.TestCase):
 
     def test_wrong_counts_are_told(self):
         """In a sentence with both counts."""
-        with self.assertRaisesRegex(ValueError, "^the response has to have 2 values on this sheet, and has 1$"):
+        with self.assertRaisesRegex(ValueError, "^the response must have 2 values on this sheet, and has 1$"):
             page_d().judge(Round([1], 1, [1]))
-        with self.assertRaisesRegex(ValueError, "^the commitment has to have 1 value on this sheet, and has 2$"):
+        with self.assertRaisesRegex(ValueError, "^the commitment must have 1 value on this sheet, and has 2$"):
             page_d().judge(Round([1, 1], 1, [1, 2]))
         for call in [
             lambda: page_d().simulate(1, [1]),
@@ -140,9 +140,9 @@ class Taken(unittest.TestCase):
     def test_numbers_outside_32_bits_are_told(self):
         """Negative ones and those above."""
         for value in [-1, 2**32, 10**30]:
-            with self.assertRaisesRegex(ValueError, "^the challenge has to be a number from 0 to 4294967295$"):
+            with self.assertRaisesRegex(ValueError, "^the challenge must be a number from 0 to 4294967295$"):
                 page_a().simulate(value, [0])
-            with self.assertRaisesRegex(ValueError, "^a value of the response has to be a number from 0 to"):
+            with self.assertRaisesRegex(ValueError, "^a value of the response must be a number from 0 to"):
                 page_a().simulate(3, [value])
             self.assertRaises(ValueError, Round, [value], 3, [4])
             self.assertRaises(ValueError, Header, 1, value, 11, 11, 1, 1)
@@ -169,7 +169,7 @@ class Taken(unittest.TestCase):
         for nonce in [{5}, {5: 7}, True, None, 5]:
             with self.assertRaisesRegex(TypeError, "^a list of values is needed for the nonce$"):
                 Prover().commit(page_a(), nonce)
-        with self.assertRaisesRegex(TypeError, "^a value of the nonce has to be a whole number$"):
+        with self.assertRaisesRegex(TypeError, "^a value of the nonce must be a whole number$"):
             Prover().commit(page_a(), [True])
         with self.assertRaisesRegex(TypeError, "^a list of values is needed for the images$"):
             Team(page_a(), {(8,), (16,)})
@@ -206,7 +206,7 @@ class Taken(unittest.TestCase):
                 lambda: RoundFile.open(value, b"RND\0\1\0\0"),
                 lambda: RoundWriter.start(value),
             ]:
-                with self.assertRaisesRegex(TypeError, "^the sheet has to be of the type Instance$"):
+                with self.assertRaisesRegex(TypeError, "^the sheet must be of the type Instance$"):
                     call()
             for call in [
                 lambda: OrProver().commit(value, Side.FIRST, [5], 3, [0]),
@@ -215,17 +215,17 @@ class Taken(unittest.TestCase):
                 lambda: Instance.encode(value),
                 lambda: Values(value, [[2]], [13]),
             ]:
-                with self.assertRaisesRegex(TypeError, "has to be of the type"):
+                with self.assertRaisesRegex(TypeError, "must be of the type"):
                     call()
 
     def test_what_is_no_round(self):
         """A tuple is none, nor is a round of the other proof."""
         either = OrRound([9], [9], 1, 1, [4], [4])
         for value in [(9, 3, 4), None, either]:
-            with self.assertRaisesRegex(TypeError, "^the round has to be of the type Round$"):
+            with self.assertRaisesRegex(TypeError, "^the round must be of the type Round$"):
                 page_a().judge(value)
         for value in [(9, 3, 4), Round([9], 3, [4])]:
-            with self.assertRaisesRegex(TypeError, "^the round has to be of the type OrRound$"):
+            with self.assertRaisesRegex(TypeError, "^the round must be of the type OrRound$"):
                 Pair(page_a(), page_a()).judge(value)
 
     def test_bytes_in_other_forms_are_taken(self):
@@ -363,7 +363,7 @@ class Rounds(unittest.TestCase):
         with self.assertRaisesRegex(IndexError, "^the file has 1 round, and none of this number$"):
             writer.file[1]
         for number in [True, "0", 0.0, None]:
-            with self.assertRaisesRegex(TypeError, "^the number of a round has to be a whole number$"):
+            with self.assertRaisesRegex(TypeError, "^the number of a round must be a whole number$"):
                 file[number]
         self.assertEqual((rounds[1] in file, round_of(9, 2, 2) in file), (True, False))
 

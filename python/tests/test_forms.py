@@ -84,10 +84,10 @@ class LinearForms(unittest.TestCase):
 
     def test_rows_and_forms_of_different_lengths_are_told(self):
         """In a sentence with both counts."""
-        rows = "^row 1 of the forms has to have 2 forms, as the first has, and has 1$"
+        rows = "^row 1 of the forms must have 2 forms, as the first has, and has 1$"
         with self.assertRaisesRegex(ValueError, rows):
             linear([[[1], [2]], [[3]]])
-        forms = "^a form of row 0 has to have 1 coefficient, as the first has, and has 2$"
+        forms = "^a form of row 0 must have 1 coefficient, as the first has, and has 2$"
         with self.assertRaisesRegex(ValueError, forms):
             linear([[[1], [2, 3]]])
         for forms in [[[[-1]]], [[[2**32]]]]:

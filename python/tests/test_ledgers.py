@@ -197,19 +197,19 @@ class Refused(unittest.TestCase):
     def test_what_is_not_taken(self):
         """In a sentence, which shows no value."""
         entries = Entries()
-        with self.assertRaisesRegex(ValueError, "^the value has to be a number from 0 to 4294967295$"):
+        with self.assertRaisesRegex(ValueError, "^the value must be a number from 0 to 4294967295$"):
             entries.commitment(-1, 0)
-        with self.assertRaisesRegex(TypeError, "^the blinding number has to be a whole number$"):
+        with self.assertRaisesRegex(TypeError, "^the blinding number must be a whole number$"):
             entries.commitment(1, True)
-        with self.assertRaisesRegex(ValueError, "^the nonce has to have 3 values in a ledger, and has 2$"):
+        with self.assertRaisesRegex(ValueError, "^the nonce must have 3 values in a ledger, and has 2$"):
             entries.product(0, 0, 0, [1, 2], 0)
-        with self.assertRaisesRegex(ValueError, "^t has to have 2 values in a ledger, and has 0$"):
+        with self.assertRaisesRegex(ValueError, "^t must have 2 values in a ledger, and has 0$"):
             Ledger(BASE, [Line(LineKind.PRODUCT, 0, 0, 9, ())])
-        with self.assertRaisesRegex(TypeError, "^the base has to be of the type Base$"):
+        with self.assertRaisesRegex(TypeError, "^the base must be of the type Base$"):
             Ledger((2, 3, 23, 11, 11), [])
-        with self.assertRaisesRegex(TypeError, "^a line has to be of the type Line$"):
+        with self.assertRaisesRegex(TypeError, "^a line must be of the type Line$"):
             Ledger(BASE, [12])
-        with self.assertRaisesRegex(TypeError, "^the list of entries has to be of the type Entries$"):
+        with self.assertRaisesRegex(TypeError, "^the list of entries must be of the type Entries$"):
             Ledger.write(BASE, [])
         self.assertEqual(len(entries), 0)
 

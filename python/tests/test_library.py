@@ -153,15 +153,15 @@ class Finding(unittest.TestCase):
     def test_a_relative_folder_is_refused(self):
         """As it is in C and in Rust."""
         said = self.failed(imported(self.copied("python"), DIMKHOROS_LIB="target/staticlib"))
-        expected = "DIMKHOROS_LIB has to be the whole path of a folder, and is target/staticlib."
+        expected = "DIMKHOROS_LIB must be the whole path of a folder, and is target/staticlib."
         self.assertEqual(said, f"ImportError: {expected}")
 
     def test_a_file_that_is_no_library_is_refused(self):
         """Bytes that cannot be loaded, and a library of other calls."""
         (self.folder / "libdimkhoros.so").write_bytes(b"no library")
         said = self.failed(imported(self.copied("python"), DIMKHOROS_LIB=str(self.folder)))
-        self.assertIn(f"ImportError: {self.folder}/libdimkhoros.so is no library of this module", said)
-        with self.assertRaisesRegex(ImportError, "is no library of this module"):
+        self.assertIn(f"ImportError: {self.folder}/libdimkhoros.so is not a library of this module", said)
+        with self.assertRaisesRegex(ImportError, "is not a library of this module"):
             _library.opened(Path("libc.so.6"))
 
     def test_another_version_is_refused(self):

@@ -245,7 +245,7 @@ class Or(unittest.TestCase):
     def test_a_side_is_0_or_1(self):
         """Any other number is none."""
         pair, _ = or_committed()
-        self.assertRaisesRegex(ValueError, "a side has to be 0 or 1", OrProver().commit, pair, 2, [5], 3, [0, 0])
+        self.assertRaisesRegex(ValueError, "a side must be 0 or 1", OrProver().commit, pair, 2, [5], 3, [0, 0])
 
 
 class Storing(unittest.TestCase):
@@ -378,9 +378,9 @@ class Storing(unittest.TestCase):
         """A store is a function, and whoever has none can still answer."""
         peggy, (pair, either) = committed(), or_committed()
         for store in [None, "session.bin", []]:
-            with self.assertRaisesRegex(TypeError, "^the store has to be a function$"):
+            with self.assertRaisesRegex(TypeError, "^the store must be a function$"):
                 peggy.respond_after(page_a(), 3, [7], store)
-            with self.assertRaisesRegex(TypeError, "^the store has to be a function$"):
+            with self.assertRaisesRegex(TypeError, "^the store must be a function$"):
                 either.respond_after(pair, 4, [1, 2], store)
         self.assertEqual(peggy.respond(page_a(), 3, [7])[1], (4,))
         self.assertTrue(pair.judge(either.respond(pair, 4, [1, 2])[1]))

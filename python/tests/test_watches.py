@@ -109,11 +109,11 @@ class Refused(unittest.TestCase):
     def test_what_is_no_sheet_or_no_round(self):
         """In a sentence."""
         watch = Watch.open(page_a())
-        with self.assertRaisesRegex(TypeError, "^the sheet has to be of the type Instance$"):
+        with self.assertRaisesRegex(TypeError, "^the sheet must be of the type Instance$"):
             watch.hear(FIRST, page_a().bytes)
-        with self.assertRaisesRegex(TypeError, "^the round has to be of the type Round$"):
+        with self.assertRaisesRegex(TypeError, "^the round must be of the type Round$"):
             watch.hear((9, 3, 4))
-        with self.assertRaisesRegex(ValueError, "^the commitment has to have 1 value on this sheet, and has 2$"):
+        with self.assertRaisesRegex(ValueError, "^the commitment must have 1 value on this sheet, and has 2$"):
             watch.hear(Round([9, 9], 3, [4]))
 
 

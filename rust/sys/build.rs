@@ -36,7 +36,7 @@ fn folder() -> PathBuf {
     };
     if !folder.is_absolute() {
         fail(&format!(
-            "DIMKHOROS_LIB has to be the whole path of a folder, and is {}.",
+            "DIMKHOROS_LIB must be the whole path of a folder, and is {}.",
             folder.display()
         ));
     }

@@ -33,7 +33,7 @@ fn assert_fails(folder: &str, expected: &str) {
 
 #[test]
 fn a_relative_folder_is_refused() {
-    let expected = "DIMKHOROS_LIB has to be the whole path of a folder, and is target/staticlib.";
+    let expected = "DIMKHOROS_LIB must be the whole path of a folder, and is target/staticlib.";
     assert_fails("target/staticlib", expected);
 }
 

@@ -9,7 +9,7 @@ use crate::command_line::files::{self, Target};
 use crate::command_line::words::{Grammar, Value, Words};
 use crate::sheets::brought::{self, Brought};
 use crate::sheets::draw::Generator;
-use crate::sheets::{self, allowed, notation};
+use crate::sheets::{self, causes, notation};
 use asked::Asked;
 use dimkhoros::{EXPONENT, Header, Instance, ROOT, Refusal};
 use std::ffi::OsString;
@@ -133,8 +133,8 @@ fn without_statement(words: &Words, asked: &Asked) -> Outcome<Instance> {
         Refusal::Order => Failure::refused(refusal, format!("{order} in {letter}=")),
         Refusal::Challenges => {
             let header = Header { kind, modulus, order, challenges, rows: 1, columns: 1 };
-            let (rule, allowed) = (refusal.sentence(), allowed::by(refusal, &header));
-            Failure::cause(refusal, format!("{challenges} in K=: {rule}{allowed}"))
+            let why = causes::challenges(&header);
+            Failure::cause(refusal, format!("{challenges} in K=: {why}"))
         }
         _ => asked.refused([modulus, order, challenges], refusal),
     })

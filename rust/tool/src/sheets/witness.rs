@@ -11,14 +11,13 @@ pub fn is_witness(sheet: &Instance, x: &Places, statement: &str) -> String {
     format!("[{}] = {image} is {statement}: {witness} is a witness", notation::bare(&witness))
 }
 
-/// Refuses coordinates of the domain that are called by a letter as no witness.
+/// Refuses coordinates of the domain that are called by a letter and are not a witness.
 pub fn no_witness(sheet: &Instance, letter: &str, x: &Places) -> Failure {
     let witness = notation::by_column(sheet, x);
     let bare = notation::bare(&witness);
     let image = sheet.image(x).unwrap_or_default();
     let [image, statement] =
         [&image, &sheet.values().statement].map(|values| notation::by_row(sheet, values));
-    let found =
-        format!("{witness} in {letter}=, as [{bare}] = {image} and the statement is {statement}");
-    Failure::refused(Refusal::Witness, found)
+    let what = format!("{letter} = {witness} is not a witness: [{bare}] = {image}");
+    Failure::cause(Refusal::Witness, format!("{what}, and the statement is {statement}"))
 }

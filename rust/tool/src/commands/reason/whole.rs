@@ -14,7 +14,8 @@ pub fn text(asked: &Asked, sheet: &Instance, file: &RoundFile<'_>) -> String {
     let Ok((said, judged)) = marked.or_else(|_| unmarked()) else {
         return String::new();
     };
-    let differences = folder.differences("The folder's").map(|sentence| format!("{sentence}.\n"));
+    let differences = folder.differences("The folder's", "marked");
+    let differences = differences.map(|sentence| format!("{sentence}.\n"));
     let said = format!("{said}\n{}", differences.collect::<String>());
     let others = judged.not_accepted().into_iter().filter(|number| *number > 0);
     let others: Vec<usize> = others.filter(|_| asked.round.is_none()).collect();
