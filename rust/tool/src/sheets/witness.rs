@@ -1,5 +1,6 @@
 //! Whether coordinates are a witness, in a line.
 
+use crate::command_line::colour;
 use crate::command_line::failure::Failure;
 use crate::sheets::notation;
 use dimkhoros::{Instance, Places, Refusal};
@@ -8,7 +9,8 @@ use dimkhoros::{Instance, Places, Refusal};
 pub fn is_witness(sheet: &Instance, x: &Places, statement: &str) -> String {
     let witness = notation::by_column(sheet, x);
     let image = notation::by_row(sheet, &sheet.values().statement);
-    format!("[{}] = {image} is {statement}: {witness} is a witness", notation::bare(&witness))
+    let bare = notation::bare(&witness);
+    format!("[{bare}] = {image} is {statement}: {witness} is a {}", colour::verdict("witness"))
 }
 
 /// Refuses coordinates of the domain that are called by a letter and are not a witness.

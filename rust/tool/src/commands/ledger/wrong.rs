@@ -76,7 +76,7 @@ fn of_line(base: &Base, number: usize, given: &Given, refusal: Refusal) -> Optio
     }
     let (first, second) = named(given).filter(|_| refusal == Refusal::LineNotAbove)?;
     let wrong = [first, second].into_iter().find(|line| *line >= number)?;
-    Some(format!("line {wrong}"))
+    Some(format!("it names line {wrong}"))
 }
 
 /// The values of a line that a rule is about, with their letters.

@@ -93,7 +93,9 @@ impl Linear {
                 let (row, _, term) = self.terms().find(large)?;
                 let secret = self.secret(term);
                 let factor = term.factor;
-                Some(format!("{factor} before {secret} in row {row}: it must be below q = {order}"))
+                Some(format!(
+                    "{factor} before {secret} in row {row}: a coefficient must be below q = {order}"
+                ))
             }
             _ => None,
         }
