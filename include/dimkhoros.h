@@ -151,50 +151,51 @@ extern "C" {
  * repository has the conditions, call by call.
  */
 #define DIMKHOROS_REFUSALS(REFUSAL)                                                                               \
-    REFUSAL(1, PATTERN, "the pattern file has no pattern of this number, or it takes another count of values")    \
+    REFUSAL(1, PATTERN, "the pattern file has no pattern of this number, or the pattern takes a different number" \
+                        " of values")                                                                             \
     REFUSAL(2, SHEET_MARK, "the sheet is shorter than a header or does not begin with HOM")                       \
-    REFUSAL(3, SHEET_VERSION, "the sheet's version is another than 1")                                            \
-    REFUSAL(4, KIND, "the kind has to be 1, exponent, or 2, root")                                                \
-    REFUSAL(5, MODULUS, "the modulus has to be 3 or more")                                                        \
-    REFUSAL(6, ORDER, "the order or exponent has to be 2 or more")                                                \
-    REFUSAL(7, SHAPE, "rows and columns have to be 1 to 8 each, and equal in a root sheet")                       \
-    REFUSAL(8, CHALLENGES, "the challenge count K has to be 2 to 65536, and no number from 2 to K - 1 may divide" \
+    REFUSAL(3, SHEET_VERSION, "the sheet's version is not 1")                                                     \
+    REFUSAL(4, KIND, "the kind must be 1, exponent, or 2, root")                                                  \
+    REFUSAL(5, MODULUS, "the modulus must be 3 or more")                                                          \
+    REFUSAL(6, ORDER, "the order or exponent must be 2 or more")                                                  \
+    REFUSAL(7, SHAPE, "rows and columns must be 1 to 8 each, and equal in a root sheet")                          \
+    REFUSAL(8, CHALLENGES, "the challenge count K must be 2 to 65536, and no number from 2 to K - 1 may divide"   \
                            " the order or exponent")                                                              \
     REFUSAL(9, SHEET_LENGTH, "the sheet is longer or shorter than its header says")                               \
     REFUSAL(10, ENTRY, "a table entry, public value or generator lies outside the group")                         \
     REFUSAL(11, STATEMENT, "a value of the statement or of a player's image lies outside the group")              \
-    REFUSAL(12, FILE, "the bytes are no round file of this sheet, the file is full, or the version asked for is"  \
-                      " another than 1 and 2")                                                                    \
+    REFUSAL(12, FILE, "the bytes are not a round file of this sheet, the file is full, or the version asked for"  \
+                      " is not 1 or 2")                                                                           \
     REFUSAL(13, ROUND_NUMBER, "the file has no round of this number")                                             \
     REFUSAL(14, COMMITMENT, "a commitment value lies outside the group")                                          \
-    REFUSAL(15, CHALLENGE, "the challenge has to be below the challenge count K, or 65535 at most where it is"    \
-                           " written to a round file of version 2")                                               \
+    REFUSAL(15, CHALLENGE, "the challenge must be below the challenge count K, or at most 65535 if it is written" \
+                           " to a round file of version 2")                                                       \
     REFUSAL(16, COORDINATE, "a value of the witness, nonce, response or ledger's entry lies outside the domain")  \
-    REFUSAL(17, WITNESS, "the table does not carry the witness to the statement")                                 \
+    REFUSAL(17, WITNESS, "the image of the witness is not the statement")                                         \
     REFUSAL(18, COMMITMENTS_DIFFER, "the two rounds have different commitments")                                  \
     REFUSAL(19, CHALLENGES_EQUAL, "the two rounds have the same challenge")                                       \
     REFUSAL(20, ROUND_REJECTED, "one of the two rounds, or both, would be rejected")                              \
     REFUSAL(21, SESSION, "the session's state does not allow the call, or what the session or watch holds does"   \
                          " not fit this sheet")                                                                   \
     REFUSAL(22, BUFFER, "the buffer is too short for the result")                                                 \
-    REFUSAL(23, PATTERN_FILE, "the bytes are no pattern file: the mark, version, count, rows, columns, number of" \
-                              " values or length is wrong")                                                       \
+    REFUSAL(23, PATTERN_FILE, "the bytes are not a pattern file: the mark, version, count, rows, columns, number" \
+                              " of values or length is wrong")                                                    \
     REFUSAL(24, PATTERN_DIGITS, "a pattern has a digit above its number of values, or a value that no digit names") \
-    REFUSAL(25, LEVEL, "the level has to be one byte from 1 to 64")                                               \
+    REFUSAL(25, LEVEL, "the level must be one byte from 1 to 64")                                                 \
     REFUSAL(26, COUNTS_DIFFER, "the two sheets have different challenge counts")                                  \
-    REFUSAL(27, TEAM, "the team has to have 2 to 8 players")                                                      \
+    REFUSAL(27, TEAM, "the team must have 2 to 8 players")                                                        \
     REFUSAL(28, IMAGES, "the images of the team's players do not multiply to the statement")                      \
-    REFUSAL(29, FORM_COUNTS, "there have to be 1 to 8 generators, a coefficient for each row, generator and"      \
-                             " column, and a statement value for each row")                                       \
-    REFUSAL(30, COEFFICIENT, "a coefficient has to be below the order")                                           \
+    REFUSAL(29, FORM_COUNTS, "there must be 1 to 8 generators, a coefficient for each row, generator and column," \
+                             " and a statement value for each row")                                               \
+    REFUSAL(30, COEFFICIENT, "a coefficient must be below the order")                                             \
     REFUSAL(31, GAME_SIZE, "the sheet is too large for the game, which takes q^n up to 4096, or in a root sheet"  \
                            " m up to 4096 and one row")                                                           \
     REFUSAL(32, ANSWERED, "the commitment that the session holds was answered before")                            \
     REFUSAL(33, LIST_FULL, "the session's list of answered commitments is full: it holds 64")                     \
-    REFUSAL(34, NAME, "the name of a saved state has to be 0 to 7, and a return needs one that was saved")        \
-    REFUSAL(35, LINE_KIND, "the kind of a ledger's line has to be 1, commitment, 2, sum, or 3, product")          \
-    REFUSAL(36, LINE_NOT_ABOVE, "a sum or product of a ledger has to name two lines above its own")               \
-    REFUSAL(37, LEDGER_SIZE, "a ledger has 64 lines at most")
+    REFUSAL(34, NAME, "the name of a saved state must be 0 to 7, and a return needs one that was saved")          \
+    REFUSAL(35, LINE_KIND, "the kind of a ledger's line must be 1, commitment, 2, sum, or 3, product")            \
+    REFUSAL(36, LINE_NOT_ABOVE, "a sum or product of a ledger must name two lines above its own")                 \
+    REFUSAL(37, LEDGER_SIZE, "a ledger has at most 64 lines")
 
 /* The refusals by name: DIMKHOROS_REFUSED_PATTERN is 1, and so on through the list. */
 enum {

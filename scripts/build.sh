@@ -7,8 +7,8 @@ fail() {
     exit "$1"
 }
 
-# The crates of ours that those named are made of, themselves too, one on each line, in the order of crates.txt, where a crate
-# stands below those that it uses.
+# The crates of ours that those named are made of, themselves too, one on each line, in the order of crates.txt, in which a
+# crate stands below those that it uses.
 made_of() {
     awk -v names="$*" '
         /^[a-z]/ { line[++lines] = $0 }
@@ -30,7 +30,7 @@ count() {
     echo $#
 }
 
-# Whether a file is built and nothing is newer in the files and folders named behind it, but for what cargo builds there.
+# Whether a file is built and nothing is newer in the files and folders named after it, but for what cargo builds there.
 is_newest() {
     built=$1
     shift
@@ -49,16 +49,20 @@ begin_log() {
     mkdir -p "$home/target" && touch "$began" && : >"$log" || exit 1
 }
 
-# Begins to build what the first word names, out of the crates that stand behind the minutes that it takes. Ends where the command
-# rt is missing, which is said of the file.
+# Says on standard error which step begins and about how long it takes on two processors.
+step() {
+    echo "$me: $1; about $2 on two processors" >&2
+}
+
+# Begins to build what the first word names, out of the crates that stand after the minutes that it takes. Ends if the command rt is
+# missing, which is said of the file.
 begin_build() {
     what=$1 file=$2 minutes=$3
     shift 3
     command -v rt >/dev/null 2>&1 ||
         fail 1 "$file is missing or older than its sources, and the command rt, which builds it, is not on PATH"
     begin_log
-    echo "$me: proving $(count $(made_of "$@")) crates and building $what; if none is proved yet, about $minutes minutes on two" \
-        "processors" >&2
+    step "proving $(count $(made_of "$@")) crates and building $what, unless they are proved already" "$minutes minutes"
 }
 
 # Builds it by the command rt with these words. What the prover says goes to the log.

@@ -52,7 +52,7 @@ def opened(path: Path) -> SimpleNamespace:
         library = ctypes.CDLL(str(path))
         found = {name: library["dimkhoros_" + name] for name in EXPORTS}
     except (OSError, AttributeError) as error:
-        raise ImportError(f"{path} is no library of this module: {error}. {ADVICE}") from error
+        raise ImportError(f"{path} is not a library of this module: {error}. {ADVICE}") from error
     for name, function in found.items():
         function.restype, function.argtypes = EXPORTS[name]
     return SimpleNamespace(**found)

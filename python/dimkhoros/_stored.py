@@ -14,7 +14,7 @@ class Damaged(ValueError):
 
     def __init__(self) -> None:
         """The error, in a sentence."""
-        super().__init__("the bytes are no stored session, or they are damaged")
+        super().__init__("the bytes are not a stored session, or they are damaged")
 
 
 def write(mark: bytes, version: int, values: tuple[int, ...]) -> bytes:

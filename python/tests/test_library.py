@@ -162,8 +162,8 @@ class Finding(unittest.TestCase):
         """Bytes that cannot be loaded, and a library of other calls."""
         (self.folder / "libdimkhoros.so").write_bytes(b"no library")
         said = self.failed(imported(self.copied("python"), DIMKHOROS_LIB=str(self.folder)))
-        self.assertIn(f"ImportError: {self.folder}/libdimkhoros.so is no library of this module", said)
-        with self.assertRaisesRegex(ImportError, "is no library of this module"):
+        self.assertIn(f"ImportError: {self.folder}/libdimkhoros.so is not a library of this module", said)
+        with self.assertRaisesRegex(ImportError, "is not a library of this module"):
             _library.opened(Path("libc.so.6"))
 
     def test_another_version_is_refused(self) -> None:

@@ -89,7 +89,7 @@ static void reopen(Peggy *peggy, const uint8_t *stored, size_t length) {
     if (found == DIMKHOROS_FOUND_COMMITTED) {
         store_dropped(peggy);
     } else if (found == DIMKHOROS_FOUND_DAMAGED) {
-        fprintf(stderr, "peggy finds no session: the bytes are no stored session, or they are damaged\n");
+        fprintf(stderr, "peggy finds no session: the bytes are not a stored session, or they are damaged\n");
     }
 }
 

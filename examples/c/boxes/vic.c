@@ -35,7 +35,7 @@ static void start(Vic *vic) {
     ssize_t length = find_session(&vic->base, stored, sizeof stored);
     vic->session = dimkhoros_verifier_new();
     if (length >= 0 && !dimkhoros_verifier_restore(stored, (size_t)length, &vic->session)) {
-        fprintf(stderr, "vic finds no session: the bytes are no stored session, or they are damaged\n");
+        fprintf(stderr, "vic finds no session: the bytes are not a stored session, or they are damaged\n");
     }
     say_ready(vic);
 }

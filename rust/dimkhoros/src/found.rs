@@ -12,7 +12,7 @@ use core::fmt;
 /// let (_, found) = Prover::reopen(&Prover::new().to_stored());
 /// assert_eq!(found, Found::New);
 /// let (_, found) = Prover::reopen(&[]);
-/// assert_eq!(found.to_string(), "the bytes are no stored session, or they are damaged");
+/// assert_eq!(found.to_string(), "the bytes are not a stored session, or they are damaged");
 /// ```
 #[derive(Clone, Copy, Debug, PartialEq, Eq, Hash)]
 #[repr(u32)]
@@ -25,7 +25,7 @@ pub enum Found {
     Answered = 2,
     /// 3: it was given up.
     Dropped = 3,
-    /// 4: the bytes are no stored session. What is handed back is a new one, which has to be stored.
+    /// 4: the bytes are not a stored session. What is handed back is a new one, which has to be stored.
     Damaged = 4,
 }
 

@@ -40,43 +40,43 @@ macro_rules! refusals {
 }
 
 refusals! {
-    1, Pattern, "the pattern file has no pattern of this number, or it takes another count of values";
+    1, Pattern, "the pattern file has no pattern of this number, or the pattern takes a different number of values";
     2, SheetMark, "the sheet is shorter than a header or does not begin with HOM";
-    3, SheetVersion, "the sheet's version is another than 1";
-    4, Kind, "the kind has to be 1, exponent, or 2, root";
-    5, Modulus, "the modulus has to be 3 or more";
-    6, Order, "the order or exponent has to be 2 or more";
-    7, Shape, "rows and columns have to be 1 to 8 each, and equal in a root sheet";
-    8, Challenges, "the challenge count K has to be 2 to 65536, and no number from 2 to K - 1 may divide the order or exponent";
+    3, SheetVersion, "the sheet's version is not 1";
+    4, Kind, "the kind must be 1, exponent, or 2, root";
+    5, Modulus, "the modulus must be 3 or more";
+    6, Order, "the order or exponent must be 2 or more";
+    7, Shape, "rows and columns must be 1 to 8 each, and equal in a root sheet";
+    8, Challenges, "the challenge count K must be 2 to 65536, and no number from 2 to K - 1 may divide the order or exponent";
     9, SheetLength, "the sheet is longer or shorter than its header says";
     10, Entry, "a table entry, public value or generator lies outside the group";
     11, Statement, "a value of the statement or of a player's image lies outside the group";
-    12, File, "the bytes are no round file of this sheet, the file is full, or the version asked for is another than 1 and 2";
+    12, File, "the bytes are not a round file of this sheet, the file is full, or the version asked for is not 1 or 2";
     13, RoundNumber, "the file has no round of this number";
     14, Commitment, "a commitment value lies outside the group";
-    15, Challenge, "the challenge has to be below the challenge count K, or 65535 at most where it is written to a round file of version 2";
+    15, Challenge, "the challenge must be below the challenge count K, or at most 65535 if it is written to a round file of version 2";
     16, Coordinate, "a value of the witness, nonce, response or ledger's entry lies outside the domain";
-    17, Witness, "the table does not carry the witness to the statement";
+    17, Witness, "the image of the witness is not the statement";
     18, CommitmentsDiffer, "the two rounds have different commitments";
     19, ChallengesEqual, "the two rounds have the same challenge";
     20, RoundRejected, "one of the two rounds, or both, would be rejected";
     21, Session, "the session's state does not allow the call, or what the session or watch holds does not fit this sheet";
     22, Buffer, "the buffer is too short for the result";
-    23, PatternFile, "the bytes are no pattern file: the mark, version, count, rows, columns, number of values or length is wrong";
+    23, PatternFile, "the bytes are not a pattern file: the mark, version, count, rows, columns, number of values or length is wrong";
     24, PatternDigits, "a pattern has a digit above its number of values, or a value that no digit names";
-    25, Level, "the level has to be one byte from 1 to 64";
+    25, Level, "the level must be one byte from 1 to 64";
     26, CountsDiffer, "the two sheets have different challenge counts";
-    27, Team, "the team has to have 2 to 8 players";
+    27, Team, "the team must have 2 to 8 players";
     28, Images, "the images of the team's players do not multiply to the statement";
-    29, FormCounts, "there have to be 1 to 8 generators, a coefficient for each row, generator and column, and a statement value for each row";
-    30, Coefficient, "a coefficient has to be below the order";
+    29, FormCounts, "there must be 1 to 8 generators, a coefficient for each row, generator and column, and a statement value for each row";
+    30, Coefficient, "a coefficient must be below the order";
     31, GameSize, "the sheet is too large for the game, which takes q^n up to 4096, or in a root sheet m up to 4096 and one row";
     32, Answered, "the commitment that the session holds was answered before";
     33, ListFull, "the session's list of answered commitments is full: it holds 64";
-    34, Name, "the name of a saved state has to be 0 to 7, and a return needs one that was saved";
-    35, LineKind, "the kind of a ledger's line has to be 1, commitment, 2, sum, or 3, product";
-    36, LineNotAbove, "a sum or product of a ledger has to name two lines above its own";
-    37, LedgerSize, "a ledger has 64 lines at most";
+    34, Name, "the name of a saved state must be 0 to 7, and a return needs one that was saved";
+    35, LineKind, "the kind of a ledger's line must be 1, commitment, 2, sum, or 3, product";
+    36, LineNotAbove, "a sum or product of a ledger must name two lines above its own";
+    37, LedgerSize, "a ledger has at most 64 lines";
 }
 
 impl Refusal {

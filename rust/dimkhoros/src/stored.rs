@@ -31,14 +31,14 @@ pub const STORED_OR_PROVER: usize = 151;
 /// use dimkhoros::{Damaged, Verifier};
 ///
 /// assert_eq!(Verifier::from_stored(&[]).unwrap_err(), Damaged);
-/// assert_eq!(Damaged.to_string(), "the bytes are no stored session, or they are damaged");
+/// assert_eq!(Damaged.to_string(), "the bytes are not a stored session, or they are damaged");
 /// ```
 #[derive(Clone, Copy, Debug, PartialEq, Eq, Hash)]
 pub struct Damaged;
 
 impl fmt::Display for Damaged {
     fn fmt(&self, f: &mut fmt::Formatter<'_>) -> fmt::Result {
-        f.write_str("the bytes are no stored session, or they are damaged")
+        f.write_str("the bytes are not a stored session, or they are damaged")
     }
 }
 

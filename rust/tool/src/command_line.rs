@@ -1,5 +1,6 @@
 //! The command line: the words of a command, the files it names, and what is printed.
 
+pub mod colour;
 pub mod completions;
 pub mod failure;
 pub mod files;

@@ -53,7 +53,7 @@ const GROUPS: [Group; 3] = [
 const AUTHORS: [Command; 7] = [
     Command {
         name: "make",
-        summary: "make a sheet of a pattern, a root, a table or linear forms",
+        summary: "make a sheet from a pattern, a root, a table or linear forms",
         help: make::HELP,
         run: make::run,
     },
@@ -194,25 +194,25 @@ pub fn overview() -> String {
 const MEANING: &str = "\
 usage: dimkhoros COMMAND [WORD...]
 
-Sheets, rounds and lecture pages of Maurer's proof of knowledge of a preimage under a group homomorphism, on numbers of at most
-32 bits. What is said of them is computed by the proved library.
+Sheets, rounds and lecture pages for teaching Maurer's proof of knowledge of a preimage under a group homomorphism, on numbers of
+at most 32 bits. The proved library computes what is said of them.
 
-A sheet is a file with a statement z and the table of a homomorphism [ ]: Peggy claims to know a witness x with [x] = z.
-A round is a commitment t, a challenge c below the sheet's K and a response r: Vic accepts it where [r] = t · z^c.
+A sheet is a file with a statement z and the table of a homomorphism [ ]. Peggy claims to know a witness x with [x] = z.
+A round is a commitment t, a challenge c below the sheet's K and a response r. Vic accepts it if [r] = t · z^c.
 A round file has rounds of one sheet.
-A pattern says how a table is made of public values h. Five are shipped, and a pattern file has others.
+A pattern says how a table is made from public values h. Five patterns are shipped, and a pattern file can have others.
 ";
 
 /// What holds of the words of every command.
 const WORDS: &str = "
 Each command has a help with an example: `dimkhoros COMMAND --help`.
 
-Values stand behind their letters, as in c=3, and several of one letter have commas between them, as in x=1,2; there are no
-spaces. Rows, rounds, players and sides are numbered from 0, and columns are called x1, x2 and so on. A file that is called - is
-standard input, or standard output behind -o. What begins with - or has the form of a value is taken as a file's name behind the
-word --. Nothing that is there is overwritten without --force.
+A value comes after its letter, as in c=3. Several values have commas between them, as in x=1,2, and no spaces. Rows, rounds,
+players and sides are numbered from 0. Columns are called x1, x2 and so on. The file - is standard input, or standard output
+after -o. If a file's name begins with - or looks like a value, put the word -- before it. No file is overwritten without
+--force. On a terminal verdicts have colours. If the variable NO_COLOR is set, they have none.
 
-Exit status: 0 done; 1 refused or failed, and a line on standard error says why; 2 the words are wrong.
+Exit status: 0 done; 1 refused or failed, with the cause on standard error; 2 the words are wrong.
 
 Example:
     $ dimkhoros make schnorr m=23 q=11 h=2 x=7 -o sheet.bin

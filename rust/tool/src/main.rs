@@ -8,6 +8,7 @@ mod commands;
 mod pages;
 mod sheets;
 
+use command_line::colour;
 use command_line::failure::{Failure, Outcome};
 use command_line::files;
 use command_line::help::Help;
@@ -25,7 +26,9 @@ fn main() -> ExitCode {
     let mut words = env::args_os().skip(1);
     let name = words.next().unwrap_or_default();
     let mut out = BufWriter::new(Output::new());
-    let ended = run(&name, words.collect(), &mut out);
+    let words: Vec<OsString> = words.collect();
+    colour::choose(&words);
+    let ended = run(&name, words, &mut out);
     let ended = ended.and_then(|()| Ok(out.flush()?));
     match ended {
         Ok(()) => ExitCode::SUCCESS,

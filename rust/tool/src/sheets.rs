@@ -3,6 +3,7 @@
 pub mod allowed;
 pub mod as_json;
 pub mod brought;
+pub mod causes;
 pub mod commitments;
 pub mod course;
 pub mod draw;
@@ -29,7 +30,7 @@ use notation::counted;
 use std::path::Path;
 
 /// The largest challenge count of all.
-const MOST_CHALLENGES: u32 = 65_536;
+pub const MOST_CHALLENGES: u32 = 65_536;
 
 /// The sheet in a file. A bad one fails with what is wrong and where.
 pub fn load(path: &Path) -> Outcome<Instance> {

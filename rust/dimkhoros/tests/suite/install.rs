@@ -265,7 +265,7 @@ fn destdir_stands_before_the_prefix() {
 fn unknown_options_install_nothing() {
     let home = laid_out("words");
     let before = tree(&home.0);
-    for option in ["-", "-h", "--mark", "--help=yes", "--prefix=a"] {
+    for option in ["-", "-x", "--mark", "--help=yes", "--prefix=a"] {
         let line = format!("there is no option {option}; ./install --help says what there is");
         assert_eq!(home.run(&[option]), failed(2, &line));
         assert_eq!(home.run(&["a", option]), failed(2, &line));
@@ -281,7 +281,7 @@ fn one_folder_is_named() {
         [(&[][..], 0), (&["--remove"], 0), (&["a", "b"], 2), (&["--", "a", "--remove", ""], 3)]
     {
         let line = format!(
-            "one folder PREFIX is to be named, and {count} are; ./install --help says what there is"
+            "name one folder PREFIX, and not {count}; ./install --help says what there is"
         );
         assert_eq!(home.run(words), failed(2, &line));
     }
@@ -296,6 +296,8 @@ fn help_is_printed_and_installs_nothing() {
     let before = tree(&home.0);
     let help = home.run(&["a", "--help"]);
     assert_eq!((help.status, help.stderr.as_str()), (Some(0), ""));
+    assert_eq!(home.run(&["-h"]), help);
+    assert!(help.stdout.lines().all(|line| line.chars().count() <= 80), "{}", help.stdout);
     let usage = "usage: ./install [--] PREFIX\n       ./install --remove [--] PREFIX\n";
     assert!(help.stdout.starts_with(usage));
     for line in TREE.iter().filter(|line| line.starts_with("bin/") || line.starts_with("lib/")) {
@@ -411,7 +413,7 @@ fn remove_takes_out_what_was_put_there() {
     assert_eq!(removed, Ended { status: Some(0), stdout: line, stderr: String::new() });
     assert_eq!(tree(&home.0.join("prefix")), before);
     let list = path(&home, "prefix/share/dimkhoros/installed.txt");
-    let line = format!("there is no list {list}, which would say what to take out");
+    let line = format!("the list {list} is missing, which says what to take out");
     assert_eq!(home.run(&["--remove", "prefix"]), failed(1, &line));
 }
 
@@ -539,8 +541,9 @@ fn what_is_old_is_built_once() {
     home.date("rust/target/release/dimkhoros", true);
     home.put_tool("rt", "echo \"$@\" >>asked\necho 'rt: ok'");
     let run = home.run(&["prefix"]);
-    let begins = "install: proving 7 crates and building libdimkhoros.a with marker, reason and game; if none is proved \
-                  yet, about 5 minutes on two processors\n";
+    let begins = "install: proving 7 crates and building libdimkhoros.a with marker, reason and game, unless they are proved \
+                  already; about 5 minutes on two processors\ninstall: proving the crate of the exports and building \
+                  libdimkhoros.a; about 30 seconds on two processors\n";
     assert_eq!(run.stderr, begins);
     let asked = "check laws others code marker reason game\nstaticlib dimkhoros\n";
     assert_eq!((run.status, home.text("asked").as_str()), (Some(0), asked));

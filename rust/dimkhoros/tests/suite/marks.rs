@@ -59,7 +59,7 @@ fn a_level_is_one_byte_from_1_to_64() {
     }
     let level = Refusal::from_number(25).unwrap();
     assert_eq!(level, Refusal::Level);
-    assert_eq!(level.to_string(), "refusal 25: the level has to be one byte from 1 to 64");
+    assert_eq!(level.to_string(), "refusal 25: the level must be one byte from 1 to 64");
 }
 
 #[test]

@@ -68,7 +68,7 @@ fn the_pieces_in_rust_run() {
     let mut command = Command::new(cargo);
     command.args(["run", "--offline", "--quiet"]).current_dir(&folder);
     let printed = cc::succeed(&mut command);
-    let expected = "8 the challenge count K has to be 2 to 65536, and no number from 2 to K - 1 may divide the order or \
+    let expected = "8 the challenge count K must be 2 to 65536, and no number from 2 to K - 1 may divide the order or \
                     exponent\nsend 9\nsend 4\nthe session has answered\nrounds 1\n0 accepted\npass\nrejected 0 4 2\nrefused 12 length 9\n\
                     0 5\n1 1\n2 8\n3 4\n4 0\n5 7\n6 3\n7 10\n8 6\n9 2\n10 9\n";
     assert_eq!(printed, expected);

@@ -42,7 +42,7 @@ fn marked(stdout: &str) -> Ended {
 
 /// What a run comes to that prints these lines of the program `reason`, of which one at least is `accepted`.
 fn accepted(stdout: &str) -> Ended {
-    let stderr = "run: `accepted` is on round 0 alone; ./run FOLDER says whether the whole file passes, \
+    let stderr = "run: `accepted` is about round 0 alone; ./run FOLDER says whether the whole file passes, \
                   and `dimkhoros reason FOLDER` why not\n";
     Ended { stderr: stderr.to_string(), ..marked(stdout) }
 }
@@ -78,7 +78,7 @@ fn several_folders_are_marked_under_their_names() {
 #[test]
 fn a_missing_folder_is_named_and_the_others_are_marked() {
     let home = laid_out("missing");
-    let alone = failed(1, "there is no folder nobody that can be entered");
+    let alone = failed(1, "the folder nobody cannot be entered");
     assert_eq!(home.run(&["nobody"]), alone);
     let stdout = format!("crates/marker/data:\n{EXAMPLE}no files:\nsheet 2\n");
     let expected = Ended { stdout, ..alone };
@@ -92,7 +92,7 @@ fn wrong_words_mark_nothing() {
     assert_eq!(home.run(&[""]), empty);
     assert_eq!(home.run(&["--", ""]), empty);
     assert_eq!(home.run(&["no files", ""]), empty);
-    for option in ["-", "-h", "--mark", "--help=yes"] {
+    for option in ["-", "-x", "--mark", "--help=yes"] {
         let line = format!("there is no option {option}; ./run --help says what there is");
         assert_eq!(home.run(&[option]), failed(2, &line));
         assert_eq!(home.run(&["no files", option]), failed(2, &line));
@@ -103,6 +103,8 @@ fn wrong_words_mark_nothing() {
 fn help_is_printed_and_marks_nothing() {
     let help = laid_out("help").run(&["--help"]);
     assert_eq!((help.status, help.stderr.as_str()), (Some(0), ""));
+    assert_eq!(laid_out("short help").run(&["-h"]), help);
+    assert!(help.stdout.lines().all(|line| line.chars().count() <= 80), "{}", help.stdout);
     let usage = "usage: ./run [--] [FOLDER...]\n       ./run reason [--] [FOLDER...]\n       ./run game [--] [FOLDER...]\n";
     assert!(help.stdout.starts_with(usage));
     assert!(!help.stdout.contains("rounds 4"));
@@ -116,7 +118,7 @@ fn behind_the_word_reason_each_folder_gets_its_line() {
     assert_eq!(home.run(&["reason", "no files"]), marked("refused 2 length 0\n"));
     let several = "no files:\nrefused 2 length 0\ncrates/marker/data:\naccepted\n";
     assert_eq!(home.run(&["reason", "no files", "crates/marker/data"]), accepted(several));
-    let missing = failed(1, "there is no folder nobody that can be entered");
+    let missing = failed(1, "the folder nobody cannot be entered");
     assert_eq!(home.run(&["reason", "nobody"]), missing);
     assert_eq!(home.run(&["reason", ""]), failed(2, "a folder's name is empty"));
     assert_eq!(home.run(&["reason", "--help"]), home.run(&["--help"]));
@@ -130,7 +132,7 @@ fn behind_the_word_game_each_folder_gets_its_text() {
     assert_eq!(home.run(&["game", "no files"]), marked("refused 2\n"));
     let several = format!("no files:\nrefused 2\ncrates/marker/data:\n{GAME}");
     assert_eq!(home.run(&["game", "no files", "crates/marker/data"]), marked(&several));
-    let missing = failed(1, "there is no folder nobody that can be entered");
+    let missing = failed(1, "the folder nobody cannot be entered");
     assert_eq!(home.run(&["game", "nobody"]), missing);
     assert_eq!(home.run(&["game", ""]), failed(2, "a folder's name is empty"));
     assert_eq!(home.run(&["game", "--help"]), home.run(&["--help"]));
@@ -148,7 +150,7 @@ fn accepted_is_said_to_be_on_round_0() {
     assert_eq!(home.run(&[example]), marked(EXAMPLE));
     let Ended { status, stdout, stderr } = home.run(&["reason", example, "nobody"]);
     assert_eq!((status, stdout), (Some(1), format!("{example}:\naccepted\n")));
-    let missing = failed(1, "there is no folder nobody that can be entered").stderr;
+    let missing = failed(1, "the folder nobody cannot be entered").stderr;
     assert_eq!(stderr, missing + &accepted("").stderr);
 }
 
@@ -278,7 +280,7 @@ fn what_is_no_regular_file_is_named_and_the_others_are_marked() {
             let folder = home.0.join("odd");
             fs::create_dir(&folder).unwrap();
             symlink(home.0.join(other), folder.join(file)).unwrap();
-            let line = format!("{file} in the folder odd is no regular file");
+            let line = format!("{file} in the folder odd is not a regular file");
             assert_eq!(home.run(&["odd"]), failed(1, &line), "{other}");
             let stdout = format!("no files:\nsheet 2\ncrates/marker/data:\n{EXAMPLE}");
             let several = Ended { stdout, ..failed(1, &line) };
@@ -316,13 +318,13 @@ fn a_folders_name_stays_in_its_line() {
         ("Ægir & \\n %s", "Ægir & \\n %s"),
     ];
     for (name, shown) in names {
-        let missing = format!("there is no folder {shown} that can be entered");
+        let missing = format!("the folder {shown} cannot be entered");
         assert_eq!(home.run(&[name]), failed(1, &missing));
         fs::create_dir(home.0.join(name)).unwrap();
         let text = format!("no files:\nsheet 2\n{shown}:\nsheet 2\n");
         assert_eq!(home.run(&["no files", name]), marked(&text));
         fs::create_dir(home.0.join(name).join("sheet.bin")).unwrap();
-        let odd = format!("sheet.bin in the folder {shown} is no regular file");
+        let odd = format!("sheet.bin in the folder {shown} is not a regular file");
         assert_eq!(home.run(&[name]), failed(1, &odd));
     }
     let option = r"there is no option -a\npass; ./run --help says what there is";
@@ -355,7 +357,7 @@ fn an_old_marker_is_built_once() {
     let built = home.run(&[]);
     assert_eq!((built.status, built.stdout.as_str()), (Some(0), EXAMPLE));
     assert!(
-        built.stderr.starts_with("run: proving 3 crates and building marker; "),
+        built.stderr.starts_with("run: proving 3 crates and building marker, unless "),
         "{}",
         built.stderr
     );
@@ -375,7 +377,7 @@ fn an_old_program_is_built_for_itself() {
     let built = home.run(&["reason"]);
     assert_eq!((built.status, built.stdout.as_str()), (Some(0), "accepted\n"));
     assert!(
-        built.stderr.starts_with("run: proving 4 crates and building reason; "),
+        built.stderr.starts_with("run: proving 4 crates and building reason, unless "),
         "{}",
         built.stderr
     );
@@ -386,7 +388,7 @@ fn an_old_program_is_built_for_itself() {
     let built = home.run(&["game"]);
     assert_eq!((built.status, built.stdout.as_str()), (Some(0), GAME));
     assert!(
-        built.stderr.starts_with("run: proving 3 crates and building game; "),
+        built.stderr.starts_with("run: proving 3 crates and building game, unless "),
         "{}",
         built.stderr
     );

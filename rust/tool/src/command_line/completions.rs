@@ -8,20 +8,40 @@ pub struct Offered {
     pub name: &'static str,
     /// What it does.
     pub summary: &'static str,
-    /// Its options, its letters with =, and the words that its usage names.
+    /// The words in small letters that its usage names, which come first.
+    pub deeds: Vec<String>,
+    /// Its options and its letters with =.
     pub words: Vec<String>,
 }
+
+/// What can stand in the place of a command.
+const OTHERS: &str = "help --help --version";
 
 /// What can follow a command, by its help.
 pub fn offered(name: &'static str, summary: &'static str, help: &Help) -> Offered {
     let called = help.usage.iter().flat_map(|call| call.split(' ').skip(2).take(1));
     let explained = help.words().flat_map(|(word, _)| word.split(' '));
     let in_usage = help.usage.iter().flat_map(|call| call.split(' '));
-    let words = called.chain(explained).chain(in_usage.filter(|word| word.contains('-')));
+    let words = called.chain(explained).chain(in_usage.filter(|word| word.contains(['-', '='])));
     let mut words: Vec<String> = words.filter_map(word).collect();
     words.sort();
     words.dedup();
-    Offered { name, summary, words }
+    let (words, deeds) = words.into_iter().partition(|word| word.contains(['-', '=']));
+    Offered { name, summary, deeds, words }
+}
+
+impl Offered {
+    /// Its letters with = after which a value comes, and all other words.
+    fn letters(&self) -> [String; 2] {
+        let (letters, others): (Vec<&str>, Vec<&str>) =
+            self.words.iter().map(String::as_str).partition(|word| word.ends_with('='));
+        [letters.join(" "), others.join(" ")]
+    }
+}
+
+/// The names of commands, with a space between them.
+fn names(commands: &[Offered]) -> String {
+    commands.iter().map(|command| command.name).collect::<Vec<&str>>().join(" ")
 }
 
 /// What is typed of a word in a help: an option, a letter with its =, or a word in small letters.
@@ -40,51 +60,64 @@ fn word(word: &str) -> Option<String> {
     (is_option || is_deed).then(|| word.to_string())
 }
 
-/// The completions of bash.
+/// The completions of bash. It ends a word at =, so that a value after a letter is a word of its own, a file's name.
 pub fn bash(commands: &[Offered]) -> String {
-    let names: Vec<&str> = commands.iter().map(|command| command.name).collect();
-    let case = |Offered { name, words, .. }: &Offered| {
-        format!("    {name}) words=\"{}\" ;;\n", words.join(" "))
+    let names = names(commands);
+    let case = |Offered { name, deeds, words, .. }: &Offered| {
+        let (deeds, words) = (deeds.join(" "), words.join(" "));
+        format!("    {name}) first=\"{deeds}\" words=\"{words}\" ;;\n")
     };
     let cases: String = commands.iter().map(case).collect();
     format!(
-        "_dimkhoros() {{\n    local words\n    if [ \"$COMP_CWORD\" -eq 1 ]; then\n        COMPREPLY=($(compgen -W \
-         \"{} help --help --version\" -- \"$2\"))\n        return\n    fi\n    case ${{COMP_WORDS[1]}} in\n{cases}    esac\n    \
-         COMPREPLY=($(compgen -W \"$words\" -f -- \"$2\"))\n    case ${{COMPREPLY[0]}} in *=) compopt -o nospace ;; esac\n}}\n\
-         complete -F _dimkhoros dimkhoros\n",
-        names.join(" ")
+        "_dimkhoros() {{\n    local first words\n    if [ \"$COMP_CWORD\" -eq 1 ]; then\n        COMPREPLY=($(compgen -W \
+         \"{names} {OTHERS}\" -- \"$2\"))\n        return\n    fi\n    case ${{COMP_WORDS[1]}} in\n    help) first=\"{names}\" ;;\n\
+         {cases}    esac\n    [ \"$COMP_CWORD\" -eq 2 ] || first=\n    COMPREPLY=($(compgen -W \"$first $words\" -f -- \"$2\"))\n    \
+         case ${{COMPREPLY[0]}} in *=) compopt -o nospace ;; esac\n}}\ncomplete -F _dimkhoros dimkhoros\n"
     )
 }
 
-/// The completions of zsh.
+/// The completions of zsh. No space comes after a letter's =.
 pub fn zsh(commands: &[Offered]) -> String {
     let described = |command: &Offered| {
         let summary = command.summary.replace('\'', "'\\''").replace(':', "\\:");
         format!("        '{}:{summary}'\n", command.name)
     };
     let list: String = commands.iter().map(described).collect();
-    let case = |Offered { name, words, .. }: &Offered| {
-        format!("    {name}) compadd -- {} ;;\n", words.join(" "))
+    let case = |offered: &Offered| {
+        let ([letters, others], deeds) = (offered.letters(), offered.deeds.join(" "));
+        format!("    {}) first=({deeds}) letters=({letters}) others=({others}) ;;\n", offered.name)
     };
     let cases: String = commands.iter().map(case).collect();
     format!(
-        "#compdef dimkhoros\n_dimkhoros() {{\n    local -a commands\n    commands=(\n{list}    )\n    if (( CURRENT == 2 )); then\n        \
-         _describe command commands\n        return\n    fi\n    case $words[2] in\n{cases}    esac\n    _files\n}}\n\
-         _dimkhoros \"$@\"\n"
+        "#compdef dimkhoros\n_dimkhoros() {{\n    local -a commands first letters others\n    commands=(\n{list}    )\n    \
+         if (( CURRENT == 2 )); then\n        _describe command commands\n        compadd -- {OTHERS}\n        return\n    fi\n    \
+         case $words[2] in\n    help) first=({}) ;;\n{cases}    esac\n    (( CURRENT == 3 )) && compadd -a first\n    \
+         compadd -S '' -a letters\n    compadd -a others\n    _files\n}}\n_dimkhoros \"$@\"\n",
+        names(commands)
     )
 }
 
-/// The completions of fish.
+/// The completions of fish. A command is the second word, and what comes first stands just after it.
 pub fn fish(commands: &[Offered]) -> String {
-    let command = |Offered { name, summary, words }: &Offered| {
+    let command = |Offered { name, summary, deeds, words }: &Offered| {
         let summary = summary.replace('\'', "\\'");
         format!(
-            "complete -c dimkhoros -n __fish_use_subcommand -a {name} -d '{summary}'\n\
-             complete -c dimkhoros -n '__fish_seen_subcommand_from {name}' -a '{}'\n",
+            "complete -c dimkhoros -n '__dimkhoros_after 1' -a {name} -d '{summary}'\n\
+             complete -c dimkhoros -n '__dimkhoros_after 2 {name}' -a '{}'\n\
+             complete -c dimkhoros -n '__dimkhoros_in {name}' -a '{}'\n",
+            deeds.join(" "),
             words.join(" ")
         )
     };
-    commands.iter().map(command).collect()
+    let lines: String = commands.iter().map(command).collect();
+    format!(
+        "function __dimkhoros_in\n    set -l words (commandline -opc)\n    test \"$words[2]\" = $argv[1]\nend\n\
+         function __dimkhoros_after\n    set -l words (commandline -opc)\n    test (count $words) -eq $argv[1]\n    \
+         and test \"$words[2]\" = \"$argv[2]\"\nend\n\
+         complete -c dimkhoros -n '__dimkhoros_after 1' -f -a '{OTHERS}'\n\
+         complete -c dimkhoros -n '__dimkhoros_after 2 help' -f -a '{}'\n{lines}",
+        names(commands)
+    )
 }
 
 #[cfg(test)]

@@ -64,10 +64,10 @@ pub fn rule(refusal: Refusal) -> &'static str {
         Refusal::Entry | Refusal::Statement | Refusal::Commitment => {
             "the value lies outside the group"
         }
-        Refusal::Challenge => "the challenge has to be below K",
+        Refusal::Challenge => "the challenge must be below K",
         Refusal::Coordinate => "the value lies outside the domain",
-        Refusal::RoundRejected => "both rounds have to be accepted",
-        Refusal::File => "this is no round file of the sheet",
+        Refusal::RoundRejected => "both rounds must be accepted",
+        Refusal::File => "this is not a round file of the sheet",
         _ => refusal.sentence(),
     }
 }

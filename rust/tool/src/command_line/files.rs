@@ -1,14 +1,13 @@
 //! Reading and writing files.
 
 use crate::command_line::failure::{Failure, Outcome};
-use crate::command_line::output;
 use crate::command_line::words::Words;
 use crate::command_line::wrap::{self, NARROWEST, WIDEST};
-use std::env;
+use crate::command_line::{colour, output};
 use std::ffi::OsStr;
 use std::fmt::Display;
 use std::fs::{self, File, OpenOptions};
-use std::io::{self, ErrorKind, IsTerminal, Read, Write};
+use std::io::{self, ErrorKind, Read, Write};
 use std::path::{Path, PathBuf};
 use std::process;
 use std::str::Utf8Chunk;
@@ -16,7 +15,7 @@ use std::str::Utf8Chunk;
 /// The most bytes that are read of a file. No file of ours has as many.
 const MOST: u64 = 1 << 20;
 
-/// The bytes of a file, or of standard input where it is called `-`.
+/// The bytes of a file, or of standard input if it is called `-`.
 pub fn read(path: &Path) -> Outcome<Vec<u8>> {
     let read = if is_standard(path) {
         read_all(io::stdin().lock())
@@ -33,7 +32,7 @@ pub fn read(path: &Path) -> Outcome<Vec<u8>> {
 /// The bytes of a file, of one with more than the most only as many as tell that it has more, if the file is there.
 pub fn read_if_there(path: &Path) -> Outcome<Option<Vec<u8>>> {
     let read = match fs::metadata(path) {
-        Ok(found) if !found.is_file() => Err(io::Error::other("it is no file")),
+        Ok(found) if !found.is_file() => Err(io::Error::other("it is not a file")),
         _ => File::open(path).and_then(read_all),
     };
     match read {
@@ -60,7 +59,7 @@ fn read_all(file: impl Read) -> io::Result<Vec<u8>> {
     Ok(bytes)
 }
 
-/// Where a command writes its file: behind `-o`, to standard output where that is `-`. With `--force` it may be there already.
+/// Where a command writes its file: to the one after `-o`, or to standard output if that is `-`. With `--force` it may be there already.
 pub struct Target {
     path: PathBuf,
     how: How,
@@ -88,7 +87,7 @@ impl Target {
     /// The file that is read, of which nothing gets lost.
     pub fn in_place(path: &Path) -> Outcome<Target> {
         if is_standard(path) {
-            return Err(Failure::words("-o FILE is missing: the file to write, where ROUNDS is -"));
+            return Err(Failure::words("-o FILE is missing: the file to write, since ROUNDS is -"));
         }
         Ok(Target { path: path.to_path_buf(), how: How::InPlace })
     }
@@ -150,7 +149,7 @@ fn write_new(path: &Path, bytes: &[u8]) -> io::Result<()> {
 fn replace(path: &Path, bytes: &[u8]) -> io::Result<()> {
     let there = fs::metadata(path)?;
     if !there.is_file() {
-        return Err(io::Error::other("it is no plain file, and -o FILE is missing"));
+        return Err(io::Error::other("it is not a plain file, and -o FILE is missing"));
     }
     let path = fs::canonicalize(path)?;
     let mut beside = path.clone().into_os_string();
@@ -171,7 +170,7 @@ pub fn name(path: &Path) -> String {
     if is_standard(path) { "standard input".to_string() } else { one_line(path.as_os_str()) }
 }
 
-/// A name in one line: a control character is escaped, and so is a byte that is no UTF-8.
+/// A name in one line: a control character is escaped, and so is a byte that is not UTF-8.
 pub fn one_line(name: &OsStr) -> String {
     let part = |part: Utf8Chunk<'_>| {
         let bytes: String = part.invalid().iter().map(|byte| format!("\\x{byte:02x}")).collect();
@@ -210,27 +209,10 @@ fn is_standard(path: &Path) -> bool {
 /// A line on standard error, in as many lines as its columns ask for. If it is closed, there is nobody to tell.
 pub fn note(line: &dyn Display) {
     let width = output::columns(io::stderr()).unwrap_or(WIDEST).clamp(NARROWEST, WIDEST);
-    let line = format!("dimkhoros: {}", escaped(&line.to_string()));
-    let coloured =
-        io::stderr().is_terminal() && env::var_os("NO_COLOR").is_none_or(|no| no.is_empty());
-    let _ = writeln!(io::stderr(), "{}", painted(&wrap::lines(&line, 4, width), coloured));
+    let line = format!("{NAME} {}", escaped(&line.to_string()));
+    let lines = wrap::lines(&line, 4, width);
+    let _ = writeln!(io::stderr(), "{}", lines.replacen(NAME, &colour::name(NAME), 1));
 }
 
-/// A line with the tool's name before it in red, if colours are wanted.
-fn painted(line: &str, coloured: bool) -> String {
-    match line.strip_prefix("dimkhoros:") {
-        Some(rest) if coloured => format!("\u{1b}[31mdimkhoros:\u{1b}[0m{rest}"),
-        _ => line.to_string(),
-    }
-}
-
-#[cfg(test)]
-mod tests {
-    use super::painted;
-
-    #[test]
-    fn the_name_is_red_if_colours_are_wanted() {
-        assert_eq!(painted("dimkhoros: no", true), "\u{1b}[31mdimkhoros:\u{1b}[0m no");
-        assert_eq!(painted("dimkhoros: no", false), "dimkhoros: no");
-    }
-}
+/// What a line on standard error begins with.
+const NAME: &str = "dimkhoros:";

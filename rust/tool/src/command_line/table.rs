@@ -1,5 +1,7 @@
 //! Tables whose columns stand below each other.
 
+use crate::command_line::colour::columns;
+
 /// How a column is set.
 #[derive(Clone, Copy, PartialEq)]
 pub enum Set {
@@ -9,11 +11,11 @@ pub enum Set {
     Right,
 }
 
-/// The lines of a table, its columns two spaces apart, each line behind the indent and without spaces at its end.
+/// The lines of a table, its columns two spaces apart, each line after the indent and without spaces at its end.
 pub fn lines(indent: &str, set: &[Set], rows: &[Vec<String>]) -> String {
     let width = |column: usize| {
         let cells = rows.iter().filter_map(|row| row.get(column));
-        cells.map(|cell| cell.chars().count()).max().unwrap_or(0)
+        cells.map(|cell| columns(cell)).max().unwrap_or(0)
     };
     let widths: Vec<usize> = (0..set.len()).map(width).collect();
     rows.iter().map(|row| line(indent, set, &widths, row)).collect()
@@ -23,7 +25,7 @@ pub fn lines(indent: &str, set: &[Set], rows: &[Vec<String>]) -> String {
 fn line(indent: &str, set: &[Set], widths: &[usize], row: &[String]) -> String {
     // Not by the width of a format, which has 16 bits: the name of a folder may be longer.
     let cell = |((cell, set), width): ((&String, &Set), &usize)| {
-        let spaces = " ".repeat(width.saturating_sub(cell.chars().count()));
+        let spaces = " ".repeat(width.saturating_sub(columns(cell)));
         match set {
             Set::Left => format!("{cell}{spaces}"),
             Set::Right => format!("{spaces}{cell}"),

@@ -70,7 +70,7 @@ impl Words {
         let text = word.to_string_lossy().into_owned();
         if let Some(option) = find(grammar.options, &text) {
             let value = rest.next().filter(|value| !value.is_empty());
-            let value = value.ok_or(Failure::words(format!("nothing stands behind {option}")))?;
+            let value = value.ok_or(Failure::words(format!("a word is missing after {option}")))?;
             if self.option(option).is_some() {
                 return Err(twice(option));
             }
@@ -127,7 +127,9 @@ impl Words {
     pub fn round_number(&self, place: usize) -> Outcome<usize> {
         let word = self.plain[place].to_string_lossy();
         let number = word.parse().ok().filter(|_| word.bytes().all(|byte| byte.is_ascii_digit()));
-        number.ok_or_else(|| Failure::words(format!("{word} is no number of a round, from 0 on")))
+        number.ok_or_else(|| {
+            Failure::words(format!("{word} is not the number of a round; they are numbered from 0"))
+        })
     }
 
     /// Whether a flag is there.

@@ -10,11 +10,11 @@ use std::io::Write;
 pub const HELP: &str = "\
 usage: dimkhoros check SHEET x=VALUE,...
 
-Says whether the sheet's table carries x to the statement, that is, whether x is a witness: [x] = z. Where it is none, the line
-on standard error has refusal 17, and the exit status is 1.
+Says whether x is a witness of the sheet, that is, whether [x] = z. If it is not, standard error says so with the number 17, and
+the exit status is 1.
 
     SHEET        a sheet
-    x=VALUE,...  a witness, a value for each column
+    x=VALUE,...  the witness to check, a value for each column
 
 Example:
     $ dimkhoros make schnorr m=23 q=11 h=2 x=7 -o sheet.bin

@@ -22,16 +22,16 @@ use std::path::{Path, PathBuf};
 pub const HELP: &str = "\
 usage: dimkhoros course NAMES bits=BITS level=W -o COURSE
 
-Makes a course: in the folder COURSE a folder for each name, with a sheet of its own in sheet.bin, the level in level.bin and a
-README.md for the student. All sheets are Schnorr's in one group, which `dimkhoros numbers` proposes, and have different
-witnesses, which the system's generator draws. The witnesses stand in COURSE/secrets.csv, which only its owner can read. If a
-student is to play Peggy, give him his own witness.
+Makes a course. The folder COURSE gets a folder for each name, with a sheet of its own in sheet.bin, the level in level.bin and a
+README.md for the student. All sheets are Schnorr's, in the one group that `dimkhoros numbers` proposes. All witnesses are
+different, and the system's generator draws them. COURSE/secrets.csv lists them, and only its owner can read it. If a student is
+to play Peggy, tell the student that one witness.
 
-    NAMES      a text with a name in each line. A name is a folder's name of letters, digits, . _ and -, which begins with a
-               letter or a digit. Empty lines are left out
+    NAMES      a text with a name in each line. A name has letters, digits, . _ and -, and begins with a letter or a digit.
+               Empty lines are skipped
     bits=BITS  how many bits the modulus has, 4 to 32
     level=W    the level, a number from 1 to 64
-    -o COURSE  the folder that is made, which must not be there yet
+    -o COURSE  the folder to make. It must not be there yet
 
 Example:
     $ printf 'anna\\nben\\n' > names.txt
@@ -68,7 +68,7 @@ pub fn run(words: Vec<OsString>, out: &mut dyn Write) -> Outcome {
     let folder = folder.ok_or(Failure::words("-o COURSE is missing: the folder to make"))?;
     let folder = PathBuf::from(folder);
     let names = names::read(&words.path(0))?;
-    let none = || Failure::failed(format!("there are no such numbers of {bits} bits"));
+    let none = || Failure::failed(format!("no numbers of {bits} bits are found"));
     let group = proposed::exponent(bits).ok_or_else(none)?;
     let sheets = sheets(&group, names.len())?;
     make_folder(&folder)?;

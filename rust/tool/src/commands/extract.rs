@@ -21,18 +21,17 @@ usage: dimkhoros extract SHEET ROUNDS [--all | --json]
        dimkhoros extract SHEET ROUNDS NUMBER NUMBER [--json]
        dimkhoros extract SHEET t=VALUE,... c=CHALLENGE r=VALUE,... [t=VALUE,...] c=CHALLENGE r=VALUE,...
 
-Takes the pairs of accepted rounds with the same commitment and different challenges, of a round file or of two rounds in words,
-and computes the witness that they give away. The first pair of each commitment is worked out line by line, with a and b such
-that ℓ·a + (c - c')·b = 1, where ℓ is q or e; the further ones are named. Where a file has more than 8192 pairs, only those of
-one round of each commitment are tried. Where no pair gives a witness, the exit status is 1.
+Computes the witness that two accepted rounds with the same commitment and different challenges give away. The rounds stand in a
+round file or in the words. The first pair of each commitment is worked out line by line, with numbers a and b for which
+ℓ·a + (c - c')·b = 1. Here ℓ is q or e. The other pairs are named. If a file has more than 8192 pairs, only those with one round
+of each commitment are tried. If no pair gives a witness, the exit status is 1.
 
     SHEET        a sheet
     ROUNDS       a round file of the sheet
-    NUMBER       the number of a round of the file, from 0: these two rounds are worked out
+    NUMBER       the number of a round of the file, from 0. These two rounds are worked out
     --all        works out every pair that gives a witness, up to 64 besides the first one of each commitment
-    --json       prints JSON: a list with an object for each pair, with rounds, t, x and refusal, of which the last two are null
-                 where they are not
-    t=VALUE,...  a commitment, a value for each row; the second round has the first one's where it is left out
+    --json       prints JSON: a list with an object for each pair, with rounds, t, x and refusal. Either x or refusal is null
+    t=VALUE,...  a commitment, a value for each row. If the second round has no t=, it has the first one's
     c=CHALLENGE  a challenge, from 0 to K - 1
     r=VALUE,...  a response, a value for each column
 
@@ -89,7 +88,7 @@ pub fn run(words: Vec<OsString>, out: &mut dyn Write) -> Outcome {
     let in_words = !words.values().is_empty();
     let count = words.plain().len();
     if words.flag("--all") && (count != 2 || in_words) {
-        return Err(Failure::words("--all stands behind SHEET and ROUNDS alone"));
+        return Err(Failure::words("--all goes with SHEET and ROUNDS alone"));
     }
     match (count, in_words) {
         (1, true) => of_words(&words, out),
@@ -103,7 +102,7 @@ pub fn run(words: Vec<OsString>, out: &mut dyn Write) -> Outcome {
 
 /// Says that words are not two rounds.
 fn not_two() -> Failure {
-    Failure::words("two rounds have to be there: t= c= r= c= r=, or t= c= r= t= c= r=")
+    Failure::words("two rounds are needed: t= c= r= c= r=, or t= c= r= t= c= r=")
 }
 
 /// Extracts from two rounds in words.
@@ -215,7 +214,7 @@ fn refused_numbers(
         Refusal::ChallengesEqual => {
             format!("c = {} of rounds {first} and {second}", rounds[0].challenge)
         }
-        Refusal::RoundRejected => brought::which(rejected(sheet, rounds), pair),
+        Refusal::RoundRejected => brought::rejected(rejected(sheet, rounds), pair),
         _ => return refusal.into(),
     };
     Failure::refused(refusal, by)

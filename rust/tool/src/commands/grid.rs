@@ -14,12 +14,12 @@ use std::io::Write;
 pub const HELP: &str = "\
 usage: dimkhoros grid SHEET [t=VALUE,...]
 
-Prints all accepted rounds of a sheet with 64 challenges and 512 responses at most: a table with a column for each challenge c
-and a row for each response r, and in it the one commitment with which Vic accepts them, t = [r] · z^(-c). Below it stands how
-many challenges each commitment can answer: all of them where the statement has a witness, one at most where it has none.
+Prints all accepted rounds of a sheet with at most 64 challenges and 512 responses. The table has a column for each challenge c
+and a row for each response r. Their cell has the one commitment with which Vic accepts them, t = [r] · z^(-c). After it comes how
+many challenges each commitment can answer: all of them if the statement has a witness, and at most one if it has none.
 
     SHEET        a sheet
-    t=VALUE,...  a commitment, a value for each row, whose cells stand in brackets and are listed
+    t=VALUE,...  a commitment, a value for each row. Its cells get brackets and are listed
 
 Example:
     $ dimkhoros make schnorr m=11 q=5 h=4 x=3 -o sheet.bin

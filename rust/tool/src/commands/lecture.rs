@@ -41,19 +41,22 @@ usage: dimkhoros lecture SHEET [x=VALUE,...] [k=VALUE,...] [c=CHALLENGE [c=CHALL
        dimkhoros lecture SHEET SHEET1 [x1=VALUE,...] [k=VALUE,...] [c=CHALLENGE [c=CHALLENGE]]
                  [c0=CHALLENGE] [r0=VALUE,...] -o PAGE
 
-Makes a page for a projector and for paper that needs nothing else: the statement of SHEET, a run of the protocol, the extractor
-on two rounds with the same commitment, and the honest and the simulated rounds side by side. With SHEET1 the page is on the OR
-proof of the two sheets: both holders' runs, the rounds that both make, and what two rounds on the same commitments give away.
-The second and the fourth line are for a SHEET without a witness.
+Makes a page for a projector and for paper, in one file that needs nothing else. It has the statement of SHEET, a run of the
+protocol, the extractor on two rounds with the same commitment, and the honest and the simulated rounds side by side. With
+SHEET1, the page is on the OR proof of the two sheets. It has the runs of both holders, the rounds that both make, and what two
+rounds on the same commitments give away. The second and the fourth line of the usage are for a SHEET without a witness.
 
-    x=VALUE,...   a witness of SHEET; found by trying all where they are few and it is left out
+    x=VALUE,...   a witness of SHEET. If it is left out and there are few values, all are tried
     x1=VALUE,...  a witness of SHEET1
     k=VALUE,...   the nonce of the run
-    c=CHALLENGE   the challenge of the run, and the second one of the extractor
-    r=VALUE,...   the response to simulate where SHEET has no witness
-    c1=CHALLENGE  the challenge with which the holder of x simulates SHEET1, and r1=VALUE,... the response; c0= and r0= for
-                  SHEET where it has no witness
-    -o PAGE       where the page is written; --force writes over a file that is there
+    c=CHALLENGE   the challenge of the run. A second c= is the other challenge of the extractor
+    r=VALUE,...   the response to simulate, if SHEET has no witness
+    c1=CHALLENGE  the challenge with which the holder of x simulates SHEET1
+    r1=VALUE,...  the response with which the holder of x simulates SHEET1
+    c0=CHALLENGE  the challenge with which the holder of x1 simulates SHEET, if SHEET has no witness
+    r0=VALUE,...  the response with which the holder of x1 simulates SHEET, if SHEET has no witness
+    -o PAGE       the file to write
+    --force       writes over a file that is there
 
 Example:
     $ dimkhoros make schnorr m=23 q=11 h=2 x=7 -o sheet.bin
@@ -137,7 +140,7 @@ fn single(words: &Words, sheet: &Instance) -> Outcome<String> {
 
 /// The sections on a sheet with a witness.
 fn known(words: &Words, sheet: &Instance, witness: &Places) -> Outcome<Vec<Section>> {
-    words.without(&["r"], "where there is a witness")?;
+    words.without(&["r"], "if there is a witness")?;
     let challenges = challenges(words, sheet)?;
     let nonce = match words.once("k")? {
         Some(value) => sheets::by_column(sheet, value)?,
@@ -183,7 +186,7 @@ fn told(sheet: &Instance, witness: &Places, count: usize) -> String {
 
 /// The sections on a sheet without a witness.
 fn unknown(words: &Words, sheet: &Instance) -> Outcome<Vec<Section>> {
-    words.without(&["k"], "where there is no witness: nobody can answer with it")?;
+    words.without(&["k"], "without a witness: nobody can answer with it")?;
     let [default, _] = rounds::default_challenges(sheet);
     let challenge = words.number("c")?.unwrap_or(default);
     let response = match words.once("r")? {
@@ -240,7 +243,7 @@ fn choice(
         Side::First => (["c1", "r1"], ["c0", "r0"]),
         Side::Second => (["c0", "r0"], ["c1", "r1"]),
     };
-    words.without(&unused, "where that side's witness is known")?;
+    words.without(&unused, "if that side's witness is known")?;
     let (own, other) = (pair.instance(side), pair.instance(side.other()));
     let nonce = match words.once("k")? {
         Some(value) => sheets::by_column(own, value)?,

@@ -19,26 +19,26 @@ usage: dimkhoros ledger FILE [--public]
        dimkhoros ledger FILE extract=LINE c=CHALLENGE [r=VALUE,VALUE,VALUE]
 
 Computes on commitments. g^v · h^b mod m commits to the value v with the blinding number b. FILE is a text with a line for each
-line of a ledger: a commitment, the sum of two lines above, or the product of two lines above. All commitments and all rounds
-are made and shown, and the ledger is checked. Products have a round of the sheet `make product` with the values g, h and B and
-the statement A and E, where A is the commitment of the first line, B that of the second and E the product's own.
+line of a ledger. A line is a commitment, the sum of two lines above it, or the product of two lines above it. All commitments and
+rounds are made and shown, and the ledger is checked. A product has a round of the sheet that `make product` makes with the values
+g, h and B and the statement A and E. A is the commitment of the first line, B that of the second, and E the product's own.
 
-The first line of the text has g, h, m, q and K, and the others are these, numbered from 0. What follows # is left aside.
+The first line of the text has g, h, m, q and K. The others are these, numbered from 0. What comes after # is a comment.
 
         commitment v=VALUE b=BLINDING
         sum LINE LINE
         product LINE LINE b=BLINDING k=N,N,N c=CHALLENGE
 
-A ledger of somebody else has commitments and responses in the place of values and nonces, and is checked only:
+The ledger of somebody else has commitments and responses instead of values and nonces. It is only checked:
 
         commitment C=VALUE
         product LINE LINE C=VALUE t=VALUE,VALUE c=CHALLENGE r=VALUE,VALUE,VALUE
 
-A line that is wrong is named on standard error, as FILE:5: line 3, by its place in the text and its number in the ledger, with
-the cause: it is refused, or its round is rejected. The exit status is then 1.
+If a line is refused, or its round is rejected, standard error has the cause and names the line by its place in the text and its
+number in the ledger, as in FILE:5: line 3. The exit status is then 1.
 
     FILE                 the text
-    --public             prints the ledger as such a text of somebody else, without values, and nothing else
+    --public             prints the ledger as a text for somebody else, without values, and nothing else
     extract=LINE         works out what a second challenge on the nonce of this product gives away
     c=CHALLENGE          the second challenge
     r=VALUE,VALUE,VALUE  the response to it, if FILE has no nonce

@@ -11,11 +11,10 @@ use std::io::Write;
 pub const HELP: &str = "\
 usage: dimkhoros level W FILE [--force]
 
-Writes the level W to a file, which is one byte. A round file passes at level W if every round is accepted and the product of
-one K for each round is at least 2^W.
+Writes the level W to a file of one byte. A file of R rounds passes at level W if every round is accepted and K^R is at least 2^W.
 
     W        the level, a number from 1 to 64
-    FILE     where the level is written, level.bin in a student's folder
+    FILE     the file to write: level.bin in a student's folder
     --force  writes over a file that is there
 
 Example:

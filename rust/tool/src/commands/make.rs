@@ -9,7 +9,7 @@ use crate::command_line::files::{self, Target};
 use crate::command_line::words::{Grammar, Value, Words};
 use crate::sheets::brought::{self, Brought};
 use crate::sheets::draw::Generator;
-use crate::sheets::{self, allowed, notation};
+use crate::sheets::{self, causes, notation};
 use asked::Asked;
 use dimkhoros::{EXPONENT, Header, Instance, ROOT, Refusal};
 use std::ffi::OsString;
@@ -22,26 +22,26 @@ usage: dimkhoros make PATTERN m=MODULUS q=ORDER [K=COUNT] h=VALUE,... (z=VALUE,.
        dimkhoros make table=ENTRY,.../... m=MODULUS q=ORDER [K=COUNT] (z=VALUE,... | x=VALUE,...) -o SHEET
        dimkhoros make linear m=MODULUS q=ORDER [K=COUNT] h=VALUE,... row=ROW... (z=VALUE,... | x=VALUE,...) -o SHEET
 
-Makes a sheet of a pattern, of a root, of any table or of linear forms over generators. With z the statement is as it stands,
-and whether it has a witness is not tested; with x the statement is computed of this witness, which the sheet does not hold.
+Makes a sheet from a pattern, a root, a table, or linear forms over generators. With z, the statement is z, and whether it has a
+witness is not tested. With x, the statement is computed from this witness. The sheet does not hold the witness.
 
-    PATTERN          schnorr, okamoto, equality, diffie-hellman or product, or a pattern's number in its file. `dimkhoros
-                     patterns` shows them, and how many public values each takes
+    PATTERN          schnorr, okamoto, equality, diffie-hellman or product, or the number of a pattern in its file. `dimkhoros
+                     patterns` shows the patterns, and how many public values each one takes
     m=MODULUS        the modulus, 3 or more
-    q=ORDER          the order, of an exponent sheet: an element v of the group has v^q mod m = 1
-    e=EXPONENT       the exponent, of a root sheet
-    K=COUNT          the challenge count; the largest that q or e allows where it is left out
-    h=VALUE,...      the public values of the pattern, in its order; with linear the generators h1, h2, ..., 1 to 8 of them
+    q=ORDER          the order of an exponent sheet. An element v of the group has v^q mod m = 1
+    e=EXPONENT       the exponent of a root sheet
+    K=COUNT          the challenge count. If it is left out, it is the largest that q or e allows
+    h=VALUE,...      the public values of the pattern, in its order. With linear, the generators h1, h2, ..., from 1 to 8
     table=ENTRY,...  the entries, with commas within a row and / between rows
-    row=ROW          a row of the statement, in quotes: a product of powers of the generators whose exponents are secrets x1,
-                     x2, ... or linear forms of them, such as 'h1^x3 h2^x1' or 'h1^(x1 + 2x2) h2^(x1 - x2)'. There is one
-                     row= for each row, in their order
+    row=ROW          a row of the statement, in quotes: a product of powers of the generators. An exponent is a secret x1, x2,
+                     ... or a linear form of secrets, as in 'h1^x3 h2^x1' or 'h1^(x1 + 2x2) h2^(x1 - x2)'. Give one row= for
+                     each row, in order
     z=VALUE,...      the statement, a value for each row
-    x=VALUE,...      a witness, a value for each column, of which the statement is computed. A root sheet has as many rows and
-                     columns as z or x has values
-    x=random         a witness that the system's generator draws, which is told after the sheet
-    --patterns FILE  a pattern file; the shipped one where it is left out
-    -o SHEET         where the sheet is written; --force writes over a file that is there
+    x=VALUE,...      a witness, a value for each column. A root sheet has as many rows and columns as z or x has values
+    x=random         a witness that the system's generator draws. It is printed after the sheet
+    --patterns FILE  a pattern file. If it is left out, the shipped file is taken
+    -o SHEET         the file to write
+    --force          writes over a file that is there
 
 Example:
     $ dimkhoros make schnorr m=23 q=11 h=2 x=7 -o sheet.bin
@@ -133,8 +133,8 @@ fn without_statement(words: &Words, asked: &Asked) -> Outcome<Instance> {
         Refusal::Order => Failure::refused(refusal, format!("{order} in {letter}=")),
         Refusal::Challenges => {
             let header = Header { kind, modulus, order, challenges, rows: 1, columns: 1 };
-            let (rule, allowed) = (refusal.sentence(), allowed::by(refusal, &header));
-            Failure::cause(refusal, format!("{challenges} in K=: {rule}{allowed}"))
+            let why = causes::challenges(&header);
+            Failure::cause(refusal, format!("{challenges} in K=: {why}"))
         }
         _ => asked.refused([modulus, order, challenges], refusal),
     })

@@ -8,6 +8,7 @@ mod progress;
 mod separated;
 mod warnings;
 
+use crate::command_line::colour;
 use crate::command_line::failure::{Failure, Outcome};
 use crate::command_line::files;
 use crate::command_line::table::{self, Set};
@@ -21,35 +22,35 @@ use std::io::Write;
 pub const HELP: &str = "\
 usage: dimkhoros mark [--sheet SHEET] [--level W] [--csv | --json] FOLDER...
 
-Marks the rounds in each folder by the course's sheet and level. A folder passes if every round is accepted and the product of
-one K for each round is at least 2^W. Without --sheet or --level the folder's own sheet.bin or level.bin counts, as in the
-program `marker`. A student can then pass by a small sheet or a low level that he brings along.
+Marks the rounds in each folder by the course's sheet and level. A folder with R rounds passes if every round is accepted and K^R
+is at least 2^W. Without --sheet or --level, the folder's own sheet.bin or level.bin counts, as in the program `marker`. A student
+can then pass with a small sheet or a low level.
 
-A pass says that the rounds are accepted. It shows that Peggy knows a witness only if Vic's box wrote the file: anyone can make
-accepted rounds for challenges that he chooses himself.
+A pass says that the rounds are accepted. It shows that Peggy knows a witness only if Vic's box wrote the file. Anyone can make
+accepted rounds for challenges of their own choice.
 
-There is a line for each folder: pass, fail, or which file is refused, sheet, file (the round file) or level, with the number of
-the refusal; then which rounds are rejected and refused, by their numbers from 0, or what else is wrong; then notes, which are
-also written to standard error and change no mark. `dimkhoros reason FOLDER` says more of one folder. The exit status is 0 if
-all folders were marked, whatever the marks are, and 1 if one cannot be read.
+There is a line for each folder. First comes pass, fail, or the file that is refused, with the number of the refusal: sheet, file
+(the round file) or level. Then come the rounds that are rejected and refused, by their numbers from 0, or what else is wrong.
+Notes come last. They are also written to standard error, and they change no mark. `dimkhoros reason FOLDER` says more about a
+folder. The exit status is 0 if all folders were marked, whatever the marks are, and 1 if one cannot be read.
 
 Notes say that a folder's own sheet.bin or level.bin is not the course's; that two folders have the same rounds.bin; that
 rounds have the same commitment and not all the same challenge, so that the nonce was used twice; and that the same round is there
-twice. If --sheet is left out and the folders have different sheets, a warning on standard error says so, and the same holds of
+twice. If --sheet is left out and the folders have different sheets, a warning on standard error says so. The same holds for
 --level.
 
-    FOLDER         a folder with the round file in rounds.bin, and the sheet in sheet.bin and the level in level.bin, which is
-                   one byte, as printf '\\7' writes it. A folder that is called -dash or k=3 stands after the word --
+    FOLDER         a folder with the round file in rounds.bin, the sheet in sheet.bin and the level in level.bin, which
+                   `dimkhoros level` writes. If its name begins with - or looks like a value, put -- before it
     --sheet SHEET  the course's sheet, for all folders
     --level W      the course's level, a number from 1 to 64, for all folders
-    --csv          comma-separated values in the place of the table, with a line of their names, and no summary: folder; result,
-                   which is pass, fail, sheet, file, level or unread; refusal, the number if a file is refused; rounds and, of
-                   these, accepted, rejected and refused; level; why, as in the table; not_accepted, the numbers of the rounds
-                   that are not; sheet, the checksum that the command cksum prints of it, and its m, l (q or e), K, s (rows),
-                   n (columns) and z; notes. What is not known is empty. A folder's name that a spreadsheet would take for a
-                   formula begins with ./
-    --json         JSON in the place of the table: a list with an object for each folder, with folder, result, refusal, rounds,
-                   accepted, rejected and refused (the numbers of the rounds), level, why and notes. What is not known is null
+    --csv          prints comma-separated values, with a line of their names and no summary: folder; result, which is pass, fail,
+                   sheet, file, level or unread; refusal, the number if a file is refused; rounds and, of these, accepted,
+                   rejected and refused; level; why, as in the table; not_accepted, the numbers of the rounds that are not;
+                   sheet, the checksum that the command cksum prints of it, and its m, l (q or e), K, s (rows), n (columns) and
+                   z; notes. What is not known is empty. If a spreadsheet would take a folder's name for a formula, the name
+                   begins with ./
+    --json         prints JSON: a list with an object for each folder, with folder, result, refusal, rounds, accepted, rejected
+                   and refused (the numbers of the rounds), level, why and notes. What is not known is null
 
 Example:
     $ dimkhoros make schnorr m=23 q=11 h=2 x=7 -o sheet.bin
@@ -124,7 +125,7 @@ fn listed(marks: &[Mark]) -> String {
     let line = |mark: &Mark| {
         let said = [mark.why(), mark.noted()];
         let said: Vec<String> = said.into_iter().filter(|said| !said.is_empty()).collect();
-        vec![mark.name.clone(), mark.result(), said.join("; ")]
+        vec![mark.name.clone(), colour::verdict(&mark.result()), said.join("; ")]
     };
     let lines: Vec<Vec<String>> = marks.iter().map(line).collect();
     format!("{}\n{}\n", table::lines("", &[Set::Left; 3], &lines), Tally::of(marks))

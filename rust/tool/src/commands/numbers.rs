@@ -11,10 +11,10 @@ use std::io::Write;
 pub const HELP: &str = "\
 usage: dimkhoros numbers bits=BITS
 
-Proposes numbers for a sheet whose modulus has so many bits: for kind 1, exponent, the largest prime m = 2q + 1 with a prime q,
-the least generators of the group of order q, and the largest K; for kind 2, root, a product m of two primes, a prime e with
-which each element has one root, and the largest K. They are found by search over the library's own tests. Numbers of 32 bits
-protect nothing: they are for teaching.
+Proposes numbers for a sheet whose modulus m has so many bits. For kind 1, exponent: the largest prime m = 2q + 1 with a prime q,
+the least generators of the group of order q, and the largest K. For kind 2, root: a product m of two primes, a prime e with which
+each element has one root, and the largest K. They are found by search, with the library's own tests. Numbers of 32 bits protect
+nothing. They are for teaching.
 
     bits=BITS  how many bits m has, 4 to 32
 
@@ -34,7 +34,7 @@ const GRAMMAR: Grammar =
 pub fn run(words: Vec<OsString>, out: &mut dyn Write) -> Outcome {
     let words = Words::sort(words, &GRAMMAR)?;
     let bits = bits(&words)?;
-    let none = || Failure::failed(format!("there are no such numbers of {bits} bits"));
+    let none = || Failure::failed(format!("no numbers of {bits} bits are found"));
     let Exponent { modulus, order, generators, challenges } =
         proposed::exponent(bits).ok_or_else(none)?;
     let first = generators.first().copied().unwrap_or(1);

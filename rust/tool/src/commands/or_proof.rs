@@ -17,17 +17,18 @@ usage: dimkhoros or make SHEET0 SHEET1 x0=VALUE,... k0=VALUE,... c1=CHALLENGE r1
        dimkhoros or judge SHEET0 SHEET1 ROUND
        dimkhoros or extract SHEET0 SHEET1 ROUND ROUND
 
-The OR proof shows a witness of one of two sheets, its sides, and not of which. `make` makes the round of a Peggy who knows a
-witness of one side and simulates the other. `judge` writes out the equations of both sides and gives the verdict; a rejected
-round has the exit status 0 too. `extract` gives the witness of two accepted rounds with the same t0 and t1 and another c.
+The OR proof of two sheets shows that Peggy knows a witness of one of them, and not of which one. The two sheets are its sides.
+`make` makes the round of a Peggy who knows a witness of one side and simulates the other. `judge` writes out the equations of
+both sides and gives the verdict. The exit status is 0 even if the round is rejected. `extract` computes the witness that two
+accepted rounds with the same t0 and t1 and different c give away.
 
     SHEET0           the sheet of side 0
     SHEET1           the sheet of side 1, with the same K
-    x0= k0= x1= k1=  witness and nonce of the side that is known, a value for each column
+    x0= k0= x1= k1=  witness and nonce of the side that Peggy knows, a value for each column
     c0= r0= c1= r1=  challenge and response of the other side, which is simulated
-    c=CHALLENGE      a challenge, from 0 to K - 1. Where `make` has several, one nonce answers all of them, as no Peggy may
-    ROUND            t0= t1= c= c0= r0= r1=, where side 1 has the challenge (c - c0) mod K. The second round of `extract`
-                     has the first one's t0 and t1 where they are left out
+    c=CHALLENGE      a challenge, from 0 to K - 1. If `make` has several, one nonce answers all of them, as no Peggy may
+    ROUND            t0= t1= c= c0= r0= r1=. Side 1 has the challenge (c - c0) mod K. If the second round of `extract` has no
+                     t0= and t1=, it has the first one's
 
 Example:
     $ dimkhoros make schnorr m=23 q=11 K=5 h=2 x=7 -o a.bin

@@ -15,13 +15,14 @@ pub const HELP: &str = "\
 usage: dimkhoros patterns [FILE]
        dimkhoros patterns make PATTERN... -o FILE
 
-Shows the patterns of a pattern file, or the shipped ones where no file is named. With the word make it makes a pattern file of
-1 to 32 patterns, which `dimkhoros make --patterns FILE` takes.
+Shows the patterns of a pattern file. If no file is named, it shows the shipped patterns. With the word make, it makes a pattern
+file of 1 to 32 patterns for `dimkhoros make --patterns FILE`.
 
-    FILE     a pattern file; one that is itself called make is named as ./make
-    PATTERN  the name of a shipped pattern, or rows of digits with / between them: digit 1 stands for the first public value, 2
-             for the second and so on, and 0 for the entry 1
-    -o FILE  where the file is written; --force writes over a file that is there
+    FILE     a pattern file. If its name is make, write ./make
+    PATTERN  the name of a shipped pattern, or rows of digits with / between them. Digit 1 stands for the first public value, 2
+             for the second and so on, and 0 stands for the entry 1
+    -o FILE  the file to write
+    --force  writes over a file that is there
 
 Example:
     $ dimkhoros patterns make schnorr 01/12 -o own.bin
@@ -57,7 +58,7 @@ pub fn run(words: Vec<OsString>, out: &mut dyn Write) -> Outcome {
     match words.plain() {
         [first, patterns @ ..] if first == "make" => make(&words, patterns, out),
         _ if words.option("-o").is_some() || words.flag("--force") => {
-            Err(Failure::words("-o and --force stand behind the word make"))
+            Err(Failure::words("-o and --force come after the word make"))
         }
         [] => Ok(out.write_all(show::patterns::text(None, &Patterns::shipped()).as_bytes())?),
         [file] => {
@@ -165,12 +166,9 @@ pub fn number(word: &str, shipped: bool) -> Outcome<u32> {
 fn no_pattern(word: &str, shipped: bool) -> Failure {
     let names = NAMES.map(|(name, _)| name);
     Failure::words(if shipped {
-        format!(
-            "there is no pattern {word}, but {}, and the word linear",
-            notation::enumerated(&names, "and")
-        )
+        format!("there is no pattern {word}; write linear, {}", notation::enumerated(&names, "or"))
     } else {
-        format!("there is no pattern {word}: those of a file are named by their numbers")
+        format!("there is no pattern {word}; the patterns of a file are named by their numbers")
     })
 }
 
@@ -188,7 +186,7 @@ pub fn of_bytes(path: &Path, bytes: &[u8]) -> Outcome<Patterns> {
         let (name, instead) = (files::name(path), faults::instead(bytes, b"PAT"));
         match faults::in_patterns(bytes) {
             Some(fault) => Failure::failed(fault.told(&name, instead)),
-            None => Failure::cause(refusal, format!("{name} is no pattern file{instead}")),
+            None => Failure::cause(refusal, format!("{name} is not a pattern file{instead}")),
         }
     };
     Patterns::load(bytes).map_err(fault)

@@ -2,6 +2,7 @@
 
 mod whole;
 
+use crate::command_line::colour;
 use crate::command_line::failure::{Failure, Outcome, numbered};
 use crate::command_line::files;
 use crate::command_line::json::Json;
@@ -20,20 +21,19 @@ pub const HELP: &str = "\
 usage: dimkhoros reason [--sheet SHEET] [--level W] [--json] FOLDER [ROUND]
        dimkhoros reason [--level W] [--json] SHEET ROUNDS [ROUND]
 
-Says why a student's rounds fail. The first line is the one that `./run reason FOLDER` prints: it is on the sheet, the round
-file and the file's round 0. Then comes the same in words: which value at which byte breaks which rule, or both sides of each
-row of round 0. Then it is said whether the whole file passes. If it fails, all other rounds that are rejected or refused are
-named, with the row or the number, and how many rounds the level asks for if there are too few. With ROUND, the first line and
-the words are on the round of this number. The exit status is 0 whatever is said, and 1 if the sheet or the round file cannot be
-read.
+Says why a student's rounds fail. The first line is the one that `./run reason FOLDER` prints. It is on the sheet, the round file
+and the file's round 0. Then comes the same in words: which value at which byte breaks which rule, or both sides of each row of
+round 0. Then comes whether the whole file passes. If it fails, all other rounds that are rejected or refused are named, with the
+row or the number. If there are too few rounds, it says how many the level asks for. With ROUND, the first line and the words are
+on the round of this number. The exit status is 0 whatever is said, and 1 if the sheet or the round file cannot be read.
 
     FOLDER         a folder with the sheet in sheet.bin, the round file in rounds.bin and the level in level.bin
     ROUND          the number of a round, from 0
     SHEET          a sheet
     ROUNDS         a round file of the sheet
-    --sheet SHEET  the course's sheet, in the place of the folder's own
-    --level W      the course's level, a number from 1 to 64, in the place of the folder's own
-    --json         prints JSON: an object with sheet, rounds, round, verdict, which is the first word of the line, line and words
+    --sheet SHEET  the course's sheet, instead of the folder's own
+    --level W      the course's level, a number from 1 to 64, instead of the folder's own
+    --json         prints JSON: an object with sheet, rounds, round, verdict (the first word of the line), line and words
 
 Example:
     $ mkdir b
@@ -111,7 +111,7 @@ struct Asked {
 /// How files are named.
 #[derive(PartialEq)]
 enum By {
-    /// By their folder, which has to have a level too.
+    /// By their folder, which must have a level too.
     Folder,
     /// Each by its own name.
     Names,
@@ -209,7 +209,7 @@ impl Asked {
             }
             (Some(fault), _) => broken(&fault, name, &faults::sheet_header(self.folder.bytes()[0])),
         };
-        format!("{line}\n{words}")
+        format!("{}\n{words}", colour::verdict(&line))
     }
 
     /// The line and the words on the round that is asked for, or on round 0.
@@ -227,15 +227,15 @@ impl Asked {
             }
             None => judged(sheet, number, &round)?,
         };
-        Ok(format!("{line}\n{words}"))
+        Ok(format!("{}\n{words}", colour::verdict(&line)))
     }
 }
 
-/// Says that the one word is no folder.
+/// Says that the one word is not a folder.
 fn no_folder(path: &Path) -> Failure {
     let name = files::name(path);
     if path.exists() {
-        Failure::words(format!("{name} is no folder, and after SHEET the word ROUNDS is missing"))
+        Failure::words(format!("{name} is not a folder, and ROUNDS is missing after SHEET"))
     } else {
         Failure::failed(format!("{name} cannot be read: there is no such folder"))
     }
@@ -253,6 +253,7 @@ fn judged(sheet: &Instance, number: usize, round: &Round) -> Outcome<String> {
     } else {
         ("rejects", "does not hold")
     };
+    let verdict = colour::verdict(verdict);
     let t = notation::by_row(sheet, &round.commitment);
     let (c, r) = (round.challenge, notation::by_column(sheet, &round.response));
     let equations = equation::lines(&[(sheet, *round)])?;

@@ -21,18 +21,19 @@ usage: dimkhoros rounds make SHEET [ROUND...] [--version 2] -o ROUNDS
        dimkhoros rounds convert SHEET ROUNDS -o FILE
        dimkhoros rounds equal SHEET ROUNDS
 
-Makes a round file of 0 to 512 rounds, adds rounds to one, lists one with Vic's verdicts, turns version 1 into 2 or 2 into 1,
-and finds rounds with the same commitment, of which `dimkhoros extract` makes the witness. t, c and r are written as they stand,
-without being tested: `list` shows what Vic says of them.
+Round files. `make` makes a file of 0 to 512 rounds. `append` adds rounds to a file. `list` lists its rounds with Vic's verdicts.
+`convert` turns version 1 into 2, or 2 into 1. `equal` finds rounds with the same commitment, from which `dimkhoros extract`
+computes the witness. t, c and r are written without a test. `list` shows what Vic says of them.
 
     SHEET         a sheet
     ROUNDS        a round file of the sheet
-    ROUND         t= c= r= as it stands; or c= r= simulated, with the commitment that fits them; or x= k= c= as a Peggy with this
-                 witness and nonce makes it. A round is whole before the next one begins
-    --draw COUNT  makes so many rounds of a Peggy with the witness x, whose nonces and challenges the system's generator draws
-    --version 2   writes a challenge in 16 bits; version 1, in 32 bits, where it is left out
+    ROUND         a round in one of three forms. t= c= r= is written as it is. c= r= is simulated, with the commitment that
+                  fits. x= k= c= is made by a Peggy with this witness and nonce. The values of a round stand together
+    --draw COUNT  makes so many rounds of a Peggy with the witness x. The system's generator draws nonces and challenges
+    --version 2   writes a challenge in 16 bits. If it is left out, the file has version 1, with 32 bits
     --json        `list` prints JSON: the rounds with their verdicts
-    -o FILE       where the file is written; --force writes over a file that is there. `append` without -o adds to ROUNDS itself
+    -o FILE       the file to write. Without -o, `append` adds to ROUNDS itself
+    --force       writes over a file that is there
 
 Example:
     $ dimkhoros make schnorr m=23 q=11 h=2 x=7 -o sheet.bin

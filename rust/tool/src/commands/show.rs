@@ -22,15 +22,15 @@ usage: dimkhoros show SHEET [--json]
        dimkhoros show PATTERNS [--json]
        dimkhoros show FOLDER [--json]
 
-Shows a sheet, a round file of a sheet, a pattern file, or the files of a student's folder: its fields, its tables and its formulas. A file that is refused is
-told on standard error, with the number of the refusal, the byte and the value that is wrong, and the exit status is 1. Rounds
-that are rejected or refused are shown with the others.
+Shows a sheet, a round file, a pattern file, or the files of a student's folder, in words and tables. Rounds that are rejected or
+refused are shown with the others. If a file is refused, standard error has the value that is wrong, its byte, the rule, and the
+number of the refusal. The exit status is then 1.
 
-    SHEET     a sheet, which begins with HOM
-    ROUNDS    a round file of the sheet, which begins with RND
-    PATTERNS  a pattern file, which begins with PAT
-    --json    prints JSON: an object with the file's numbers
+    SHEET     a sheet. It begins with HOM
+    ROUNDS    a round file of the sheet. It begins with RND
+    PATTERNS  a pattern file. It begins with PAT
     FOLDER    a folder with the sheet in sheet.bin, the round file in rounds.bin and the level in level.bin
+    --json    prints JSON: an object with the file's numbers
 
 Example:
     $ dimkhoros make schnorr m=23 q=11 h=2 x=7 -o sheet.bin
@@ -64,7 +64,7 @@ Example:
     rounds.bin has 19 bytes
     $ dimkhoros show sheet.bin rounds.bin
     rounds.bin is a round file of 19 bytes with 1 round, in version 1.
-    Vic accepts where [r] = t · z^c, with x ↦ [x] = 2^x mod 23 and z = 13.
+    Vic accepts if [r] = t · z^c, with x ↦ [x] = 2^x mod 23 and z = 13.
 
     round  t  c  r  verdict
         0  9  1  2  rejected in row 0

@@ -12,8 +12,8 @@ use std::io::Write;
 pub const HELP: &str = "\
 usage: dimkhoros simulate SHEET c=CHALLENGE [r=VALUE,...]
 
-Makes the one commitment with which Vic accepts a challenge and a response: t = [r] · z^(-c). No witness is needed. Without r
-all responses are taken in turn, where there are 512 at most.
+Makes the one commitment with which Vic accepts a challenge and a response: t = [r] · z^(-c). No witness is needed. Without r, all
+responses are taken in turn, if there are at most 512.
 
     SHEET        a sheet
     c=CHALLENGE  a challenge, from 0 to K - 1

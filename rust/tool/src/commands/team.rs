@@ -3,6 +3,7 @@
 mod join;
 mod players;
 
+use crate::command_line::colour;
 use crate::command_line::failure::{Failure, Outcome};
 use crate::command_line::table::{self, Set};
 use crate::command_line::words::{Grammar, Words};
@@ -18,18 +19,18 @@ pub const HELP: &str = "\
 usage: dimkhoros team SHEET z=VALUE,... z=VALUE,... [t=VALUE,... t=VALUE,... [c=CHALLENGE r=VALUE,... r=VALUE,...]]
        dimkhoros team SHEET x=VALUE,... x=VALUE,... [k=VALUE,... k=VALUE,... [c=CHALLENGE]]
 
-Joins the rounds of two to eight players, each of whom holds a part of the witness, to one round of the sheet: commitments are
-multiplied, and responses are joined like witnesses. Each player's round is judged under the player's own image, and the joined
-one under the statement. With x and k the players' rounds are made, and beside them that of a single Peggy with the joined
-witness and the joined nonce.
+Joins the rounds of two to eight players to one round of the sheet. Each player holds a part of the witness. Commitments are
+multiplied, and responses are joined as witnesses are. Each player's round is judged with the player's own image for the
+statement, and the joined round with the sheet's statement. With x and k, the players' rounds are made, and after them that of a
+single Peggy with the joined witness and the joined nonce.
 
     SHEET        a sheet
-    z=VALUE,...  a player's image, a value for each row. The first is player 0's, and all of them multiply to the statement
+    z=VALUE,...  a player's image, a value for each row. The first is player 0's. Together they multiply to the statement
     t=VALUE,...  a player's commitment, a value for each row, in the order of the images
-    c=CHALLENGE  a challenge, from 0 to K - 1, which is the same for all
+    c=CHALLENGE  a challenge, from 0 to K - 1. It is the same for all players
     r=VALUE,...  a player's response, a value for each column
-    x=VALUE,...  a player's part of the witness, a value for each column, in the place of the image
-    k=VALUE,...  a player's nonce, a value for each column, in the place of the commitment
+    x=VALUE,...  a player's part of the witness, a value for each column. It takes the place of z
+    k=VALUE,...  a player's nonce, a value for each column. It takes the place of t
 
 Example:
     $ dimkhoros make schnorr m=23 q=11 h=2 x=7 -o sheet.bin
@@ -101,6 +102,7 @@ pub fn run(words: Vec<OsString>, out: &mut dyn Write) -> Outcome {
 /// The table of the players and, below them, the team, with their verdicts where there are rounds.
 fn listed(columns: &[Column<'_>], verdicts: &[Verdict]) -> String {
     let players = columns[0].values.len();
+    let said = |verdict: &Verdict| colour::verdict(&verdict.to_string());
     let line = |name: String, value: &dyn Fn(&Column<'_>) -> String, verdict: Option<String>| {
         let mut line = vec![name];
         line.extend(columns.iter().map(value));
@@ -110,11 +112,11 @@ fn listed(columns: &[Column<'_>], verdicts: &[Verdict]) -> String {
     let head = (!verdicts.is_empty()).then(|| "verdict".to_string());
     let mut lines = vec![line("player".to_string(), &|column| column.letter.to_string(), head)];
     for player in 0..players {
-        let verdict = verdicts.get(player).map(Verdict::to_string);
+        let verdict = verdicts.get(player).map(said);
         let value = |column: &Column<'_>| column.text(&column.values[player]);
         lines.push(line(player.to_string(), &value, verdict));
     }
-    let verdict = verdicts.get(players).map(Verdict::to_string);
+    let verdict = verdicts.get(players).map(said);
     lines.push(line("team".to_string(), &|column| column.text(&column.joined), verdict));
     let mut set = vec![Set::Right; columns.len() + 1];
     set.push(Set::Left);

@@ -1,5 +1,6 @@
 //! The command `watch`: nonces that were used twice in the round files of a term.
 
+use crate::command_line::colour;
 use crate::command_line::failure::{Failure, Outcome};
 use crate::command_line::files;
 use crate::command_line::table::{self, Set};
@@ -15,17 +16,19 @@ use std::path::Path;
 pub const HELP: &str = "\
 usage: dimkhoros watch SHEET ROUNDS...
 
-Goes through the round files of a term in order, and names each nonce that was used twice: an accepted round with the same
-commitment as an earlier accepted one and another challenge. The two rounds give the witness away, and it is shown.
+Finds nonces that were used twice in the round files of a term, which are read in order. A nonce was used twice if an accepted
+round has the same commitment as an earlier accepted round and a different challenge. The two rounds give the witness away, and
+it is shown.
 
-There is a line for each: the file of the round, its number from 0 and its challenge; the same of the earlier round; back, how
-many accepted rounds back that one stands, 1 being the accepted round just before; the commitment t of both; and the witness x.
-Of several earlier rounds the nearest is named. Rounds that are rejected or refused are left aside. Below it stands the count of all.
+There is a line for each reuse: the file of the round, its number from 0 and its challenge; the same of the earlier round; back,
+how many accepted rounds back that one stands, with 1 for the accepted round just before; the commitment t of both; and the
+witness x. If there are several earlier rounds, the nearest is named. Rounds that are rejected or refused are skipped. The last
+lines count all rounds.
 
-The watch remembers the last 63 accepted rounds. So uses that are more than 63 accepted rounds apart are not seen.
+The watch remembers the last 63 accepted rounds. Uses that are more than 63 accepted rounds apart are not seen.
 
-A file that cannot be read, or is no round file of the sheet, is named on standard error, and the others are still gone through.
-The exit status is then 1, and else 0, whether there are reuses or not.
+If a file cannot be read, or is not a round file of the sheet, standard error names it, and the others are still read. The exit
+status is then 1. Otherwise it is 0, whether there are reuses or not.
 
     SHEET   the sheet of all rounds
     ROUNDS  a round file of the sheet, of version 1 or 2
@@ -176,9 +179,13 @@ impl<'a> Term<'a> {
     fn summary(&self) -> String {
         let (accepted, rejected, refused) = (self.accepted.len(), self.rejected, self.refused);
         let rounds = counted(accepted + rejected + refused, "round");
-        let (files, reuses) = (counted(self.files, "file"), counted(self.reused.len(), "reuse"));
+        let (files, reused) = (counted(self.files, "file"), self.reused.len());
+        let [accepted, rejected, refused] =
+            [(accepted, "accepted"), (rejected, "rejected"), (refused, "refused")]
+                .map(|(count, word)| colour::count(count, word));
+        let reuses = colour::count(reused, if reused == 1 { "reuse" } else { "reuses" });
         format!(
-            "{rounds} in {files}: {accepted} accepted, {rejected} rejected, {refused} refused; {reuses}\n\
+            "{rounds} in {files}: {accepted}, {rejected}, {refused}; {reuses}\n\
              Uses that are more than {MOST_REMEMBERED} accepted rounds apart are not seen.\n"
         )
     }

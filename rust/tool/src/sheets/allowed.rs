@@ -1,16 +1,11 @@
 //! What the rules on values allow on a sheet.
 
-use crate::sheets::{largest_of, order_letter};
 use dimkhoros::{EXPONENT, Header, Refusal};
 
-/// What a rule allows on a sheet with this header, as it stands behind a line that says that the rule is broken: nothing where
-/// the rule is on something else than a value.
+/// What a rule allows on a sheet with this header, as it stands after a line that says that the rule is broken: nothing if the
+/// rule is on something else than a value.
 pub fn by(refusal: Refusal, header: &Header) -> String {
     match refusal {
-        Refusal::Challenges => {
-            let (letter, order) = (order_letter(header), header.order);
-            format!("; the largest K that {letter} = {order} allows is {}", largest_of(header))
-        }
         Refusal::Entry | Refusal::Statement | Refusal::Commitment => {
             format!("; the group has {}", group(header))
         }

@@ -107,16 +107,16 @@ pub fn of_two(
         (Refusal::ChallengesEqual, _) => {
             Failure::refused(refusal, format!("{challenge} in both c="))
         }
-        (Refusal::RoundRejected, _) => Failure::refused(refusal, which(rejected, [0, 1])),
+        (Refusal::RoundRejected, _) => Failure::refused(refusal, self::rejected(rejected, [0, 1])),
         _ => refusal.into(),
     }
 }
 
-/// Which of two rounds with these numbers it is, such as `round 1`, or that it is both.
-pub fn which(is: [bool; 2], [first, second]: [usize; 2]) -> String {
+/// Which of two rounds with these numbers is rejected, or that both are.
+pub fn rejected(is: [bool; 2], [first, second]: [usize; 2]) -> String {
     match is {
-        [true, false] => format!("round {first}"),
-        [false, _] => format!("round {second}"),
-        [true, true] => format!("rounds {first} and {second}"),
+        [true, false] => format!("round {first} is rejected"),
+        [false, _] => format!("round {second} is rejected"),
+        [true, true] => format!("rounds {first} and {second} are rejected"),
     }
 }

@@ -71,8 +71,8 @@ pub fn tried(
     group: &[usize],
     with: Option<usize>,
 ) -> Vec<Tried> {
-    let behind = |first: usize| group.iter().filter(move |second| **second > first);
-    let pairs = group.iter().flat_map(|first| behind(*first).map(move |second| [*first, *second]));
+    let later = |first: usize| group.iter().filter(move |second| **second > first);
+    let pairs = group.iter().flat_map(|first| later(*first).map(move |second| [*first, *second]));
     let mut all: Vec<Tried> = Vec::new();
     for pair in pairs.filter(|pair| with.is_none_or(|number| pair.contains(&number))) {
         let answer = sheet.extract(&rounds[pair[0]], &rounds[pair[1]]);

@@ -9,9 +9,10 @@ mod tests;
 pub use fields::{instead, round_header, sheet_header};
 
 use crate::command_line::failure::numbered;
+use crate::sheets::causes;
 use crate::sheets::notation::counted;
 use dimkhoros::{
-    EMPTY_FILE, Instance, LONGEST_REASON, PLACES, Pattern, Patterns, Plan, Refusal, Round,
+    EMPTY_FILE, Header, Instance, LONGEST_REASON, PLACES, Pattern, Patterns, Plan, Refusal, Round,
     RoundFile, RoundWriter, reason,
 };
 use std::fmt;
@@ -23,6 +24,8 @@ pub struct Fault {
     pub refusal: Refusal,
     /// What breaks its rule.
     pub found: Found,
+    /// The cause that applies, if the refusal has several and more than the value is needed to tell.
+    pub cause: Option<String>,
 }
 
 /// What breaks a rule.
@@ -57,12 +60,13 @@ impl Fault {
 impl Fault {
     /// What is wrong with the file of a name, what the rule allows, and the number of the refusal, in a line.
     pub fn told(&self, name: &str, allowed: &str) -> String {
-        let Fault { refusal, found } = self;
-        let rule = match found {
-            Found::Length { .. } => {
+        let Fault { refusal, found, cause } = self;
+        let rule = match (found, cause) {
+            (Found::Length { .. }, _) => {
                 return numbered(*refusal, format!("{name} has {found}{allowed}"));
             }
-            Found::Value { offset, value } => rules::of(*refusal, *offset, value),
+            (_, Some(cause)) => cause.clone(),
+            (Found::Value { offset, value }, None) => rules::of(*refusal, *offset, value),
         };
         numbered(*refusal, format!("{name}: {found}: {rule}{allowed}"))
     }
@@ -98,7 +102,21 @@ pub fn in_sheet(sheet: &[u8]) -> Option<Fault> {
         Some(length) => format!("its header asks for {length}"),
         None => format!("the header of a sheet has {}", fields::SHEET_HEADER),
     };
-    Some(told.fault(needed, |offset| fields::in_sheet(sheet, offset)))
+    let fault = told.fault(needed, |offset| fields::in_sheet(sheet, offset));
+    Some(Fault { cause: of_header(fault.refusal, &sheet_header(sheet)), ..fault })
+}
+
+/// The cause of a refusal by the counts in a sheet's header.
+fn of_header(refusal: Refusal, header: &Header) -> Option<String> {
+    match refusal {
+        Refusal::Shape => {
+            let [_, why] =
+                causes::shape([header.rows, header.columns].map(|count| count as usize), "column");
+            Some(why)
+        }
+        Refusal::Challenges => Some(causes::challenges(header)),
+        _ => None,
+    }
 }
 
 /// The fault of a round file of a sheet, or of its first round.
@@ -151,7 +169,7 @@ pub fn line(sheet: &Instance, file: &RoundFile<'_>, number: usize) -> Option<Str
     let mut buffer = [0; LONGEST_ROUND];
     let alone = alone(sheet, file.version(), &file.read(number).ok()?, &mut buffer).ok()?;
     match in_round(sheet, file, number) {
-        Some(Fault { refusal, found: Found::Value { offset, .. } }) => {
+        Some(Fault { refusal, found: Found::Value { offset, .. }, .. }) => {
             Some(format!("refused {} {offset}\n", refusal.number()))
         }
         _ => Some(reason(sheet.bytes(), alone, &mut [0; LONGEST_REASON]).to_string()),
@@ -165,7 +183,7 @@ pub fn in_patterns(file: &[u8]) -> Option<Fault> {
         Refusal::PatternFile => patterns::wrong_shape(file),
         _ => patterns::wrong_digit(file),
     };
-    Some(Fault { refusal, found: found? })
+    Some(Fault { refusal, found: found?, cause: None })
 }
 
 /// A refusal as the library's line tells it.
@@ -197,7 +215,7 @@ impl Told {
         } else {
             Found::Value { offset: self.number, value: value(self.number) }
         };
-        Fault { refusal: self.refusal, found }
+        Fault { refusal: self.refusal, found, cause: None }
     }
 }
 

@@ -71,10 +71,11 @@ impl Folder {
         Folder { place: [0; 2], sheet, rounds, level, unread_level: None, others: Vec::new() }
     }
 
-    /// That files of its own are not the course's, a sentence each without its full stop, which begins with whose they are.
-    pub fn differences(&self, whose: &str) -> impl Iterator<Item = String> {
+    /// That files of its own are not the course's, a sentence each without its full stop, which begins with whose they are. The
+    /// course's file is the one by which the folder is `done`.
+    pub fn differences(&self, whose: &str, done: &str) -> impl Iterator<Item = String> {
         let sentence = move |name| {
-            format!("{whose} own {name} differs from the course's, by which it is marked")
+            format!("{whose} own {name} differs from the course's, by which it is {done}")
         };
         self.others.iter().map(sentence)
     }
@@ -137,7 +138,7 @@ impl Folder {
     fn found(&self, refusal: Refusal) -> Option<Fault> {
         let [sheet, rounds, level] = self.bytes();
         match refusal {
-            Refusal::Level => Some(Fault { refusal, found: of_level(level) }),
+            Refusal::Level => Some(Fault { refusal, found: of_level(level), cause: None }),
             Refusal::File | Refusal::RoundNumber | Refusal::Commitment => {
                 faults::in_rounds(&Instance::load(sheet).ok()?, rounds)
             }
@@ -150,7 +151,7 @@ impl Folder {
 fn entered(folder: &Path) -> Outcome<[u64; 2]> {
     let why = match fs::metadata(folder) {
         Ok(found) if found.is_dir() => return Ok([found.dev(), found.ino()]),
-        Ok(_) => "it is no folder".to_string(),
+        Ok(_) => "it is not a folder".to_string(),
         Err(error) if error.kind() == ErrorKind::NotFound => "there is no such folder".to_string(),
         Err(error) => error.to_string(),
     };

@@ -1,5 +1,6 @@
 //! Rounds in a table, with what Vic says of them.
 
+use crate::command_line::colour;
 use crate::command_line::failure::rule;
 use crate::command_line::table::{self, Set};
 use crate::sheets::brought::{self, Brought};
@@ -42,14 +43,14 @@ struct Row {
 }
 
 impl Row {
-    /// A round with its verdict, or with the number of its refusal and what that is by, where it is known.
+    /// A round with its verdict, or with the number of its refusal and what that is by, if it is known.
     fn new(sheet: &Instance, round: &Round, by: impl Fn(Refusal) -> Option<String>) -> Row {
         let judged = sheet.judge(round);
         let said = match judged {
-            Ok(verdict) => verdict.to_string(),
+            Ok(verdict) => colour::verdict(&verdict.to_string()),
             Err(refusal) => {
                 let by = by(refusal).map_or_else(String::new, |by| format!(", by {by}"));
-                format!("refused {}{by}", refusal.number())
+                colour::verdict(&format!("refused {}{by}", refusal.number()))
             }
         };
         let t = notation::by_row(sheet, &round.commitment);
@@ -63,7 +64,7 @@ impl Row {
         Row::new(sheet, round, |refusal| brought::by(refusal, &values).map(|(by, _)| by))
     }
 
-    /// The row behind its number.
+    /// The row after its number.
     fn numbered(mut self, number: usize) -> Row {
         self.cells.insert(0, number.to_string());
         self

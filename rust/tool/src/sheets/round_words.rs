@@ -37,9 +37,9 @@ pub fn asked(sheet: &Instance, words: &Words) -> Outcome<Vec<Asked>> {
     let mut rounds = Vec::new();
     while let Some(first) = rest.first() {
         let length = if first.letter == "c" || first.letter == "r" { 2 } else { 3 };
-        let (round, behind) = rest.split_at(length.min(rest.len()));
+        let (round, others) = rest.split_at(length.min(rest.len()));
         rounds.push(one(sheet, round)?);
-        rest = behind;
+        rest = others;
     }
     Ok(rounds)
 }
@@ -70,7 +70,7 @@ fn one(sheet: &Instance, values: &[Value]) -> Outcome<Asked> {
 fn no_round(values: &[Value]) -> Failure {
     let letters: Vec<String> = values.iter().map(|value| format!("{}=", value.letter)).collect();
     let letters = letters.join(" ");
-    Failure::words(format!("{letters} is no round: a round is t= c= r=, or c= r=, or x= k= c="))
+    Failure::words(format!("{letters} is not a round: a round is t= c= r=, or c= r=, or x= k= c="))
 }
 
 impl Asked {

@@ -1,5 +1,6 @@
 //! Whether coordinates are a witness, in a line.
 
+use crate::command_line::colour;
 use crate::command_line::failure::Failure;
 use crate::sheets::notation;
 use dimkhoros::{Instance, Places, Refusal};
@@ -8,17 +9,17 @@ use dimkhoros::{Instance, Places, Refusal};
 pub fn is_witness(sheet: &Instance, x: &Places, statement: &str) -> String {
     let witness = notation::by_column(sheet, x);
     let image = notation::by_row(sheet, &sheet.values().statement);
-    format!("[{}] = {image} is {statement}: {witness} is a witness", notation::bare(&witness))
+    let bare = notation::bare(&witness);
+    format!("[{bare}] = {image} is {statement}: {witness} is a {}", colour::verdict("witness"))
 }
 
-/// Refuses coordinates of the domain that are called by a letter as no witness.
+/// Refuses coordinates of the domain that are called by a letter and are not a witness.
 pub fn no_witness(sheet: &Instance, letter: &str, x: &Places) -> Failure {
     let witness = notation::by_column(sheet, x);
     let bare = notation::bare(&witness);
     let image = sheet.image(x).unwrap_or_default();
     let [image, statement] =
         [&image, &sheet.values().statement].map(|values| notation::by_row(sheet, values));
-    let found =
-        format!("{witness} in {letter}=, as [{bare}] = {image} and the statement is {statement}");
-    Failure::refused(Refusal::Witness, found)
+    let what = format!("{letter} = {witness} is not a witness: [{bare}] = {image}");
+    Failure::cause(Refusal::Witness, format!("{what}, and the statement is {statement}"))
 }

@@ -232,17 +232,3 @@ fn an_output_to_nowhere_is_open() {
         assert_eq!(desk.print(&format!("dimkhoros check SHEET x=7 {nowhere}")), "", "{nowhere}");
     }
 }
-
-/// Colours are for a terminal, which `script` makes where it is there, and NO_COLOR leaves them out.
-#[test]
-fn colours_are_for_a_terminal() {
-    let desk = desk("colours");
-    assert!(!desk.print("dimkhoros xyzzy").contains('\u{1b}'));
-    if !desk.print("script --version").contains("util-linux") {
-        return;
-    }
-    let on_terminal =
-        |set: &str| desk.print(&format!("{set} script -qec 'dimkhoros xyzzy' /dev/null"));
-    assert!(on_terminal("NO_COLOR=").contains("\u{1b}[31mdimkhoros:\u{1b}[0m there is no command"));
-    assert!(!on_terminal("NO_COLOR=1").contains('\u{1b}'));
-}

@@ -1,6 +1,7 @@
 //! The tests of the program `dimkhoros`.
 
 mod browser;
+mod colours;
 mod desk;
 mod draws;
 mod examples;

@@ -2,6 +2,7 @@
 
 use crate::desk::Desk;
 use std::fs;
+use std::io::{self, Write};
 
 /// A desk with the pages, and their names.
 fn desk(name: &str) -> (Desk, Vec<String>) {
@@ -32,10 +33,21 @@ fn every_command_has_a_man_page_that_troff_reads() {
     assert!(pages.contains(&&"dimkhoros.1".to_string()), "{pages:?}");
 }
 
+/// Whether a shell is installed. If it is not, a line on standard error names what is not tried.
+fn has(desk: &Desk, shell: &str) -> bool {
+    let found = desk.print(&format!("{shell} -c 'echo there'")).contains("there");
+    if !found {
+        // The harness keeps back what a macro prints.
+        let line = format!("{shell} is not installed: not tried: that it completes words\n");
+        io::stderr().write_all(line.as_bytes()).unwrap();
+    }
+    found
+}
+
 #[test]
 fn bash_completes_commands_and_their_words() {
-    let (desk, _) = desk("completions");
-    if !desk.print("bash -c 'echo there'").contains("there") {
+    let (desk, _) = desk("completions of bash");
+    if !has(&desk, "bash") {
         return;
     }
     let completed = |words: &str, count: usize, last: &str| {
@@ -50,6 +62,61 @@ fn bash_completes_commands_and_their_words() {
     assert_eq!(completed("dimkhoros rounds co", 2, "co"), "convert");
     assert_eq!(completed("dimkhoros mark --c", 2, "--c"), "--csv");
     assert_eq!(completed("dimkhoros make x", 2, "x"), "x= x=random");
+    assert_eq!(completed("dimkhoros help gr", 2, "gr"), "grid");
+    assert_eq!(completed("dimkhoros rounds make co", 3, "co"), "");
+    assert_eq!(completed("dimkhoros show p", 2, "p"), "pages");
+}
+
+#[test]
+fn fish_completes_commands_and_their_words() {
+    let (desk, _) = desk("completions of fish");
+    if !has(&desk, "fish") {
+        return;
+    }
+    let completed = |words: &str| {
+        let program = format!("source pages/dimkhoros.fish; complete -C '{words}'");
+        let printed = desk.print(&format!("HOME=. fish --no-config -c \"{program}\""));
+        let words = printed.lines().map(|line| line.split('\t').next().unwrap().to_string());
+        words.collect::<Vec<String>>().join(" ")
+    };
+    assert_eq!(completed("dimkhoros ma"), "make mark");
+    assert_eq!(completed("dimkhoros --"), "--help --version");
+    assert_eq!(completed("dimkhoros help gr"), "grid");
+    assert_eq!(completed("dimkhoros rounds co"), "convert");
+    assert_eq!(completed("dimkhoros rounds make co"), "");
+    assert_eq!(completed("dimkhoros mark --c"), "--csv");
+    assert_eq!(completed("dimkhoros make x"), "x= x=random");
+    assert_eq!(completed("dimkhoros show pa"), "pages/");
+    // A command has its own words alone.
+    assert_eq!(completed("dimkhoros rounds make --p"), "");
+}
+
+/// What a shell of its own is typed in, which completes each line at a tab and then runs a function in the place of the program.
+const ZSH: &str = "\
+zmodload zsh/zpty
+zpty shell zsh -f -i
+zpty -w shell 'PS1= fpath=($PWD/pages $fpath); autoload -Uz compinit && compinit -u -D'
+zpty -w shell 'dimkhoros() { print -r -- \"$*\" >> got }'
+for typed in mar 'rounds co' 'mark --c' 'numbers b' 'show z.z' 'help gri' --vers 'rounds make app'; do
+    zpty -w -n shell \"dimkhoros $typed\"$'\\t'
+    zpty -w shell ';'
+done
+zpty -w shell exit
+while zpty -r shell line; do :; done
+";
+
+#[test]
+fn zsh_completes_commands_and_their_words() {
+    let (desk, _) = desk("completions of zsh");
+    if !has(&desk, "zsh") {
+        return;
+    }
+    fs::write(desk.folder.join("z.zsh"), ZSH).unwrap();
+    assert_eq!(desk.print("timeout 60 zsh -f z.zsh"), "");
+    // What is whole has a space after it, and no word ends at a letter's =.
+    let completed = fs::read_to_string(desk.folder.join("got")).unwrap();
+    let expected = "mark\nrounds convert\nmark --csv\nnumbers bits=\nshow z.zsh\nhelp grid\n--version\nrounds make app\n";
+    assert_eq!(completed, expected);
 }
 
 #[test]

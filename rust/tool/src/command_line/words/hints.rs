@@ -11,7 +11,7 @@ pub fn number(text: &str) -> Result<u32, String> {
         return Err("a number is missing; values have no spaces in them, as in x=1,2".to_string());
     }
     if !text.bytes().all(|byte| byte.is_ascii_digit()) {
-        return Err(format!("`{text}` is no number; numbers are written in digits, from 0 on"));
+        return Err(format!("`{text}` is not a number here: a number is 0 or more, in digits"));
     }
     text.parse().map_err(|_| format!("{text} has more than 32 bits"))
 }
@@ -35,7 +35,7 @@ pub fn no_letter(letter: &str, grammar: &Grammar) -> Failure {
     Failure::words(match same {
         Some(same) => format!("there is no value {letter}= here; write {same}="),
         None if letters.is_empty() => format!("there is no value {letter}= here"),
-        None => format!("there is no value {letter}= here, but {}", letters.join(", ")),
+        None => format!("there is no value {letter}= here; the values are {}", letters.join(", ")),
     })
 }
 
@@ -45,7 +45,7 @@ pub fn no_option(option: &str, grammar: &Grammar) -> Failure {
     Failure::words(if all.is_empty() {
         format!("there is no option {option} here")
     } else {
-        format!("there is no option {option} here, but {}", all.join(", "))
+        format!("there is no option {option} here; the options are {}", all.join(", "))
     })
 }
 
@@ -53,17 +53,17 @@ pub fn no_option(option: &str, grammar: &Grammar) -> Failure {
 pub fn one_too_many(word: &OsString, grammar: &Grammar) -> Failure {
     let word = word.to_string_lossy();
     let is_value = word.bytes().all(|byte| byte.is_ascii_digit() || b",/".contains(&byte));
-    let behind = match grammar.letters.first() {
+    let hint = match grammar.letters.first() {
         Some(letter) if is_value => {
-            format!("; a value stands behind its letter, as in {letter}={word}")
+            format!("; a value comes after its letter, as in {letter}={word}")
         }
         _ if grammar.letters.contains(&"row") && word.contains('^') => {
             "; a row has quotes around it, as in row='h1^x3 h2^x1'".to_string()
         }
-        _ if grammar.options.contains(&"-o") => "; a file to write stands behind -o".to_string(),
+        _ if grammar.options.contains(&"-o") => "; a file to write comes after -o".to_string(),
         _ => String::new(),
     };
-    Failure::words(format!("the word {word} is one too many{behind}"))
+    Failure::words(format!("the word {word} is one too many{hint}"))
 }
 
 /// Says that a letter or an option is there twice.
@@ -88,7 +88,7 @@ pub fn deed(
             let first = first.to_string_lossy();
             let meant = meant(&first, deeds.iter().copied());
             Err(Failure::words(format!(
-                "the word after {command} is {all}, and not {first}{meant}"
+                "the word after {command} must be {all}, and not {first}{meant}"
             )))
         }
     }

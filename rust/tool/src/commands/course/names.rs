@@ -12,7 +12,7 @@ const LONGEST: usize = 64;
 pub fn read(path: &Path) -> Outcome<Vec<String>> {
     let (bytes, file) = (files::read(path)?, files::name(path));
     let text = String::from_utf8(bytes)
-        .map_err(|_| Failure::failed(format!("{file} is no text in UTF-8")))?;
+        .map_err(|_| Failure::failed(format!("{file} is not a text in UTF-8")))?;
     let mut names: Vec<String> = Vec::new();
     for (number, line) in text.lines().enumerate().filter(|(_, line)| !line.trim().is_empty()) {
         let name = line.trim();
@@ -32,13 +32,13 @@ pub fn read(path: &Path) -> Outcome<Vec<String>> {
 fn wrong(name: &str) -> Option<String> {
     let letter = |letter: char| letter.is_alphanumeric() || "._-".contains(letter);
     if !name.chars().all(letter) {
-        return Some("a name has letters, digits, . _ and - alone".to_string());
+        return Some("a name has only letters, digits, . _ and -".to_string());
     }
     if !name.starts_with(char::is_alphanumeric) {
         return Some("a name begins with a letter or a digit".to_string());
     }
     if name.len() > LONGEST {
-        return Some(format!("a name has {LONGEST} bytes at most"));
+        return Some(format!("a name has at most {LONGEST} bytes"));
     }
     (name.to_lowercase() == SECRETS).then(|| "this is the name of the file of secrets".to_string())
 }

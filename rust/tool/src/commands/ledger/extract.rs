@@ -40,7 +40,7 @@ pub fn check(text: &Text, asked: &Asked) -> Outcome {
         Some(Given::Product { .. }) => {
             return match asked.response {
                 None => Ok(()),
-                Some(_) => Err(Failure::words("r= has no meaning where the text has a nonce")),
+                Some(_) => Err(Failure::words("r= has no meaning if the text has a nonce")),
             };
         }
         Some(Given::Closed(Line::Product { .. })) => {

@@ -1,6 +1,7 @@
 //! A ledger as a table, and as a text for others.
 
 use super::made::Made;
+use crate::command_line::colour;
 use crate::command_line::failure::Outcome;
 use crate::command_line::table::{self, Set};
 use crate::sheets::notation::{counted, list};
@@ -60,7 +61,7 @@ fn cells(made: &Made, number: usize) -> Outcome<Vec<String>> {
         cells.extend([tuple(&t), challenge.to_string(), tuple(&response)]);
         let product = made.product(number)?;
         let verdict = product.map(|product| product.instance.judge(&product.round)).transpose()?;
-        cells.extend(verdict.map(|verdict| verdict.to_string()));
+        cells.extend(verdict.map(|verdict| colour::verdict(&verdict.to_string())));
     }
     Ok(cells)
 }

@@ -59,7 +59,7 @@ const WITHOUT_WORDS: Grammar =
 pub fn read(path: &Path) -> Outcome<Text> {
     let name = files::name(path);
     let text = String::from_utf8(files::read(path)?)
-        .map_err(|_| Failure::failed(format!("{name} is no text: a byte of it is no character")))?;
+        .map_err(|_| Failure::failed(format!("{name} is not a text in UTF-8")))?;
     let mut lines = text.lines().map(uncommented).zip(1..).filter(|(line, _)| !line.is_empty());
     let Some((first, base_at)) = lines.next() else {
         return Err(Failure::failed(format!(
@@ -116,7 +116,7 @@ fn given(line: &str) -> Outcome<Given> {
             Ok(Given::Sum { first: line_number(&words, 1)?, second: line_number(&words, 2)? })
         }
         Some("product") => product(&words(line, &PRODUCT)?),
-        Some(word) => Err(Failure::words(format!("{word} is no kind of line: write {KINDS}"))),
+        Some(word) => Err(Failure::words(format!("{word} is not a kind of line: write {KINDS}"))),
         None => Err(Failure::words(format!("the kind of the line is missing: {KINDS}"))),
     }
 }
@@ -171,7 +171,9 @@ pub fn exactly<const COUNT: usize>(value: &Value) -> Outcome<[u32; COUNT]> {
 fn line_number(words: &Words, place: usize) -> Outcome<usize> {
     let word = words.plain()[place].to_string_lossy();
     let number = word.parse().ok().filter(|_| word.bytes().all(|byte| byte.is_ascii_digit()));
-    number.ok_or_else(|| Failure::words(format!("{word} is no number of a line, from 0 on")))
+    number.ok_or_else(|| {
+        Failure::words(format!("{word} is not the number of a line; they are numbered from 0"))
+    })
 }
 
 /// Fails where some lines are to be made and others are there.

@@ -4,7 +4,7 @@ use super::made::Made;
 use super::text::{Given, Text};
 use crate::by_hand;
 use crate::command_line::failure::{Failure, Outcome, rule};
-use crate::sheets::allowed;
+use crate::sheets::{allowed, causes};
 use dimkhoros::{Base, EXPONENT, Header, Ledger, Line, MOST_LINES, Refusal, Verdict};
 
 /// Names the line of a text that a refusal is by, the first one of which the number is true, with the value and what is allowed.
@@ -12,9 +12,11 @@ pub fn refused(text: &Text, refusal: Refusal) -> Failure {
     let header = header(&text.base);
     if let Some(value) = of_base(&text.base, refusal) {
         let (name, place) = (&text.name, text.base_at);
-        let allowed = allowed::by(refusal, &header);
-        let rule = rule(refusal);
-        return Failure::cause(refusal, format!("{name}:{place}: {value}: {rule}{allowed}"));
+        let why = match refusal {
+            Refusal::Challenges => causes::challenges(&header),
+            _ => rule(refusal).to_string() + &allowed::by(refusal, &header),
+        };
+        return Failure::cause(refusal, format!("{name}:{place}: {value}: {why}"));
     }
     let mut lines = text.lines.iter().enumerate();
     let found = lines.find_map(|(number, (place, given))| {
@@ -74,7 +76,7 @@ fn of_line(base: &Base, number: usize, given: &Given, refusal: Refusal) -> Optio
     }
     let (first, second) = named(given).filter(|_| refusal == Refusal::LineNotAbove)?;
     let wrong = [first, second].into_iter().find(|line| *line >= number)?;
-    Some(format!("line {wrong}"))
+    Some(format!("it names line {wrong}"))
 }
 
 /// The values of a line that a rule is about, with their letters.

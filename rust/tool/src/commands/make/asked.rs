@@ -6,6 +6,7 @@ use crate::command_line::failure::{Failure, Outcome};
 use crate::command_line::words::Words;
 use crate::commands::patterns;
 use crate::sheets::brought::{self, Brought};
+use crate::sheets::causes;
 use crate::sheets::notation::{self, counted};
 use dimkhoros::{EXPONENT, Header, Instance, PLACES, Patterns, Plan, ROOT, Refusal, Values};
 use std::path::Path;
@@ -86,16 +87,14 @@ impl Asked {
         }
     }
 
-    /// A refusal of this sheet, with what it is by.
+    /// A refusal of this sheet, with what is wrong.
     pub fn refused(&self, numbers: [u32; 3], refusal: Refusal) -> Failure {
-        let by = match (refusal, self) {
+        let what = match (refusal, self) {
             (Refusal::Pattern, Asked::Pattern(file, number, values)) => {
                 return Failure::cause(refusal, wrong_count(file, *number, values.len()));
             }
-            (Refusal::Shape, Asked::Root(rows)) => counted(*rows, "row"),
-            (Refusal::Shape, Asked::Table(rows)) => {
-                format!("{} and {}", counted(rows.len(), "row"), counted(rows[0].len(), "column"))
-            }
+            (Refusal::Shape, Asked::Root(rows)) => shape([*rows, *rows], "column"),
+            (Refusal::Shape, Asked::Table(rows)) => shape([rows.len(), rows[0].len()], "column"),
             (Refusal::Entry, Asked::Pattern(_, _, values)) => {
                 return outside("h", values, numbers);
             }
@@ -105,22 +104,28 @@ impl Asked {
             (Refusal::Entry, Asked::Linear(linear)) => {
                 return outside("h", &linear.generators, numbers);
             }
-            (_, Asked::Linear(linear)) => match linear.refused_by(refusal, numbers[1]) {
-                Some(by) => by,
+            (_, Asked::Linear(linear)) => match linear.wrong(refusal, numbers[1]) {
+                Some(what) => what,
                 None => return refusal.into(),
             },
             _ => return refusal.into(),
         };
-        Failure::refused(refusal, by)
+        Failure::cause(refusal, what)
     }
 }
 
-/// Fails where a pattern file is named, which has no meaning then.
+/// Fails if a pattern file is named, which has no meaning then.
 fn without_patterns(words: &Words, when: &str) -> Outcome {
     match words.option("--patterns") {
         Some(_) => Err(Failure::words(format!("--patterns has no meaning {when}"))),
         None => Ok(()),
     }
+}
+
+/// What is wrong with so many rows and columns, of which the columns are called by a name.
+pub fn shape(counts: [usize; 2], column: &str) -> String {
+    let [count, why] = causes::shape(counts, column);
+    format!("{count}: {why}")
 }
 
 /// What is wrong with a pattern's number, or with the count of its public values.
@@ -138,7 +143,7 @@ fn wrong_count(file: &Patterns, number: u32, found: usize) -> String {
     }
 }
 
-/// Refuses an entry, public value or generator that is no element.
+/// Refuses an entry, public value or generator that is not an element.
 fn outside(letter: &str, values: &[u32], numbers: [u32; 3]) -> Failure {
     match by_table(EXPONENT, [1, 1], &[vec![1]], numbers) {
         Ok(sheet) => brought::refused(Refusal::Entry, &[Brought::entries(&sheet, letter, values)]),

@@ -63,7 +63,7 @@ impl Reader<'_> {
         match self.take(&[character]) {
             Some(_) => Ok(()),
             None if self.rest.is_empty() => Err(format!("{wanted} is missing at the end")),
-            None => Err(format!("`{}` stands where {wanted} is wanted", self.rest)),
+            None => Err(format!("`{}` stands in the place of {wanted}", self.rest)),
         }
     }
 

@@ -1,5 +1,6 @@
 //! A sheet of a statement over several generators, whose exponents are linear forms of the secrets.
 
+use super::asked::shape;
 use super::formula::{self, Power, Term, place};
 use crate::command_line::failure::{Failure, Outcome};
 use crate::command_line::words::Words;
@@ -34,7 +35,7 @@ impl Linear {
         let rows = texts.iter().map(row).collect::<Outcome<Vec<Vec<Power>>>>()?;
         let linear = Linear { generators, columns: columns(&rows), rows };
         if linear.terms().any(|(_, _, term)| term.secret.is_none()) && linear.columns > 1 {
-            Err(Failure::words("a secret x has no number, where there are several"))
+            Err(Failure::words("a secret x has no number, and there are several secrets"))
         } else {
             Ok(linear)
         }
@@ -47,7 +48,7 @@ impl Linear {
         powers.flat_map(|(row, power)| power.form.iter().map(move |term| (row, power, term)))
     }
 
-    /// The coefficients by row, then generator, then column. Where a count is above eight the library refuses the count and looks
+    /// The coefficients by row, then generator, then column. If a count is above eight, the library refuses the count and looks
     /// at none.
     fn coefficients(&self, order: u32) -> Vec<u32> {
         let (count, columns) = (self.generators.len(), self.columns);
@@ -77,22 +78,24 @@ impl Linear {
         })
     }
 
-    /// What a refusal of this sheet is by, but for one by a generator.
-    pub fn refused_by(&self, refusal: Refusal, order: u32) -> Option<String> {
-        let [rows, columns] = [self.rows.len(), self.columns];
+    /// What is wrong with this sheet by a refusal, but for one by a generator.
+    pub fn wrong(&self, refusal: Refusal, order: u32) -> Option<String> {
         match refusal {
-            Refusal::Shape => {
-                Some(format!("{} and {}", counted(rows, "row"), counted(columns, "secret")))
-            }
+            Refusal::Shape => Some(shape([self.rows.len(), self.columns], "secret")),
+            // There is a coefficient for each place, and a one for each row of the statement.
             Refusal::FormCounts => {
-                Some(format!("{} in h=", counted(self.generators.len(), "generator")))
+                let generators = counted(self.generators.len(), "generator");
+                Some(format!("{generators} in h=: at most {PLACES} are allowed"))
             }
             Refusal::Coefficient => {
                 let large =
                     |(_, _, term): &(usize, &Power, &Term)| coefficient(term, order) >= order;
                 let (row, _, term) = self.terms().find(large)?;
                 let secret = self.secret(term);
-                Some(format!("{} before {secret} in row {row}", term.factor))
+                let factor = term.factor;
+                Some(format!(
+                    "{factor} before {secret} in row {row}: a coefficient must be below q = {order}"
+                ))
             }
             _ => None,
         }
@@ -162,10 +165,10 @@ fn checked(powers: &[Power], count: usize) -> Result<(), String> {
         let (before, at) = (&powers[..number], place(power.generator));
         let name = power.generator.map_or("h".to_string(), |number| format!("h{number}"));
         if at >= count {
-            return Err(format!("{name} is there, where h= has {}", counted(count, "generator")));
+            return Err(format!("{name} is there, and h= has {}", counted(count, "generator")));
         }
         if power.generator.is_none() && count > 1 {
-            return Err("a generator h has no number, where there are several".to_string());
+            return Err("a generator h has no number, and there are several generators".to_string());
         }
         if before.iter().any(|other| place(other.generator) == at) {
             return Err(format!("{name} is there twice; write it once, as in {name}^(x1 + x2)"));

@@ -1,6 +1,6 @@
 //! The mark of a folder, and the tally of marks.
 
-use crate::command_line::files;
+use crate::command_line::{colour, files};
 use crate::commands::mark::notes::{self, Note};
 use crate::sheets::course::Course;
 use crate::sheets::folder::Folder;
@@ -125,10 +125,13 @@ impl fmt::Display for Tally {
     fn fmt(&self, f: &mut fmt::Formatter<'_>) -> fmt::Result {
         let Tally { folders, passed, failed, refused, unread } = self;
         let folders = counted(*folders, "folder");
-        write!(f, "{folders}: {passed} passed, {failed} failed, {refused} refused")?;
+        let [passed, failed, refused] =
+            [(passed, "passed"), (failed, "failed"), (refused, "refused")]
+                .map(|(count, word)| colour::count(*count, word));
+        write!(f, "{folders}: {passed}, {failed}, {refused}")?;
         match unread {
             0 => Ok(()),
-            _ => write!(f, ", {unread} not read"),
+            _ => write!(f, ", {}", colour::count(*unread, "not read")),
         }
     }
 }

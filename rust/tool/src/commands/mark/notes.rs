@@ -28,7 +28,7 @@ impl Note {
 pub fn of(folder: &Folder) -> Vec<Note> {
     let brief = folder.others.iter().map(|name| format!("its own {name} differs"));
     let mut notes: Vec<Note> = brief
-        .zip(folder.differences("its"))
+        .zip(folder.differences("its", "marked"))
         .map(|(brief, whole)| Note::new(brief, whole))
         .collect();
     notes.extend(on_rounds(folder).unwrap_or_default());

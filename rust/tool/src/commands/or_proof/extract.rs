@@ -1,6 +1,7 @@
 //! The witness that two rounds of the OR proof give away.
 
 use super::rounds;
+use crate::command_line::colour;
 use crate::command_line::failure::{Failure, Outcome};
 use crate::command_line::table::{self, Set};
 use crate::command_line::words::Words;
@@ -55,7 +56,7 @@ fn listed(pair: &Pair<'_>, all: &[OrRound]) -> Outcome<String> {
             rounds::second_challenge(pair, round).to_string(),
             notation::by_column(first, &round.response0),
             notation::by_column(second, &round.response1),
-            pair.judge(round)?.to_string(),
+            colour::verdict(&pair.judge(round)?.to_string()),
         ]);
     }
     let mut set = [Set::Right; 9];

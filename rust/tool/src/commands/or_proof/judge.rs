@@ -1,6 +1,7 @@
 //! A round of the OR proof, judged.
 
 use super::rounds;
+use crate::command_line::colour;
 use crate::command_line::failure::Outcome;
 use crate::command_line::words::{self, Words};
 use crate::sheets::{brought, equation};
@@ -24,6 +25,7 @@ pub fn run(words: Vec<OsString>, out: &mut dyn Write) -> Outcome {
     writeln!(out, "{}\n", rounds::difference(&pair, &round, Side::Second))?;
     let sides = [Side::First, Side::Second];
     let sides = sides.map(|side| (pair.instance(side), rounds::of_side(&pair, &round, side)));
+    let verdict = colour::verdict(&verdict.to_string());
     writeln!(out, "{}\n{verdict}", equation::lines(&sides)?)?;
     Ok(())
 }

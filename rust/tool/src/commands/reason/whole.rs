@@ -1,6 +1,7 @@
 //! What holds of a whole round file.
 
 use super::{Asked, By};
+use crate::command_line::colour;
 use crate::sheets::judged::Judged;
 use crate::sheets::notation::{and, counted};
 use crate::sheets::{levels, round_table};
@@ -14,7 +15,8 @@ pub fn text(asked: &Asked, sheet: &Instance, file: &RoundFile<'_>) -> String {
     let Ok((said, judged)) = marked.or_else(|_| unmarked()) else {
         return String::new();
     };
-    let differences = folder.differences("The folder's").map(|sentence| format!("{sentence}.\n"));
+    let differences = folder.differences("The folder's", "marked");
+    let differences = differences.map(|sentence| format!("{sentence}.\n"));
     let said = format!("{said}\n{}", differences.collect::<String>());
     let others = judged.not_accepted().into_iter().filter(|number| *number > 0);
     let others: Vec<usize> = others.filter(|_| asked.round.is_none()).collect();
@@ -32,7 +34,10 @@ fn said_marked(judged: &Judged) -> String {
     if judged.passed {
         let needed = levels::needed(*challenges, *level);
         let accepted = accepted(judged.rounds());
-        return format!("The whole file passes: {accepted}, and level {level} asks for {needed}.");
+        let passes = colour::verdict("passes");
+        return format!(
+            "The whole file {passes}: {accepted}, and level {level} asks for {needed}."
+        );
     }
     let bad = not_accepted(judged).map_or_else(String::new, |bad| format!(": {bad}"));
     let few = judged.too_few().map(|needed| {
@@ -41,15 +46,16 @@ fn said_marked(judged: &Judged) -> String {
             "\nLevel {level} asks for {needed} with K = {challenges}, and the file has {found}."
         )
     });
-    format!("The whole file fails{bad}.{}", few.unwrap_or_default())
+    format!("The whole file {}{bad}.{}", colour::verdict("fails"), few.unwrap_or_default())
 }
 
 /// What is said of a file that is not marked, since its level is refused, cannot be read or was not told.
 fn said_unmarked(asked: &Asked, judged: &Judged) -> String {
     let (rounds, challenges) = (judged.rounds(), judged.challenges);
+    let fails = colour::verdict("fails");
     let on_rounds = match (not_accepted(judged), rounds) {
-        (Some(bad), _) => format!("The whole file fails: {bad}."),
-        (None, 0) => "The whole file fails at every level: it has no rounds.".to_string(),
+        (Some(bad), _) => format!("The whole file {fails}: {bad}."),
+        (None, 0) => format!("The whole file {fails} at every level: it has no rounds."),
         (None, _) => format!("In the whole file {}.", accepted(rounds)),
     };
     let on_level = match (&asked.folder.unread_level, &asked.by) {

@@ -29,7 +29,7 @@ pub fn text(name: &str, sheet: &Instance, file: &RoundFile<'_>) -> String {
 fn equation(sheet: &Instance) -> String {
     let statement = notation::by_row(sheet, &sheet.values().statement);
     let homomorphism = notation::homomorphism(sheet);
-    format!("Vic accepts where [r] = t · z^c, with {homomorphism} and z = {statement}.\n")
+    format!("Vic accepts if [r] = t · z^c, with {homomorphism} and z = {statement}.\n")
 }
 
 /// Names the rounds with the same commitment, and says which of them give a witness away.

@@ -87,7 +87,9 @@ fn no_statement(sheet: &Instance, images: &[Places]) -> Failure {
     };
     let product = Column { letter: "z", values: images.to_vec(), joined, sheet }.sum();
     let statement = notation::by_row(sheet, &sheet.values().statement);
-    Failure::refused(refusal, format!("{product} where the statement is {statement}"))
+    let what =
+        format!("the players' images multiply to {product}, and the statement is {statement}");
+    Failure::cause(refusal, what)
 }
 
 /// What these values are joined to by the library's calls, for which images of one multiply to a statement of one.

@@ -42,7 +42,7 @@ pub fn check(words: &Words) -> Outcome {
     let counts = ["t", "k", "r"].map(|letter| (letter, words.all(letter).len()));
     match counts.iter().find(|(_, count)| *count != 0 && *count != players) {
         Some((letter, count)) => Err(Failure::words(format!(
-            "{letter}= has to be there for each player: {players} times, and not {count}"
+            "{letter}= is needed for each player: {players} times, and it is there {count} times"
         ))),
         None => Ok(()),
     }

@@ -9,7 +9,7 @@ pub fn of(refusal: Refusal, offset: usize, value: &str) -> String {
         (Refusal::SheetMark, _) => "a sheet begins with HOM".to_string(),
         (Refusal::File, 0) => "a round file begins with RND".to_string(),
         (Refusal::File, 3) => "a round file has version 1 or 2".to_string(),
-        (Refusal::File, _) => format!("a round file has {MOST_ROUNDS} rounds at most"),
+        (Refusal::File, _) => format!("a round file has at most {MOST_ROUNDS} rounds"),
         (Refusal::Challenge, _) if value.starts_with("c = ") => rule(refusal).to_string(),
         (Refusal::PatternFile, 0) => "a pattern file begins with PAT".to_string(),
         (Refusal::PatternFile, 3) => "a pattern file has version 1".to_string(),
@@ -18,7 +18,7 @@ pub fn of(refusal: Refusal, offset: usize, value: &str) -> String {
         (Refusal::PatternDigits, _) if value.starts_with("digit") => {
             "the pattern has fewer values".to_string()
         }
-        (Refusal::PatternDigits, _) => "each value has to be named by a digit".to_string(),
+        (Refusal::PatternDigits, _) => "each value must be named by a digit".to_string(),
         _ => rule(refusal).to_string(),
     }
 }
