@@ -275,9 +275,8 @@ fn one_folder_is_named() {
     for (words, count) in
         [(&[][..], 0), (&["--remove"], 0), (&["a", "b"], 2), (&["--", "a", "--remove", ""], 3)]
     {
-        let line = format!(
-            "name one folder PREFIX, and not {count}; ./install --help says what there is"
-        );
+        let line =
+            format!("name one folder PREFIX, and not {count}; ./install --help says what there is");
         assert_eq!(home.run(words), failed(2, &line));
     }
     assert_eq!(home.run(&[""]), failed(2, "the name of PREFIX is empty"));
