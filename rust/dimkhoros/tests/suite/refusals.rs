@@ -98,6 +98,8 @@ fn every_number_is_given() {
         assert_eq!(refusal.number(), number, "{refusal}");
         assert_eq!(Refusal::from_number(number), Some(refusal));
         assert_eq!(refusal.to_string(), format!("refusal {number}: {}", refusal.sentence()));
+        let hard = ["another than", "has to", "have to", "where", "are no ", "is no "];
+        assert!(!hard.iter().any(|hard| refusal.sentence().contains(hard)), "{refusal}");
     }
 }
 

@@ -196,7 +196,7 @@ impl Grid {
             let most = answered.values().map(BTreeSet::len).max().unwrap_or(0);
             let count = answered.len();
             return format!(
-                "The {count} commitments answer {most} of the {all} challenges at most.\n"
+                "The {count} commitments answer at most {most} of the {all} challenges.\n"
             );
         }
         let mut rows = vec![["t", "answers", "challenges"].map(str::to_string).to_vec()];

@@ -213,7 +213,8 @@ fn not_converted(sheet: &Instance, path: &Path, file: &RoundFile<'_>, refusal: R
     let (rows, columns) = (sheets::row_count(sheet), sheets::column_count(sheet));
     let offset = dimkhoros::EMPTY_FILE + number * 4 * (rows + 1 + columns) + 4 * rows;
     let (name, challenge) = (files::name(path), round.challenge);
-    let what = format!("{name}: c = {challenge} at byte {offset}: version 2 has 65535 at most");
+    let what =
+        format!("{name}: c = {challenge} at byte {offset}: in version 2 it is at most 65535");
     Failure::cause(refusal, what)
 }
 

@@ -93,7 +93,7 @@ impl Asked {
         match self {
             // What stands is written without being tested, but for a challenge that version 2 cannot hold.
             Asked::Stands(Round { challenge, .. }) if refusal == Refusal::Challenge => {
-                let what = format!("{challenge} in c=: version 2 has 65535 at most");
+                let what = format!("{challenge} in c=: in version 2 a challenge is at most 65535");
                 Failure::cause(refusal, what)
             }
             Asked::Stands(round) => brought::refused(refusal, &Brought::round(sheet, round)),

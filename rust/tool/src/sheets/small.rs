@@ -10,7 +10,7 @@ pub const MOST: u32 = 4096;
 pub const LISTED: usize = 512;
 
 /// What follows where a statement has no witness.
-pub const UNANSWERED: &str = "A commitment answers one challenge at most.";
+pub const UNANSWERED: &str = "A commitment answers at most one challenge.";
 
 /// The values of a coordinate, rising: none where there are too many to try.
 pub fn coordinates(sheet: &Instance) -> Option<Vec<u32>> {

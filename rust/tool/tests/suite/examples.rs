@@ -65,5 +65,10 @@ fn every_help_has_one_form() {
         let columns = columns(&help);
         assert!(columns.windows(2).all(|pair| pair[0] == pair[1]), "{columns:?} in\n{help}");
         assert!(help.starts_with("usage: dimkhoros ") && help.contains("\n\nExample:\n"), "{help}");
+        let hard = HARD.iter().find(|hard| help.split_whitespace().any(|word| word == **hard));
+        assert_eq!(hard, None, "a plainer word is wanted in\n{help}");
     }
 }
+
+/// Words for conditions and order in whose place a help has `if` and `after`.
+const HARD: [&str; 4] = ["where", "Where", "behind", "whereas"];

@@ -11,7 +11,7 @@ const HEADER: usize = 6;
 /// How many bytes stand before the digits of a pattern: rows, columns and number of values.
 const SIZES: usize = 3;
 
-/// The first thing by which the bytes are no pattern file: refusal 23.
+/// The first thing by which the bytes are not a pattern file: refusal 23.
 pub fn wrong_shape(file: &[u8]) -> Option<Found> {
     let count = number(file, 5, 1);
     if file.len() < HEADER {
@@ -33,8 +33,9 @@ pub fn wrong_shape(file: &[u8]) -> Option<Found> {
         Err(found) => Some(found),
         Ok(end) if end == file.len() => None,
         Ok(end) => {
-            let patterns = counted(count, "pattern");
-            let needed = format!("its {patterns} with these sizes make {end}");
+            let (patterns, make) =
+                (counted(count, "pattern"), if count == 1 { "makes" } else { "make" });
+            let needed = format!("its {patterns} with these sizes {make} {end}");
             Some(Found::Length { found: file.len(), needed })
         }
     }

@@ -7,6 +7,8 @@ use dimkhoros::{MOST_PATTERNS, MOST_ROUNDS, PLACES, Refusal};
 pub fn of(refusal: Refusal, offset: usize, value: &str) -> String {
     match (refusal, offset) {
         (Refusal::SheetMark, _) => "a sheet begins with HOM".to_string(),
+        (Refusal::SheetVersion, _) => "a sheet has version 1".to_string(),
+        (Refusal::RoundNumber, _) => "the file has no round 0".to_string(),
         (Refusal::File, 0) => "a round file begins with RND".to_string(),
         (Refusal::File, 3) => "a round file has version 1 or 2".to_string(),
         (Refusal::File, _) => format!("a round file has at most {MOST_ROUNDS} rounds"),
