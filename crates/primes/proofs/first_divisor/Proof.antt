@@ -35,7 +35,7 @@ returns-4 c = ap divisorOutcome (c .within2 .ensures ∙ answer-three _ _ (c .be
 
 search-requires : tie.Need-search-requires
 unfolding allGood good allClear clear allFactored hasFactor isFactor small both either next last product inverse
-search-requires c κs = ((tt, refl), omega arith, none-below-four _ (c .before .if3 .left) (c .if4 .left))
+search-requires c κs = ((tt, refl), omega arith, none-below-four _ (c .before .before .if3 .left) (c .before .if4 .left))
 
 returns-5 : tie.Need-returns-5
 returns-5 c = c .search .ensures
