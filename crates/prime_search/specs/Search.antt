@@ -1,6 +1,6 @@
 -- What the search by words of primes has found, and what it answers.
 -- Assumes nothing.
-use Prim.Native.Nat.{ℕ, zero, suc, _*_, _/_, _%_, _≤_, _<_, _∣_}
+use Prim.Native.Nat.{ℕ, suc, _*_, _/_, _%_, _≤_, _<_, _∣_}
 use mathlib.Core.Path.{_≡_}
 use mathlib.Core.Bool.{cond}
 use lib.Dec.{ltb}
@@ -31,22 +31,17 @@ pub record SharesAbove (l v : ℕ) (n : Five) (most : ℕ) : Type 0 where
   pub fourth : most < low (low (low (low l v) (n .fifth)) (low (n .first) (n .second))) (n .third)
   pub fifth : most < low (low (low l v) (low (n .first) (n .second))) (low (n .third) (n .fourth))
 
--- none of the k numbers after a divides n
-unfoldable pub Lacks : ℕ → ℕ → ℕ → ℕ → Type 0
-Lacks n zero a gaps = Unit {0}
-Lacks n (suc k) a gaps = (¬ (next a gaps ∣ n)) × Lacks n k (next a gaps) (gaps / 64)
-
 -- d is the first number from 2 on that divides n
 pub record FirstIs (n d : ℕ) : Type 0 where
   pub large : 2 ≤ d
   pub whole : d ∣ n
   pub none : NoDivisorBelow n d
 
--- a search up to b found r, or nothing, where r is 0
+-- a search up to b found r, or nothing if r is 0
 pub record Searched (n b r : ℕ) : Type 0 where
   pub nothing : r ≡ 0 → NoDivisorBelow n (suc b)
   pub found : 0 < r → FirstIs n r
 
--- d where it is below K, else nothing
+-- d if it is below K, else nothing
 unfoldable pub withinOf : ℕ → ℕ → Divisor
 withinOf d challenges = cond (ltb d challenges) (Found d) Nothing

@@ -2,11 +2,10 @@
 use modular::Divisor;
 ghost use mathlib.Core.Path.{_≡_};
 ghost use mathlib.Core.Bool.{true};
-ghost use Prim.Native.Nat.{suc, _+_, _*_, _/_, _%_, _≤_, _<_};
+ghost use Prim.Native.Nat.{suc, _+_, _/_, _≤_, _<_};
 ghost use Rattle.numbers.specs.Divisors.{NoDivisorBelow};
 ghost use Rattle.modular.specs.Divisor.{divisorOf, divisorOutcome};
-ghost use Rattle.prime_words.specs.Words.{next, last, Table};
-ghost use Rattle.prime_words.proofs.Rule.{Good};
+ghost use Rattle.prime_words.specs.Words.{next, last, Table, Good};
 ghost use Rattle.prime_search.specs.Search.{OfWord, low, SharesAbove, Searched, withinOf};
 
 // How many words the table has.
@@ -40,7 +39,7 @@ fn next_number(a: u32, gaps: u64) -> u32
 }
 
 // The numbers of the word e after a.
-fn numbers(a: u32, e: u64) -> Five
+fn unpack(a: u32, e: u64) -> Five
     requires { ⌜ a ≤ 65535 ⌝ }
     ensures { λ r. ⌜ OfWord a e r ⌝ }
 {
@@ -58,7 +57,7 @@ fn numbers(a: u32, e: u64) -> Five
     }
 }
 
-// Whether the shares of p and q are above `most`, where `share` is that of their product.
+// Whether the shares of p and q are above `most`, by the share of their product.
 fn pair_above(share: u32, p: u32, q: u32, most: u32) -> bool
     ensures { λ r. ⌜ (r ≡ true → (most < low share q) × (most < low share p)) ⌝ }
 {
@@ -69,23 +68,23 @@ fn pair_above(share: u32, p: u32, q: u32, most: u32) -> bool
 }
 
 // Whether the shares of five numbers are above `most`, by the inverse of their product.
-fn shares_above(order: u32, inverse: u32, n: Five, most: u32) -> bool
-    ensures { λ r. ⌜ (r ≡ true → SharesAbove order inverse n most) ⌝ }
+fn shares_above(order: u32, inverse: u32, five: Five, most: u32) -> bool
+    ensures { λ r. ⌜ (r ≡ true → SharesAbove order inverse five most) ⌝ }
 {
     let all = low_product(order, inverse);
-    let four = low_product(all, n.fifth);
-    let front = low_product(n.first, n.second);
-    let back = low_product(n.third, n.fourth);
-    if !pair_above(low_product(four, back), n.first, n.second, most) {
+    let four = low_product(all, five.fifth);
+    let front = low_product(five.first, five.second);
+    let back = low_product(five.third, five.fourth);
+    if !pair_above(low_product(four, back), five.first, five.second, most) {
         return false;
     }
-    if !pair_above(low_product(four, front), n.third, n.fourth, most) {
+    if !pair_above(low_product(four, front), five.third, five.fourth, most) {
         return false;
     }
     low_product(low_product(all, front), back) > most
 }
 
-// The first of a word's five numbers after a that divides order, or 0, by a division for each.
+// The first of the five numbers of the word e after a that divides order, or 0, by a division for each.
 fn divide(order: u32, a: u32, e: u64) -> u32
     requires { ⌜ Good a e × (3 ≤ a) × (a ≤ 65535) × NoDivisorBelow order (suc a) ⌝ }
     ensures { λ r. ⌜ Searched order (last 5 a e) r ⌝ }
@@ -104,19 +103,19 @@ fn divide(order: u32, a: u32, e: u64) -> u32
     0
 }
 
-// The first of the numbers n of the word e after a that divides order, or 0. A share is the quotient where its number divides, and no
-// quotient is above `most`: so shares above it rule all five out without a division.
-fn in_word(order: u32, a: u32, e: u64, n: Five, most: u32) -> u32
-    requires { ⌜ Good a e × (3 ≤ a) × (a ≤ 65535) × OfWord a e n × (order / a ≤ most) × NoDivisorBelow order (suc a) ⌝ }
+// The first of the five numbers of the word e after a that divides order, or 0. The share of a number that divides is the quotient,
+// and no quotient is above `most`: so shares above it rule all five out without a division.
+fn in_word(order: u32, a: u32, e: u64, five: Five, most: u32) -> u32
+    requires { ⌜ Good a e × (3 ≤ a) × (a ≤ 65535) × OfWord a e five × (order / a ≤ most) × NoDivisorBelow order (suc a) ⌝ }
     ensures { λ r. ⌜ Searched order (last 5 a e) r ⌝ }
 {
-    if shares_above(order, (e / 4294967296) as u32, n, most) {
+    if shares_above(order, (e / 4294967296) as u32, five, most) {
         return 0;
     }
     divide(order, a, e)
 }
 
-// A bound of the quotients by numbers from a on: the quotient by a at the beginning of a block, else the bound there was.
+// A bound of the quotients by the numbers from a on: at the beginning of a block the quotient by a, else the bound of a number before.
 fn bound(order: u32, a: u32, most: u32, i: usize) -> u32
     requires { ⌜ (0 < a) × (order / a ≤ most) ⌝ }
     ensures { λ r. ⌜ order / a ≤ r ⌝ }
@@ -127,7 +126,7 @@ fn bound(order: u32, a: u32, most: u32, i: usize) -> u32
     most
 }
 
-// d where it is below the count of challenges, else nothing.
+// d if it is below the count of challenges, else nothing.
 pub fn within(d: u32, challenges: u32) -> Divisor
     ensures { λ r. ⌜ r ≡ withinOf d challenges ⌝ }
 {
@@ -137,7 +136,8 @@ pub fn within(d: u32, challenges: u32) -> Divisor
     Divisor::Nothing
 }
 
-// The first d with 2 ≤ d < challenges that divides order, or nothing where there is none. Neither 2 nor 3 divides order.
+// The first d with 2 ≤ d < challenges that divides order, or nothing if there is none. The order is at least 2, and neither 2 nor 3
+// divides it.
 pub fn search(table: &[u64; 1308], order: u32, challenges: u32) -> Divisor
     requires { ⌜ Table (now table) × (2 ≤ order) × NoDivisorBelow order 4 ⌝ }
     ensures { λ r. ⌜ divisorOutcome r ≡ divisorOutcome (divisorOf order challenges) ⌝ }
@@ -157,12 +157,12 @@ pub fn search(table: &[u64; 1308], order: u32, challenges: u32) -> Divisor
             break within(order, challenges);
         }
         let e = table[i];
-        let n = numbers(a, e);
-        let d = in_word(order, a, e, n, most);
+        let five = unpack(a, e);
+        let d = in_word(order, a, e, five, most);
         if d != 0 {
             break within(d, challenges);
         }
-        a = n.fifth;
+        a = five.fifth;
         i += 1;
     }
 }

@@ -1,16 +1,16 @@
 -- The rule of the table of primes: what its one computed test says at each word.
 -- Assumes nothing.
-use mathlib.Core.Path.{_≡_, refl, subst, ap}
+use mathlib.Core.Path.{_≡_, refl, subst}
 use mathlib.Core.Bool.{Bool, true, false}
 use mathlib.Core.Logic.{_⊎_, inl, inr}
 use mathlib.Core.List.{List, [], _∷_}
-use Prim.Native.Nat.{ℕ, zero, suc, _+_, _*_, _-_, _/_, _%_, _≤_, _<_, _∣_}
+use Prim.Native.Nat.{ℕ, zero, suc, _+_, _-_, _/_, _%_, _≤_, _<_, _∣_}
 use native.Mathlib.Nat.{eq-or-lt-of-le, le-of-suc-le-suc, not-suc-le-zero, dvd-of-mod-eq-zero}
 use native.Mathlib.Omega.{arith}
 use lib.Dec.{T, eqb, leb, leb→le, eqb→eq}
 use lib.ListN.{length, getD}
-use Rattle.prime_words.specs.Words.{next, last, product, inverse, both, either, small, isFactor, hasFactor, allFactored, clear}
-use Rattle.prime_words.specs.Words.{allClear, good, allGood, Table, before}
+use Rattle.prime_words.specs.Words.{next, last, both, either, small, isFactor, hasFactor, allFactored, clear}
+use Rattle.prime_words.specs.Words.{allClear, isGood, allGood, Table, before, Good}
 
 -- d has a factor that lies from 2 to a
 pub record Factored (a d : ℕ) : Type 0 where
@@ -22,12 +22,6 @@ pub record Factored (a d : ℕ) : Type 0 where
 -- each number between a and b has
 abbrev pub Clear : ℕ → ℕ → Type 0
 Clear a b = (d : ℕ) → a < d → d < b → Factored a d
-
--- what holds of a word after a
-pub record Good (a e : ℕ) : Type 0 where
-  pub clears : T (allClear 5 a e)
-  pub low : last 5 a e ≤ 65535
-  pub inverts : product 5 a e * inverse e % 4294967296 ≡ 1
 
 both-left : (a b : Bool) → T (both a b) → T a
 unfolding both
@@ -89,8 +83,8 @@ clear-later n a gaps t = both-right (clear a (next a gaps)) _ t
 
 -- ---- the words of a table
 
-good-all : (a e : ℕ) → T (good a e) → Good a e
-unfolding good
+good-all : (a e : ℕ) → T (isGood a e) → Good a e
+unfolding isGood
 good-all a e t =
     let t₁ = both-right (allClear 5 a e) _ t in
     record {
@@ -99,16 +93,16 @@ good-all a e t =
       inverts = eqb→eq _ 1 (both-right (leb (last 5 a e) 65535) _ t₁);
     }
 
-good-at : (a : ℕ) (es : List ℕ) → T (allGood a es) → (k : ℕ) → k < length es → T (good (before a es k) (getD es k 0))
+good-at : (a : ℕ) (es : List ℕ) → T (allGood a es) → (k : ℕ) → k < length es → T (isGood (before a es k) (getD es k 0))
 unfolding allGood before
 good-at a [] t k h = absurd (not-suc-le-zero h)
 good-at a (e ∷ es) t zero h = both-left _ _ t
-good-at a (e ∷ es) t (suc k) h = good-at (last 5 a e) es (both-right (good a e) _ t) k (le-of-suc-le-suc h)
+good-at a (e ∷ es) t (suc k) h = good-at (last 5 a e) es (both-right (isGood a e) _ t) k (le-of-suc-le-suc h)
 
 clear-end : (a : ℕ) (es : List ℕ) → T (allGood a es) → T (clear (before a es (length es)) 65537)
 unfolding allGood before
 clear-end a [] t = t
-clear-end a (e ∷ es) t = clear-end (last 5 a e) es (both-right (good a e) _ t)
+clear-end a (e ∷ es) t = clear-end (last 5 a e) es (both-right (isGood a e) _ t)
 
 before-suc : (a : ℕ) (es : List ℕ) (k : ℕ) → k < length es → before a es (suc k) ≡ last 5 (before a es k) (getD es k 0)
 unfolding before

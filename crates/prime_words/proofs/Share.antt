@@ -6,7 +6,7 @@ use native.Mathlib.Nat.{mul-comm, mod-lt, div-mul-cancel, div-le-self, lt-of-le-
 use native.Mathlib.Omega.{arith}
 use Rattle.numbers.specs.Congruence.{Cong}
 use Rattle.numbers.specs.Inverse.{Inverses}
-use Rattle.numbers.proofs.Congruence.{cong-refl, cong-sym, _then_, cong-of-equal, cong-mod, cong-one, cong-mul, cong-mul-cancel, cong-below}
+use Rattle.numbers.proofs.Congruence.{cong-refl, _then_, cong-of-equal, cong-mod, cong-one, cong-mul, cong-mul-cancel, cong-below}
 
 -- u is the share of a in l: a · u is l modulo m, and a has an inverse there
 pub record Share (m l a u : ℕ) : Type 0 where
@@ -34,7 +34,7 @@ share-part m l a b c u same s = record {
       then cong-of-equal m {b = a * b * u} (omega arith) then s .gives;
 }
 
--- where p divides l, its share is the quotient
+-- if p divides l, its share is the quotient
 pub share-quotient : (m l p u : ℕ) → Share m l p u → u < m → l < m → p ∣ l → u ≡ l / p
 share-quotient m l p u s small fits whole =
     let product : p * (l / p) ≡ l = mul-comm p (l / p) ∙ div-mul-cancel p whole in

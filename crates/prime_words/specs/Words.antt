@@ -1,6 +1,6 @@
 -- A table of primes, five to a word with the inverse of their product, and the test that it leaves none out.
 -- Assumes nothing.
-use Prim.Native.Nat.{ℕ, zero, suc, _+_, _*_, _-_, _/_, _%_}
+use Prim.Native.Nat.{ℕ, zero, suc, _+_, _*_, _-_, _/_, _%_, _≤_}
 use mathlib.Core.Bool.{Bool, true, false}
 use mathlib.Core.List.{List, [], _∷_}
 use lib.Dec.{T, eqb, leb}
@@ -68,21 +68,29 @@ allClear zero a gaps = true
 allClear (suc n) a gaps = both (clear a (next a gaps)) (allClear n (next a gaps) (gaps / 64))
 
 -- the five numbers of a word after a leave none out, they are below 65,536, and the inverse is that of their product
-unfoldable pub good : ℕ → ℕ → Bool
-good a e =
+unfoldable pub isGood : ℕ → ℕ → Bool
+isGood a e =
     both (allClear 5 a e) (both (leb (last 5 a e) 65535) (eqb (product 5 a e * inverse e % 4294967296) 1))
 
 -- the words after a are good, and each number from the last one on to 65,536 has a smaller factor
 unfoldable pub allGood : ℕ → List ℕ → Bool
 allGood a [] = clear a 65537
-allGood a (e ∷ es) = both (good a e) (allGood (last 5 a e) es)
+allGood a (e ∷ es) = both (isGood a e) (allGood (last 5 a e) es)
 
 -- a table of 1,308 words that are good after 3
 abbrev pub Table : List ℕ → Type 0
 Table es = T (allGood 3 es) × (length es ≡ 1308)
+
+-- ---- what the test says
 
 -- the last number of the first k words after a
 unfoldable pub before : ℕ → List ℕ → ℕ → ℕ
 before a es zero = a
 before a [] (suc k) = a
 before a (e ∷ es) (suc k) = before (last 5 a e) es k
+
+-- what holds of a good word after a
+pub record Good (a e : ℕ) : Type 0 where
+  pub clears : T (allClear 5 a e)
+  pub low : last 5 a e ≤ 65535
+  pub inverts : product 5 a e * inverse e % 4294967296 ≡ 1

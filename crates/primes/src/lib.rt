@@ -13,7 +13,7 @@ const FEW: u32 = 1024;
 
 const FEW_SQUARED: u32 = 1048576;
 
-// The first d with 2 ≤ d < challenges that divides order, or nothing where there is none.
+// The first d with 2 ≤ d < challenges that divides order, or nothing if there is none.
 pub fn first_divisor(order: u32, challenges: u32) -> Divisor
     ensures { λ r. ⌜ divisorOutcome r ≡ divisorOutcome (divisorOf order challenges) ⌝ }
 {

@@ -1,9 +1,8 @@
 -- `prime_search::divide` meets its contract. The invariant: nothing up to p divides order, and the numbers that are left
 -- after p are the word's last ones. The measure: how many are left. Assumes nothing.
-use mathlib.Core.Path.{_≡_, refl}
-use Prim.Native.Nat.{ℕ, _+_, _*_, _≤_, _<_}
+use Prim.Native.Nat.{_+_, _*_, _≤_}
+use native.Mathlib.Nat.{mod-eq-zero-of-dvd}
 use native.Mathlib.Omega.{arith}
-use borrow.Author.Needs.{needs}
 use Rattle.prime_words.specs.Words.{last}
 use Rattle.prime_search.proofs.Passing.{next-rises, Walk, walk-start, walk-found, walk-on, walk-end}
 use Rattle.prime_search.proofs.divide.Statement.{statement}
@@ -42,7 +41,8 @@ loop-again c =
     let at-loop = c .before .before .before in (
       omega (arith, at-loop .loop .inv .0),
       omega (arith, at-loop .loop .inv .1, c .before .next-number .ensures .1),
-      walk-on _ _ _ _ _ _ (omega arith) (at-loop .loop .inv .2) (c .before .next-number .ensures .0) (λ z. c .if1 .left z),
+      walk-on _ _ _ _ _ _ (omega arith) (at-loop .loop .inv .2) (c .before .next-number .ensures .0)
+          (λ whole. c .if1 .left (mod-eq-zero-of-dvd _ whole)),
     )
 
 returns-2 : tie.Need-returns-2 Inv-loop μ-loop

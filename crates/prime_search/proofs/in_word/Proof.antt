@@ -1,8 +1,7 @@
 -- `prime_search::in_word` meets its contract.
 -- Assumes nothing.
-use native.Mathlib.Omega.{arith}
 use Rattle.prime_words.specs.Words.{inverse}
-use Rattle.prime_search.proofs.Passing.{shares-lack, searched-none}
+use Rattle.prime_search.proofs.Shares.{shares-pass}
 use borrow.Author.Needs.{needs}
 use Rattle.prime_search.proofs.in_word.Statement.{statement}
 use Rattle.prime_search.proofs.in_word.Tie as tie
@@ -19,7 +18,7 @@ returns c =
     let start = c .before .before in
     let (good, large, _, word, bound, none) = start .pre in
     let above = c .before .shares-above .ensures (c .if1 .taken) in
-    searched-none _ _ _ good none (shares-lack _ _ _ _ _ good (omega arith) word (start .fits .order .fits) bound above)
+    shares-pass _ _ _ _ _ good large word (start .fits .order .fits) bound none above
 
 divide-requires : tie.Need-divide-requires
 divide-requires c κs = search needs

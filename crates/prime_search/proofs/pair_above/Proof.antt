@@ -1,6 +1,6 @@
 -- `prime_search::pair_above` meets its contract.
 -- Assumes nothing.
-use mathlib.Core.Path.{_≡_, sym}
+use mathlib.Core.Path.{sym}
 use mathlib.Core.Bool.{true≢false}
 use Prim.Native.Nat.{_<_}
 use native.Mathlib.Omega.{arith}

@@ -1,12 +1,13 @@
 -- `prime_search::search` meets its contract. The invariant: the words before i are passed, and a is their last number.
 -- The measure: how many words are left. Assumes nothing.
-use mathlib.Core.Path.{_≡_, _∙_, ap, subst, sym}
-use Prim.Native.Nat.{ℕ, _-_, _/_, _≤_, _<_}
+use mathlib.Core.Path.{_∙_, ap}
+use Prim.Native.Nat.{_-_}
 use native.Mathlib.Omega.{arith}
 use borrow.Author.Needs.{needs}
 use Rattle.modular.specs.Divisor.{divisorOutcome}
-use Rattle.prime_words.proofs.Rule.{rule-at}
-use Rattle.prime_search.proofs.Passing.{Passed, good-here, fifth-last, passed-start, passed-on, answer-found, answer-end, answer-past, answer-root}
+use Rattle.prime_search.proofs.Passing.{Passed, passed-start, good-here, passed-on}
+use Rattle.prime_search.proofs.Shares.{fifth-last}
+use Rattle.prime_search.proofs.Answers.{answer-found, answer-end, answer-past, answer-root}
 use Rattle.prime_search.proofs.search.Statement.{statement}
 use Rattle.prime_search.proofs.search.Tie as tie
 
@@ -36,8 +37,8 @@ mul-e c = omega arith
 element-copy-out-e : tie.Need-element-copy-out-e Inv-loop μ-loop
 element-copy-out-e c = omega arith
 
-numbers-requires : tie.Need-numbers-requires Inv-loop μ-loop
-numbers-requires c κs = c .before .before .before .before .before .loop .inv .small
+unpack-requires : tie.Need-unpack-requires Inv-loop μ-loop
+unpack-requires c κs = c .before .before .before .before .before .loop .inv .small
 
 in-word-requires : tie.Need-in-word-requires Inv-loop μ-loop
 in-word-requires c κs =
@@ -48,7 +49,7 @@ in-word-requires c κs =
       good-here _ (at-loop .before .pre .0) _ _ _ _ (omega (arith, after-count .if1 .left)) passed,
       passed .large,
       passed .small,
-      c .numbers .ensures,
+      c .unpack .ensures,
       after-bound .bound .ensures,
       passed .none,
     )
@@ -64,12 +65,12 @@ loop-less c = omega arith
 
 loop-again : tie.Need-loop-again Inv-loop μ-loop
 loop-again c =
-    let after-numbers = c .before .before in
-    let after-bound = after-numbers .before .before .before in
+    let after-unpack = c .before .before in
+    let after-bound = after-unpack .before .before .before in
     let after-count = after-bound .before .before in
     let at-loop = after-count .before in
     passed-on _ (at-loop .before .pre .0) _ _ _ _ _ _ (omega (arith, after-count .if1 .left)) (at-loop .loop .inv)
-    (fifth-last _ _ _ (after-numbers .numbers .ensures)) (after-bound .bound .ensures) (c .before .in-word .ensures .nothing (c .if4 .left))
+    (fifth-last _ _ _ (after-unpack .unpack .ensures)) (after-bound .bound .ensures) (c .before .in-word .ensures .nothing (c .if4 .left))
 
 returns : tie.Need-returns Inv-loop μ-loop
 returns c =
@@ -87,7 +88,8 @@ returns-3 c =
     let at-loop = after-bound .before .before .before in
     let passed = at-loop .loop .inv in
     ap divisorOutcome (c .within2 .ensures ∙
-    answer-root _ _ _ (at-loop .before .pre .1) (omega (arith, passed .large)) (omega (arith, after-bound .bound .ensures, c .before .if3 .taken)) (passed .none))
+    answer-root _ _ _ (at-loop .before .pre .1) (omega (arith, passed .large))
+    (omega (arith, after-bound .bound .ensures, c .before .if3 .taken)) (passed .none))
 
 returns-4 : tie.Need-returns-4 Inv-loop μ-loop
 returns-4 c = ap divisorOutcome (c .within3 .ensures ∙ answer-found _ _ _ _ (c .before .if4 .taken) (c .before .before .in-word .ensures))
@@ -104,7 +106,7 @@ search-spec =
     within-requires-2
     mul-e
     element-copy-out-e
-    numbers-requires
+    unpack-requires
     in-word-requires
     within-requires-3
     add-i

@@ -3,7 +3,7 @@
 use mathlib.Core.Path.{sym}
 use mathlib.Core.Bool.{true≢false}
 use borrow.Author.Tests.{ltb-true, not-false}
-use Rattle.prime_search.proofs.Passing.{shares-of-products}
+use Rattle.prime_search.proofs.Shares.{shares-of-products}
 use borrow.Author.Needs.{needs}
 use Rattle.prime_search.proofs.shares_above.Statement.{statement}
 use Rattle.prime_search.proofs.shares_above.Tie as tie

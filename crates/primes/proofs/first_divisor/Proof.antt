@@ -4,8 +4,9 @@ use mathlib.Core.Path.{refl, _∙_, ap}
 use native.Mathlib.Omega.{arith}
 use borrow.Author.Needs.{needs}
 use Rattle.modular.specs.Divisor.{divisorOutcome}
-use Rattle.prime_words.specs.Words.{next, last, product, inverse, both, either, small, isFactor, hasFactor, allFactored, clear, allClear, good, allGood}
-use Rattle.prime_search.proofs.Passing.{answer-two, answer-three, none-below-four}
+use Rattle.prime_words.specs.Words.{next, last, product, inverse}
+use Rattle.prime_words.specs.Words.{both, either, small, isFactor, hasFactor, allFactored, clear, allClear, isGood, allGood}
+use Rattle.prime_search.proofs.Answers.{answer-two, answer-three, none-below-four}
 use Rattle.primes.proofs.first_divisor.Statement.{statement}
 use Rattle.primes.proofs.first_divisor.Tie as tie
 
@@ -34,7 +35,7 @@ returns-4 : tie.Need-returns-4
 returns-4 c = ap divisorOutcome (c .within2 .ensures ∙ answer-three _ _ (c .before .before .if3 .left) (c .before .if4 .taken))
 
 search-requires : tie.Need-search-requires
-unfolding allGood good allClear clear allFactored hasFactor isFactor small both either next last product inverse
+unfolding allGood isGood allClear clear allFactored hasFactor isFactor small both either next last product inverse
 search-requires c κs = ((tt, refl), omega arith, none-below-four _ (c .before .before .if3 .left) (c .before .if4 .left))
 
 returns-5 : tie.Need-returns-5
