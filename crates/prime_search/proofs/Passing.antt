@@ -58,10 +58,11 @@ pub record Walk (n k a gaps b : ℕ) : Type 0 where
   pub ends : last k a gaps ≡ b
   pub none : NoDivisorBelow n (suc a)
 
+-- before the first number of a word
 pub walk-start : (n a e : ℕ) → Good a e → 3 ≤ a → NoDivisorBelow n (suc a) → Walk n 5 a e (last 5 a e)
 walk-start n a e good large none = record { large = large; clears = good .clears; ends = refl; none = none }
 
--- the number p after a divides
+-- the number p after a divides: it is the first divisor
 pub walk-found : (n k a gaps b p : ℕ) → 0 < k → Walk n k a gaps b → p ≡ next a gaps → n % p ≡ 0 → Searched n b p
 walk-found n zero a gaps b p some w same whole = absurd (omega arith)
 walk-found n (suc k) a gaps b p some w same whole =
@@ -75,7 +76,7 @@ walk-found n (suc k) a gaps b p some w same whole =
       };
     }
 
--- it does not
+-- it does not: the walk goes on
 pub walk-on : (n k a gaps b p : ℕ) → 0 < k → Walk n k a gaps b → p ≡ next a gaps → ¬ (p ∣ n) → Walk n (k - 1) p (gaps / 64) b
 unfolding last
 walk-on n zero a gaps b p some w same fails = absurd (omega arith)
@@ -109,6 +110,7 @@ pub record Passed (es : List ℕ) (n i a most : ℕ) : Type 0 where
   pub bound : n / a ≤ most
   pub none : NoDivisorBelow n (suc a)
 
+-- before the first word
 pub passed-start : (es : List ℕ) (n : ℕ) → NoDivisorBelow n 4 → Passed es n 0 3 n
 unfolding before
 passed-start es n none = record {

@@ -8,10 +8,10 @@ use words::WORDS;
 ghost use mathlib.Core.Path.{_≡_};
 ghost use Rattle.modular.specs.Divisor.{divisorOf, divisorOutcome};
 
-// Up to here it takes less time to try the numbers one after the other than to write the table of words.
-const FEW: u32 = 1024;
+// Up to here the numbers are tried one after the other: a table that is not in the cache would take longer.
+const FEW: u32 = 4096;
 
-const FEW_SQUARED: u32 = 1048576;
+const FEW_SQUARED: u32 = 16777216;
 
 // The first d with 2 ≤ d < challenges that divides order, or nothing if there is none.
 pub fn first_divisor(order: u32, challenges: u32) -> Divisor
