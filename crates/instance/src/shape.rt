@@ -4,7 +4,7 @@ use fields::read_u8;
 use fields::read_u16;
 use fields::read_u32;
 use modular::Divisor;
-use modular::first_divisor;
+use primes::first_divisor;
 use types::Header;
 ghost use Prim.Native.Nat.{_≤_};
 ghost use mathlib.Core.Path.{_≡_};
