@@ -1,0 +1,18 @@
+//! Which rows are measured.
+
+/// Words that all have to stand in a row's first two columns. Without words every
+/// row is measured.
+pub struct Filter {
+    words: Vec<String>,
+}
+
+impl Filter {
+    pub fn new(words: &[String]) -> Filter {
+        Filter { words: words.to_vec() }
+    }
+
+    /// Whether the row of a call on these inputs is measured.
+    pub fn takes(&self, on: &str, call: &str) -> bool {
+        self.words.iter().all(|word| on.contains(word.as_str()) || call.contains(word.as_str()))
+    }
+}
