@@ -19,9 +19,9 @@ pub const TABLE: Table<LinearInputs, 2> = Table {
     count: PLANS.len(),
     make: |i| LinearInputs::new(&PLANS[i]),
     compared: || {
-        let plan = Plan { group: SMALL, generators: 2, rows: 2, columns: 3 };
-        let short = LinearInputs { room: 51, ..LinearInputs::new(&plan) };
-        vec![LinearInputs::new(&plan), short]
+        let plan = |generators| Plan { group: SMALL, generators, rows: 2, columns: 3 };
+        let short = LinearInputs { room: 51, ..LinearInputs::new(&plan(2)) };
+        [0, 2, 9].map(|count| LinearInputs::new(&plan(count))).into_iter().chain([short]).collect()
     },
 };
 

@@ -71,11 +71,17 @@ fn instructions(filter: &Filter) -> Result<(), Failure> {
     Ok(())
 }
 
+/// Words that rows have.
+const WORDS: &str = "load, judge, watch, linear, game, save, ledger, \"8 × 8\", root, 65,536";
+
 /// The numbers of the tables that have rows that are asked for.
 fn asked(filter: &Filter) -> Result<Vec<usize>, Failure> {
     let numbers: Vec<usize> = (0..TABLES.len()).filter(|&i| TABLES[i].is_asked(filter)).collect();
     if numbers.is_empty() {
-        return Err((2, "no row has all these words in its first two columns".to_string()));
+        return Err((
+            2,
+            format!("no row has all of these words: {filter}. Words of rows: {WORDS}"),
+        ));
     }
     Ok(numbers)
 }

@@ -1,10 +1,11 @@
 //! A step on a watch for used nonces, which grows with the remembered rounds.
 
+use std::collections::VecDeque;
 use std::hint::black_box;
 
-use dimkhoros_sys::{self as proved, Judgement, MOST_REMEMBERED, Places, Round};
+use dimkhoros_sys::{self as proved, MOST_REMEMBERED, Places, Round};
 
-use crate::reference::{Idiomatic, Verdict, Watch, load};
+use crate::reference::{Idiomatic, Watch, load};
 use crate::sheets::{SheetInputs, judgement, large_exponent, page_a};
 use crate::table::{Case, Inputs, Table};
 
@@ -16,7 +17,12 @@ pub const TABLE: Table<WatchInputs, 2> = Table {
     cases: &[Case { name: "watch step", calls: [library, rust], alike: &[alike] }],
     count: PLANS.len(),
     make: |i| PLANS[i].inputs(),
-    compared: || vec![Plan { sheet: page_a, remembered: 64, reused: None }.inputs()],
+    compared: || {
+        let too_many = Plan { sheet: page_a, remembered: 64, reused: None }.inputs();
+        let mut repeated = Plan { sheet: page_a, remembered: 63, reused: Some(63) }.inputs();
+        repeated.handed.rounds[0] = repeated.round;
+        vec![too_many, repeated]
+    },
 };
 
 /// A watch and the round that it is given.
@@ -105,7 +111,7 @@ impl Plan {
 
 /// The reference's watch with the sheet and the rounds of the library's.
 fn own(watch: &proved::Watch, sheet: &[u8]) -> Watch {
-    let mut rounds: std::collections::VecDeque<Round> = watch.rounds.into();
+    let mut rounds = VecDeque::from(watch.rounds);
     rounds.resize(watch.count as usize, Round::default());
     Watch { sheet: sheet.to_vec(), rounds }
 }
@@ -131,15 +137,14 @@ fn alike(inputs: &mut WatchInputs) -> bool {
     let WatchInputs { sheet, round, handed, own: given, .. } = inputs;
     let mut own = own(handed, &given.sheet);
     let proved = proved::watch_round(sheet, handed, round);
-    let answer = own.hear::<Idiomatic>(sheet, round);
-    let (verdict, reuse): (Judgement, _) = match answer {
-        Ok((verdict, reuse)) => (judgement(&Ok::<Verdict, u32>(verdict)), reuse),
-        Err(number) => (judgement(&Err(number)), None),
+    let (verdict, reuse) = match own.hear::<Idiomatic>(sheet, round) {
+        Ok((verdict, reuse)) => (Ok(verdict), reuse),
+        Err(number) => (Err(number), None),
     };
     let (back, witness) = reuse.map_or((0, [0; 8]), |reuse| (reuse.back as u32, reuse.witness));
     let held = &proved.watch;
     let rounds = held.rounds.iter().take(held.count as usize);
-    proved.verdict == verdict
+    proved.verdict == judgement(&verdict)
         && proved.back == back
         && proved.witness == witness
         && held.count as usize == own.rounds.len()
