@@ -63,13 +63,15 @@ pub const SHEETS: [fn() -> SheetInputs; 8] = [
 /// The inputs that are compared and not measured: sheets of two to seven rows, and
 /// page G's with many challenges and an exponent whose first divisor is large.
 pub fn compared() -> Vec<SheetInputs> {
+    let last_word = [65_449, 65_479, 65_497, 65_519, 65_521].map(|p| (p * p, 65_536));
     let searched = [
-        (65_521 * 65_521, 65_536),
         (65_521 * 65_519, 65_519),
+        (4_099 * 4_099, 4_099),
+        (4_099 * 4_099, 4_100),
         (2_053 * 2_053, 2_053),
         (4_294_967_291, 65_536),
     ];
-    let searched = searched.map(|(e, challenges): (u32, u32)| {
+    let searched = searched.into_iter().chain(last_word).map(|(e, challenges): (u32, u32)| {
         let mut inputs = page_g();
         inputs.sheet[10..14].copy_from_slice(&e.to_be_bytes());
         inputs.sheet[14..18].copy_from_slice(&challenges.to_be_bytes());

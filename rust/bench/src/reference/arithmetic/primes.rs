@@ -1,80 +1,105 @@
-//! The search for a divisor by the odd primes below 65,536. One inverse serves two
-//! primes, and one division serves a block of them.
+//! The search for a divisor by the primes from 5 to 65,521, with the library's table.
+//! One inverse serves five primes, and one division serves a block of words.
 
-/// Two primes, and the inverse of their product modulo 2^32.
-#[derive(Clone, Copy)]
-struct Pair {
-    primes: [u16; 2],
-    inverse: u32,
-}
+/// How many words the table has, of five primes each.
+const COUNT: usize = 1308;
 
-/// How many pairs are searched with one quotient.
+/// How many words are searched with one quotient.
 const BLOCK: usize = 16;
 
-/// How many pairs there are: 3,271 with all odd primes below 65,536, and the last
-/// prime again up to whole blocks.
-const COUNT: usize = 3280;
+/// How many bits half a gap has, and the mask of the lowest.
+const GAP_BITS: u32 = 6;
+const GAP: u64 = (1 << GAP_BITS) - 1;
 
-/// The pairs, rising.
-static PAIRS: [Pair; COUNT] = pairs();
+/// The primes, rising, five to a word. Each has six bits, the first the lowest: half of
+/// how far it is from the prime before it, and the first of all from 3. The high 32 bits
+/// have the inverse of the product of the five modulo 2^32.
+static WORDS: [u64; COUNT] = words();
 
-/// Whether a prime below challenges divides an odd order that is at least challenges.
-pub fn has_odd_divisor(order: u32, challenges: u32) -> bool {
-    for block in PAIRS.chunks_exact(BLOCK) {
-        let least = u32::from(block[0].primes[0]);
-        let most = order / least;
-        if challenges <= least || most < least {
-            return false;
-        }
-        if let Some(divisor) = block.iter().find_map(|pair| pair.divisor(order, most)) {
-            return divisor < challenges;
+/// Whether a prime from 5 on and below challenges divides an order that is at least
+/// challenges and that neither 2 nor 3 divides.
+pub fn has_prime_divisor(order: u32, challenges: u32) -> bool {
+    let mut last = 3;
+    for block in WORDS.chunks(BLOCK) {
+        let most = order / last;
+        for &word in block {
+            if challenges <= last || most < last {
+                return false;
+            }
+            let primes = primes_after(last, word);
+            if may_divide(order, (word >> 32) as u32, primes, most) {
+                if let Some(divisor) = primes.into_iter().find(|p| order % p == 0) {
+                    return divisor < challenges;
+                }
+            }
+            last = primes[4];
         }
     }
     false
 }
 
-impl Pair {
-    /// The first of the two primes that divides order, if no quotient by them is above
-    /// most. If p divides order, then order / p is order times the inverse times q,
-    /// modulo 2^32. What is above most is no quotient, and what is not is tried.
-    fn divisor(&self, order: u32, most: u32) -> Option<u32> {
-        let [p, q] = self.primes.map(u32::from);
-        let product = order.wrapping_mul(self.inverse);
-        let divides = |d: u32, other| product.wrapping_mul(other) <= most && order % d == 0;
-        if divides(p, q) {
-            return Some(p);
-        }
-        divides(q, p).then_some(q)
-    }
+/// The primes of the word after the prime last.
+fn primes_after(mut last: u32, word: u64) -> [u32; 5] {
+    [0, 1, 2, 3, 4].map(|place| {
+        last += 2 * ((word >> (place * GAP_BITS)) & GAP) as u32;
+        last
+    })
+}
+
+/// Whether one of five primes may divide order, by the inverse of their product, if no
+/// quotient by them is above most. If p divides order, then order / p is order times the
+/// inverse times the other four, modulo 2^32, and what is above most is no quotient.
+fn may_divide(order: u32, inverse: u32, [p, q, r, s, t]: [u32; 5], most: u32) -> bool {
+    let by_five = order.wrapping_mul(inverse);
+    let by_four = by_five.wrapping_mul(t);
+    let (front, back) = (p.wrapping_mul(q), r.wrapping_mul(s));
+    let (by_front, by_back) = (by_four.wrapping_mul(back), by_four.wrapping_mul(front));
+    by_front.wrapping_mul(q) <= most
+        || by_front.wrapping_mul(p) <= most
+        || by_back.wrapping_mul(s) <= most
+        || by_back.wrapping_mul(r) <= most
+        || by_five.wrapping_mul(front).wrapping_mul(back) <= most
 }
 
 /// The table, which is computed when the program is compiled.
-const fn pairs() -> [Pair; COUNT] {
-    let mut pairs = [Pair { primes: [0; 2], inverse: 0 }; COUNT];
+const fn words() -> [u64; COUNT] {
     let composite = composites();
-    let (mut last, mut i) = (1, 0);
-    while i < 2 * COUNT {
-        let mut next = last + 2;
-        while next < 65_536 && composite[next / 2] {
-            next += 2;
-        }
-        if next < 65_536 {
-            last = next;
-        }
-        pairs[i / 2].primes[i % 2] = last as u16;
-        i += 1;
-    }
-    let mut i = 0;
+    let mut words = [0; COUNT];
+    let (mut last, mut i) = (3, 0);
     while i < COUNT {
-        let [p, q] = pairs[i].primes;
-        pairs[i].inverse = inverse(p as u32 * q as u32);
+        (words[i], last) = word_after(last, &composite);
         i += 1;
     }
-    pairs
+    words
+}
+
+/// The word of the five primes after the prime last, and the fifth of them.
+const fn word_after(mut last: usize, composite: &Composites) -> (u64, usize) {
+    let (mut gaps, mut product, mut place) = (0, 1u32, 0);
+    while place < 5 {
+        let prime = prime_after(last, composite);
+        gaps |= ((prime - last) as u64 / 2) << (place * GAP_BITS);
+        product = product.wrapping_mul(prime as u32);
+        last = prime;
+        place += 1;
+    }
+    (gaps | (inverse(product) as u64) << 32, last)
+}
+
+/// The first prime after the odd n.
+const fn prime_after(mut n: usize, composite: &Composites) -> usize {
+    n += 2;
+    while composite[n / 2] {
+        n += 2;
+    }
+    n
 }
 
 /// At n / 2, whether the odd n, at least 3, is composite.
-const fn composites() -> [bool; 32_768] {
+type Composites = [bool; 32_768];
+
+/// The odd composites below 65,536.
+const fn composites() -> Composites {
     let mut composite = [false; 32_768];
     let mut p = 3;
     while p < 256 {

@@ -1,21 +1,22 @@
 //! The tuned version: products by a reciprocal, powers side by side in four
-//! lanes, squarings that all columns share, and divisors by a table of primes. A value or a row that is alone, or
-//! one of few with a small modulus, is computed as in the idiomatic version, which
-//! is quicker for it; what computes several is not inlined, so that this one can be.
+//! lanes, squarings that all columns share, and divisors by a table of primes. A
+//! value or a row that is alone, or one of few with a small modulus, is computed as
+//! in the idiomatic version, which is quicker for it; what computes several is not
+//! inlined, so that this one can be.
 
 use std::array::from_fn;
 
 use dimkhoros_sys::Places;
 
-use super::primes::has_odd_divisor;
+use super::primes::has_prime_divisor;
 use super::{Arithmetic, Idiomatic, gcd, in_range, places};
 
 /// Tuned Rust.
 pub struct Tuned;
 
-/// Up to so many challenges, and up to the square of it as the order, the library
+/// Up to so many challenges, and with an order below the square of it, the library
 /// does not search by primes.
-const FEW: u32 = 2048;
+const FEW: u32 = 4096;
 
 /// Four values that are computed side by side.
 type Lanes = [u32; 4];
@@ -130,7 +131,7 @@ impl Arithmetic for Tuned {
     /// can be the first divisor.
     fn has_divisor(order: u32, challenges: u32) -> bool {
         if challenges > FEW && order >= FEW * FEW {
-            return order % 2 == 0 || has_odd_divisor(order, challenges);
+            return order % 2 == 0 || order % 3 == 0 || has_prime_divisor(order, challenges);
         }
         let end = challenges.min(order.isqrt() + 1);
         let divides = |d: u32| d < end && order % d == 0;
