@@ -1,23 +1,24 @@
 //! The instructions of a call, counted by valgrind, which runs this program
-//! again for each case and side.
+//! again for each row and side.
 
 use std::env;
 use std::process::Command;
 
 /// The instructions of a call on each side: the difference of a run with eleven
-/// calls and a run with one, divided by ten.
-pub fn instructions(sheet: usize, call: usize) -> Result<[u64; 3], String> {
-    let mut counts = [0; 3];
+/// calls and a run with one, divided by ten. The row is a table, inputs and a call.
+pub fn instructions<const N: usize>(row: [usize; 3]) -> Result<[f64; N], String> {
+    let [table, inputs, call] = row;
+    let mut counts = [0.0; N];
     for (side, count) in counts.iter_mut().enumerate() {
-        let few = collected([sheet, call, side, 1])?;
-        let many = collected([sheet, call, side, 11])?;
-        *count = (many - few) / 10;
+        let few = collected([table, inputs, call, side, 1])?;
+        let many = collected([table, inputs, call, side, 11])?;
+        *count = (many - few) as f64 / 10.0;
     }
     Ok(counts)
 }
 
-/// The instructions of a whole run: of a sheet, a call, a side and how many calls.
-fn collected(run: [usize; 4]) -> Result<u64, String> {
+/// The instructions of a whole run: of a row, a side and how many calls.
+fn collected(run: [usize; 5]) -> Result<u64, String> {
     let program = env::current_exe().map_err(|error| error.to_string())?;
     let output = Command::new("valgrind")
         .args(["--tool=callgrind", "--callgrind-out-file=/dev/null"])

@@ -1,124 +1,148 @@
-//! The game on its slowest sheets, beside a plain search in Rust.
+//! The game, which grows with the number of responses and of challenges.
 
 use std::hint::black_box;
-use std::process::ExitCode;
-use std::time::Instant;
 
 use dimkhoros_sys::{self as proved, LONGEST_GAME};
 
-use crate::inputs::{Plan, sheet_bytes};
-use crate::reference::{Idiomatic, Kind, game};
-use crate::tables::machine;
-use crate::timing::median;
+use crate::printing::grouped;
+use crate::reference::{Kind, game_by_map, game_in_turn, pow_mod};
+use crate::sheets::{Plan, sheet_bytes};
+use crate::table::{Case, Inputs, Table};
 
-/// How many turns a sheet has. In a turn each side plays once.
-const TURNS: usize = 24;
+/// The game.
+pub const TABLE: Table<GameInputs, 3> = Table {
+    title: "The game",
+    on: "sheet",
+    sides: ["library", "map", "plain search"],
+    cases: &[Case {
+        name: "game",
+        calls: [
+            |inputs| timed(inputs, proved::game),
+            |inputs| timed(inputs, game_by_map),
+            |inputs| timed(inputs, game_in_turn),
+        ],
+        alike: &[|inputs| alike(inputs, game_by_map), |inputs| alike(inputs, game_in_turn)],
+    }],
+    count: SHEETS.len(),
+    make: |i| SHEETS[i](),
+    compared: || {
+        let with_file = |file: &[u8]| GameInputs { file: file.to_vec(), ..exponent(11, 2, true) };
+        let no_element = GameInputs { sheet: exponent(13, 2, true).sheet, ..exponent(11, 2, true) };
+        let sizes = [exponent(4_099, 1, true), root(4_099, 65_537, 65_536), root(35, 5, 5)];
+        let files = [with_file(b"RND\x00\x01\x00\x00"), with_file(b"RND\x00\x01\x00\x01")];
+        files.into_iter().chain([no_element]).chain(sizes).collect()
+    },
+};
+
+/// The sheets that are measured: root sheets, and exponent sheets of one to eight
+/// columns.
+const SHEETS: [fn() -> GameInputs; 11] = [
+    || root(127, 65_537, 65_536),
+    || root(1_021, 65_537, 65_536),
+    || root(4_093, 65_537, 65_536),
+    || exponent(127, 1, true),
+    || exponent(1_021, 1, true),
+    || exponent(2_039, 1, true),
+    || exponent(4_093, 1, true),
+    || exponent(4_093, 1, false),
+    || exponent(61, 2, true),
+    || exponent(13, 3, true),
+    || exponent(2, 8, true),
+];
+
+/// Sheets of more challenges are large.
+const LARGE: u32 = 256;
 
 /// A sheet, a file of one round, and the memory that is lent for the text.
-struct Inputs {
-    name: &'static str,
+pub struct GameInputs {
+    name: String,
+    is_large: bool,
     sheet: Vec<u8>,
     file: Vec<u8>,
     text: Box<[u8; LONGEST_GAME]>,
 }
 
-/// One game on one side, which answers the length of its text.
-type Play = fn(&mut Inputs) -> usize;
+impl Inputs for GameInputs {
+    fn name(&self) -> &str {
+        &self.name
+    }
 
-fn library(inputs: &mut Inputs) -> usize {
-    let Inputs { sheet, file, text, .. } = black_box(inputs);
-    black_box(proved::game(sheet, file, text))
+    /// A game takes long on a large sheet, of which no bits are changed.
+    fn taken(&mut self) -> (&mut [u8], Vec<&mut u32>) {
+        (if self.is_large { &mut [] } else { &mut self.sheet }, Vec::new())
+    }
 }
 
-fn plain(inputs: &mut Inputs) -> usize {
-    let Inputs { sheet, file, text, .. } = black_box(inputs);
-    black_box(game::<Idiomatic>(sheet, file, text))
-}
-
-/// A sheet of one row and one column, with a file whose one round has this commitment.
-fn inputs(plan: Plan, entries: &[u32], statement: u32, commitment: u32) -> Inputs {
+/// A sheet of one row, with a file whose one round has this commitment.
+fn inputs(
+    name: String,
+    plan: Plan,
+    entries: &[u32],
+    statement: u32,
+    commitment: u32,
+) -> GameInputs {
     let mut file = b"RND\x00\x01\x00\x01".to_vec();
-    file.extend([commitment, 0, 1].into_iter().flat_map(u32::to_be_bytes));
-    Inputs {
-        name: plan.name,
-        sheet: sheet_bytes(&plan, entries, &[statement]),
-        file,
-        text: Box::new([0; LONGEST_GAME]),
-    }
+    let round = [commitment, 0].into_iter().chain([1; 8].into_iter().take(plan.columns));
+    file.extend(round.flat_map(u32::to_be_bytes));
+    let sheet = sheet_bytes(&plan, entries, &[statement]);
+    let is_large = plan.challenges > LARGE;
+    GameInputs { name, is_large, sheet, file, text: Box::new([0; LONGEST_GAME]) }
 }
 
-/// The slowest root sheet, and the slowest exponent sheet with every challenge
-/// answered and with none. 4,096 has the order 4,093 modulo 49,117.
-fn slowest() -> [Inputs; 3] {
-    let root = Plan {
-        name: "root, m 4,093, e 65,537, K 65,536",
-        kind: Kind::Root,
-        modulus: 4093,
-        order: 65_537,
-        challenges: 65_536,
-        rows: 1,
-        columns: 1,
-    };
-    let exponent = |name| Plan {
-        name,
+/// A root sheet.
+fn root(modulus: u32, order: u32, challenges: u32) -> GameInputs {
+    let plan = Plan { name: "", kind: Kind::Root, modulus, order, challenges, rows: 1, columns: 1 };
+    let [m, count] = [modulus, challenges].map(|number| grouped(number.into()));
+    inputs(format!("root, m {m}, K {count}"), plan, &[], 2, 3)
+}
+
+/// An exponent sheet with this prime order and as many challenges, of which every one
+/// is answered, or none.
+fn exponent(order: u32, columns: usize, answered: bool) -> GameInputs {
+    let (modulus, element) = group(order);
+    let plan = Plan {
+        name: "",
         kind: Kind::Exponent,
-        modulus: 49_117,
-        order: 4093,
-        challenges: 4093,
-        ..root
+        modulus,
+        order,
+        challenges: order,
+        rows: 1,
+        columns,
     };
-    let all = exponent("exponent, q and K 4,093, all answered");
-    let none = exponent("exponent, q and K 4,093, none answered");
-    [inputs(root, &[], 2, 3), inputs(all, &[4096], 28_319, 4096), inputs(none, &[1], 1, 4096)]
+    let count = grouped(u64::from(order).pow(columns as u32));
+    let (challenges, answers) = (grouped(order.into()), if answered { "all" } else { "none" });
+    let name =
+        format!("exponent, n {columns}, {count} responses, K {challenges}, {answers} answered");
+    if answered {
+        let square = pow_mod(element, 2, modulus);
+        inputs(name, plan, &[element; 8][..columns], square, element)
+    } else {
+        inputs(name, plan, &[1; 8][..columns], 1, element)
+    }
 }
 
-/// Prints the times of the slowest sheets.
-pub fn times() -> ExitCode {
-    let mut sheets = slowest();
-    if let Some(other) = sheets.iter_mut().find_map(differing) {
-        eprintln!("bench: the game on {other}: plain search answers differently");
-        return ExitCode::from(1);
-    }
-    println!("{}\n", machine());
-    println!(
-        "| sheet | library, ms | plain search, ms | plain search / library | median of pairs |"
-    );
-    println!("|---|--:|--:|--:|--:|");
-    for sheet in &mut sheets {
-        let (quickest, quotient) = measured(sheet);
-        let [library, plain] = quickest;
-        let name = sheet.name;
-        println!("| {name} | {library:.2} | {plain:.1} | {:.1} | {quotient:.1} |", plain / library);
-    }
-    ExitCode::SUCCESS
+/// The smallest prime modulus that has elements of this prime order, and one of them.
+fn group(order: u32) -> (u32, u32) {
+    let is_prime = |m: u32| (2..).take_while(|d| d * d <= m).all(|d| m % d != 0);
+    let candidates = (2..).map(|k| (k, k * order + 1)).filter(|&(_, m)| is_prime(m));
+    let mut elements = candidates.map(|(k, m)| (m, pow_mod(2, k, m)));
+    elements.find(|&(_, element)| element != 1).unwrap_or_default()
 }
 
-/// The name of these inputs where the two texts differ.
-fn differing(inputs: &mut Inputs) -> Option<&'static str> {
-    let mut texts = [library as Play, plain].map(|play| {
-        inputs.text.fill(0);
-        let length = play(inputs);
-        inputs.text[..length].to_vec()
-    });
-    let refused = texts[0].starts_with(b"refused");
-    let [first, second] = &mut texts;
-    (refused || first != second).then_some(inputs.name)
+/// A game, which answers the length of its text.
+type Play = fn(&[u8], &[u8], &mut [u8; LONGEST_GAME]) -> usize;
+
+fn timed(inputs: &mut GameInputs, play: Play) {
+    let GameInputs { sheet, file, text, .. } = black_box(inputs);
+    black_box(play(sheet, file, text));
 }
 
-/// The milliseconds of the quickest game on each side, and the median, over the turns,
-/// of the plain search's time divided by the library's. Every other turn the plain
-/// search begins.
-fn measured(inputs: &mut Inputs) -> ([f64; 2], f64) {
-    let (mut quickest, mut quotients) = ([f64::INFINITY; 2], Vec::new());
-    for turn in 0..TURNS {
-        let mut took = [0.0; 2];
-        for side in [turn % 2, 1 - turn % 2] {
-            let begin = Instant::now();
-            [library, plain][side](inputs);
-            took[side] = begin.elapsed().as_secs_f64() * 1e3;
-            quickest[side] = took[side].min(quickest[side]);
-        }
-        quotients.push(took[1] / took[0]);
-    }
-    (quickest, median(quotients.into_iter()))
+fn alike(inputs: &mut GameInputs, play: Play) -> bool {
+    let GameInputs { sheet, file, text, .. } = inputs;
+    let mut written = |play: Play| {
+        text.fill(0);
+        let length = play(sheet, file, text);
+        text[..length].to_vec()
+    };
+    written(proved::game) == written(play)
 }

@@ -6,14 +6,21 @@
 
 mod arithmetic;
 mod game;
+mod ledger;
+mod linear;
 mod marker;
 mod rounds;
 mod session;
 mod sheet;
+mod text;
+mod watch;
 
-pub use arithmetic::{Arithmetic, Idiomatic, Tuned};
-pub use game::game;
+pub use arithmetic::{Arithmetic, Idiomatic, Tuned, pow_mod};
+pub use game::{game_by_map, game_in_turn};
+pub use ledger::{Checked, ledger_check, ledger_write};
+pub use linear::{Forms, linear};
 pub use marker::mark;
 pub use rounds::{Verdict, extract, judge, simulate};
 pub use session::{Phase, Prover};
-pub use sheet::{Kind, Sheet, load};
+pub use sheet::{Header, Kind, Sheet, load};
+pub use watch::Watch;

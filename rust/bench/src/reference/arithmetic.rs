@@ -2,11 +2,12 @@
 //! what both do alike.
 
 mod idiomatic;
+mod primes;
 mod tuned;
 
 use dimkhoros_sys::Places;
 
-pub use idiomatic::Idiomatic;
+pub use idiomatic::{Idiomatic, pow_mod};
 pub use tuned::Tuned;
 
 /// What a version does in its own way. It is given at most eight values, rows and

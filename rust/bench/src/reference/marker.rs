@@ -5,6 +5,7 @@ use dimkhoros_sys::{LONGEST_TEXT, Round};
 use super::arithmetic::Arithmetic;
 use super::rounds::Verdict;
 use super::sheet::{Sheet, load, word, words};
+use super::text::Lines;
 
 /// Puts the marker's text at the start of text and answers its length.
 #[inline(never)]
@@ -14,7 +15,7 @@ pub fn mark<A: Arithmetic>(
     level: &[u8],
     text: &mut [u8; LONGEST_TEXT],
 ) -> usize {
-    let mut lines = Lines { text, length: 0 };
+    let mut lines = Lines::new(text);
     match load::<A>(sheet) {
         Err(number) => lines.numbered(b"sheet ", number),
         Ok(sheet) => match (records(&sheet, file), level) {
@@ -63,13 +64,7 @@ pub fn round<A>(sheet: &Sheet<A>, record: &[u8]) -> Round {
     Round { commitment: words(commitment), challenge: word(rest, 0), response: words(&rest[4..]) }
 }
 
-/// The lines that are written so far.
-struct Lines<'a> {
-    text: &'a mut [u8; LONGEST_TEXT],
-    length: usize,
-}
-
-impl Lines<'_> {
+impl Lines<'_, LONGEST_TEXT> {
     /// The lines of a file that is read.
     fn rounds<A: Arithmetic>(&mut self, sheet: &Sheet<A>, records: &[u8], level: u8) {
         let records = records.chunks_exact(record_length(sheet));
@@ -92,12 +87,6 @@ impl Lines<'_> {
         self.word(if passed { b"pass\n" } else { b"fail\n" });
     }
 
-    /// A word.
-    fn word(&mut self, word: &[u8]) {
-        self.text[self.length..][..word.len()].copy_from_slice(word);
-        self.length += word.len();
-    }
-
     /// The word and the rows of a mask, rising, and the end of the line.
     fn rejected(&mut self, rows: u32) {
         self.word(b" rejected");
@@ -105,20 +94,5 @@ impl Lines<'_> {
             self.word(&[b' ', b'0' + row]);
         }
         self.word(b"\n");
-    }
-
-    /// A word, a number and the end of the line.
-    fn numbered(&mut self, word: &[u8], number: u32) {
-        self.word(word);
-        self.decimal(number);
-        self.word(b"\n");
-    }
-
-    /// A number in decimal.
-    fn decimal(&mut self, number: u32) {
-        if number >= 10 {
-            self.decimal(number / 10);
-        }
-        self.word(&[b'0' + (number % 10) as u8]);
     }
 }

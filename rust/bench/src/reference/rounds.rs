@@ -115,11 +115,16 @@ impl<A: Arithmetic> Sheet<A> {
         if self.verdict(first) != Verdict::Accepted || self.verdict(second) != Verdict::Accepted {
             return Err(20);
         }
-        Ok(if first.challenge > second.challenge {
+        Ok(self.combined(first, second))
+    }
+
+    /// The witness from two accepted rounds with one commitment and two challenges.
+    pub fn combined(&self, first: &Round, second: &Round) -> Places {
+        if first.challenge > second.challenge {
             self.witness(first, second)
         } else {
             self.witness(second, first)
-        })
+        }
     }
 
     /// The witness from two rounds, the first with the larger challenge: b (r - s)

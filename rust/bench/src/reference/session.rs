@@ -1,16 +1,29 @@
-//! Peggy's session: new, commit, respond.
+//! Peggy's session: new, commit, respond, save, return.
 
-use dimkhoros_sys::{MOST_ANSWERED, Memory, Places};
+use dimkhoros_sys::{MOST_ANSWERED, Memory, Places, Saved};
 
 use super::arithmetic::{Arithmetic, places};
 use super::sheet::{Kind, Sheet, load};
 
-/// The states that these calls lead to.
+/// Peggy's states, by the numbers that they are saved as.
 #[derive(Clone, Copy, PartialEq, Eq)]
 pub enum Phase {
     New,
     Committed,
     Answered,
+    Dropped,
+}
+
+impl From<u32> for Phase {
+    /// The state of a number. Any other number is taken as Dropped.
+    fn from(number: u32) -> Phase {
+        match number {
+            0 => Phase::New,
+            1 => Phase::Committed,
+            2 => Phase::Answered,
+            _ => Phase::Dropped,
+        }
+    }
 }
 
 /// Peggy's session. A refused call leaves it as it is.
@@ -81,6 +94,30 @@ impl Prover {
         self.memory.answered[at].commitment = self.commitment;
         self.memory.count += 1;
         Ok(response)
+    }
+
+    /// Saves the state, nonce and commitment under a name.
+    #[inline(never)]
+    pub fn save(&mut self, name: u32) -> Result<(), u32> {
+        let place = self.memory.saved.get_mut(name as usize).ok_or(34u32)?;
+        *place = Saved {
+            nonce: self.nonce,
+            commitment: self.commitment,
+            phase: self.phase as u32,
+            kept: 1,
+        };
+        Ok(())
+    }
+
+    /// Brings back the state, nonce and commitment that were saved under a name.
+    #[inline(never)]
+    pub fn return_to(&mut self, name: u32) -> Result<(), u32> {
+        let place = self.memory.saved.get(name as usize);
+        let saved = place.filter(|saved| saved.kept != 0).ok_or(34u32)?;
+        self.nonce = saved.nonce;
+        self.commitment = saved.commitment;
+        self.phase = Phase::from(saved.phase);
+        Ok(())
     }
 
     /// Whether the held commitment was answered before.

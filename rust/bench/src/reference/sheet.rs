@@ -57,13 +57,36 @@ pub fn load<A: Arithmetic>(bytes: &[u8]) -> Result<Sheet<A>, u32> {
 }
 
 /// The fixed fields of a sheet.
-struct Header {
-    kind: Kind,
-    modulus: u32,
-    order: u32,
-    challenges: u32,
-    rows: usize,
-    columns: usize,
+pub struct Header {
+    pub kind: Kind,
+    pub modulus: u32,
+    pub order: u32,
+    pub challenges: u32,
+    pub rows: usize,
+    pub columns: usize,
+}
+
+impl Header {
+    /// The fixed fields as they are if they are not refused: refusals 5 to 8.
+    #[inline]
+    pub fn tested<A: Arithmetic>(self) -> Result<Header, u32> {
+        if self.modulus < 3 {
+            return Err(5);
+        }
+        if self.order < 2 {
+            return Err(6);
+        }
+        let sides = 1..=8;
+        let differ = self.kind == Kind::Root && self.rows != self.columns;
+        if !sides.contains(&self.rows) || !sides.contains(&self.columns) || differ {
+            return Err(7);
+        }
+        let counts = 2..=65_536;
+        if !counts.contains(&self.challenges) || A::has_divisor(self.order, self.challenges) {
+            return Err(8);
+        }
+        Ok(self)
+    }
 }
 
 /// The fixed fields of a sheet: refusals 2 to 8.
@@ -79,25 +102,15 @@ fn header<A: Arithmetic>(head: &[u8; 20]) -> Result<Header, u32> {
         2 => Kind::Root,
         _ => return Err(4),
     };
-    let modulus = word(head, 6);
-    if modulus < 3 {
-        return Err(5);
-    }
-    let order = word(head, 10);
-    if order < 2 {
-        return Err(6);
-    }
-    let (rows, columns) = (usize::from(head[18]), usize::from(head[19]));
-    let sides = 1..=8;
-    let differ = kind == Kind::Root && rows != columns;
-    if !sides.contains(&rows) || !sides.contains(&columns) || differ {
-        return Err(7);
-    }
-    let challenges = word(head, 14);
-    if !(2..=65_536).contains(&challenges) || A::has_divisor(order, challenges) {
-        return Err(8);
-    }
-    Ok(Header { kind, modulus, order, challenges, rows, columns })
+    let fields = Header {
+        kind,
+        modulus: word(head, 6),
+        order: word(head, 10),
+        challenges: word(head, 14),
+        rows: usize::from(head[18]),
+        columns: usize::from(head[19]),
+    };
+    fields.tested::<A>()
 }
 
 /// The values of a sheet of the right shape: refusals 2 to 9.

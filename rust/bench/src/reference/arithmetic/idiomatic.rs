@@ -9,7 +9,7 @@ use super::{Arithmetic, gcd, in_range, mul_mod, places};
 pub struct Idiomatic;
 
 /// The power of base by exponent modulo m, by squaring and multiplying.
-fn pow_mod(base: u32, mut exponent: u32, m: u32) -> u32 {
+pub fn pow_mod(base: u32, mut exponent: u32, m: u32) -> u32 {
     let mut square = base % m;
     let mut power = 1;
     while exponent > 0 {

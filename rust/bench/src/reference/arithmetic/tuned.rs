@@ -1,16 +1,22 @@
 //! The tuned version: products by a reciprocal, powers side by side in four
-//! lanes, and squarings that all columns share. A value or a row that is alone, or
-//! one of few with a small modulus, is computed as in the idiomatic version, which
-//! is quicker for it; what computes several is not inlined, so that this one can be.
+//! lanes, squarings that all columns share, and divisors by a table of primes. A
+//! value or a row that is alone, or one of few with a small modulus, is computed as
+//! in the idiomatic version, which is quicker for it; what computes several is not
+//! inlined, so that this one can be.
 
 use std::array::from_fn;
 
 use dimkhoros_sys::Places;
 
+use super::primes::has_prime_divisor;
 use super::{Arithmetic, Idiomatic, gcd, in_range, places};
 
 /// Tuned Rust.
 pub struct Tuned;
+
+/// Up to so many challenges, and with an order below the square of it, the library
+/// does not search by primes.
+const FEW: u32 = 4096;
 
 /// Four values that are computed side by side.
 type Lanes = [u32; 4];
@@ -120,9 +126,13 @@ fn lanes(values: impl Iterator<Item = u32>) -> Lanes {
 }
 
 impl Arithmetic for Tuned {
-    /// Only 2, 3 and the d between their multiples are tried, up to the square root
-    /// of order; above it only order itself can be the first divisor.
+    /// Many challenges are searched by primes. Else only 2, 3 and the d between their
+    /// multiples are tried, up to the square root of order; above it only order itself
+    /// can be the first divisor.
     fn has_divisor(order: u32, challenges: u32) -> bool {
+        if challenges > FEW && order >= FEW * FEW {
+            return order % 2 == 0 || order % 3 == 0 || has_prime_divisor(order, challenges);
+        }
         let end = challenges.min(order.isqrt() + 1);
         let divides = |d: u32| d < end && order % d == 0;
         order < challenges

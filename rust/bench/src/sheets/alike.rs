@@ -1,35 +1,34 @@
 //! Whether the library and a version in Rust answer a call alike.
 
-use dimkhoros_sys::phases::prover::{ANSWERED, COMMITTED, NEW};
 use dimkhoros_sys::{
     self as proved, Computed, EXPONENT, Header, Judgement, LONGEST_TEXT, Loaded, Places,
     ProverSession, ROOT,
 };
 
-use crate::inputs::Inputs;
-use crate::reference::{self, Arithmetic, Kind, Phase, Prover, Sheet, Verdict};
+use super::inputs::SheetInputs;
+use crate::reference::{self, Arithmetic, Kind, Prover, Sheet, Verdict};
 
-pub fn load<A: Arithmetic>(inputs: &mut Inputs) -> bool {
+pub fn load<A: Arithmetic>(inputs: &mut SheetInputs) -> bool {
     proved::load(&inputs.sheet) == loaded(&reference::load::<A>(&inputs.sheet))
 }
 
-pub fn judge<A: Arithmetic>(inputs: &mut Inputs) -> bool {
-    let Inputs { sheet, first, .. } = inputs;
+pub fn judge<A: Arithmetic>(inputs: &mut SheetInputs) -> bool {
+    let SheetInputs { sheet, first, .. } = inputs;
     proved::judge(sheet, first) == judgement(&reference::judge::<A>(sheet, first))
 }
 
-pub fn simulate<A: Arithmetic>(inputs: &mut Inputs) -> bool {
+pub fn simulate<A: Arithmetic>(inputs: &mut SheetInputs) -> bool {
     let (c, r) = (inputs.first.challenge, &inputs.first.response);
     result(&proved::simulate(&inputs.sheet, c, r)) == reference::simulate::<A>(&inputs.sheet, c, r)
 }
 
-pub fn extract<A: Arithmetic>(inputs: &mut Inputs) -> bool {
-    let Inputs { sheet, first, second, .. } = inputs;
+pub fn extract<A: Arithmetic>(inputs: &mut SheetInputs) -> bool {
+    let SheetInputs { sheet, first, second, .. } = inputs;
     result(&proved::extract(sheet, first, second)) == reference::extract::<A>(sheet, first, second)
 }
 
-pub fn commit_and_respond<A: Arithmetic>(inputs: &mut Inputs) -> bool {
-    let Inputs { sheet, nonce, witness, first, .. } = inputs;
+pub fn commit_and_respond<A: Arithmetic>(inputs: &mut SheetInputs) -> bool {
+    let SheetInputs { sheet, nonce, witness, first, .. } = inputs;
     let mut session = Prover::new();
     let committed = proved::prover_commit(sheet, proved::prover_new(), nonce);
     let answered = proved::prover_respond(sheet, committed.session, first.challenge, witness);
@@ -40,10 +39,10 @@ pub fn commit_and_respond<A: Arithmetic>(inputs: &mut Inputs) -> bool {
         && answered.session == handed(&session)
 }
 
-pub fn mark<A: Arithmetic>(inputs: &mut Inputs) -> bool {
+pub fn mark<A: Arithmetic>(inputs: &mut SheetInputs) -> bool {
     let mut text = [0; LONGEST_TEXT];
     inputs.text.fill(0);
-    let Inputs { sheet, file, level, text: proved_text, .. } = inputs;
+    let SheetInputs { sheet, file, level, text: proved_text, .. } = inputs;
     let length = proved::mark(sheet, file, level, proved_text);
     length == reference::mark::<A>(sheet, file, level, &mut text) && **proved_text == text
 }
@@ -71,7 +70,7 @@ fn loaded<A>(answer: &Result<Sheet<A>, u32>) -> Loaded {
 }
 
 /// What the library has to answer where judging in Rust gives this.
-fn judgement(answer: &Result<Verdict, u32>) -> Judgement {
+pub fn judgement(answer: &Result<Verdict, u32>) -> Judgement {
     let (refusal, accepted, rows) = match *answer {
         Ok(Verdict::Accepted) => (0, 1, 0),
         Ok(Verdict::Rejected(rows)) => (0, 0, rows),
@@ -83,11 +82,7 @@ fn judgement(answer: &Result<Verdict, u32>) -> Judgement {
 /// The session that the library has to hand back where Rust has this one.
 fn handed(session: &Prover) -> ProverSession {
     ProverSession {
-        phase: match session.phase {
-            Phase::New => NEW,
-            Phase::Committed => COMMITTED,
-            Phase::Answered => ANSWERED,
-        },
+        phase: session.phase as u32,
         nonce: session.nonce,
         commitment: session.commitment,
         memory: session.memory,

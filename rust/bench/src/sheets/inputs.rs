@@ -3,7 +3,9 @@
 
 use dimkhoros_sys::{LONGEST_TEXT, Places, Round};
 
+use crate::random::Random;
 use crate::reference::{Idiomatic, Kind, load};
+use crate::table::Inputs;
 
 /// How many rounds the round file has.
 const ROUNDS: u32 = 512;
@@ -12,7 +14,7 @@ const ROUNDS: u32 = 512;
 const LEVEL: u8 = 64;
 
 /// What the calls take. The text is lent to the marker.
-pub struct Inputs {
+pub struct SheetInputs {
     pub name: &'static str,
     pub sheet: Vec<u8>,
     pub witness: Places,
@@ -22,6 +24,16 @@ pub struct Inputs {
     pub file: Vec<u8>,
     pub level: Vec<u8>,
     pub text: Box<[u8; LONGEST_TEXT]>,
+}
+
+impl Inputs for SheetInputs {
+    fn name(&self) -> &str {
+        self.name
+    }
+
+    fn taken(&mut self) -> (&mut [u8], Vec<&mut u32>) {
+        (&mut self.sheet, Vec::new())
+    }
 }
 
 /// The fixed fields of a sheet.
@@ -37,19 +49,39 @@ pub struct Plan {
 }
 
 /// What makes the inputs of each sheet, the smallest sheet first.
-pub const SHEETS: [fn() -> Inputs; 8] = [
+pub const SHEETS: [fn() -> SheetInputs; 8] = [
     page_a,
     page_g,
     page_e,
     page_f,
-    || random(exponent("8 × 8, exponent, K 256", 256), (200, 77)),
+    large_exponent,
     || random(root("8 × 8, root, K 256", 256), (200, 77)),
     || random(exponent("8 × 8, exponent, K 65,536", 65_536), (51_234, 777)),
     || random(root("8 × 8, root, K 65,536", 65_536), (51_234, 777)),
 ];
 
-/// The inputs of sheets of two to seven rows, which are compared and not measured.
-pub fn between() -> impl Iterator<Item = Inputs> {
+/// The inputs that are compared and not measured: sheets of two to seven rows, and
+/// page G's with many challenges and an exponent whose first divisor is large.
+pub fn compared() -> Vec<SheetInputs> {
+    let last_word = [65_449, 65_479, 65_497, 65_519, 65_521].map(|p| (p * p, 65_536));
+    let searched = [
+        (65_521 * 65_519, 65_519),
+        (4_099 * 4_099, 4_099),
+        (4_099 * 4_099, 4_100),
+        (2_053 * 2_053, 2_053),
+        (4_294_967_291, 65_536),
+    ];
+    let searched = searched.into_iter().chain(last_word).map(|(e, challenges): (u32, u32)| {
+        let mut inputs = page_g();
+        inputs.sheet[10..14].copy_from_slice(&e.to_be_bytes());
+        inputs.sheet[14..18].copy_from_slice(&challenges.to_be_bytes());
+        inputs
+    });
+    between().chain(searched).collect()
+}
+
+/// The inputs of sheets of two to seven rows.
+fn between() -> impl Iterator<Item = SheetInputs> {
     let plans = (2..8).flat_map(|size| {
         let plan = |plan| Plan { rows: size, columns: size, ..plan };
         [
@@ -60,14 +92,18 @@ pub fn between() -> impl Iterator<Item = Inputs> {
     plans.map(|plan| random(plan, (200, 77)))
 }
 
-/// A large exponent sheet. The modulus is the largest prime of 32 bits that is
-/// 2 q + 1 for a prime q.
+/// The largest prime of 32 bits that is 2 q + 1 for a prime q, and q. Squares have the
+/// order q.
+pub const LARGE_MODULUS: u32 = 4_294_967_087;
+pub const LARGE_ORDER: u32 = 2_147_483_543;
+
+/// A large exponent sheet.
 fn exponent(name: &'static str, challenges: u32) -> Plan {
     Plan {
         name,
         kind: Kind::Exponent,
-        modulus: 4_294_967_087,
-        order: 2_147_483_543,
+        modulus: LARGE_MODULUS,
+        order: LARGE_ORDER,
         challenges,
         rows: 8,
         columns: 8,
@@ -88,27 +124,32 @@ fn root(name: &'static str, challenges: u32) -> Plan {
     }
 }
 
+/// A large exponent sheet with few challenges.
+pub fn large_exponent() -> SheetInputs {
+    random(exponent("8 × 8, exponent, K 256", 256), (200, 77))
+}
+
 /// Pages A and B of 01.
-fn page_a() -> Inputs {
+pub fn page_a() -> SheetInputs {
     let plan = page("1 × 1, exponent, m 23, K 11", 1, 1);
     make(plan, &[2], places([7]), places([5]), (3, 1))
 }
 
 /// Page E of 01, which has two rows.
-fn page_e() -> Inputs {
+fn page_e() -> SheetInputs {
     let plan = page("2 × 1, exponent, m 23, K 11", 2, 1);
     make(plan, &[2, 16], places([7]), places([5]), (3, 1))
 }
 
 /// Page F of 01, which has two rows and three columns.
-fn page_f() -> Inputs {
+fn page_f() -> SheetInputs {
     let plan = page("2 × 3, exponent, m 23, K 11", 2, 3);
     let entries = [2, 3, 1, 3, 1, 3];
     make(plan, &entries, places([2, 1, 0]), places([5, 4, 3]), (3, 1))
 }
 
 /// Pages G and H of 01.
-fn page_g() -> Inputs {
+fn page_g() -> SheetInputs {
     let plan = Plan {
         name: "1 × 1, root, m 35, K 5",
         kind: Kind::Root,
@@ -136,22 +177,18 @@ fn places<const N: usize>(values: [u32; N]) -> Places {
 /// The inputs of a large sheet with made-up values. Squares are group elements
 /// of the exponent sheet, and a number that shares no divisor with the modulus
 /// is one of the root sheet.
-fn random(plan: Plan, challenges: (u32, u32)) -> Inputs {
-    let mut state = 1u64;
-    let mut next = || {
-        state = state.wrapping_mul(6_364_136_223_846_793_005).wrapping_add(1);
-        (state >> 33) as u32
-    };
+fn random(plan: Plan, challenges: (u32, u32)) -> SheetInputs {
+    let mut random = Random::new();
     let m = u64::from(plan.modulus);
     let entries: Vec<u32> = match plan.kind {
         Kind::Exponent => (0..plan.rows * plan.columns)
-            .map(|_| u64::from(next()))
+            .map(|_| u64::from(random.number()))
             .map(|v| (v * v % m) as u32)
             .collect(),
         Kind::Root => Vec::new(),
     };
     let mut slot = || loop {
-        let v = next() % plan.order;
+        let v = random.below(plan.order);
         if v % 65_521 != 0 && v % 65_519 != 0 {
             return v;
         }
@@ -186,7 +223,7 @@ fn make(
     witness: Places,
     nonce: Places,
     challenges: (u32, u32),
-) -> Inputs {
+) -> SheetInputs {
     let ones = sheet_bytes(&plan, entries, &[1; 8][..plan.rows]);
     let values = load::<Idiomatic>(&ones).unwrap_or_else(|number| panic!("refused with {number}"));
     let statement = values.image(&witness);
@@ -199,7 +236,7 @@ fn make(
     for k in 0..ROUNDS {
         file.extend(record(&plan, k, round(k * 127 % plan.challenges)));
     }
-    Inputs {
+    SheetInputs {
         name: plan.name,
         sheet: sheet_bytes(&plan, entries, &statement[..plan.rows]),
         witness,
