@@ -2,12 +2,21 @@
 -- Assumes nothing.
 use mathlib.Core.Path.{_≡_, refl, sym, ap, ap₂, _∙_}
 use mathlib.Core.List.{List, [], _∷_, _++_}
-use Prim.Native.Nat.{ℕ, _+_, _≤_, _<_}
+use Prim.Native.Nat.{ℕ, zero, suc, _+_, _≤_, _<_}
+use native.Mathlib.Omega.{arith}
 use lib.ListN.{getD}
 use Rattle.lists.specs.Places.{itemsAt, tabulate, places, pad8}
 use Rattle.lists.proofs.Places.{tabulate-agree, tabulate-at, places-tabulate, places-pad8, places-whole}
 use Rattle.powers.specs.declared.four.Four.{Four}
 use Rattle.powers.specs.Places.{lanes}
+
+-- what holds of 0, 1, 2 and 3 holds of each number below four
+pub four-cases : (P : ℕ → Type 0) → P 0 → P 1 → P 2 → P 3 → (d : ℕ) → d < 4 → P d
+four-cases P p₀ p₁ p₂ p₃ zero inside = p₀
+four-cases P p₀ p₁ p₂ p₃ (suc zero) inside = p₁
+four-cases P p₀ p₁ p₂ p₃ (suc (suc zero)) inside = p₂
+four-cases P p₀ p₁ p₂ p₃ (suc (suc (suc zero))) inside = p₃
+four-cases P p₀ p₁ p₂ p₃ (suc (suc (suc (suc d)))) inside = absurd (omega arith)
 
 -- one of the four
 abbrev pub lane : Four → ℕ → ℕ

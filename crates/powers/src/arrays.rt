@@ -1,37 +1,24 @@
 // Powers and products of the first places of an array.
 use crate::barrett::mul_barrett;
 use crate::barrett::reciprocal;
-use crate::four::Four;
+use crate::eight::pow_eight;
+use crate::four::four_at;
 use crate::four::pow_four;
 ghost use mathlib.Core.Path.{_≡_};
 ghost use Prim.Native.Nat.{_≤_, _<_};
 ghost use Rattle.lists.specs.Places.{places, pad8};
-ghost use Rattle.powers.specs.Places.{fourAt, productsOf, powersOf, mulPowers};
-
-// The four values from index i on.
-fn four_at(values: [u32; 8], i: usize) -> Four
-    requires { ⌜ i ≤ 4 ⌝ }
-    ensures { λ r. ⌜ r ≡ fourAt values i ⌝ }
-{
-    Four {
-        a: values[i],
-        b: values[i + 1],
-        c: values[i + 2],
-        d: values[i + 3],
-    }
-}
+ghost use Rattle.powers.specs.Places.{productsOf, powersOf, mulPowers};
 
 // The powers of the first n values by exponent modulo m, in the first n places. Nothing is promised of those beyond.
 pub fn powers(values: [u32; 8], n: usize, exponent: u32, m: u32) -> [u32; 8]
     requires { ⌜ (0 < m) × (n ≤ 8) ⌝ }
     ensures { λ r. ⌜ places n r ≡ powersOf m exponent n values ⌝ }
 {
-    let low = pow_four(four_at(values, 0), exponent, m);
-    if n <= 4 {
-        return [low.a, low.b, low.c, low.d, 0, 0, 0, 0];
+    if n > 4 {
+        return pow_eight(values, exponent, m);
     }
-    let high = pow_four(four_at(values, 4), exponent, m);
-    [low.a, low.b, low.c, low.d, high.a, high.b, high.c, high.d]
+    let low = pow_four(four_at(values, 0), exponent, m);
+    [low.a, low.b, low.c, low.d, 0, 0, 0, 0]
 }
 
 // The products of the first n places of xs and ys modulo m, and zeros beyond them.

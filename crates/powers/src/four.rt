@@ -3,9 +3,9 @@ use crate::barrett::mul_barrett;
 use crate::barrett::reciprocal;
 ghost use mathlib.Core.Path.{_≡_};
 ghost use mathlib.Core.Bool.{_&&_, _||_};
-ghost use Prim.Native.Nat.{_<_};
+ghost use Prim.Native.Nat.{_≤_, _<_};
 ghost use lib.Dec.{ltb};
-ghost use Rattle.powers.specs.Places.{lanes, productsOf, powersOf};
+ghost use Rattle.powers.specs.Places.{fourAt, lanes, productsOf, powersOf};
 ghost use Rattle.powers.specs.Reciprocal.{reciprocalOf};
 
 // Whether n values modulo m are quicker side by side. Four are; two or three are where products pass 32 bits, so that dividing
@@ -28,6 +28,19 @@ pub struct Four {
     pub b: u32,
     pub c: u32,
     pub d: u32,
+}
+
+// The four values from index i on.
+pub fn four_at(values: [u32; 8], i: usize) -> Four
+    requires { ⌜ i ≤ 4 ⌝ }
+    ensures { λ r. ⌜ r ≡ fourAt values i ⌝ }
+{
+    Four {
+        a: values[i],
+        b: values[i + 1],
+        c: values[i + 2],
+        d: values[i + 3],
+    }
 }
 
 // The four products of x and y modulo m.

@@ -3,6 +3,8 @@
 mod arrays; // arrays.rt: powers and products of the places of an array
 mod barrett; // barrett.rt: one product
 mod bound; // bound.rt: whether a power is above a bound
+mod digits; // digits.rt: the digits of an exponent
+mod eight; // eight.rt: eight powers
 mod four; // four.rt: four products and four powers
 
 pub use arrays::mul_powers;
@@ -11,6 +13,7 @@ pub use arrays::products;
 pub use barrett::reciprocal;
 pub use bound::power_exceeds;
 pub use bound::power_of_two_less_one;
+pub use digits::bit_length;
 pub use four::Four;
 pub use four::mul_four;
 pub use four::side_by_side;

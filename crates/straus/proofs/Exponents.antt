@@ -1,11 +1,10 @@
--- How many bits hold each of several exponents: those of one that none of them is above.
+-- A number that none of several exponents is above.
 -- Assumes nothing.
 use mathlib.Core.Path.{_≡_}
 use mathlib.Core.List.{List}
-use Prim.Native.Nat.{ℕ, _+_, _-_, _^_, _≤_, _<_}
+use Prim.Native.Nat.{ℕ, _+_, _≤_, _<_}
 use native.Mathlib.Decide.{decLt}
 use native.Mathlib.Omega.{arith}
-use lib.Count.{leadingZeros, leading-length}
 use lib.ListN.{getD}
 use Rattle.straus.specs.MultiPowers.{AtMost}
 
@@ -22,10 +21,3 @@ at-most-more {most} {n} passed larger here = record {
     | no later ↦ let last : i ≡ n = omega arith in rw last here
   ];
 }
-
--- what the leading zeros leave of 32 bits holds the number
-pub length-holds : (v : ℕ) → v < 4294967296 → (32 - leadingZeros 32 v ≤ 32) × (v < 2 ^ (32 - leadingZeros 32 v))
-length-holds v fits =
-    let (k, whole, below, rest) = leading-length 32 v fits in
-    let is-k : 32 - leadingZeros 32 v ≡ k = omega arith in
-    (omega arith, rw is-k below)

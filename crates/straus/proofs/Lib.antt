@@ -2,3 +2,4 @@
 pub mod Exponents
 pub mod Columns
 pub mod Straus
+pub mod Tables

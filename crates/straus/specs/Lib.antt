@@ -1,2 +1,3 @@
 -- Definitions that the contracts name.
 pub mod MultiPowers
+pub mod Choices

@@ -1,12 +1,12 @@
 -- Products of powers, a row at a time.
 -- Assumes nothing.
 use mathlib.Core.List.{List, []}
-use Prim.Native.Nat.{ℕ, _+_, _*_, _/_, _%_, _^_, _≤_, _<_}
+use Prim.Native.Nat.{ℕ, _*_, _/_, _%_, _^_, _≤_, _<_}
 use lib.ListN.{getD}
 use Rattle.lists.specs.Places.{tabulate}
 use Rattle.numbers.specs.Product.{product}
 use Rattle.powers.specs.declared.four.Four.{Four}
-use Rattle.powers.specs.Places.{lanes}
+use Rattle.powers.specs.Places.{lanes, noFour}
 
 -- of each of the first rows the product over the first n columns of the entry by the column's exponent, modulo m
 unfoldable pub multiPowers : ℕ → ℕ → ℕ → (ℕ → ℕ → ℕ) → List ℕ → List ℕ
@@ -21,22 +21,17 @@ strausTurn m n k entry exponents xs =
 abbrev pub entryOf : List (List ℕ) → ℕ → ℕ → ℕ
 entryOf entries i j = getD (getD entries i []) j 0
 
--- four zeros
-abbrev pub noFour : Four
-noFour = record { a = 0; b = 0; c = 0; d = 0 }
+-- four ones
+abbrev pub ones : Four
+ones = record { a = 1; b = 1; c = 1; d = 1 }
 
 -- row i, column j of an array of columns of four
 abbrev pub laneOf : List Four → ℕ → ℕ → ℕ
 laneOf columns i j = getD (lanes (getD columns j noFour)) i 0
 
--- column j of four rows from row i on
-abbrev pub columnAt : List (List ℕ) → ℕ → ℕ → Four
-columnAt entries i j = record {
-  a = entryOf entries i j;
-  b = entryOf entries (i + 1) j;
-  c = entryOf entries (i + 2) j;
-  d = entryOf entries (i + 3) j;
-}
+-- column j of four rows
+abbrev pub columnOf : List ℕ → List ℕ → List ℕ → List ℕ → ℕ → Four
+columnOf a b c d j = record { a = getD a j 0; b = getD b j 0; c = getD c j 0; d = getD d j 0 }
 
 -- none of the first n values is above most
 pub record AtMost (most n : ℕ) (values : List ℕ) : Type 0 where

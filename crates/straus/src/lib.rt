@@ -1,21 +1,19 @@
 // Products of powers of several numbers modulo a 32-bit number m by Straus's method: the squarings serve all numbers at once.
 // Four rows of numbers are computed side by side.
+mod choices; // choices.rt: more than four columns, by tables
+
+use choices::multi_pow_eight;
 use powers::Four;
+use powers::bit_length;
 use powers::mul_four;
 use powers::reciprocal;
 ghost use mathlib.Core.Path.{_≡_};
-ghost use Prim.Native.Nat.{_^_, _≤_, _<_};
+ghost use mathlib.Core.List.{[], _∷_};
+ghost use Prim.Native.Nat.{_≤_, _<_};
 ghost use Rattle.lists.specs.Places.{tabulate, places, pad8};
 ghost use Rattle.powers.specs.Places.{lanes};
 ghost use Rattle.powers.specs.Reciprocal.{reciprocalOf};
-ghost use Rattle.straus.specs.MultiPowers.{AtMost, columnAt, entryOf, laneOf, multiPowers, noFour, strausTurn};
-
-// How many bits hold v.
-fn bit_length(v: u32) -> u32
-    ensures { λ r. ⌜ (r ≤ 32) × (v < 2 ^ r) ⌝ }
-{
-    32 - u32::leading_zeros(v)
-}
+ghost use Rattle.straus.specs.MultiPowers.{AtMost, columnOf, entryOf, laneOf, multiPowers, ones, strausTurn};
 
 // The largest of the first n values, 0 where there is none: none of them is above it.
 fn largest(values: [u32; 8], n: usize) -> u32
@@ -31,32 +29,28 @@ fn largest(values: [u32; 8], n: usize) -> u32
     most
 }
 
-// Column j of four rows from row i on.
-fn column_at(entries: [[u32; 8]; 8], i: usize, j: usize) -> Four
-    requires { ⌜ (i ≤ 4) × (j < 8) ⌝ }
-    ensures { λ r. ⌜ r ≡ columnAt entries i j ⌝ }
-{
-    Four {
-        a: entries[i][j],
-        b: entries[i + 1][j],
-        c: entries[i + 2][j],
-        d: entries[i + 3][j],
-    }
-}
-
-// The first n columns of four rows from row i on, and zeros beyond them.
-fn four_columns(entries: [[u32; 8]; 8], i: usize, n: usize) -> [Four; 8]
-    requires { ⌜ (i ≤ 4) × (n ≤ 8) ⌝ }
-    ensures { λ r. ⌜ r ≡ pad8 noFour (tabulate n (columnAt entries i)) ⌝ }
+// The first n columns of four rows, and ones beyond them, whose powers change no product.
+fn four_columns(a: [u32; 8], b: [u32; 8], c: [u32; 8], d: [u32; 8], n: usize) -> [Four; 8]
+    requires { ⌜ n ≤ 8 ⌝ }
+    ensures { λ r. ⌜ r ≡ pad8 ones (tabulate n (columnOf a b c d)) ⌝ }
 {
     let mut columns = [Four {
-        a: 0,
-        b: 0,
-        c: 0,
-        d: 0,
+        a: 1,
+        b: 1,
+        c: 1,
+        d: 1,
     }; 8];
     for j in 0..n {
-        columns[j] = column_at(entries, i, j);
+        let first = a[j];
+        let second = b[j];
+        let third = c[j];
+        let fourth = d[j];
+        columns[j] = Four {
+            a: first,
+            b: second,
+            c: third,
+            d: fourth,
+        };
     }
     columns
 }
@@ -106,6 +100,27 @@ fn multi_pow_four(columns: [Four; 8], exponents: [u32; 8], n: usize, m: u32) -> 
     values
 }
 
+// Of four rows the product over the first n columns of the entry by the column's exponent, modulo m. It takes the rows alone,
+// since all entries handed on by value are copied.
+fn four_rows(
+    a: [u32; 8],
+    b: [u32; 8],
+    c: [u32; 8],
+    d: [u32; 8],
+    exponents: [u32; 8],
+    n: usize,
+    m: u32,
+) -> Four
+    requires { ⌜ (0 < m) × (n ≤ 8) ⌝ }
+    ensures { λ r. ⌜ lanes r ≡ multiPowers m 4 n (entryOf (a ∷ b ∷ c ∷ d ∷ [])) exponents ⌝ }
+{
+    let columns = four_columns(a, b, c, d, n);
+    if n > 4 {
+        return multi_pow_eight(columns, exponents, m);
+    }
+    multi_pow_four(columns, exponents, n, m)
+}
+
 // Of each of so many rows the product over the first n columns of the entry by the column's exponent, modulo m, in as many
 // places. Nothing is promised of those beyond.
 pub fn multi_powers(
@@ -118,10 +133,26 @@ pub fn multi_powers(
     requires { ⌜ (0 < m) × (rows ≤ 8) × (n ≤ 8) ⌝ }
     ensures { λ r. ⌜ places rows r ≡ multiPowers m rows n (entryOf entries) exponents ⌝ }
 {
-    let low = multi_pow_four(four_columns(entries, 0, n), exponents, n, m);
+    let low = four_rows(
+        entries[0],
+        entries[1],
+        entries[2],
+        entries[3],
+        exponents,
+        n,
+        m,
+    );
     if rows <= 4 {
         return [low.a, low.b, low.c, low.d, 0, 0, 0, 0];
     }
-    let high = multi_pow_four(four_columns(entries, 4, n), exponents, n, m);
+    let high = four_rows(
+        entries[4],
+        entries[5],
+        entries[6],
+        entries[7],
+        exponents,
+        n,
+        m,
+    );
     [low.a, low.b, low.c, low.d, high.a, high.b, high.c, high.d]
 }

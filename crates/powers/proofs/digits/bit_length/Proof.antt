@@ -1,9 +1,9 @@
--- `straus::bit_length` meets its contract: what the leading zeros leave of 32 bits holds v.
+-- `powers::digits::bit_length` meets its contract: what the leading zeros leave of 32 bits holds v.
 -- Assumes nothing.
 use lib.Count.{leading-le}
-use Rattle.straus.proofs.Exponents.{length-holds}
-use Rattle.straus.proofs.bit_length.Statement.{statement}
-use Rattle.straus.proofs.bit_length.Tie as tie
+use Rattle.powers.proofs.Exponents.{length-holds}
+use Rattle.powers.proofs.digits.bit_length.Statement.{statement}
+use Rattle.powers.proofs.digits.bit_length.Tie as tie
 
 sub-result : tie.Need-sub-result
 sub-result c = leading-le 32 (c .args .v)
