@@ -28,45 +28,48 @@ use dimkhoros::{Instance, Pair, Places, Round, Side};
 use or_pair::Shown;
 use or_rounds::Choice;
 use page::Section;
+use run::Secrets;
 use std::ffi::OsString;
 use std::io::Write;
 use std::path::Path;
 
 /// The command's help.
 pub const HELP: &str = "\
-usage: dimkhoros lecture SHEET [x=VALUE,...] [k=VALUE,...] [c=CHALLENGE [c=CHALLENGE]] -o PAGE
+usage: dimkhoros lecture SHEET [x=VALUE,...] [k=VALUE,...] [c=CHALLENGE [c=CHALLENGE]] [--show-witness] -o PAGE
        dimkhoros lecture SHEET [c=CHALLENGE] [r=VALUE,...] -o PAGE
        dimkhoros lecture SHEET SHEET1 [x=VALUE,...] [x1=VALUE,...] [k=VALUE,...] [c=CHALLENGE [c=CHALLENGE]]
-                 [c1=CHALLENGE] [r1=VALUE,...] -o PAGE
+                 [c1=CHALLENGE] [r1=VALUE,...] [--show-witness] -o PAGE
        dimkhoros lecture SHEET SHEET1 [x1=VALUE,...] [k=VALUE,...] [c=CHALLENGE [c=CHALLENGE]]
-                 [c0=CHALLENGE] [r0=VALUE,...] -o PAGE
+                 [c0=CHALLENGE] [r0=VALUE,...] [--show-witness] -o PAGE
 
 Makes a page for a projector and for paper that needs nothing else: the statement of SHEET, a run of the protocol, the extractor
 on two rounds with the same commitment, and the honest and the simulated rounds side by side. With SHEET1 the page is on the OR
-proof of the two sheets: both holders' runs, the rounds that both make, and what two rounds on the same commitments give away.
-The second and the fourth line are for a SHEET without a witness.
+proof of the two sheets: both holders' runs, what two rounds on the same commitments give away, and the rounds that both make.
+The second and the fourth line are for a SHEET without a witness. Before the extractor the page has the letters x and k in the
+place of the witness and the nonce.
 
-    x=VALUE,...   a witness of SHEET; found by trying all where they are few and it is left out
-    x1=VALUE,...  a witness of SHEET1
-    k=VALUE,...   the nonce of the run
-    c=CHALLENGE   the challenge of the run, and the second one of the extractor
-    r=VALUE,...   the response to simulate where SHEET has no witness
-    c1=CHALLENGE  the challenge with which the holder of x simulates SHEET1, and r1=VALUE,... the response; c0= and r0= for
-                  SHEET where it has no witness
-    -o PAGE       where the page is written; --force writes over a file that is there
+    x=VALUE,...     a witness of SHEET; found by trying all if they are few and it is left out
+    x1=VALUE,...    a witness of SHEET1
+    k=VALUE,...     the nonce of the run
+    c=CHALLENGE     the challenge of the run, and the second one of the extractor
+    r=VALUE,...     the response to simulate if SHEET has no witness
+    c1=CHALLENGE    the challenge with which the holder of x simulates SHEET1, and r1=VALUE,... the response; c0= and r0= for
+                    SHEET if it has no witness
+    --show-witness  show the numbers of witness and nonce from the first slide on
+    -o PAGE         where the page is written; --force writes over a file that is there
 
 Example:
     $ dimkhoros make schnorr m=23 q=11 h=2 x=7 -o sheet.bin
     13 = 2^x mod 23, q = 11, K = 11
     $ dimkhoros lecture sheet.bin k=5 c=3 c=1 -o page.html
-    page.html has 43161 bytes
+    page.html has 43274 bytes
 ";
 
 const GRAMMAR: Grammar = Grammar {
     plain: &["SHEET", "SHEET1"],
     optional: 1,
     letters: &["x", "x1", "k", "c", "r", "c0", "r0", "c1", "r1"],
-    flags: &["--force"],
+    flags: &["--force", "--show-witness"],
     options: &["-o"],
 };
 
@@ -151,12 +154,13 @@ fn known(words: &Words, sheet: &Instance, witness: &Places) -> Outcome<Vec<Secti
     extracted.map_err(|refusal| brought::of_two(refusal, &[], challenges[0], [false; 2]))?;
     let verdict = rounds::judged(sheet, &first)?;
     let all = small::witnesses(sheet, small::MOST as usize).unwrap_or_default();
+    let secrets = secrets(words);
     let mut sections = statement::sections(
         sheet,
         "Peggy knows $x$ with $[x] = z$",
-        &told(sheet, witness, all.len()),
+        &told(sheet, witness, all.len(), secrets),
     );
-    sections.push(run::section(sheet, &nonce, witness, &first, verdict));
+    sections.push(run::section(sheet, &nonce, witness, &first, verdict, secrets));
     let heading = "One commitment, two answers: the extractor";
     sections.extend(extractor::sections(heading, "", sheet, &[first, second])?);
     sections.extend(same_rounds::sections(sheet, witness, &first)?);
@@ -171,13 +175,18 @@ fn honest(sheet: &Instance, witness: &Places, nonce: &Places, challenge: u32) ->
     asked.round(sheet).map_err(|refusal| asked.refused(sheet, refusal))
 }
 
+/// Whether the words show the witness before the extractor.
+fn secrets(words: &Words) -> Secrets {
+    if words.flag("--show-witness") { Secrets::Shown } else { Secrets::Hidden }
+}
+
 /// What is known of the witnesses, of which all were counted, or none where they are too many to try.
-fn told(sheet: &Instance, witness: &Places, count: usize) -> String {
-    let x = notation::by_column(sheet, witness);
+fn told(sheet: &Instance, witness: &Places, count: usize, secrets: Secrets) -> String {
+    let x = secrets.told("x", &notation::by_column(sheet, witness));
     match count {
-        0 => format!("Peggy knows $x = {x}$"),
-        1 => format!("Peggy knows $x = {x}$; there is no other"),
-        _ => format!("Peggy knows $x = {x}$, one of {count} witnesses"),
+        0 => format!("Peggy knows {x}"),
+        1 => format!("Peggy knows {x}; there is no other"),
+        _ => format!("Peggy knows {x}, one of {count} witnesses"),
     }
 }
 
@@ -221,7 +230,7 @@ fn double(words: &Words, sheets: &[Instance; 2]) -> Outcome<String> {
             ));
         }
     };
-    let shown = Shown { pair, witnesses, choice, challenges };
+    let shown = Shown { pair, witnesses, choice, challenges, secrets: secrets(words) };
     shown.check()?;
     let sections = shown.sections()?;
     let names = [0, 1].map(|place| file_name(&words.path(place))).join(" or ");

@@ -72,7 +72,7 @@ impl Table<'_> {
         format!(
             "<table class=\"{}\">\n<caption>{}</caption>\n<thead>\n{}</thead>\n<tbody>\n{}</tbody>\n</table>\n",
             self.class,
-            text::html(&self.caption),
+            text::html(&text::unbroken(&self.caption)),
             head.concat(),
             body.concat()
         )
@@ -180,7 +180,8 @@ tbody th { font-weight: 400; }
   section { display: block; min-height: 0; max-width: none; padding: 0; overflow: visible; break-inside: avoid;
     break-after: page; }
   section:last-child { break-after: auto; }
-  svg { margin: 0; break-inside: avoid; }
+  header { break-inside: avoid; break-after: avoid; }
+  svg { margin: 0; max-height: 164mm; break-inside: avoid; }
   tr, li { break-inside: avoid; }
   .note { margin-top: 0; }
 }
