@@ -9,6 +9,7 @@ mod or_rounds;
 mod or_run;
 mod or_twice;
 mod page;
+mod play;
 mod rounds;
 mod run;
 mod same_rounds;
@@ -28,6 +29,7 @@ use dimkhoros::{Instance, Pair, Places, Round, Side};
 use or_pair::Shown;
 use or_rounds::Choice;
 use page::Section;
+use play::Play;
 use run::Secrets;
 use std::ffi::OsString;
 use std::io::Write;
@@ -35,18 +37,25 @@ use std::path::Path;
 
 /// The command's help.
 pub const HELP: &str = "\
-usage: dimkhoros lecture SHEET [x=VALUE,...] [k=VALUE,...] [c=CHALLENGE [c=CHALLENGE]] [--show-witness] -o PAGE
-       dimkhoros lecture SHEET [c=CHALLENGE] [r=VALUE,...] -o PAGE
+usage: dimkhoros lecture SHEET [x=VALUE,...] [k=VALUE,...] [c=CHALLENGE [c=CHALLENGE]] [--play]
+                 [--show-witness] -o PAGE
+       dimkhoros lecture SHEET [c=CHALLENGE] [r=VALUE,...] [--play] -o PAGE
        dimkhoros lecture SHEET SHEET1 [x=VALUE,...] [x1=VALUE,...] [k=VALUE,...] [c=CHALLENGE [c=CHALLENGE]]
-                 [c1=CHALLENGE] [r1=VALUE,...] [--show-witness] -o PAGE
+                 [c1=CHALLENGE] [r1=VALUE,...] [--play] [--show-witness] -o PAGE
        dimkhoros lecture SHEET SHEET1 [x1=VALUE,...] [k=VALUE,...] [c=CHALLENGE [c=CHALLENGE]]
-                 [c0=CHALLENGE] [r0=VALUE,...] [--show-witness] -o PAGE
+                 [c0=CHALLENGE] [r0=VALUE,...] [--play] [--show-witness] -o PAGE
 
 Makes a page for a projector and for paper that needs nothing else: the statement of SHEET, a run of the protocol, the extractor
 on two rounds with the same commitment, and the honest and the simulated rounds side by side. With SHEET1 the page is on the OR
 proof of the two sheets: both holders' runs, what two rounds on the same commitments give away, and the rounds that both make.
 The second and the fourth line are for a SHEET without a witness. Before the extractor the page has the letters x and k in the
 place of the witness and the nonce.
+
+With --play a class plays on the page: it gives challenges as Vic, answers as Peggy, clicks two rounds for the extractor, fills the
+simulator's list, and catches the cheat in a team; on two sheets it guesses which witness Peggy holds. The page has all answers
+as data, which the library computes. So the sheet must be small: q^n is at most 4096, or in a root sheet m is at most 4096 and
+there is one row; challenges by responses are at most 262144; if there are several witnesses, so are the pairs of rounds for the
+extractor; and the data have at most 4 MiB. If a sheet is larger, the page is made as without --play, and says why.
 
     x=VALUE,...     a witness of SHEET; found by trying all if they are few and it is left out
     x1=VALUE,...    a witness of SHEET1
@@ -55,6 +64,7 @@ place of the witness and the nonce.
     r=VALUE,...     the response to simulate if SHEET has no witness
     c1=CHALLENGE    the challenge with which the holder of x simulates SHEET1, and r1=VALUE,... the response; c0= and r0= for
                     SHEET if it has no witness
+    --play          make a page on which a class plays
     --show-witness  show the numbers of witness and nonce from the first slide on
     -o PAGE         where the page is written; --force writes over a file that is there
 
@@ -69,7 +79,7 @@ const GRAMMAR: Grammar = Grammar {
     plain: &["SHEET", "SHEET1"],
     optional: 1,
     letters: &["x", "x1", "k", "c", "r", "c0", "r0", "c1", "r1"],
-    flags: &["--force", "--show-witness"],
+    flags: &["--force", "--play", "--show-witness"],
     options: &["-o"],
 };
 
@@ -77,11 +87,37 @@ const GRAMMAR: Grammar = Grammar {
 pub fn run(words: Vec<OsString>, out: &mut dyn Write) -> Outcome {
     let words = Words::sort(words, &GRAMMAR)?;
     let target = Target::of(&words)?;
-    let page = match words.plain().len() {
+    let made = match words.plain().len() {
         1 => single(&words, &sheets::load(&words.path(0))?)?,
         _ => double(&words, &or_proof::rounds::load(&words)?)?,
     };
-    target.write(page.as_bytes(), out)
+    target.write_saying(made.page.as_bytes(), &made.more, out)
+}
+
+/// A page, and what is said of it.
+struct Made {
+    page: String,
+    more: String,
+}
+
+impl Made {
+    /// The page of these sections, which plays if it can. If it cannot, its first section says why.
+    fn new(title: &str, reminder: &str, mut sections: Vec<Section>, play: Option<Play>) -> Made {
+        let mut more = String::new();
+        let plays = match play {
+            Some(Ok(plays)) => plays,
+            Some(Err(why)) => {
+                more = format!(" and does not play: {why}");
+                let first = sections.first_mut().map(|section| &mut section.body);
+                first.into_iter().for_each(|body| {
+                    *body += &statement::note(&format!("This page does not play: {why}."));
+                });
+                String::new()
+            }
+            None => String::new(),
+        };
+        Made { page: page::page(title, reminder, &sections, &plays), more }
+    }
 }
 
 /// The name of a sheet's file, without its folders.
@@ -128,14 +164,18 @@ fn witness(words: &Words, letter: &str, path: &Path, sheet: &Instance) -> Outcom
 }
 
 /// The page on one sheet.
-fn single(words: &Words, sheet: &Instance) -> Outcome<String> {
+fn single(words: &Words, sheet: &Instance) -> Outcome<Made> {
     words.without(&["x1", "c0", "r0", "c1", "r1"], "without SHEET1")?;
-    let sections = match witness(words, "x", &words.path(0), sheet)? {
-        Some(witness) => known(words, sheet, &witness)?,
+    let witness = witness(words, "x", &words.path(0), sheet)?;
+    let sections = match &witness {
+        Some(witness) => known(words, sheet, witness)?,
         None => unknown(words, sheet)?,
     };
+    let plays = words.flag("--play");
+    let play =
+        plays.then(|| play::of_sheet(sheet, witness.as_ref(), secrets(words))).transpose()?;
     let title = format!("{}: a proof of knowledge of x with [x] = z", file_name(&words.path(0)));
-    Ok(page::page(&title, &statement::reminder(sheet), &sections))
+    Ok(Made::new(&title, &statement::reminder(sheet), sections, play))
 }
 
 /// The sections on a sheet with a witness.
@@ -212,7 +252,7 @@ fn unknown(words: &Words, sheet: &Instance) -> Outcome<Vec<Section>> {
 }
 
 /// The page on a pair of sheets.
-fn double(words: &Words, sheets: &[Instance; 2]) -> Outcome<String> {
+fn double(words: &Words, sheets: &[Instance; 2]) -> Outcome<Made> {
     words.without(&["r"], "with SHEET1")?;
     let pair = or_proof::rounds::pair(words, sheets)?;
     let [first, second] = sheets;
@@ -234,7 +274,8 @@ fn double(words: &Words, sheets: &[Instance; 2]) -> Outcome<String> {
     shown.check()?;
     let sections = shown.sections()?;
     let names = [0, 1].map(|place| file_name(&words.path(place))).join(" or ");
-    Ok(page::page(&format!("{names}: the OR proof"), "", &sections))
+    let play = words.flag("--play").then(|| play::of_pair(&shown)).transpose()?;
+    Ok(Made::new(&format!("{names}: the OR proof"), "", sections, play))
 }
 
 /// What the holder of a side's witness chooses, by the words and else by default.

@@ -19,7 +19,7 @@ const LONGEST: Duration = Duration::from_secs(120);
 const TRIES: usize = 3;
 
 /// The browser that is on PATH and opens a page. Where there is none a line on standard error names what is not tried.
-fn browser(what: &str) -> Option<&'static str> {
+pub fn browser(what: &str) -> Option<&'static str> {
     let folders: Vec<_> = env::split_paths(&env::var_os("PATH").unwrap_or_default()).collect();
     let is_there = |name: &&str| folders.iter().any(|folder| folder.join(name).is_file());
     let found = BROWSERS.into_iter().find(is_there);
@@ -41,7 +41,7 @@ fn opens(browser: &str, what: &str) -> bool {
 }
 
 /// The page as the browser has it once it is open, and what it says on standard error.
-fn dumped(browser: &str, desk: &Desk, page: &str) -> Option<[String; 2]> {
+pub fn dumped(browser: &str, desk: &Desk, page: &str) -> Option<[String; 2]> {
     let tried = (0..TRIES).map(|_| open(browser, desk, page, &["--dump-dom"]));
     tried.into_iter().find(|[dom, _]| dom.contains("</html>"))
 }
@@ -105,7 +105,7 @@ fn desk(name: &str) -> Desk {
 
 /// A script that measures a page at the size that it has on a slide of 1280 by 720, and puts what it finds wrong into the page's
 /// title. The window may be lower than it was asked for. The pages themselves have no script.
-const MEASURE: &str = "<style>html { font-size: 20px !important; }</style><script>
+pub const MEASURE: &str = "<style>html { font-size: 20px !important; }</style><script>
   const wrong = [];
   for (const section of document.querySelectorAll('section')) {
     const outer = section.getBoundingClientRect();
@@ -155,7 +155,7 @@ const CAPTIONS: &str = "<style>html { font-size: 20px !important; }</style><scri
 </script></body>";
 
 /// What a script that is put at the end of a page writes into its title.
-fn told_by(browser: &str, desk: &Desk, page: &str, script: &str) -> String {
+pub fn told_by(browser: &str, desk: &Desk, page: &str, script: &str) -> String {
     let page = fs::read_to_string(desk.folder.join(page)).unwrap();
     fs::write(desk.folder.join("measured.html"), page.replace("</body>", script)).unwrap();
     let [dom, _] = dumped(browser, desk, "measured.html").expect("the page is opened");

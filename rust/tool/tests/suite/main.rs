@@ -14,6 +14,7 @@ mod marks;
 mod markup;
 mod material;
 mod pages;
+mod play;
 mod random;
 mod readme;
 mod reasons;
