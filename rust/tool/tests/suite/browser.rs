@@ -188,7 +188,7 @@ fn the_browser_says_nothing_on_the_console() {
 }
 
 /// How many sheets of paper a page takes, and how many sections it has.
-fn sheets_and_sections(browser: &str, desk: &Desk, page: &str) -> [usize; 2] {
+pub fn sheets_and_sections(browser: &str, desk: &Desk, page: &str) -> [usize; 2] {
     let paper = on_paper(browser, desk, page).expect("the page is printed");
     let paper = String::from_utf8_lossy(&paper);
     let sheets = paper.matches("/Type /Page").count() - paper.matches("/Type /Pages").count();

@@ -1,7 +1,7 @@
 //! The pages of `lecture --play` in a browser: a script plays each game by clicks and keys, and every number that it sees is held
 //! against the library's.
 
-use crate::browser::{MEASURE, browser, dumped, told_by};
+use crate::browser::{MEASURE, browser, dumped, sheets_and_sections, told_by};
 use crate::desk::Desk;
 use dimkhoros::{
     Instance, OrRound, OrVerdict, PLACES, Pair, Places, Prover, ROOT, Round, Side, Team,
@@ -455,6 +455,16 @@ fn a_game_fits_on_a_telephone() {
     fs::write(desk.folder.join("telephone.html"), TELEPHONE.replace("PAGE", &inner)).unwrap();
     let [dom, _] = dumped(browser, &desk, "telephone.html").unwrap();
     assert!(dom.contains("<title>wide 390 small 0 slides 6</title>"), "{}", &dom[..200]);
+}
+
+#[test]
+fn on_paper_a_page_has_its_sections_without_the_games() {
+    let Some(browser) = browser("how a page that plays is printed") else { return };
+    let desk = Desk::new("play on paper");
+    desk.print(SHEETS[0].0);
+    desk.print("dimkhoros lecture sheet.bin --play -o page.html");
+    let [sheets, sections] = sheets_and_sections(browser, &desk, "page.html");
+    assert_eq!([sheets, sections], [5, 5]);
 }
 
 #[test]

@@ -82,20 +82,29 @@
   const DIGITS = "ABCDEFGHIJKLMNOPQRSTUVWXYZabcdefghijklmnopqrstuvwxyz0123456789-_";
   const DIGIT = new Map([...DIGITS].map((digit, place) => [digit, place]));
 
-  // The place that stands at a place of a packed list, whose entries are places of a list of `count`.
-  function packed(list, at, count) {
+  // The places of a packed list, whose entries are places of a list of `count`.
+  function unpacked(list, count) {
     let width = 1;
     while (64 ** width < count) width += 1;
-    let place = 0;
-    for (const digit of list.slice(at * width, at * width + width)) place = place * 64 + DIGIT.get(digit);
-    return place;
+    const places = new Uint32Array(list.length / width);
+    for (let at = 0; at < list.length; at += 1) {
+      const place = Math.floor(at / width);
+      places[place] = places[place] * 64 + DIGIT.get(list[at]);
+    }
+    return places;
+  }
+
+  // A list of a table. It is unpacked when it is first asked for.
+  function row(table, at, count) {
+    if (typeof table[at] === "string") table[at] = unpacked(table[at], count);
+    return table[at];
   }
 
   // The place of the commitment with which Vic accepts a challenge and a response.
-  const commitment = (c, r) => packed(data.commitments[c], r, data.elements.length);
+  const commitment = (c, r) => row(data.commitments, c, data.elements.length)[r];
 
   // The place of Peggy's response to a challenge with a nonce.
-  const answer = (c, k) => packed(data.answers[c], k, data.responses.length);
+  const answer = (c, k) => row(data.answers, c, data.responses.length)[k];
 
   // The responses with which a commitment answers a challenge, rising.
   function answering(t, c) {
@@ -182,7 +191,7 @@
     // How often a Peggy without a witness got through.
     function tell() {
       show(rate, "Without a witness and without the slip: accepted in ", value("through", cheats.through), " of ",
-        value("cheats", cheats.all), " games. By chance it is 1 of ", value("K", count), ".");
+        value("cheats", cheats.all), " games. One challenge is 1 of ", value("K", count), ".");
     }
 
     // The round of a Peggy of a kind on a challenge that she knows only if she is the simulator.
@@ -225,8 +234,8 @@
       show(ask, guesses("Which Peggy was it?", answers, (key) => {
         points.add(key === kind);
         tell();
-        const more = kind === "hope" ? [" She had prepared c = ", value("hope", played.hope), "."] : ["."];
-        show(ask, line(key === kind ? "Right. " : "No. ", "It was ", value("kind", names[kind]), ...more),
+        const more = kind === "hope" ? [" She had prepared ", equation("c", played.hope, "", "hope"), "."] : [];
+        show(ask, line(key === kind ? "Right. " : "No. ", "It was ", value("kind", names[kind]), ".", ...more),
           line(button("Next game", start, { class: "main" })));
         ask.querySelector(".main").focus();
       }));
@@ -327,7 +336,7 @@
     const count = data.challenges;
     const before = c * count - (c * (c + 1)) / 2;
     const rank = answering(commitment(c, r), d).indexOf(s);
-    return packed(data.pairs[before + d - c - 1], r * data.witnesses.length + rank, data.witnesses.length);
+    return row(data.pairs, before + d - c - 1, data.witnesses.length)[r * data.witnesses.length + rank];
   }
 
   // The steps of the extractor on two cells. The witness is shown from here on.
@@ -562,7 +571,7 @@
       show(ask, guesses("Who cheated?", names.map((name, player) => [String(player), name]), (key) => {
         const right = Number(key) === game.cheat;
         points.add(right);
-        const more = game.cheat ? [", who had prepared c = ", value("prepared", game.prepared)] : [];
+        const more = game.cheat ? [", who had prepared ", equation("c", game.prepared, "", "prepared")] : [];
         show(ask, line(right ? "Right: " : "No: ", value("cheat", names[game.cheat]), ...more, ". The parts under their own images:"),
           make("div", { class: "sides" }, checked(...first, "1"), checked(...second, "2")),
           line(button("Next game", start, { class: "main" })));
