@@ -14,9 +14,10 @@ use std::io::Write;
 pub const HELP: &str = "\
 usage: dimkhoros grid SHEET [t=VALUE,...]
 
-Prints all accepted rounds of a sheet with at most 64 challenges and 512 responses. The table has a column for each challenge c
-and a row for each response r. Their cell has the one commitment with which Vic accepts them, t = [r] · z^(-c). After it comes how
-many challenges each commitment can answer: all of them if the statement has a witness, and at most one if it has none.
+Prints all accepted rounds of a sheet with at most 64 challenges and 512 responses. The table has a row for each challenge c and a
+column for each response r. Their cell has the one commitment with which Vic accepts them, t = [r] · z^(-c). If there are too many
+columns for a line, the others follow in further tables. After these comes how many challenges each commitment can answer: all of
+them if the statement has a witness, and at most one if it has none.
 
     SHEET        a sheet
     t=VALUE,...  a commitment, a value for each row. Its cells get brackets and are listed
@@ -27,12 +28,12 @@ Example:
     $ dimkhoros grid sheet.bin
     x ↦ [x] = 4^x mod 11, z = 9, q = 5, K = 5
 
-    r\\c  0  1  2  3  4
-      0  1  5  3  4  9
-      1  4  9  1  5  3
-      2  5  3  4  9  1
-      3  9  1  5  3  4
-      4  3  4  9  1  5
+    c\\r  0  1  2  3  4
+      0  1  4  5  9  3
+      1  5  9  3  1  4
+      2  3  1  4  5  9
+      3  4  5  9  3  1
+      4  9  3  1  4  5
 
     t  answers  challenges
     1        5  all
@@ -45,12 +46,12 @@ Example:
     $ dimkhoros grid sheet.bin t=5
     x ↦ [x] = 4^x mod 11, z = 9, q = 5, K = 5
 
-    r\\c   0    1    2    3    4
-      0   1   [5]   3    4    9
-      1   4    9    1   [5]   3
-      2  [5]   3    4    9    1
-      3   9    1   [5]   3    4
-      4   3    4    9    1   [5]
+    c\\r   0    1    2    3    4
+      0   1    4   [5]   9    3
+      1  [5]   9    3    1    4
+      2   3    1    4   [5]   9
+      3   4   [5]   9    3    1
+      4   9    3    1    4   [5]
 
     The commitment 5 answers 5 of the 5 challenges:
 
@@ -70,12 +71,15 @@ const GRAMMAR: Grammar =
 /// The most challenges of a grid.
 const MOST_CHALLENGES: u32 = 64;
 
+/// The most characters of a line of the table.
+const MOST_CHARACTERS: usize = 100;
+
 /// The most responses to one challenge that a line names.
 const MOST_NAMED: usize = 11;
 
 /// All accepted rounds of a sheet.
 struct Grid {
-    /// The responses, which are the rows.
+    /// The responses, which are the columns.
     responses: Vec<Places>,
     /// The commitments by response and challenge.
     cells: Vec<Vec<Places>>,
@@ -133,8 +137,19 @@ impl Grid {
         }
     }
 
-    /// The table, in which the cells of one commitment stand in brackets.
+    /// The table, in which the cells of one commitment stand in brackets, in parts that are not too wide.
     fn lines(&self, sheet: &Instance, marked: Option<Places>) -> String {
+        let columns = self.columns(sheet, marked);
+        let wide = |column: &Vec<String>| column.iter().map(|cell| cell.chars().count()).max();
+        let widest = columns.iter().filter_map(wide).max().unwrap_or(0) + 2;
+        let (head, columns) = columns.split_at(1);
+        let count = (MOST_CHARACTERS.saturating_sub(widest) / widest).max(1);
+        let parts = columns.chunks(count).map(|columns| part(&[head, columns].concat()));
+        parts.collect::<Vec<String>>().join("\n")
+    }
+
+    /// The columns of the table, each with its head: the challenges, and for each response its commitments.
+    fn columns(&self, sheet: &Instance, marked: Option<Places>) -> Vec<Vec<String>> {
         let cell = |commitment: &Places| {
             let text = notation::by_row(sheet, commitment);
             match marked {
@@ -144,15 +159,14 @@ impl Grid {
             }
         };
         let space = if marked.is_some() { " " } else { "" };
-        let challenges = 0..sheet.values().header.challenges;
-        let heading = challenges.map(|challenge| format!("{challenge}{space}"));
-        let mut rows = vec![std::iter::once("r\\c".to_string()).chain(heading).collect()];
-        rows.extend(self.responses.iter().zip(&self.cells).map(|(response, cells)| {
-            let response = notation::by_column(sheet, response);
+        let challenges =
+            (0..sheet.values().header.challenges).map(|challenge| challenge.to_string());
+        let mut columns = vec![std::iter::once("c\\r".to_string()).chain(challenges).collect()];
+        columns.extend(self.responses.iter().zip(&self.cells).map(|(response, cells)| {
+            let response = format!("{}{space}", notation::by_column(sheet, response));
             std::iter::once(response).chain(cells.iter().map(cell)).collect()
         }));
-        let set = vec![Set::Right; 1 + sheet.values().header.challenges as usize];
-        table::lines("", &set, &rows)
+        columns
     }
 
     /// The responses with which a commitment answers a challenge.
@@ -207,6 +221,14 @@ impl Grid {
         }));
         table::lines("", &[Set::Right, Set::Right, Set::Left], &rows)
     }
+}
+
+/// Columns side by side.
+fn part(columns: &[Vec<String>]) -> String {
+    let height = columns.first().map_or(0, Vec::len);
+    let row = |row: usize| columns.iter().map(|column| column[row].clone()).collect();
+    let rows: Vec<Vec<String>> = (0..height).map(row).collect();
+    table::lines("", &vec![Set::Right; columns.len()], &rows)
 }
 
 /// A challenge and the responses to it as a row of a table.

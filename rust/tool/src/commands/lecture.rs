@@ -9,6 +9,7 @@ mod or_rounds;
 mod or_run;
 mod or_twice;
 mod page;
+mod play;
 mod rounds;
 mod run;
 mod same_rounds;
@@ -28,48 +29,61 @@ use dimkhoros::{Instance, Pair, Places, Round, Side};
 use or_pair::Shown;
 use or_rounds::Choice;
 use page::Section;
+use play::Play;
+use run::Secrets;
 use std::ffi::OsString;
 use std::io::Write;
 use std::path::Path;
 
 /// The command's help.
 pub const HELP: &str = "\
-usage: dimkhoros lecture SHEET [x=VALUE,...] [k=VALUE,...] [c=CHALLENGE [c=CHALLENGE]] -o PAGE
-       dimkhoros lecture SHEET [c=CHALLENGE] [r=VALUE,...] -o PAGE
+usage: dimkhoros lecture SHEET [x=VALUE,...] [k=VALUE,...] [c=CHALLENGE [c=CHALLENGE]] [--play]
+                 [--show-witness] -o PAGE
+       dimkhoros lecture SHEET [c=CHALLENGE] [r=VALUE,...] [--play] -o PAGE
        dimkhoros lecture SHEET SHEET1 [x=VALUE,...] [x1=VALUE,...] [k=VALUE,...] [c=CHALLENGE [c=CHALLENGE]]
-                 [c1=CHALLENGE] [r1=VALUE,...] -o PAGE
+                 [c1=CHALLENGE] [r1=VALUE,...] [--play] [--show-witness] -o PAGE
        dimkhoros lecture SHEET SHEET1 [x1=VALUE,...] [k=VALUE,...] [c=CHALLENGE [c=CHALLENGE]]
-                 [c0=CHALLENGE] [r0=VALUE,...] -o PAGE
+                 [c0=CHALLENGE] [r0=VALUE,...] [--play] [--show-witness] -o PAGE
 
 Makes a page for a projector and for paper, in one file that needs nothing else. It has the statement of SHEET, a run of the
 protocol, the extractor on two rounds with the same commitment, and the honest and the simulated rounds side by side. With
-SHEET1, the page is on the OR proof of the two sheets. It has the runs of both holders, the rounds that both make, and what two
-rounds on the same commitments give away. The second and the fourth line of the usage are for a SHEET without a witness.
+SHEET1, the page is on the OR proof of the two sheets. It has the runs of both holders, what two rounds on the same commitments
+give away, and the rounds that both make. The second and the fourth line of the usage are for a SHEET without a witness. Before
+the extractor the page has the letters x and k in the place of the witness and the nonce.
 
-    x=VALUE,...   a witness of SHEET. If it is left out and there are few values, all are tried
-    x1=VALUE,...  a witness of SHEET1
-    k=VALUE,...   the nonce of the run
-    c=CHALLENGE   the challenge of the run. A second c= is the other challenge of the extractor
-    r=VALUE,...   the response to simulate, if SHEET has no witness
-    c1=CHALLENGE  the challenge with which the holder of x simulates SHEET1
-    r1=VALUE,...  the response with which the holder of x simulates SHEET1
-    c0=CHALLENGE  the challenge with which the holder of x1 simulates SHEET, if SHEET has no witness
-    r0=VALUE,...  the response with which the holder of x1 simulates SHEET, if SHEET has no witness
-    -o PAGE       the file to write
-    --force       writes over a file that is there
+With --play a class plays on the page. It gives challenges as Vic, answers as Peggy, clicks two rounds for the extractor, fills
+the simulator's list, and catches the cheat in a team. On two sheets it guesses which witness Peggy holds. The library computes
+all answers when the page is made, and the page has them as data. So the sheet must be small. In an exponent sheet q^n is at most
+4096. A root sheet has one row, and m is at most 4096. Challenges by responses are at most 262144, and so are the pairs of rounds
+for the extractor if there are several witnesses. The data have at most 4 MiB. If a sheet is larger, the page is made as without
+--play, and says why.
+
+    x=VALUE,...     a witness of SHEET. If it is left out and there are few values, all are tried
+    x1=VALUE,...    a witness of SHEET1
+    k=VALUE,...     the nonce of the run
+    c=CHALLENGE     the challenge of the run. A second c= is the other challenge of the extractor
+    r=VALUE,...     the response to simulate, if SHEET has no witness
+    c1=CHALLENGE    the challenge with which the holder of x simulates SHEET1
+    r1=VALUE,...    the response with which the holder of x simulates SHEET1
+    c0=CHALLENGE    the challenge with which the holder of x1 simulates SHEET, if SHEET has no witness
+    r0=VALUE,...    the response with which the holder of x1 simulates SHEET, if SHEET has no witness
+    --play          makes a page on which a class plays
+    --show-witness  shows the numbers of witness and nonce from the first slide on
+    -o PAGE         the file to write
+    --force         writes over a file that is there
 
 Example:
     $ dimkhoros make schnorr m=23 q=11 h=2 x=7 -o sheet.bin
     13 = 2^x mod 23, q = 11, K = 11
     $ dimkhoros lecture sheet.bin k=5 c=3 c=1 -o page.html
-    page.html has 43161 bytes
+    page.html has 43274 bytes
 ";
 
 const GRAMMAR: Grammar = Grammar {
     plain: &["SHEET", "SHEET1"],
     optional: 1,
     letters: &["x", "x1", "k", "c", "r", "c0", "r0", "c1", "r1"],
-    flags: &["--force"],
+    flags: &["--force", "--play", "--show-witness"],
     options: &["-o"],
 };
 
@@ -77,11 +91,37 @@ const GRAMMAR: Grammar = Grammar {
 pub fn run(words: Vec<OsString>, out: &mut dyn Write) -> Outcome {
     let words = Words::sort(words, &GRAMMAR)?;
     let target = Target::of(&words)?;
-    let page = match words.plain().len() {
+    let made = match words.plain().len() {
         1 => single(&words, &sheets::load(&words.path(0))?)?,
         _ => double(&words, &or_proof::rounds::load(&words)?)?,
     };
-    target.write(page.as_bytes(), out)
+    target.write_saying(made.page.as_bytes(), &made.more, out)
+}
+
+/// A page, and what is said of it.
+struct Made {
+    page: String,
+    more: String,
+}
+
+impl Made {
+    /// The page of these sections, which plays if it can. If it cannot, its first section says why.
+    fn new(title: &str, reminder: &str, mut sections: Vec<Section>, play: Option<Play>) -> Made {
+        let mut more = String::new();
+        let plays = match play {
+            Some(Ok(plays)) => plays,
+            Some(Err(why)) => {
+                more = format!(" and does not play: {why}");
+                let first = sections.first_mut().map(|section| &mut section.body);
+                first.into_iter().for_each(|body| {
+                    *body += &statement::note(&format!("This page does not play: {why}."));
+                });
+                String::new()
+            }
+            None => String::new(),
+        };
+        Made { page: page::page(title, reminder, &sections, &plays), more }
+    }
 }
 
 /// The name of a sheet's file, without its folders.
@@ -128,14 +168,18 @@ fn witness(words: &Words, letter: &str, path: &Path, sheet: &Instance) -> Outcom
 }
 
 /// The page on one sheet.
-fn single(words: &Words, sheet: &Instance) -> Outcome<String> {
+fn single(words: &Words, sheet: &Instance) -> Outcome<Made> {
     words.without(&["x1", "c0", "r0", "c1", "r1"], "without SHEET1")?;
-    let sections = match witness(words, "x", &words.path(0), sheet)? {
-        Some(witness) => known(words, sheet, &witness)?,
+    let witness = witness(words, "x", &words.path(0), sheet)?;
+    let sections = match &witness {
+        Some(witness) => known(words, sheet, witness)?,
         None => unknown(words, sheet)?,
     };
+    let plays = words.flag("--play");
+    let play =
+        plays.then(|| play::of_sheet(sheet, witness.as_ref(), secrets(words))).transpose()?;
     let title = format!("{}: a proof of knowledge of x with [x] = z", file_name(&words.path(0)));
-    Ok(page::page(&title, &statement::reminder(sheet), &sections))
+    Ok(Made::new(&title, &statement::reminder(sheet), sections, play))
 }
 
 /// The sections on a sheet with a witness.
@@ -154,12 +198,13 @@ fn known(words: &Words, sheet: &Instance, witness: &Places) -> Outcome<Vec<Secti
     extracted.map_err(|refusal| brought::of_two(refusal, &[], challenges[0], [false; 2]))?;
     let verdict = rounds::judged(sheet, &first)?;
     let all = small::witnesses(sheet, small::MOST as usize).unwrap_or_default();
+    let secrets = secrets(words);
     let mut sections = statement::sections(
         sheet,
         "Peggy knows $x$ with $[x] = z$",
-        &told(sheet, witness, all.len()),
+        &told(sheet, witness, all.len(), secrets),
     );
-    sections.push(run::section(sheet, &nonce, witness, &first, verdict));
+    sections.push(run::section(sheet, &nonce, witness, &first, verdict, secrets));
     let heading = "One commitment, two answers: the extractor";
     sections.extend(extractor::sections(heading, "", sheet, &[first, second])?);
     sections.extend(same_rounds::sections(sheet, witness, &first)?);
@@ -174,13 +219,18 @@ fn honest(sheet: &Instance, witness: &Places, nonce: &Places, challenge: u32) ->
     asked.round(sheet).map_err(|refusal| asked.refused(sheet, refusal))
 }
 
+/// Whether the words show the witness before the extractor.
+fn secrets(words: &Words) -> Secrets {
+    if words.flag("--show-witness") { Secrets::Shown } else { Secrets::Hidden }
+}
+
 /// What is known of the witnesses, of which all were counted, or none where they are too many to try.
-fn told(sheet: &Instance, witness: &Places, count: usize) -> String {
-    let x = notation::by_column(sheet, witness);
+fn told(sheet: &Instance, witness: &Places, count: usize, secrets: Secrets) -> String {
+    let x = secrets.told("x", &notation::by_column(sheet, witness));
     match count {
-        0 => format!("Peggy knows $x = {x}$"),
-        1 => format!("Peggy knows $x = {x}$; there is no other"),
-        _ => format!("Peggy knows $x = {x}$, one of {count} witnesses"),
+        0 => format!("Peggy knows {x}"),
+        1 => format!("Peggy knows {x}; there is no other"),
+        _ => format!("Peggy knows {x}, one of {count} witnesses"),
     }
 }
 
@@ -206,7 +256,7 @@ fn unknown(words: &Words, sheet: &Instance) -> Outcome<Vec<Section>> {
 }
 
 /// The page on a pair of sheets.
-fn double(words: &Words, sheets: &[Instance; 2]) -> Outcome<String> {
+fn double(words: &Words, sheets: &[Instance; 2]) -> Outcome<Made> {
     words.without(&["r"], "with SHEET1")?;
     let pair = or_proof::rounds::pair(words, sheets)?;
     let [first, second] = sheets;
@@ -224,11 +274,12 @@ fn double(words: &Words, sheets: &[Instance; 2]) -> Outcome<String> {
             ));
         }
     };
-    let shown = Shown { pair, witnesses, choice, challenges };
+    let shown = Shown { pair, witnesses, choice, challenges, secrets: secrets(words) };
     shown.check()?;
     let sections = shown.sections()?;
     let names = [0, 1].map(|place| file_name(&words.path(place))).join(" or ");
-    Ok(page::page(&format!("{names}: the OR proof"), "", &sections))
+    let play = words.flag("--play").then(|| play::of_pair(&shown)).transpose()?;
+    Ok(Made::new(&format!("{names}: the OR proof"), "", sections, play))
 }
 
 /// What the holder of a side's witness chooses, by the words and else by default.

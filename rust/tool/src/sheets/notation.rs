@@ -43,7 +43,7 @@ pub fn numbered(letter: &str, count: usize, place: usize) -> String {
 }
 
 /// What a row of a sheet's table makes of the coordinates of a letter, such as `2^x1 · 3^x2`. Entries 1 are left out.
-fn row_image(sheet: &Instance, row: usize, letter: &str) -> String {
+pub fn row_image(sheet: &Instance, row: usize, letter: &str) -> String {
     row_powers(sheet, row, &coordinates(sheet, letter))
 }
 

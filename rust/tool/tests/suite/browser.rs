@@ -19,7 +19,7 @@ const LONGEST: Duration = Duration::from_secs(120);
 const TRIES: usize = 3;
 
 /// The browser that is on PATH and opens a page. Where there is none a line on standard error names what is not tried.
-fn browser(what: &str) -> Option<&'static str> {
+pub fn browser(what: &str) -> Option<&'static str> {
     let folders: Vec<_> = env::split_paths(&env::var_os("PATH").unwrap_or_default()).collect();
     let is_there = |name: &&str| folders.iter().any(|folder| folder.join(name).is_file());
     let found = BROWSERS.into_iter().find(is_there);
@@ -41,7 +41,7 @@ fn opens(browser: &str, what: &str) -> bool {
 }
 
 /// The page as the browser has it once it is open, and what it says on standard error.
-fn dumped(browser: &str, desk: &Desk, page: &str) -> Option<[String; 2]> {
+pub fn dumped(browser: &str, desk: &Desk, page: &str) -> Option<[String; 2]> {
     let tried = (0..TRIES).map(|_| open(browser, desk, page, &["--dump-dom"]));
     tried.into_iter().find(|[dom, _]| dom.contains("</html>"))
 }
@@ -105,7 +105,7 @@ fn desk(name: &str) -> Desk {
 
 /// A script that measures a page at the size that it has on a slide of 1280 by 720, and puts what it finds wrong into the page's
 /// title. The window may be lower than it was asked for. The pages themselves have no script.
-const MEASURE: &str = "<style>html { font-size: 20px !important; }</style><script>
+pub const MEASURE: &str = "<style>html { font-size: 20px !important; }</style><script>
   const wrong = [];
   for (const section of document.querySelectorAll('section')) {
     const outer = section.getBoundingClientRect();
@@ -132,11 +132,44 @@ fn every_section_fits_on_a_slide_and_nothing_overlaps() {
     let Some(browser) = browser("that pages fit on slides") else { return };
     let desk = desk("browser slides");
     for (place, (_, words)) in PAGES.iter().enumerate() {
-        let page = fs::read_to_string(desk.folder.join(format!("page-{place}.html"))).unwrap();
-        fs::write(desk.folder.join("measured.html"), page.replace("</body>", MEASURE)).unwrap();
-        let [dom, _] = dumped(browser, &desk, "measured.html").expect(words);
-        let title = dom.split_once("<title>").and_then(|(_, rest)| rest.split_once("</title>"));
-        assert_eq!(title.map(|(title, _)| title), Some("wrong: "), "{words}");
+        let told = told_by(browser, &desk, &format!("page-{place}.html"), MEASURE);
+        assert_eq!(told, "wrong: ", "{words}");
+    }
+}
+
+/// A script that puts into the page's title the captions whose last line has a few letters only.
+const CAPTIONS: &str = "<style>html { font-size: 20px !important; }</style><script>
+  const wrong = [];
+  for (const caption of document.querySelectorAll('caption')) {
+    const range = document.createRange();
+    range.selectNodeContents(caption);
+    const lines = new Map();
+    for (const box of range.getClientRects()) {
+      const line = Math.round(box.bottom / 12);
+      lines.set(line, (lines.get(line) || 0) + box.width);
+    }
+    const widths = [...lines.values()];
+    if (Math.min(...widths) < 60) wrong.push(caption.textContent + ' has lines of ' + widths);
+  }
+  document.title = 'wrong: ' + wrong.join('; ');
+</script></body>";
+
+/// What a script that is put at the end of a page writes into its title.
+pub fn told_by(browser: &str, desk: &Desk, page: &str, script: &str) -> String {
+    let page = fs::read_to_string(desk.folder.join(page)).unwrap();
+    fs::write(desk.folder.join("measured.html"), page.replace("</body>", script)).unwrap();
+    let [dom, _] = dumped(browser, desk, "measured.html").expect("the page is opened");
+    let title = dom.split_once("<title>").and_then(|(_, rest)| rest.split_once("</title>"));
+    title.unwrap().0.to_string()
+}
+
+#[test]
+fn no_caption_breaks_before_its_last_letter() {
+    let Some(browser) = browser("that captions are not broken") else { return };
+    let desk = desk("browser captions");
+    desk.print("dimkhoros lecture d.bin x=1,2 k=0,0 c=1 -o page-d.html");
+    for page in ["page-0.html", "page-1.html", "page-2.html", "page-3.html", "page-d.html"] {
+        assert_eq!(told_by(browser, &desk, page, CAPTIONS), "wrong: ", "{page}");
     }
 }
 
@@ -154,17 +187,45 @@ fn the_browser_says_nothing_on_the_console() {
     }
 }
 
+/// How many sheets of paper a page takes, and how many sections it has.
+pub fn sheets_and_sections(browser: &str, desk: &Desk, page: &str) -> [usize; 2] {
+    let paper = on_paper(browser, desk, page).expect("the page is printed");
+    let paper = String::from_utf8_lossy(&paper);
+    let sheets = paper.matches("/Type /Page").count() - paper.matches("/Type /Pages").count();
+    let text = fs::read_to_string(desk.folder.join(page)).unwrap();
+    [sheets, text.matches("<section").count()]
+}
+
 #[test]
 fn every_section_is_a_sheet_of_paper() {
     let Some(browser) = browser("that pages fit on paper") else { return };
     let desk = desk("browser paper");
     for (place, (_, words)) in PAGES.iter().enumerate() {
-        let page = format!("page-{place}.html");
-        let paper = on_paper(browser, &desk, &page).expect(words);
-        let paper = String::from_utf8_lossy(&paper);
-        let sheets = paper.matches("/Type /Page").count() - paper.matches("/Type /Pages").count();
-        let sections =
-            fs::read_to_string(desk.folder.join(&page)).unwrap().matches("<section").count();
+        let [sheets, sections] = sheets_and_sections(browser, &desk, &format!("page-{place}.html"));
         assert_eq!(sheets, sections, "{words}");
+    }
+}
+
+/// Eight numbers that fall by one from this one on.
+fn eight(first: u32) -> String {
+    (0..8).map(|place| (first - place).to_string()).collect::<Vec<String>>().join(",")
+}
+
+#[test]
+fn eight_rows_and_columns_near_2_to_the_32_are_a_sheet_of_paper_each() {
+    let Some(browser) = browser("that large sheets fit on paper") else { return };
+    let desk = Desk::new("browser large paper");
+    let entries = ["4,9,16,25,36,49,64,81"; 8].join("/");
+    let (x, k) = (eight(2_147_483_542), eight(2_147_483_442));
+    for (name, made) in [
+        ("exponent", format!("table={entries} m=4294967087 q=2147483543 K=65536 x={x}")),
+        ("root", format!("root m=4294967291 e=65537 K=65536 x={x}")),
+    ] {
+        let printed = desk.print(&format!(
+            "dimkhoros make {made} -o {name}.bin && dimkhoros lecture {name}.bin x={x} k={k} c=65535 c=65533 -o {name}.html"
+        ));
+        assert!(printed.contains("html has "), "{printed}");
+        let [sheets, sections] = sheets_and_sections(browser, &desk, &format!("{name}.html"));
+        assert_eq!(sheets, sections, "{name}");
     }
 }

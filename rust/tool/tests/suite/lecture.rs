@@ -146,7 +146,7 @@ const PAGES: [(&str, &[&str]); 7] = [
     ("large.bin x=1234567890", &["statement", "run", "extractor", "rounds"]),
     (
         "a.bin root.bin",
-        &["statement", "run-0", "run-1", "rounds", "two-rounds", "extractor-0", "extractor-1"],
+        &["statement", "run-0", "run-1", "two-rounds", "extractor-0", "extractor-1", "rounds"],
     ),
 ];
 
@@ -300,7 +300,7 @@ fn pages_a_b_and_c_have_the_library_s_numbers() {
     for (words, nonce, challenges) in
         [("", 5, [3, 1]), (" k=8 c=10 c=4", 8, [10, 4]), (" c=1", 5, [1, 3])]
     {
-        let page = read(&desk, &format!("a.bin{words}"));
+        let page = read(&desk, &format!("a.bin{words} --show-witness"));
         shows_run(&page, &sheet_a(), places([nonce]), places([7]), challenges);
         shows_lists(&page, &sheet_a(), places([7]), challenges[0]);
     }
@@ -332,7 +332,7 @@ fn the_grid_has_every_commitment_and_frames_those_of_the_run() {
 #[test]
 fn page_d_has_the_same_round_of_all_witnesses() {
     let desk = desk("lecture of page D");
-    let (page, sheet) = (read(&desk, "d.bin x=1,2 k=0,0 c=1"), sheet_d());
+    let (page, sheet) = (read(&desk, "d.bin x=1,2 k=0,0 c=1 --show-witness"), sheet_d());
     shows_run(&page, &sheet, places([0, 0]), places([1, 2]), [1, 3]);
     let table: Vec<Vec<String>> = page.id("witnesses").named("tr")[1..]
         .iter()
@@ -386,10 +386,75 @@ fn pages_g_and_h_have_the_library_s_numbers() {
     for (words, nonce, challenges) in
         [("", 3, [3, 1]), (" k=3 c=1 c=3", 3, [1, 3]), (" k=12 c=4 c=0", 12, [4, 0])]
     {
-        let page = read(&desk, &format!("g.bin{words}"));
+        let page = read(&desk, &format!("g.bin{words} --show-witness"));
         shows_run(&page, &sheet_g(), places([nonce]), places([2]), challenges);
         shows_lists(&page, &sheet_g(), places([2]), challenges[0]);
     }
+}
+
+/// The whole text of a page before its section of an id, that of descriptions too.
+fn before(page: &str, id: &str) -> String {
+    page.split(&format!("<section id=\"{id}\"")).next().unwrap().replace('\u{a0}', " ")
+}
+
+#[test]
+fn the_witness_is_hidden_until_the_extractor() {
+    let desk = desk("lecture of a hidden witness");
+    let words = "large.bin x=1234567890 k=987654321 c=40000 c=123";
+    let secrets = ["1234567890", "987654321"];
+    let hidden = page(&desk, words);
+    for secret in secrets {
+        assert!(!before(&hidden, "extractor").contains(secret), "{secret} stands there too early");
+        assert!(hidden.contains(secret), "{secret} stands nowhere");
+    }
+    let shown = page(&desk, &format!("{words} --show-witness"));
+    assert!(secrets.iter().all(|secret| before(&shown, "extractor").contains(secret)));
+    assert_eq!(
+        hidden.split_once("<section id=\"extractor\"").unwrap().1,
+        shown.split_once("<section id=\"extractor\"").unwrap().1
+    );
+    let run = lines(read(&desk, "g.bin").id("run"));
+    has_lines(
+        &run,
+        ["knows x", "chooses the nonce k", "t = [k] = k5 mod 35 = 33", "= k · x3 mod 35 = 24"]
+            .map(str::to_string),
+    );
+    let run = lines(read(&desk, "d.bin").id("run"));
+    has_lines(
+        &run,
+        ["t = [k] = 2k1 · 3k2 mod 23 = 13", "r1 = k1 + 3 · x1 mod 11 = 0"].map(str::to_string),
+    );
+}
+
+#[test]
+fn the_witnesses_of_a_pair_are_hidden_until_two_rounds() {
+    let desk = desk("lecture of two hidden witnesses");
+    desk.print(
+        "dimkhoros make schnorr m=4294967087 q=2147483543 K=11 h=4 x=1234567890 -o large11.bin",
+    );
+    let hidden = page(&desk, "large11.bin root.bin x=1234567890 k=987654321");
+    for secret in ["1234567890", "987654321"] {
+        assert!(!before(&hidden, "two-rounds").contains(secret), "{secret} stands there too early");
+    }
+    let run = lines(markup::read(&hidden).unwrap().id("run-1"));
+    has_lines(&run, ["knows x1".to_string()]);
+}
+
+#[test]
+fn the_page_s_grid_has_the_axes_of_the_command_s() {
+    let desk = desk("lecture and grid");
+    let cells = lines(read(&desk, "a.bin").id("grid"));
+    // A row of the command begins with its challenge, and one of the picture's description is called by it.
+    let told = read(&desk, "a.bin").id("grid").named("desc")[0].text();
+    let printed = desk.print("dimkhoros grid a.bin");
+    assert!(printed.contains("c\\r   0   1   2   3"), "{printed}");
+    for challenge in 0..11 {
+        let row =
+            printed.lines().find(|line| line.starts_with(&format!("{challenge:>3}  "))).unwrap();
+        let row: Vec<&str> = row.split_whitespace().skip(1).collect();
+        assert!(told.contains(&format!("c {challenge}: {}", row.join(" "))), "{told}: {row:?}");
+    }
+    assert!(cells.contains(&"response r".to_string()));
 }
 
 /// The rows of two lists as the description of their picture tells them.
@@ -501,7 +566,7 @@ fn both_holders_of_a_pair_send_the_same_round() {
     let desk = desk("lecture of a pair");
     let (first, second) = (sheet_a(), sheet_root());
     let pair = Pair::new(&first, &second).unwrap();
-    let page = read(&desk, "a.bin root.bin x=7 x1=2 k=5 c=3 c=1 c1=4 r1=8");
+    let page = read(&desk, "a.bin root.bin x=7 x1=2 k=5 c=3 c=1 c1=4 r1=8 --show-witness");
     let round = or_round(&pair, Side::First, [5, 4, 8], 3, 7);
     assert!(pair.judge(&round).unwrap().is_accepted());
     let [t0, t1, r0, r1] = [round.commitment0, round.commitment1, round.response0, round.response1]

@@ -2,7 +2,7 @@
 
 /// The lines. SHEET, ROUNDS, PATTERNS, LEDGER and FOLDER are files that are read, GROWN is a round file that is written over, OUT
 /// is a file that is written, X, T and C are values for each column, for each row, and a challenge.
-pub const LINES: [&str; 62] = [
+pub const LINES: [&str; 64] = [
     "make 1 --patterns PATTERNS m=23 q=11 h=2 x=7 -o OUT",
     "make 5 --patterns PATTERNS m=23 q=11 h=2,3,3 z=12,9 -o OUT",
     "make root --patterns PATTERNS m=35 e=5 z=32 -o OUT",
@@ -59,6 +59,8 @@ pub const LINES: [&str; 62] = [
     "mark --csv --sheet SHEET --level 3 FOLDER FOLDER",
     "watch SHEET ROUNDS",
     "lecture SHEET -o OUT",
+    "lecture SHEET --play -o OUT",
+    "lecture SHEET SHEET --play -o OUT",
     "lecture SHEET x=X k=X c=C c=C -o OUT",
     "lecture SHEET SHEET -o OUT",
     "lecture SHEET SHEET x=X x1=X k=X c=C -o OUT",

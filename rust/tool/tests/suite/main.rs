@@ -15,6 +15,7 @@ mod marks;
 mod markup;
 mod material;
 mod pages;
+mod play;
 mod random;
 mod readme;
 mod reasons;

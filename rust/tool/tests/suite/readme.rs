@@ -36,7 +36,7 @@ fn run_drawing(text: &str) -> &str {
 fn the_picture_of_the_readme_is_what_the_tool_draws() {
     let desk = Desk::new("picture");
     desk.print("dimkhoros make schnorr m=23 q=11 h=2 z=13 -o a.bin");
-    desk.print("dimkhoros lecture a.bin -o page-a.html");
+    desk.print("dimkhoros lecture a.bin --show-witness -o page-a.html");
     let page = fs::read_to_string(desk.folder.join("page-a.html")).unwrap();
     let picture = "docs/lecture/run.svg";
     assert_eq!(run_drawing(&file(picture)), run_drawing(&page));

@@ -12,6 +12,9 @@ use dimkhoros::{EXPONENT, Instance, Places, Round};
 /// The most lines of Euclid's algorithm that stand beside the steps.
 const BESIDE: usize = 4;
 
+/// The most rows and columns whose numbers leave room for Euclid's algorithm below them.
+const LOW: usize = 4;
+
 /// The longest line of a step, in characters, that is set large.
 const LONG: usize = 54;
 
@@ -33,7 +36,8 @@ pub fn sections(
         steps.ok_or(Failure::failed("the steps of the extractor end in another witness"))?;
     let id = if index.is_empty() { "extractor".to_string() } else { format!("extractor-{index}") };
     let table = euclid(&steps.euclid);
-    let beside = steps.euclid.lines.len() <= BESIDE;
+    let low = row_count(sheet).max(column_count(sheet)) <= LOW;
+    let beside = low && steps.euclid.lines.len() <= BESIDE;
     let left = fork(&id, index, sheet, rounds) + if beside { &table } else { "" };
     let by_column = columns(index, &steps);
     let steps = list(index, sheet, &steps, &witness);

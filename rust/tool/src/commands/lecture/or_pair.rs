@@ -2,6 +2,7 @@
 
 use super::or_rounds::{self, Choice};
 use super::page::{self, Section, Table};
+use super::run::Secrets;
 use super::statement;
 use crate::command_line::failure::{Failure, Outcome};
 use crate::sheets::brought::{self, Brought};
@@ -21,6 +22,8 @@ pub struct Shown<'a> {
     pub choice: Choice,
     /// The two challenges.
     pub challenges: [u32; 2],
+    /// Whether witnesses and nonces are shown before the extractor.
+    pub secrets: Secrets,
 }
 
 impl Shown<'_> {
@@ -32,11 +35,11 @@ impl Shown<'_> {
         let extractors = holders.iter().map(|holder| self.extractor(*holder, &round));
         let mut sections = vec![self.statement()];
         sections.extend(runs.collect::<Outcome<Vec<_>>>()?);
+        sections.push(self.two_rounds(&round)?);
+        sections.extend(extractors.collect::<Outcome<Vec<_>>>()?.into_iter().flatten());
         if holders.len() == SIDES.len() {
             sections.extend(self.same_rounds(&round)?);
         }
-        sections.push(self.two_rounds(&round)?);
-        sections.extend(extractors.collect::<Outcome<Vec<_>>>()?.into_iter().flatten());
         Ok(sections)
     }
 
@@ -99,7 +102,7 @@ impl Shown<'_> {
             format!("<div>\n{name}{}</div>\n", statement::formulas(self.pair.instance(side)))
         };
         let facts = |side: Side| {
-            let known = self.known(side).map(|_| self.told(side));
+            let known = self.known(side).map(|_| self.told(side, self.secrets));
             let known = known.unwrap_or("there is none".to_string());
             statement::fact_list(self.pair.instance(side), &known)
         };
@@ -117,8 +120,8 @@ impl Shown<'_> {
     }
 
     /// A side's witness with its letter.
-    pub fn told(&self, side: Side) -> String {
+    pub fn told(&self, side: Side, secrets: Secrets) -> String {
         let witness = notation::by_column(self.pair.instance(side), &self.witness(side));
-        format!("$x{} = {witness}$", side.number())
+        secrets.told(&format!("x{}", side.number()), &witness)
     }
 }

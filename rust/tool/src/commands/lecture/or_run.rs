@@ -51,7 +51,7 @@ impl Shown<'_> {
             id: format!("run-{number}-picture"),
             title: format!("A run of the OR proof by the holder of x{number}"),
             parties: [
-                ("Peggy".to_string(), format!("knows {}", self.told(holder))),
+                ("Peggy".to_string(), format!("knows {}", self.told(holder, self.secrets))),
                 ("Vic".to_string(), "knows $z0$ and $z1$".to_string()),
             ],
             rows: self.rows(&choice, &made),
@@ -105,16 +105,16 @@ impl Shown<'_> {
         let (sheet, far) =
             (self.pair.instance(choice.side), self.pair.instance(choice.side.other()));
         let part = of_side(&self.pair, round, choice.side);
+        let k = self.secrets.told(&own.k, &notation::by_column(sheet, &choice.nonce));
         let mut lines = vec![format!(
-            "chooses ${} = {}$, ${} = {}$, ${} = {}$",
-            own.k,
-            notation::by_column(sheet, &choice.nonce),
+            "chooses {k}, ${} = {}$, ${} = {}$",
             other.c,
             choice.challenge,
             other.r,
             notation::by_column(far, &choice.response)
         )];
-        lines.extend(run::image(sheet, &own.t, &own.k, &choice.nonce, &part.commitment));
+        let nonce = &choice.nonce;
+        lines.extend(run::image(sheet, &own.t, &own.k, nonce, &part.commitment, self.secrets));
         let [t, _] = self.values(choice.side.other(), round);
         lines.push(format!(
             "${0} = [{1}] · {2}^{{-{3}}} = {t}$",
@@ -135,7 +135,8 @@ impl Shown<'_> {
         )];
         let witness = self.witness(choice.side);
         let letters = [&own.r, &own.k, &own.c, &own.x].map(String::as_str);
-        lines.extend(run::response(sheet, letters, &choice.nonce, &witness, &part));
+        let nonce = &choice.nonce;
+        lines.extend(run::response(sheet, letters, nonce, &witness, &part, self.secrets));
         lines
     }
 

@@ -12,8 +12,8 @@ pub struct Section {
     pub body: String,
 }
 
-/// The whole page. The reminder is a line in prose above each section but the first.
-pub fn page(title: &str, reminder: &str, sections: &[Section]) -> String {
+/// The whole page. The reminder is a line in prose above each section but the first. What plays stands below all sections.
+pub fn page(title: &str, reminder: &str, sections: &[Section], play: &str) -> String {
     let body: String = sections
         .iter()
         .enumerate()
@@ -23,7 +23,7 @@ pub fn page(title: &str, reminder: &str, sections: &[Section]) -> String {
         "<!DOCTYPE html>\n<html lang=\"en\">\n<head>\n<meta charset=\"utf-8\" />\n\
          <meta name=\"viewport\" content=\"width=device-width, initial-scale=1\" />\n\
          <meta name=\"color-scheme\" content=\"light dark\" />\n\
-         <title>{}</title>\n<style>\n{STYLE}</style>\n</head>\n<body>\n<main>\n{body}</main>\n</body>\n</html>\n",
+         <title>{}</title>\n<style>\n{STYLE}</style>\n</head>\n<body>\n<main>\n{body}</main>\n{play}</body>\n</html>\n",
         text::escape(title)
     )
 }
@@ -72,7 +72,7 @@ impl Table<'_> {
         format!(
             "<table class=\"{}\">\n<caption>{}</caption>\n<thead>\n{}</thead>\n<tbody>\n{}</tbody>\n</table>\n",
             self.class,
-            text::html(&self.caption),
+            text::html(&text::unbroken(&self.caption)),
             head.concat(),
             body.concat()
         )
@@ -180,7 +180,8 @@ tbody th { font-weight: 400; }
   section { display: block; min-height: 0; max-width: none; padding: 0; overflow: visible; break-inside: avoid;
     break-after: page; }
   section:last-child { break-after: auto; }
-  svg { margin: 0; break-inside: avoid; }
+  header { break-inside: avoid; break-after: avoid; }
+  svg { margin: 0; max-height: 164mm; break-inside: avoid; }
   tr, li { break-inside: avoid; }
   .note { margin-top: 0; }
 }

@@ -33,7 +33,7 @@ pub fn nonce(
 }
 
 /// The neutral choice of coordinates, zeros or ones.
-fn neutral(sheet: &Instance) -> Places {
+pub fn neutral(sheet: &Instance) -> Places {
     let value = u32::from(sheet.values().header.kind != EXPONENT);
     in_columns(sheet, |_| value)
 }

@@ -12,6 +12,33 @@ const WRITTEN: usize = 2;
 /// The largest modulus with which the computations of two sides are written out.
 const SHORT: u32 = 999_999;
 
+/// Whether a page shows Peggy's witness and nonces before the extractor, or letters in their places.
+#[derive(Clone, Copy, PartialEq)]
+pub enum Secrets {
+    /// Letters stand in their places.
+    Hidden,
+    /// Their numbers stand there.
+    Shown,
+}
+
+impl Secrets {
+    /// A secret with its letter, and its value if it is shown.
+    pub fn told(self, letter: &str, value: &str) -> String {
+        match self {
+            Secrets::Hidden => format!("${letter}$"),
+            Secrets::Shown => format!("${letter} = {value}$"),
+        }
+    }
+
+    /// A number of a secret, or the letter in its place.
+    fn number(self, letter: &str, value: u32) -> String {
+        match self {
+            Secrets::Hidden => letter.to_string(),
+            Secrets::Shown => value.to_string(),
+        }
+    }
+}
+
 /// Whether a computation over rows or columns is written out. The letter has an index where there are two sides.
 fn is_written(sheet: &Instance, letter: &str) -> bool {
     let narrow = row_count(sheet).max(column_count(sheet)) <= WRITTEN;
@@ -25,11 +52,12 @@ pub fn section(
     witness: &Places,
     round: &Round,
     verdict: Verdict,
+    secrets: Secrets,
 ) -> Section {
     let [t, c, r] = values(sheet, round);
-    let mut commits =
-        vec![format!("chooses the nonce $k = {}$", notation::by_column(sheet, nonce))];
-    commits.extend(image(sheet, "t", "k", nonce, &round.commitment));
+    let k = secrets.told("k", &notation::by_column(sheet, nonce));
+    let mut commits = vec![format!("chooses the nonce {k}")];
+    commits.extend(image(sheet, "t", "k", nonce, &round.commitment, secrets));
     let rows = vec![
         Row { left: commits, message: message(true, vec![t]), right: vec![] },
         Row {
@@ -38,13 +66,13 @@ pub fn section(
             right: vec![format!("chooses the challenge {c}")],
         },
         Row {
-            left: response(sheet, ["r", "k", "c", "x"], nonce, witness, round),
+            left: response(sheet, ["r", "k", "c", "x"], nonce, witness, round, secrets),
             message: message(true, vec![r]),
             right: vec![],
         },
         Row { right: check(sheet, round, ["r", "t", "z", "c"]), ..Row::default() },
     ];
-    let knows = format!("knows $x = {}$", notation::by_column(sheet, witness));
+    let knows = format!("knows {}", secrets.told("x", &notation::by_column(sheet, witness)));
     drawn(sheet, "A run of the protocol", ["Peggy", "Vic"], &knows, rows, verdict)
 }
 
@@ -113,14 +141,20 @@ pub fn image(
     k: &str,
     coordinates: &Places,
     image: &Places,
+    secrets: Secrets,
 ) -> Vec<String> {
     let modulus = sheet.values().header.modulus;
     let rows = row_count(sheet);
-    if !is_written(sheet, t) {
+    // A letter with the indices of its side and of its column has no room in an exponent.
+    let two_indices = secrets == Secrets::Hidden && k.len() > 1 && column_count(sheet) > 1;
+    if !is_written(sheet, t) || two_indices {
         return vec![format!("${t} = [{k}] = {}$", notation::by_row(sheet, image))];
     }
     let row = |row: usize| {
-        let product = product(&by_hand::row_powers(sheet, row, coordinates));
+        let product = match secrets {
+            Secrets::Hidden => notation::row_image(sheet, row, k),
+            Secrets::Shown => product(&by_hand::row_powers(sheet, row, coordinates)),
+        };
         match rows {
             1 => format!("${t} = [{k}] = {product} mod {modulus} = {}$", image[row]),
             _ => format!("${} = {product} mod {modulus} = {}$", indexed(t, row), image[row]),
@@ -153,6 +187,7 @@ pub fn response(
     nonce: &Places,
     witness: &Places,
     round: &Round,
+    secrets: Secrets,
 ) -> Vec<String> {
     let [r, k, c, x] = letters;
     let (header, columns) = (sheet.values().header, column_count(sheet));
@@ -163,8 +198,11 @@ pub fn response(
         return vec![format!("${formula} = {}$", notation::by_column(sheet, &round.response))];
     }
     let computed = |column: usize| {
-        let (k, x, value) = (nonce[column], witness[column], round.response[column]);
-        let c = round.challenge;
+        let named =
+            |letter: &str| if columns == 1 { letter.to_string() } else { indexed(letter, column) };
+        let k = secrets.number(&named(k), nonce[column]);
+        let x = secrets.number(&named(x), witness[column]);
+        let (c, value) = (round.challenge, round.response[column]);
         if exponent {
             format!("{k} + {c} · {x} mod {} = {value}", header.order)
         } else {

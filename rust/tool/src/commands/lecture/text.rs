@@ -192,6 +192,15 @@ pub fn width(runs: &[Run]) -> f64 {
 /// A space at which no line is broken.
 const UNBROKEN: char = '\u{a0}';
 
+/// Prose in which no line is broken within a formula.
+pub fn unbroken(text: &str) -> String {
+    let mut parts: Vec<String> = text.split('$').map(str::to_string).collect();
+    for formula in parts.iter_mut().skip(1).step_by(2) {
+        *formula = formula.replace(' ', &UNBROKEN.to_string());
+    }
+    parts.join("$")
+}
+
 /// How wide a space is at the most.
 const SPACE: f64 = 0.33;
 
