@@ -195,7 +195,7 @@ const MEANING: &str = "\
 usage: dimkhoros COMMAND [WORD...]
 
 Sheets, rounds and lecture pages for teaching Maurer's proof of knowledge of a preimage under a group homomorphism, on numbers of
-at most 32 bits. The proved library computes what is said of them.
+at most 32 bits. The proved library computes each verdict, commitment, response, witness and refusal.
 
 A sheet is a file with a statement z and the table of a homomorphism [ ]. Peggy claims to know a witness x with [x] = z.
 A round is a commitment t, a challenge c below the sheet's K and a response r. Vic accepts it if [r] = t · z^c.
@@ -211,6 +211,8 @@ A value comes after its letter, as in c=3. Several values have commas between th
 players and sides are numbered from 0. Columns are called x1, x2 and so on. The file - is standard input, or standard output
 after -o. If a file's name begins with - or looks like a value, put the word -- before it. No file is overwritten without
 --force. On a terminal verdicts have colours. If the variable NO_COLOR is set, they have none.
+
+A number in brackets after an error is the number of a refusal. docs/SCOPE.md lists all of them.
 
 Exit status: 0 done; 1 refused or failed, with the cause on standard error; 2 the words are wrong.
 

@@ -88,7 +88,8 @@ fn is_help(word: &OsString) -> bool {
 fn found(name: &OsString) -> Outcome<&'static Command> {
     commands::find(name).ok_or_else(|| {
         let name = name.to_string_lossy();
-        let meant = words::meant(&name, commands::all().map(|command| command.name));
+        let names = commands::all().map(|command| command.name);
+        let meant = words::meant(&name, names.chain(["help", "--help", "--version"]));
         Failure::words(format!("there is no command {name}{meant}"))
     })
 }

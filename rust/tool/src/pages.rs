@@ -37,10 +37,14 @@ fn all() -> Vec<(String, String)> {
         completions::offered(command.name, command.summary, &Help::read(command.help))
     };
     let offered: Vec<Offered> = commands::all().map(offered).collect();
-    let whole = man::page("dimkhoros", SUMMARY, &Help::read(&commands::overview()));
+    let others: Vec<String> =
+        commands::all().map(|command| format!("dimkhoros-{}", command.name)).collect();
+    let whole = man::page("dimkhoros", SUMMARY, &Help::read(&commands::overview()), &others);
+    let tool = ["dimkhoros".to_string()];
     let page = |command: &commands::Command| {
         let name = format!("dimkhoros-{}", command.name);
-        (format!("{name}.1"), man::page(&name, command.summary, &Help::read(command.help)))
+        let text = man::page(&name, command.summary, &Help::read(command.help), &tool);
+        (format!("{name}.1"), text)
     };
     let mut pages = vec![("dimkhoros.1".to_string(), whole)];
     pages.extend(commands::all().map(page));

@@ -1,12 +1,13 @@
 //! The script `./install`: what it puts where, what it builds before, and how it fails. The archive, the shared library and the
 //! Python module are files of a few bytes here, which the script copies, and the tool is a script that writes pages; `installed.rs` uses those that are built.
 
+use crate::cc;
 use crate::home::{Ended, Home, built, ended};
 use crate::tree::{tree, untried};
 
 use std::fs::{self, File, OpenOptions, Permissions};
 use std::io;
-use std::os::unix::fs::{MetadataExt, PermissionsExt};
+use std::os::unix::fs::{MetadataExt, PermissionsExt, symlink};
 use std::path::Path;
 use std::process::Command;
 
@@ -33,7 +34,7 @@ const NO_MODULE: [&str; 7] = [
 ];
 
 /// What an install puts under PREFIX, with the modes.
-const TREE: [&str; 49] = [
+const TREE: [&str; 56] = [
     "bin/ 755",
     "bin/dimkhoros 755",
     "bin/game 755",
@@ -53,6 +54,11 @@ const TREE: [&str; 49] = [
     "lib/python/dimkhoros/ 755",
     "lib/python/dimkhoros/__init__.py 644",
     "lib/python/dimkhoros/verbs.py 644",
+    "libexec/ 755",
+    "libexec/dimkhoros/ 755",
+    "libexec/dimkhoros/game 755",
+    "libexec/dimkhoros/marker 755",
+    "libexec/dimkhoros/reason 755",
     "share/ 755",
     "share/bash-completion/ 755",
     "share/bash-completion/completions/ 755",
@@ -67,6 +73,8 @@ const TREE: [&str; 49] = [
     "share/doc/dimkhoros/docs/ 755",
     "share/doc/dimkhoros/docs/AUTHORS.md 644",
     "share/doc/dimkhoros/examples/ 755",
+    "share/doc/dimkhoros/examples/boxes/ 755",
+    "share/doc/dimkhoros/examples/boxes/run 755",
     "share/doc/dimkhoros/examples/team.c 644",
     "share/doc/dimkhoros/python/ 755",
     "share/doc/dimkhoros/python/README.md 644",
@@ -103,6 +111,8 @@ const NO_CARGO: &str =
 fn laid_out(test: &str) -> Home {
     let home = Home::new("install", test, &TOOLS, CRATES);
     home.put("scripts/shared_library");
+    home.put("scripts/program");
+    home.put("examples/boxes/run");
     home.put("include/dimkhoros.h");
     home.put("include/dimkhoros_box.h");
     home.put("share/patterns.bin");
@@ -165,9 +175,12 @@ fn all_files_stand_in_their_places() {
     let prefix = home.0.join("one two/prefix");
     for (place, source) in [
         ("bin/dimkhoros", "rust/target/release/dimkhoros"),
-        ("bin/marker", "target/bin/marker"),
-        ("bin/reason", "target/bin/reason"),
-        ("bin/game", "target/bin/game"),
+        ("bin/marker", "scripts/program"),
+        ("bin/reason", "scripts/program"),
+        ("bin/game", "scripts/program"),
+        ("libexec/dimkhoros/marker", "target/bin/marker"),
+        ("libexec/dimkhoros/reason", "target/bin/reason"),
+        ("libexec/dimkhoros/game", "target/bin/game"),
         ("include/dimkhoros.h", "include/dimkhoros.h"),
         ("include/dimkhoros_box.h", "include/dimkhoros_box.h"),
         ("lib/libdimkhoros.a", "target/staticlib/libdimkhoros.a"),
@@ -205,6 +218,56 @@ fn the_end_says_what_is_where_and_how_to_use_it() {
     );
     assert_eq!((shell.stdout, shell.stderr.as_str()), (expected, ""));
     assert_eq!(lines.next(), None);
+}
+
+/// What a program under bin/ comes to with these words, in a folder beside PREFIX.
+fn program(home: &Home, name: &str, words: &[&str]) -> Ended {
+    let mut command = Command::new(home.0.join("prefix/bin").join(name));
+    command.args(words).current_dir(cc::root().join("crates/marker/data"));
+    ended(&mut command)
+}
+
+/// The programs read no words, so that a text on this folder would be taken for one on the folder that is named.
+#[test]
+fn the_programs_refuse_words() {
+    let home = laid_out("program");
+    install(&home, "prefix");
+    let wants = [
+        ("marker", "marks", "dimkhoros mark a/b"),
+        ("reason", "tells about", "dimkhoros reason a/b"),
+        ("game", "plays in", "(cd a/b && game)"),
+    ];
+    for (name, does, other) in wants {
+        let mut itself = Command::new(built(name));
+        let itself = ended(itself.current_dir(cc::root().join("crates/marker/data")));
+        assert_eq!(program(&home, name, &[]), itself);
+        let begins = format!("{name} takes no words: it {does} the folder that it is run in; ");
+        let refused = |hint: &str| {
+            let stderr = format!("{begins}{hint}\n");
+            Ended { status: Some(2), stdout: String::new(), stderr }
+        };
+        let hint = format!("`{other}` {does} that one");
+        assert_eq!(program(&home, name, &["a/b"]), refused(&hint));
+        for word in ["--version", "", "-"] {
+            assert_eq!(program(&home, name, &[word]), refused(&format!("{name} --help says more")));
+        }
+        let help = program(&home, name, &["--help"]);
+        assert_eq!((help.status, help.stderr.as_str()), (Some(0), ""));
+        assert!(help.stdout.starts_with(&format!("usage: {name}\n\n")), "{}", help.stdout);
+    }
+}
+
+/// Also by a link from elsewhere, and after the folder is moved.
+#[test]
+fn the_programs_are_found_from_their_scripts() {
+    let home = laid_out("moved");
+    install(&home, "here");
+    fs::rename(home.0.join("here"), home.0.join("prefix")).unwrap();
+    symlink("prefix/bin/marker", home.0.join("link")).unwrap();
+    let text = program(&home, "marker", &[]);
+    assert!(text.stdout.starts_with("rounds "), "{text:?}");
+    let mut link = Command::new(home.0.join("link"));
+    assert_eq!(ended(link.current_dir(cc::root().join("crates/marker/data"))), text);
 }
 
 /// The file for pkg-config has the version of this crate, and no path of the folder in which it was written.
@@ -549,7 +612,8 @@ fn what_is_old_is_built_once() {
     install(&home, "prefix");
     assert_eq!(home.text("asked"), asked);
     assert!(
-        fs::read(home.0.join("prefix/bin/reason")).unwrap() == fs::read(built("reason")).unwrap()
+        fs::read(home.0.join("prefix/libexec/dimkhoros/reason")).unwrap()
+            == fs::read(built("reason")).unwrap()
     );
 }
 

@@ -34,6 +34,7 @@ fn laid_out() -> Home {
     let home = Home::new("install", "whole", &[], "marker:\nreason:\ndimkhoros:\n");
     home.put_tool("rt", "echo 'A test has started the prover.' >&2; exit 1");
     for file in [
+        "scripts/program",
         "scripts/shared_library",
         "include/dimkhoros.h",
         "include/dimkhoros_box.h",
@@ -91,9 +92,9 @@ fn run_session(test: &str, set: &str) -> bool {
 fn what_is_installed_is_what_is_built() {
     let prefix = &installed().0;
     for (place, source) in [
-        ("bin/marker", built("marker")),
-        ("bin/reason", built("reason")),
-        ("bin/game", built("game")),
+        ("libexec/dimkhoros/marker", built("marker")),
+        ("libexec/dimkhoros/reason", built("reason")),
+        ("libexec/dimkhoros/game", built("game")),
         ("include/dimkhoros.h", cc::root().join("include/dimkhoros.h")),
         ("include/dimkhoros_box.h", cc::root().join("include/dimkhoros_box.h")),
         ("lib/libdimkhoros.a", PathBuf::from(ARCHIVE)),

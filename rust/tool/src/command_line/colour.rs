@@ -56,7 +56,7 @@ fn colour(word: &str) -> Option<u8> {
     match word {
         "accepted" | "accepts" | "pass" | "passes" | "passed" | "witness" => Some(GREEN),
         "rejected" | "rejects" | "fail" | "fails" | "failed" | "reuse" | "reuses" => Some(RED),
-        "refused" | "sheet" | "file" | "level" | "unread" | "not" => Some(YELLOW),
+        "refused" | "sheet" | "file" | "level" | "unread" | "not" | "no" => Some(YELLOW),
         _ => None,
     }
 }

@@ -101,6 +101,11 @@ impl Target {
         Ok(Target { path, how })
     }
 
+    /// The file's name as it is printed.
+    pub fn name(&self) -> String {
+        name(&self.path)
+    }
+
     /// Whether the bytes go to standard output.
     pub fn is_standard(&self) -> bool {
         is_standard(&self.path)

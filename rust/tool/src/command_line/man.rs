@@ -2,20 +2,23 @@
 
 use super::help::{Help, Part};
 
-/// The man page of a command, or of the whole tool, with a name and a summary.
-pub fn page(name: &str, summary: &str, help: &Help) -> String {
+/// The man page of a command, or of the whole tool, with a name, a summary and the names of other pages to see.
+pub fn page(name: &str, summary: &str, help: &Help, others: &[String]) -> String {
     let title = name.to_uppercase();
     let version = env!("CARGO_PKG_VERSION");
     let usage: Vec<String> = help.usage.iter().map(|call| escaped(call)).collect();
     let parts: String = help.parts.iter().map(part).collect();
     let example: String =
         help.example.iter().map(|line| escaped(&line[line.len().min(4)..]) + "\n").collect();
+    let others: Vec<String> =
+        others.iter().map(|other| format!("\\fB{}\\fR(1)", escaped(other))).collect();
     format!(
         ".TH \"{title}\" \"1\" \"\" \"dimkhoros {version}\"\n.SH NAME\n{} \\- {}\n.SH SYNOPSIS\n.nf\n{}\n.fi\n\
-         .SH DESCRIPTION\n{parts}.SH EXAMPLE\n.nf\n{example}.fi\n",
+         .SH DESCRIPTION\n{parts}.SH EXAMPLE\n.nf\n{example}.fi\n.SH SEE ALSO\n{}\n",
         escaped(name),
         escaped(summary),
-        usage.join("\n")
+        usage.join("\n"),
+        others.join(",\n")
     )
 }
 

@@ -6,6 +6,7 @@ pub use hints::{deed, meant, twice};
 
 use crate::command_line::failure::{Failure, Outcome};
 use std::ffi::{OsStr, OsString};
+use std::os::unix::ffi::OsStrExt;
 use std::path::PathBuf;
 
 /// What words a command takes.
@@ -68,9 +69,10 @@ impl Words {
         grammar: &Grammar,
     ) -> Outcome {
         let text = word.to_string_lossy().into_owned();
-        if let Some(option) = find(grammar.options, &text) {
-            let value = rest.next().filter(|value| !value.is_empty());
+        if let Some((option, value)) = option_of(&word, grammar) {
+            let value = value.or_else(|| rest.next()).filter(|value| !value.is_empty());
             let value = value.ok_or(Failure::words(format!("a word is missing after {option}")))?;
+            hints::check_value(option, &value, grammar)?;
             if self.option(option).is_some() {
                 return Err(twice(option));
             }
@@ -78,7 +80,7 @@ impl Words {
         } else if let Some(flag) = find(grammar.flags, &text) {
             self.flags.push(flag);
         } else if text.starts_with('-') && text != "-" {
-            return Err(hints::no_option(&text, grammar));
+            return Err(hints::no_option(&text, rest.next(), grammar));
         } else if let Some((letter, numbers)) = letter_of(&text) {
             let letter =
                 find(grammar.letters, letter).ok_or_else(|| hints::no_letter(letter, grammar))?;
@@ -101,7 +103,7 @@ impl Words {
         let (most, count) = (grammar.plain.len(), self.plain.len());
         let repeats = grammar.plain.last().is_some_and(|last| last.ends_with("..."));
         if count > most && !repeats {
-            return Err(hints::one_too_many(&self.plain[most], grammar));
+            return Err(hints::one_too_many(&self.plain[most..], grammar));
         }
         if count + grammar.optional < most {
             let name = grammar.plain[count].trim_end_matches("...");
@@ -255,6 +257,14 @@ fn letter_of(word: &str) -> Option<(&str, &str)> {
     let alone = letter.bytes().all(|byte| byte.is_ascii_alphanumeric());
     (alone && letter.starts_with(|first: char| first.is_ascii_alphabetic()))
         .then_some((letter, rest))
+}
+
+/// The option that a word is, with its value if that is in the word too, as in `--level=20`.
+fn option_of(word: &OsStr, grammar: &Grammar) -> Option<(&'static str, Option<OsString>)> {
+    let mut parts = word.as_bytes().splitn(2, |byte| *byte == b'=');
+    let option = find(grammar.options, std::str::from_utf8(parts.next()?).ok()?)?;
+    let value = parts.next().map(|value| OsStr::from_bytes(value).to_os_string());
+    (value.is_none() || option.starts_with("--")).then_some((option, value))
 }
 
 /// The name in a list that a word is.

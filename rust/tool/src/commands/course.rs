@@ -66,6 +66,9 @@ pub fn run(words: Vec<OsString>, out: &mut dyn Write) -> Outcome {
     let (bits, level) = (bits(&words)?, level(&words)?);
     let folder = words.option("-o");
     let folder = folder.ok_or(Failure::words("-o COURSE is missing: the folder to make"))?;
+    if folder == "-" {
+        return Err(Failure::words("-o takes the name of a folder, and - is not one; write ./-"));
+    }
     let folder = PathBuf::from(folder);
     let names = names::read(&words.path(0))?;
     let none = || Failure::failed(format!("no numbers of {bits} bits are found"));

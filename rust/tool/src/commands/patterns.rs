@@ -2,7 +2,7 @@
 
 use crate::command_line::failure::{Failure, Outcome};
 use crate::command_line::files::{self, Target};
-use crate::command_line::words::{Grammar, Words};
+use crate::command_line::words::{self, Grammar, Words};
 use crate::commands::show;
 use crate::sheets::{faults, notation};
 use dimkhoros::{Layout, Pattern, Patterns, Refusal};
@@ -93,7 +93,7 @@ fn make(words: &Words, patterns: &[OsString], out: &mut dyn Write) -> Outcome {
 /// The bytes of a pattern of this name or with these digits. The number of values is the largest digit.
 fn written(word: &OsStr) -> Outcome<Vec<u8>> {
     let word = word.to_string_lossy();
-    let named = NAMES.iter().find(|(name, _)| *name == word);
+    let named = NAMES.iter().find(|(name, _)| name.eq_ignore_ascii_case(&word));
     if let Some(layout) = named.and_then(|(_, p)| Patterns::shipped().layout(p.number()).map(bytes))
     {
         return Ok(layout);
@@ -155,9 +155,9 @@ pub fn number(word: &str, shipped: bool) -> Outcome<u32> {
     if let Ok(number) = word.parse() {
         return Ok(number);
     }
-    let named = NAMES
-        .iter()
-        .find(|(name, pattern)| *name == word && (shipped || *pattern == Pattern::Root));
+    let named = NAMES.iter().find(|(name, pattern)| {
+        name.eq_ignore_ascii_case(word) && (shipped || *pattern == Pattern::Root)
+    });
     let named = named.map(|(_, pattern)| pattern.number());
     named.ok_or_else(|| no_pattern(word, shipped))
 }
@@ -166,7 +166,9 @@ pub fn number(word: &str, shipped: bool) -> Outcome<u32> {
 fn no_pattern(word: &str, shipped: bool) -> Failure {
     let names = NAMES.map(|(name, _)| name);
     Failure::words(if shipped {
-        format!("there is no pattern {word}; write linear, {}", notation::enumerated(&names, "or"))
+        let meant = words::meant(&word.to_lowercase(), names.into_iter().chain(["linear"]));
+        let all = format!("; write linear, {}", notation::enumerated(&names, "or"));
+        format!("there is no pattern {word}{}", if meant.is_empty() { all } else { meant })
     } else {
         format!("there is no pattern {word}; the patterns of a file are named by their numbers")
     })

@@ -21,7 +21,7 @@ pub const HELP: &str = "\
 usage: dimkhoros reason [--sheet SHEET] [--level W] [--json] FOLDER [ROUND]
        dimkhoros reason [--level W] [--json] SHEET ROUNDS [ROUND]
 
-Says why a student's rounds fail. The first line is the one that `./run reason FOLDER` prints. It is on the sheet, the round file
+Says why a student's rounds fail. The first line is the one that the program `reason` prints. It is on the sheet, the round file
 and the file's round 0. Then comes the same in words: which value at which byte breaks which rule, or both sides of each row of
 round 0. Then comes whether the whole file passes. If it fails, all other rounds that are rejected or refused are named, with the
 row or the number. If there are too few rounds, it says how many the level asks for. With ROUND, the first line and the words are
@@ -39,8 +39,8 @@ Example:
     $ mkdir b
     $ dimkhoros make schnorr m=23 q=11 h=2 x=7 -o b/sheet.bin
     13 = 2^x mod 23, q = 11, K = 11
-    $ dimkhoros rounds make b/sheet.bin t=9 c=3 r=4 t=9 c=1 r=2 -o b/rounds.bin
-    b/rounds.bin has 31 bytes
+    $ dimkhoros rounds make b/sheet.bin t=9 c=3 r=4 t=3 c=1 r=2 -o b/rounds.bin
+    b/rounds.bin has 2 rounds (31 bytes)
     $ dimkhoros reason --level 7 b
     accepted
 
@@ -54,17 +54,17 @@ Example:
     Level 7 asks for 3 rounds with K = 11, and the file has 2.
 
     round  t  c  r  verdict
-        1  9  1  2  rejected in row 0
+        1  3  1  2  rejected in row 0
 
     `dimkhoros reason FOLDER 1` tells more of round 1.
     $ dimkhoros reason --level 7 b 1
-    rejected 0 4 2
+    rejected 0 4 16
 
-    Round 1 is t = 9, c = 1, r = 2.
+    Round 1 is t = 3, c = 1, r = 2.
     Vic rejects it, since [r] = t · z^c does not hold in every row:
 
     row  [r]                t · z^c
-      0  2^2 mod 23 = 4  ≠  9 · 13^1 mod 23 = 2
+      0  2^2 mod 23 = 4  ≠  3 · 13^1 mod 23 = 16
 
     The whole file fails: round 1 is rejected.
     Level 7 asks for 3 rounds with K = 11, and the file has 2.

@@ -5,6 +5,7 @@ use crate::command_line::files::{self, Target};
 use crate::command_line::table::{self, Set};
 use crate::command_line::words::{self, Grammar, Words};
 use crate::sheets::draw::Generator;
+use crate::sheets::notation::counted;
 use crate::sheets::round_words::{self, Asked};
 use crate::sheets::{self, as_json, commitments, notation, round_table};
 use dimkhoros::{Instance, LONGEST_FILE, MOST_ROUNDS, Refusal, Round, RoundFile, RoundWriter};
@@ -39,9 +40,9 @@ Example:
     $ dimkhoros make schnorr m=23 q=11 h=2 x=7 -o sheet.bin
     13 = 2^x mod 23, q = 11, K = 11
     $ dimkhoros rounds make sheet.bin x=7 k=5 c=3 c=3 r=0 -o rounds.bin
-    rounds.bin has 31 bytes
+    rounds.bin has 2 rounds (31 bytes)
     $ dimkhoros rounds append sheet.bin rounds.bin t=9 c=1 r=1 t=9 c=1 r=2
-    rounds.bin has 55 bytes
+    rounds.bin has 4 rounds (55 bytes)
     $ dimkhoros rounds list sheet.bin rounds.bin
     round  t  c  r  verdict
         0  9  3  4  accepted
@@ -93,7 +94,14 @@ fn make(words: Vec<OsString>, out: &mut dyn Write) -> Outcome {
         Failure::cause(refusal, format!("--version {version}: a version is 1 or 2"))
     })?;
     add(&sheet, &mut writer, &rounds)?;
-    target.write(writer.file().bytes(), out)
+    write(&target, &writer, out)
+}
+
+/// Writes a round file, and a line that says how many rounds it has.
+fn write(target: &Target, writer: &RoundWriter<'_>, out: &mut dyn Write) -> Outcome {
+    let (file, name) = (writer.file(), target.name());
+    let (rounds, bytes) = (counted(file.count(), "round"), counted(file.bytes().len(), "byte"));
+    target.write_answering(file.bytes(), &format!("{name} has {rounds} ({bytes})"), out)
 }
 
 /// So many rounds of a Peggy, with nonces and challenges that the system's generator draws.
@@ -162,7 +170,7 @@ fn append(words: Vec<OsString>, out: &mut dyn Write) -> Outcome {
         buffer.resize(LONGEST_FILE.max(used), 0);
         let mut writer = RoundWriter::resume(sheet, &mut buffer, used)?;
         add(sheet, &mut writer, &rounds)?;
-        target.write(writer.file().bytes(), out)
+        write(&target, &writer, out)
     })
 }
 

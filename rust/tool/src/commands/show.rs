@@ -61,7 +61,7 @@ Example:
     The same sheet is made by
         dimkhoros make schnorr m=23 q=11 K=11 h=2 z=13 -o SHEET
     $ dimkhoros rounds make sheet.bin t=9 c=1 r=2 -o rounds.bin
-    rounds.bin has 19 bytes
+    rounds.bin has 1 round (19 bytes)
     $ dimkhoros show sheet.bin rounds.bin
     rounds.bin is a round file of 19 bytes with 1 round, in version 1.
     Vic accepts if [r] = t · z^c, with x ↦ [x] = 2^x mod 23 and z = 13.

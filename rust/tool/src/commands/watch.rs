@@ -37,9 +37,9 @@ Example:
     $ dimkhoros make schnorr m=23 q=11 h=2 x=7 -o sheet.bin
     13 = 2^x mod 23, q = 11, K = 11
     $ dimkhoros rounds make sheet.bin x=7 k=5 c=3 x=7 k=2 c=9 -o monday.bin
-    monday.bin has 31 bytes
+    monday.bin has 2 rounds (31 bytes)
     $ dimkhoros rounds make sheet.bin t=9 c=1 r=2 x=7 k=5 c=1 -o friday.bin
-    friday.bin has 31 bytes
+    friday.bin has 2 rounds (31 bytes)
     $ dimkhoros watch sheet.bin monday.bin friday.bin
     file        round  c  earlier file  earlier round  earlier c  back  t  x
     friday.bin      1  1  monday.bin                0          3     2  9  7

@@ -1,6 +1,7 @@
 //! The rounds of a file with the same commitment, and what the extractor makes of them.
 
 use crate::command_line::files;
+use crate::sheets::judged::named;
 use dimkhoros::{Instance, Places, Refusal, Round, RoundFile};
 use std::path::Path;
 
@@ -24,6 +25,26 @@ pub fn groups(file: &RoundFile<'_>) -> Vec<Vec<usize>> {
     }
     groups.retain(|group| group.len() > 1);
     groups
+}
+
+/// How often the nonce of rounds with the same commitment was used, if they have different challenges, and a sentence that says so,
+/// without its full stop.
+pub fn used_twice(rounds: &[Round], group: &[usize]) -> Option<(String, String)> {
+    let mut challenges: Vec<u32> = group.iter().map(|number| rounds[*number].challenge).collect();
+    challenges.sort_unstable();
+    challenges.dedup();
+    let times = match challenges.len() {
+        1 => return None,
+        2 => "twice".to_string(),
+        count => format!("{count} times"),
+    };
+    let differ = match challenges.len() == group.len() {
+        true => " and different challenges",
+        false => ", and not all the same challenge",
+    };
+    let rounds = named(group);
+    let whole = format!("{rounds} have the same commitment{differ}: the nonce was used {times}");
+    Some((times, whole))
 }
 
 /// Says that a file has no such rounds.

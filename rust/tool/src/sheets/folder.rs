@@ -119,10 +119,10 @@ impl Folder {
             _ => ("sheet.bin", &self.sheet),
         };
         let Some(bytes) = file else {
-            return format!("there is no {name}");
+            return numbered(refusal, format!("there is no {name}"));
         };
         match (files::too_long(bytes), self.found(refusal)) {
-            (Some(why), _) => format!("{name} {why}"),
+            (Some(why), _) => numbered(refusal, format!("{name} {why}")),
             (_, Some(fault)) => fault.told(name, &self.allowed(refusal)),
             _ => numbered(refusal, format!("{name}: {}", rule(refusal))),
         }

@@ -1,7 +1,7 @@
 //! What the marker says of the rounds of a file.
 
 use crate::sheets::levels;
-use crate::sheets::notation::counted;
+use crate::sheets::notation::{and, counted};
 use std::fmt;
 
 /// The rounds of a file by what is said of them, and whether they pass.
@@ -67,7 +67,7 @@ impl Judged {
     }
 }
 
-/// How many rounds pass, or why they fail, such as `rejected 2 7; refused 5`.
+/// How many rounds pass, or why they fail, such as `rounds 2 and 7 rejected; round 5 refused`.
 impl fmt::Display for Judged {
     fn fmt(&self, f: &mut fmt::Formatter<'_>) -> fmt::Result {
         if self.passed {
@@ -76,12 +76,20 @@ impl fmt::Display for Judged {
         let bad = [("rejected", &self.rejected), ("refused", &self.refused)];
         let bad = bad.iter().filter(|(_, numbers)| !numbers.is_empty());
         let mut why: Vec<String> =
-            bad.map(|(said, numbers)| format!("{said} {}", spaced(numbers))).collect();
+            bad.map(|(said, numbers)| format!("{} {said}", named(numbers))).collect();
         why.extend(self.too_few().map(|needed| {
             let (level, found) = (self.level, self.rounds());
             format!("too few rounds for level {level}: {needed} needed, {found} found")
         }));
         f.write_str(&why.join("; "))
+    }
+}
+
+/// Rounds by their numbers, such as `rounds 2 and 7`.
+pub fn named(numbers: &[usize]) -> String {
+    match numbers {
+        [number] => format!("round {number}"),
+        _ => format!("rounds {}", and(numbers)),
     }
 }
 

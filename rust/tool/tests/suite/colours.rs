@@ -22,7 +22,7 @@ const VERDICTS: [(&str, &[&str]); 8] = [
     ),
     ("show b/sheet.bin b/rounds.bin", &["  4  <32:accepted>\n", "<31:rejected> in row 0\n"]),
     ("show b", &["  4  <32:accepted>\n"]),
-    ("mark b", &["b  <31:fail>  rejected 1", "0 passed, 1 <31:failed>, 0 refused\n"]),
+    ("mark b", &["b  <31:fail>  round 1 rejected", "0 passed, 1 <31:failed>, 0 refused\n"]),
     (
         "reason b",
         &["<32:accepted>\n\n", "Vic <32:accepts> it", "file <31:fails>:", "  <31:rejected> in"],

@@ -38,7 +38,7 @@ fn rounds_that_are_drawn_are_accepted_and_differ() {
     let desk = Desk::new("drawn rounds");
     desk.print("dimkhoros make schnorr m=4294967087 q=2147483543 h=2 x=7 -o sheet.bin");
     let made = desk.print("dimkhoros rounds make sheet.bin x=7 --draw 20 -o rounds.bin");
-    assert_eq!(made, "rounds.bin has 247 bytes\n");
+    assert_eq!(made, "rounds.bin has 20 rounds (247 bytes)\n");
     let listed = desk.print("dimkhoros rounds list sheet.bin rounds.bin");
     let rounds: BTreeSet<&str> = listed.lines().skip(1).collect();
     assert_eq!(rounds.len(), 20, "{listed}");

@@ -39,19 +39,21 @@ pub fn numbers(text: &str, what: &str) -> Vec<String> {
     text.lines().skip(1).filter(said).map(number).collect()
 }
 
-/// What is said of the rounds that are not accepted, such as `rejected 2 7; refused 5`.
+/// What is said of the rounds that are not accepted, such as `rounds 2 and 7 rejected; round 5 refused`.
 fn not_accepted(text: &str) -> String {
-    let said = ["rejected", "refused"].map(|what| (what, numbers(text, what)));
-    let said = said.iter().filter(|(_, numbers)| !numbers.is_empty());
-    let said: Vec<String> = said.map(|(what, of)| format!("{what} {}", of.join(" "))).collect();
-    said.join("; ")
+    let said = ["rejected", "refused"].map(|what| match &numbers(text, what)[..] {
+        [] => String::new(),
+        [number] => format!("round {number} {what}"),
+        [first @ .., last] => format!("rounds {} and {last} {what}", first.join(", ")),
+    });
+    said.into_iter().filter(|said| !said.is_empty()).collect::<Vec<String>>().join("; ")
 }
 
 /// The start of the line on a folder with this text, its spaces left out.
 fn line(name: &str, text: &str) -> String {
     let (first, last) = (text.lines().next().unwrap(), text.lines().last().unwrap());
     let Some(rounds) = first.strip_prefix("rounds ") else {
-        return format!("{name} {first} ");
+        return format!("{name} no mark ");
     };
     let plural = if rounds == "1" { "" } else { "s" };
     match (last, not_accepted(text)) {
@@ -59,6 +61,12 @@ fn line(name: &str, text: &str) -> String {
         (_, bad) if bad.is_empty() => format!("{name} fail too few rounds for level "),
         (_, bad) => format!("{name} fail {bad}"),
     }
+}
+
+/// Whether the line on a folder with this text has the number of the refusal, if a file is refused.
+fn is_numbered(line: &str, text: &str) -> bool {
+    let (file, number) = text.lines().next().unwrap().split_once(' ').unwrap();
+    file == "rounds" || line.contains(&format!("({number})"))
 }
 
 /// The first fields of a line of comma-separated values on a folder with this text.
@@ -91,6 +99,7 @@ fn every_folder_is_marked_as_the_library_says() {
         names.iter().zip(&texts).zip(printed.lines().zip(separated))
     {
         assert!(words(printed).starts_with(&line(name, text)), "{printed}\nis said of\n{text}");
+        assert!(is_numbered(printed, text), "{printed}\nis said of\n{text}");
         assert!(separated.starts_with(&fields(name, text)), "{separated}\nis said of\n{text}");
     }
     let ends = |end: &str| texts.iter().filter(|text| text.ends_with(end)).count();

@@ -60,7 +60,7 @@ fn bash_completes_commands_and_their_words() {
     assert_eq!(completed("dimkhoros sh", 1, "sh"), "show");
     assert_eq!(completed("dimkhoros ma", 1, "ma"), "make mark");
     assert_eq!(completed("dimkhoros rounds co", 2, "co"), "convert");
-    assert_eq!(completed("dimkhoros mark --c", 2, "--c"), "--csv");
+    assert_eq!(completed("dimkhoros mark --cs", 2, "--cs"), "--csv");
     assert_eq!(completed("dimkhoros make x", 2, "x"), "x= x=random");
     assert_eq!(completed("dimkhoros help gr", 2, "gr"), "grid");
     assert_eq!(completed("dimkhoros rounds make co", 3, "co"), "");
@@ -84,7 +84,7 @@ fn fish_completes_commands_and_their_words() {
     assert_eq!(completed("dimkhoros help gr"), "grid");
     assert_eq!(completed("dimkhoros rounds co"), "convert");
     assert_eq!(completed("dimkhoros rounds make co"), "");
-    assert_eq!(completed("dimkhoros mark --c"), "--csv");
+    assert_eq!(completed("dimkhoros mark --cs"), "--csv");
     assert_eq!(completed("dimkhoros make x"), "x= x=random");
     assert_eq!(completed("dimkhoros show pa"), "pages/");
     // A command has its own words alone.
@@ -97,7 +97,7 @@ zmodload zsh/zpty
 zpty shell zsh -f -i
 zpty -w shell 'PS1= fpath=($PWD/pages $fpath); autoload -Uz compinit && compinit -u -D'
 zpty -w shell 'dimkhoros() { print -r -- \"$*\" >> got }'
-for typed in mar 'rounds co' 'mark --c' 'numbers b' 'show z.z' 'help gri' --vers 'rounds make app'; do
+for typed in mar 'rounds co' 'mark --cs' 'numbers b' 'show z.z' 'help gri' --vers 'rounds make app'; do
     zpty -w -n shell \"dimkhoros $typed\"$'\\t'
     zpty -w shell ';'
 done

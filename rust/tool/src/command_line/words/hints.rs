@@ -3,7 +3,7 @@
 use super::Grammar;
 use crate::command_line::failure::{Failure, Outcome};
 use crate::sheets::notation::enumerated;
-use std::ffi::OsString;
+use std::ffi::{OsStr, OsString};
 
 /// The number of a decimal text.
 pub fn number(text: &str) -> Result<u32, String> {
@@ -39,21 +39,40 @@ pub fn no_letter(letter: &str, grammar: &Grammar) -> Failure {
     })
 }
 
-/// Says that an option is none of the grammar's.
-pub fn no_option(option: &str, grammar: &Grammar) -> Failure {
+/// Fails if what comes after an option is an option itself.
+pub fn check_value(option: &str, value: &OsStr, grammar: &Grammar) -> Outcome {
+    match grammar.options.iter().chain(grammar.flags).find(|other| value == **other) {
+        Some(other) => {
+            Err(Failure::words(format!("a word is missing between {option} and {other}")))
+        }
+        None => Ok(()),
+    }
+}
+
+/// Says that an option is none of the grammar's, and what to write, of which the next word may be a part.
+pub fn no_option(option: &str, next: Option<OsString>, grammar: &Grammar) -> Failure {
+    let (name, value) = option.split_once('=').unwrap_or((option, ""));
+    if let Some(letter) = grammar.letters.iter().find(|letter| name.trim_matches('-') == **letter) {
+        let next = next.unwrap_or_default();
+        let value = if value.is_empty() { next.to_string_lossy() } else { value.into() };
+        return Failure::words(format!("there is no option {name} here; write {letter}={value}"));
+    }
     let all: Vec<&str> = grammar.options.iter().chain(grammar.flags).copied().collect();
-    Failure::words(if all.is_empty() {
-        format!("there is no option {option} here")
-    } else {
-        format!("there is no option {option} here; the options are {}", all.join(", "))
+    let meant = meant(name, all.iter().copied());
+    Failure::words(match (all.is_empty(), meant.is_empty()) {
+        (true, _) => format!("there is no option {name} here"),
+        (_, false) => format!("there is no option {name} here{meant}"),
+        _ => format!("there is no option {name} here; the options are {}", all.join(", ")),
     })
 }
 
-/// Says that a plain word is one too many.
-pub fn one_too_many(word: &OsString, grammar: &Grammar) -> Failure {
-    let word = word.to_string_lossy();
+/// Says that the first of these plain words is one too many.
+pub fn one_too_many(words: &[OsString], grammar: &Grammar) -> Failure {
+    let texts: Vec<String> = words.iter().map(|word| word.to_string_lossy().into()).collect();
+    let (word, next) = (&texts[0], texts.get(1).map_or("", String::as_str));
     let is_value = word.bytes().all(|byte| byte.is_ascii_digit() || b",/".contains(&byte));
     let hint = match grammar.letters.first() {
+        _ if grammar.letters.contains(&word.as_str()) => format!("; write {word}={next}"),
         Some(letter) if is_value => {
             format!("; a value comes after its letter, as in {letter}={word}")
         }

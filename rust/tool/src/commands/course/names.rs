@@ -13,12 +13,14 @@ pub fn read(path: &Path) -> Outcome<Vec<String>> {
     let (bytes, file) = (files::read(path)?, files::name(path));
     let text = String::from_utf8(bytes)
         .map_err(|_| Failure::failed(format!("{file} is not a text in UTF-8")))?;
+    // Some editors put a byte order mark first.
+    let text = text.trim_start_matches('\u{feff}');
     let mut names: Vec<String> = Vec::new();
     for (number, line) in text.lines().enumerate().filter(|(_, line)| !line.trim().is_empty()) {
         let name = line.trim();
         let wrong = wrong(name).or_else(|| {
             let same = names.iter().any(|other| other.to_lowercase() == name.to_lowercase());
-            same.then(|| "the name is there twice".to_string())
+            same.then(|| "the name is there twice; capital letters do not count".to_string())
         });
         if let Some(why) = wrong {
             return Err(Failure::failed(format!("{file}:{}: {name}: {why}", number + 1)));
@@ -31,8 +33,9 @@ pub fn read(path: &Path) -> Outcome<Vec<String>> {
 /// Why a name is no safe name of a folder, if it is none.
 fn wrong(name: &str) -> Option<String> {
     let letter = |letter: char| letter.is_alphanumeric() || "._-".contains(letter);
-    if !name.chars().all(letter) {
-        return Some("a name has only letters, digits, . _ and -".to_string());
+    if let Some(sign) = name.chars().find(|sign| !letter(*sign)) {
+        let sign = sign.escape_debug();
+        return Some(format!("a name has only letters, digits, . _ and -, and not `{sign}`"));
     }
     if !name.starts_with(char::is_alphanumeric) {
         return Some("a name begins with a letter or a digit".to_string());

@@ -27,14 +27,15 @@ impl Asked {
     /// The table that the words ask for.
     pub fn read(words: &Words) -> Outcome<Asked> {
         let pattern = words.plain().first().map(|word| word.to_string_lossy().into_owned());
-        if pattern.as_deref() != Some("linear") && !words.formulas("row").is_empty() {
+        let is_linear = |name: &String| name.eq_ignore_ascii_case("linear");
+        if !pattern.as_ref().is_some_and(is_linear) && !words.formulas("row").is_empty() {
             return Err(Failure::words("row= has no meaning without the word linear"));
         }
         match (pattern, words.once("table")?) {
             (Some(_), Some(_)) => Err(Failure::words("a pattern and table= are both there")),
             (None, None) => Err(Failure::words("PATTERN or table= is missing")),
             (None, Some(table)) => Asked::by_table(words, &table.rows),
-            (Some(name), None) if name == "linear" => Asked::by_forms(words),
+            (Some(name), None) if is_linear(&name) => Asked::by_forms(words),
             (Some(name), None) => Asked::by_pattern(words, &name),
         }
     }

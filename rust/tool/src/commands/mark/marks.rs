@@ -35,7 +35,9 @@ pub enum Said {
 impl Mark {
     /// Marks a folder by the course's sheet and level, and by the folder's own if the course has none.
     pub fn of(name: &OsStr, course: &Course) -> Mark {
-        let read = Folder::read(name, course).and_then(Folder::with_level);
+        let course = course.of_student(name);
+        let read = course.and_then(|course| Folder::read(name, &course));
+        let read = read.and_then(Folder::with_level);
         let name = files::one_line(name);
         match read {
             Ok(folder) => {
@@ -59,11 +61,11 @@ impl Mark {
         }
     }
 
-    /// The result, with the number of a refusal as the marker has it.
-    pub fn result(&self) -> String {
+    /// The result as the table has it.
+    pub fn result(&self) -> &str {
         match &self.said {
-            Said::Refused(file, number, _) => format!("{file} {number}"),
-            _ => self.word().to_string(),
+            Said::Refused(..) => "no mark",
+            _ => self.word(),
         }
     }
 

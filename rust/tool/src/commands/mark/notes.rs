@@ -2,8 +2,8 @@
 
 use super::marks::Mark;
 use crate::sheets::folder::Folder;
-use crate::sheets::judged::spaced;
-use crate::sheets::notation::{and, enumerated};
+use crate::sheets::judged::{named, spaced};
+use crate::sheets::notation::enumerated;
 use crate::sheets::{commitments, small};
 use dimkhoros::{Round, RoundFile};
 
@@ -51,18 +51,7 @@ fn on_rounds(folder: &Folder) -> Option<Vec<Note>> {
 
 /// The note on rounds with the same commitment, if they have different challenges.
 fn used_twice(rounds: &[Round], group: &[usize]) -> Option<Note> {
-    let mut challenges: Vec<u32> = group.iter().map(|number| rounds[*number].challenge).collect();
-    challenges.sort_unstable();
-    challenges.dedup();
-    let times = match challenges.len() {
-        1 => return None,
-        2 => "twice".to_string(),
-        count => format!("{count} times"),
-    };
-    let whole = format!(
-        "rounds {} have the same commitment, and not all the same challenge: the nonce was used {times}",
-        and(group)
-    );
+    let (times, whole) = commitments::used_twice(rounds, group)?;
     Some(Note::new(format!("nonce used {times}: rounds {}", spaced(group)), whole))
 }
 
@@ -70,7 +59,7 @@ fn used_twice(rounds: &[Round], group: &[usize]) -> Option<Note> {
 fn same_rounds(rounds: &[Round], group: &[usize]) -> Vec<Note> {
     let same = alike(group.iter().map(|number| (*number, rounds[*number])));
     let note = |numbers: Vec<usize>| {
-        let whole = format!("rounds {} are the same round", and(&numbers));
+        let whole = format!("{} are the same round", named(&numbers));
         Note::new(format!("same round: {}", spaced(&numbers)), whole)
     };
     same.into_iter()

@@ -14,8 +14,11 @@ pub fn of(marks: &[Mark], course: &Course) -> Vec<String> {
     let sheets = || differing(marks, |folder| folder.sheet.as_deref());
     let levels = || differing(marks, |folder| folder.level.as_deref());
     let mut warnings = Vec::new();
+    if course.folder.is_some() {
+        return warnings;
+    }
     if course.sheet.is_none() {
-        let advice = "--sheet FILE marks all by one";
+        let advice = "--sheet FILE marks all by one, and --course COURSE each by its own there";
         warnings.extend(warning(marks, &sheets(), "sheet", |_| "one".to_string(), advice));
     }
     if course.level.is_none() {

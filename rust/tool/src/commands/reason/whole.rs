@@ -1,11 +1,12 @@
 //! What holds of a whole round file.
 
 use super::{Asked, By};
-use crate::command_line::colour;
-use crate::sheets::judged::Judged;
-use crate::sheets::notation::{and, counted};
-use crate::sheets::{levels, round_table};
-use dimkhoros::{Instance, Refusal, RoundFile};
+use crate::command_line::{colour, files};
+use crate::sheets::judged::{Judged, named};
+use crate::sheets::notation::counted;
+use crate::sheets::{commitments, levels, round_table};
+use dimkhoros::{Instance, Refusal, Round, RoundFile};
+use std::path::Path;
 
 /// Whether the file passes, and which other rounds are not accepted if no round is asked for.
 pub fn text(asked: &Asked, sheet: &Instance, file: &RoundFile<'_>) -> String {
@@ -17,7 +18,8 @@ pub fn text(asked: &Asked, sheet: &Instance, file: &RoundFile<'_>) -> String {
     };
     let differences = folder.differences("The folder's", "marked");
     let differences = differences.map(|sentence| format!("{sentence}.\n"));
-    let said = format!("{said}\n{}", differences.collect::<String>());
+    let differences: String = differences.collect();
+    let said = format!("{said}\n{differences}{}", reuses(asked, &judged, sheet, file));
     let others = judged.not_accepted().into_iter().filter(|number| *number > 0);
     let others: Vec<usize> = others.filter(|_| asked.round.is_none()).collect();
     let Some(first) = others.first() else {
@@ -26,6 +28,25 @@ pub fn text(asked: &Asked, sheet: &Instance, file: &RoundFile<'_>) -> String {
     let before = if asked.by == By::Folder { "FOLDER" } else { "SHEET ROUNDS" };
     let more = format!("`dimkhoros reason {before} {first}` tells more of round {first}.");
     format!("{said}\n{}\n{more}\n", round_table::of_file(sheet, file, others))
+}
+
+/// Which rounds used one nonce for different challenges, and whether they give a witness away.
+fn reuses(asked: &Asked, judged: &Judged, sheet: &Instance, file: &RoundFile<'_>) -> String {
+    let begin = if judged.not_accepted().is_empty() { "But r" } else { "R" };
+    let rounds: Vec<Round> = file.rounds().collect();
+    let groups = commitments::groups(file);
+    let used = |group: &&Vec<usize>| commitments::used_twice(&rounds, group).is_some();
+    let gives = |group: &Vec<usize>| commitments::first_pair(sheet, &rounds, group).is_ok();
+    let said = groups.iter().filter_map(|group| commitments::used_twice(&rounds, group));
+    let said: String = said.map(|(_, whole)| format!("{begin}{}.\n", &whole[1..])).collect();
+    if !groups.iter().filter(used).any(gives) {
+        return said;
+    }
+    let [sheet, rounds] = match &asked.names {
+        names if names.contains(&files::name(Path::new("-"))) => ["SHEET", "ROUNDS"],
+        [sheet, rounds] => [sheet.as_str(), rounds.as_str()],
+    };
+    format!("{said}Anyone can compute x: `dimkhoros extract {sheet} {rounds}` does.\n")
 }
 
 /// What is said of a file that is marked at a level.
@@ -76,8 +97,8 @@ fn said_unmarked(asked: &Asked, judged: &Judged) -> String {
 fn not_accepted(judged: &Judged) -> Option<String> {
     let said = |numbers: &[usize], what: &str| match numbers {
         [] => None,
-        [number] => Some(format!("round {number} is {what}")),
-        _ => Some(format!("rounds {} are {what}", and(numbers))),
+        [_] => Some(format!("{} is {what}", named(numbers))),
+        _ => Some(format!("{} are {what}", named(numbers))),
     };
     match (said(&judged.rejected, "rejected"), said(&judged.refused, "refused")) {
         (Some(rejected), Some(refused)) => Some(format!("{rejected}, and {refused}")),

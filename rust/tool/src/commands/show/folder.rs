@@ -15,7 +15,7 @@ use std::path::Path;
 /// Shows the sheet, the rounds and the level of a folder. A file that is not there is named. One that is refused is told on
 /// standard error after what stands before it.
 pub fn show(path: &Path, out: &mut dyn Write) -> Outcome {
-    let folder = Folder::read(path.as_os_str(), &Course { sheet: None, level: None })?;
+    let folder = Folder::read(path.as_os_str(), &Course::default())?;
     let (own, name) = (path.join("sheet.bin"), files::name(path));
     let Some(bytes) = &folder.sheet else {
         return Err(Failure::failed(format!("{name} has no sheet.bin")));
@@ -36,7 +36,7 @@ pub fn show(path: &Path, out: &mut dyn Write) -> Outcome {
 
 /// The sheet, the rounds and the level of a folder as JSON. What is not there is null.
 pub fn show_json(path: &Path, out: &mut dyn Write) -> Outcome {
-    let folder = Folder::read(path.as_os_str(), &Course { sheet: None, level: None })?;
+    let folder = Folder::read(path.as_os_str(), &Course::default())?;
     let (name, own) = (files::name(path), path.join("sheet.bin"));
     let missing = || Failure::failed(format!("{name} has no sheet.bin"));
     let sheet = sheets::of_bytes(&own, folder.sheet.as_ref().ok_or_else(missing)?)?;
