@@ -173,6 +173,18 @@ fn check_rate(looks: &[Look], sheet: &Instance) {
     assert_eq!(many.challenge("K"), sheet.values().header.challenges);
 }
 
+/// The numbers of the command `game`'s table in the form of 02's lines, or `none`.
+fn answers(table: &str) -> String {
+    let numbers = |line: &str| {
+        let parts = line.split(|sign: char| !sign.is_ascii_digit());
+        parts.filter(|part| !part.is_empty()).collect::<Vec<_>>().join(" ")
+    };
+    if table == "none" {
+        return table.to_string();
+    }
+    table.lines().skip(1).map(numbers).collect::<Vec<_>>().join("\n")
+}
+
 /// The games in which the class is Peggy. The lines are those of the command `game`.
 fn check_peggy(looks: &[Look], desk: &Desk, sheet: &Instance, name: &str) {
     for game in named(looks, "peggy") {
@@ -180,7 +192,8 @@ fn check_peggy(looks: &[Look], desk: &Desk, sheet: &Instance, name: &str) {
         let rows = sheet.values().header.rows as usize;
         let values: Vec<String> = t[..rows].iter().map(u32::to_string).collect();
         let printed = desk.print(&format!("dimkhoros game {name} t={}", values.join(",")));
-        let (lines, said) = printed.split_once("\n\n").unwrap();
+        let (table, said) = printed.split_once("\n\n").unwrap();
+        let lines = answers(table);
         assert_eq!(game.text("lines").replace('/', "\n"), lines, "{printed}");
         let found = if lines == "none" { 0 } else { lines.lines().count() };
         assert_eq!(game.number("answers") as usize, found, "{said}");
