@@ -61,15 +61,37 @@ impl Modulus {
         powers
     }
 
+    /// The power of each lane of two fours by exponent, two of its bits a turn, the
+    /// highest first. The fours take their turns side by side, since the products of
+    /// one wait for one another.
+    fn pow_two(&self, bases: [Lanes; 2], exponent: u32) -> [Lanes; 2] {
+        let tables = bases.map(|base| {
+            let first = self.mul_lanes([1; 4], base);
+            let second = self.mul_lanes(first, first);
+            [[1; 4], first, second, self.mul_lanes(second, first)]
+        });
+        let digit = |k: u32| (exponent >> (2 * k)) as usize % 4;
+        let top = (exponent | 1).ilog2() / 2;
+        let mut powers = tables.map(|table| table[digit(top)]);
+        for k in (0..top).rev() {
+            powers = powers.map(|power| self.mul_lanes(power, power));
+            powers = powers.map(|power| self.mul_lanes(power, power));
+            powers = from_fn(|four| self.mul_lanes(powers[four], tables[four][digit(k)]));
+        }
+        powers
+    }
+
     /// The power of each base by exponent.
     #[inline(never)]
     fn powers(&self, bases: &[u32], exponent: u32) -> Places {
-        let mut powers = [0; 8];
-        for (powers, bases) in powers.chunks_mut(4).zip(bases.chunks(4)) {
-            let four = self.pow_lanes(lanes(bases.iter().copied()), exponent);
-            powers[..bases.len()].copy_from_slice(&four[..bases.len()]);
-        }
-        powers
+        let (low, high) = bases.split_at(bases.len().min(4));
+        let [low, high] = [low, high].map(|four| lanes(four.iter().copied()));
+        let [low, high] = if bases.len() > 4 {
+            self.pow_two([low, high], exponent)
+        } else {
+            [self.pow_lanes(low, exponent), [0; 4]]
+        };
+        places(low.into_iter().chain(high).take(bases.len()))
     }
 
     /// Each factor times the power of its base by exponent.
@@ -79,12 +101,39 @@ impl Modulus {
         places(pairs.map(|(&factor, power)| self.mul(factor, power)))
     }
 
+    /// The products of each choice of four columns: bit l of a place takes column l.
+    fn choices(&self, columns: &[Lanes]) -> [Lanes; 16] {
+        let pairs = |x, y| [[1; 4], x, y, self.mul_lanes(x, y)];
+        let (low, high) = (pairs(columns[0], columns[1]), pairs(columns[2], columns[3]));
+        from_fn(|place| {
+            if place < 4 { low[place] } else { self.mul_lanes(low[place % 4], high[place / 4]) }
+        })
+    }
+
+    /// The products over eight columns, by the bits of their exponents from the
+    /// highest of `bits` on, with two products a bit whichever are set.
+    fn by_choices(&self, columns: &[Lanes; 8], exponents: Places, bits: u32) -> Lanes {
+        let tables = [self.choices(&columns[..4]), self.choices(&columns[4..])];
+        let mut products = [1; 4];
+        for bit in (0..bits).rev() {
+            let place = |four: &[u32]| four.iter().rev().fold(0, |all, x| 2 * all + (x >> bit) % 2);
+            let [low, high] = [place(&exponents[..4]), place(&exponents[4..])];
+            products = self.mul_lanes(products, products);
+            products = self.mul_lanes(products, tables[0][low as usize % 16]);
+            products = self.mul_lanes(products, tables[1][high as usize % 16]);
+        }
+        products
+    }
+
     /// For at most four rows, the product over the columns of the power of the
     /// entry by the column's exponent. The squarings serve all columns at once, the
-    /// exponents' high bits first.
+    /// exponents' high bits first. More than four columns are taken by tables.
     fn four_products(&self, rows: &[Places], exponents: &[u32]) -> Lanes {
         let columns: [Lanes; 8] = from_fn(|j| lanes(rows.iter().map(|row| row[j])));
         let bits = u32::BITS - exponents.iter().fold(0, |all, x| all | x).leading_zeros();
+        if exponents.len() > 4 {
+            return self.by_choices(&columns, places(exponents.iter().copied()), bits);
+        }
         let mut products = [1; 4];
         for bit in (0..bits).rev() {
             products = self.mul_lanes(products, products);
