@@ -15,7 +15,7 @@ use Rattle.encoding.specs.Placed.{Placed}
 use Rattle.encoding.proofs.Placed.{placed-behind, placed-number, placed-stored}
 use Rattle.rules.specs.Rule.{lowest}
 use Rattle.rules.proofs.Lowest.{lowest-append-zero, lowest-earlier, lowest-later-zero, pass, stop}
-use Rattle.sigma.proofs.Answer.{unlessRefused-positive, unlessRefused-zero}
+use Rattle.rules.proofs.Answer.{unlessRefused-positive, unlessRefused-zero}
 use Rattle.formats.specs.Convert.{convertAfter, convertRules, converted, otherVersion, wideRecord}
 use Rattle.formats.specs.Meaning.{IsRoundFile}
 use Rattle.formats.specs.RoundCalls.{fileRules}

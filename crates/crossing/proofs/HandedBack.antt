@@ -8,7 +8,7 @@ use native.Mathlib.Omega.{arith}
 use Rattle.rules.specs.Answer.{unlessRefused}
 use Rattle.runs.specs.Run.{sessionAfter, trace}
 use Rattle.runs.proofs.Run.{trace-refused, trace-given}
-use Rattle.sigma.proofs.Answer.{unlessRefused-zero, unlessRefused-positive}
+use Rattle.rules.proofs.Answer.{unlessRefused-zero, unlessRefused-positive}
 use Rattle.crossing.specs.Calls.{readAnswers}
 
 -- where a session that crosses and comes back is the same, and a refused call leaves its session, what is handed back is the

@@ -11,7 +11,7 @@ use Rattle.types.specs.declared.ProverPhase.{ProverPhase}
 use Rattle.types.specs.declared.ProverPhase.the-variants.{New, Committed, Answered, Dropped}
 use Rattle.types.specs.declared.ProverStep.{ProverStep}
 use Rattle.lists.specs.Places.{zeros8}
-use Rattle.sigma.proofs.Answer.{unlessRefused-positive}
+use Rattle.rules.proofs.Answer.{unlessRefused-positive}
 use Rattle.runs.specs.Ours.{callProver, proverAfter, proverTrace}
 use Rattle.runs.specs.Prover.{proverState}
 use Rattle.runs.specs.ProverCalls.{ProverCall, Commit, Respond, Drop, Save, Return, answered, Ended, NoneReturns}

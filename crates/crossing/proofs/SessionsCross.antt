@@ -5,7 +5,7 @@ use native.Mathlib.Omega.{arith}
 use Rattle.types.specs.declared.Verdict.{Verdict}
 use Rattle.types.specs.declared.VerifierPhase.the-variants.{Waiting, Holding, Asked, Judged}
 use Rattle.sigma.specs.Answer.{outcome}
-use Rattle.sigma.proofs.Answer.{unlessRefused-zero, unlessRefused-positive}
+use Rattle.rules.proofs.Answer.{unlessRefused-zero, unlessRefused-positive}
 use Rattle.runs.specs.Prover.{proverState}
 use Rattle.runs.specs.Saving.{proverPhase}
 use Rattle.runs.specs.Verifier.{verifierState}

@@ -10,7 +10,7 @@ use Rattle.types.specs.declared.VerifierPhase.{VerifierPhase}
 use Rattle.types.specs.declared.VerifierPhase.the-variants.{Waiting, Holding, Asked, Judged}
 use Rattle.types.specs.declared.VerifierStep.{VerifierStep}
 use Rattle.rules.specs.Answer.{unlessRefused}
-use Rattle.sigma.proofs.Answer.{unlessRefused-positive}
+use Rattle.rules.proofs.Answer.{unlessRefused-positive}
 use Rattle.runs.specs.Ours.{callVerifier, verifierAfter, verifierTrace}
 use Rattle.runs.specs.Run.{sessionAfter}
 use Rattle.runs.specs.Verifier.{verifierState}

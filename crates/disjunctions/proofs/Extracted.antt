@@ -28,7 +28,7 @@ use Rattle.sigma.specs.Comparison.{differ}
 use Rattle.sigma.specs.Instance.{Instance}
 use Rattle.sigma.specs.Knowledge.{AcceptedPair, Extraction}
 use Rattle.sigma.specs.Reads.{Agree}
-use Rattle.sigma.proofs.Answer.{unlessRefused-zero}
+use Rattle.rules.proofs.Answer.{unlessRefused-zero}
 use Rattle.sigma.proofs.Calculus.{both-fail}
 use Rattle.sigma.proofs.Calls.{extract-given}
 use Rattle.sigma.proofs.Comparison.{differ-false}

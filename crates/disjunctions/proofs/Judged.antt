@@ -34,7 +34,7 @@ use Rattle.sigma.specs.Meaning.{Fits}
 use Rattle.sigma.specs.Reads.{readRound}
 use Rattle.sigma.specs.Round.{badChallenge, badCommitment, badCoordinates, verdict}
 use Rattle.sigma.specs.Valid.{Valid}
-use Rattle.sigma.proofs.Answer.{unlessRefused-zero}
+use Rattle.rules.proofs.Answer.{unlessRefused-zero}
 use Rattle.sigma.proofs.Calculus.{both-fail}
 use Rattle.sigma.proofs.Calls.{judge-accepted, judge-given}
 use Rattle.sigma.proofs.Passed.{challenge-passes, commitment-passes, coordinates-pass}

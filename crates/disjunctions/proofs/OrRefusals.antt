@@ -32,7 +32,7 @@ use Rattle.sigma.specs.Answer.{eightPlaces}
 use Rattle.sigma.specs.Instance.{Instance}
 use Rattle.sigma.specs.Round.{verdict}
 use Rattle.sigma.specs.Valid.{Valid}
-use Rattle.sigma.proofs.Answer.{unlessRefused-positive}
+use Rattle.rules.proofs.Answer.{unlessRefused-positive}
 use Rattle.sigma.proofs.Verdict.{verdict-not-refused}
 use Rattle.disjunctions.specs.Extractor.{extractOr, extractOrAfter}
 use Rattle.disjunctions.specs.Judge.{combined, judgeOr, judgeOrAfter, pairRules, verdictOr}

@@ -29,7 +29,7 @@ use Rattle.runs.proofs.Run.{trace-leads}
 use Rattle.sigma.specs.Admission.{elementRules, headerRules}
 use Rattle.sigma.specs.Answer.{eightPlaces}
 use Rattle.sigma.specs.Round.{response}
-use Rattle.sigma.proofs.Answer.{unlessRefused-positive}
+use Rattle.rules.proofs.Answer.{unlessRefused-positive}
 use Rattle.sigma.proofs.Calculus.{both-fail, says-passes}
 use Rattle.disjunctions.specs.Calls.{KeepsBoth, OrCall, OrCommit, OrDrop, OrEnded, OrMoves, OrRespond, Wiped, orAnswered}
 use Rattle.disjunctions.specs.Judge.{pairRules}

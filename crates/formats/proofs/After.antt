@@ -10,7 +10,7 @@ use Rattle.types.specs.declared.Round.{Round}
 use Rattle.rules.specs.Answer.{unlessRefused}
 use Rattle.rules.specs.Rule.{Rule, lowest, Clear}
 use Rattle.rules.proofs.Lowest.{lowest-later, lowest-earlier}
-use Rattle.sigma.proofs.Answer.{unlessRefused-positive}
+use Rattle.rules.proofs.Answer.{unlessRefused-positive}
 use Rattle.formats.specs.Append.{appendAfter, appendRules}
 use Rattle.formats.specs.Convert.{convertAfter, convertRules}
 use Rattle.formats.specs.RoundCalls.{countAfter, checkAfter, locateAfter, fetchAfter, noRound, fileRules, roundRules}

@@ -14,7 +14,7 @@ use Rattle.encoding.specs.Bytes.{AllBytes}
 use Rattle.rules.specs.Answer.{unlessRefused}
 use Rattle.rules.specs.Rule.{lowest}
 use Rattle.rules.proofs.Lowest.{lowest-append-zero}
-use Rattle.sigma.proofs.Answer.{unlessRefused-positive}
+use Rattle.rules.proofs.Answer.{unlessRefused-positive}
 use Rattle.formats.specs.Convert.{convert, convertAfter, convertRules, converted, otherVersion, wideRecord}
 use Rattle.formats.specs.Load.{loadRefusal, loadRules}
 use Rattle.formats.specs.Meaning.{IsRoundFile, Loads}

@@ -9,7 +9,7 @@ use Rattle.rules.specs.Order.{refusalOrder, sheetNumbers, isSublist}
 use Rattle.rules.specs.Refuses.{conditionNumbers}
 use Rattle.rules.proofs.Determined.{NoneHold, none-zero}
 use Rattle.rules.proofs.Refuses.{refuses-tested}
-use Rattle.sigma.proofs.Answer.{unlessRefused-positive}
+use Rattle.rules.proofs.Answer.{unlessRefused-positive}
 use Rattle.formats.specs.Append.{append, appendAfter, emptyFile}
 use Rattle.formats.specs.Encode.{encode}
 use Rattle.formats.specs.FileCalls.{FileCalls}

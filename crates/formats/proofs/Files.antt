@@ -15,7 +15,7 @@ use Rattle.lists.proofs.Places.{tabulate-agree}
 use Rattle.rules.proofs.Lowest.{clear-append, clear-lowest, lowest-clear}
 use Rattle.rules.proofs.Says.{says-equal, says-or}
 use Rattle.sigma.specs.Comparison.{differ}
-use Rattle.sigma.proofs.Answer.{unlessRefused-zero}
+use Rattle.rules.proofs.Answer.{unlessRefused-zero}
 use Rattle.sigma.proofs.Calculus.{says-passes, both-fail}
 use Rattle.sigma.proofs.Comparison.{differ-false}
 use Rattle.formats.specs.Append.{badInUse}

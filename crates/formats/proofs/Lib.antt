@@ -4,6 +4,7 @@ pub mod Tests
 pub mod Refusals
 pub mod Positive
 pub mod Loads
+pub mod OnSheet
 pub mod Files
 pub mod After
 pub mod Unread

@@ -20,7 +20,7 @@ use Rattle.sigma.specs.Admission.{headerRules, elementRules}
 use Rattle.sigma.specs.Comparison.{differ}
 use Rattle.sigma.specs.Reads.{Agree}
 use Rattle.sigma.specs.Valid.{Valid}
-use Rattle.sigma.proofs.Answer.{unlessRefused-zero, unlessRefused-positive}
+use Rattle.rules.proofs.Answer.{unlessRefused-zero, unlessRefused-positive}
 use Rattle.sigma.proofs.Calculus.{says-passes, both-fail}
 use Rattle.sigma.proofs.Comparison.{differ-false}
 use Rattle.sigma.proofs.Valid.{clear-valid}

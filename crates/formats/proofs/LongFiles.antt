@@ -19,7 +19,7 @@ use Rattle.rules.specs.Rule.{Rule, _when_, lowest, Clear, allPositive}
 use Rattle.rules.proofs.Lowest.{clear-lowest, lowest-earlier, lowest-later, stop}
 use Rattle.rules.proofs.Says.{says-decides, says-iff, says-same}
 use Rattle.sigma.specs.Admission.{headerRules, elementRules}
-use Rattle.sigma.proofs.Answer.{unlessRefused-positive}
+use Rattle.rules.proofs.Answer.{unlessRefused-positive}
 use Rattle.sigma.proofs.Passed.{size-passes}
 use Rattle.sigma.proofs.Tests.{says-exponent}
 use Rattle.formats.specs.Load.{badStart, badLength, shapeRules, loadRules, loadRefusal, noHeader, load, loadEntries}

@@ -10,7 +10,7 @@ use lib.ListN.{length, take, drop, length-drop}
 use lib.Seq.{length-take-le}
 use Rattle.types.specs.declared.Header.{Header}
 use Rattle.encoding.specs.Bytes.{AllBytes}
-use Rattle.sigma.proofs.Answer.{unlessRefused-zero}
+use Rattle.rules.proofs.Answer.{unlessRefused-zero}
 use Rattle.formats.specs.Meaning.{IsRoundFile}
 use Rattle.formats.specs.RoundCalls.{checkRound, fetchRound, partOfRound, locateAfter, locateRound}
 use Rattle.formats.specs.RoundFile.{challengeWidth, countField, fileVersion, recordBytes, recordLength, recordStart}

@@ -25,7 +25,7 @@ use Rattle.rules.proofs.Refuses.{refuses-tested}
 use Rattle.rules.proofs.Says.{says-at-most, says-or}
 use Rattle.sigma.specs.Comparison.{differ}
 use Rattle.sigma.specs.Reads.{Agree}
-use Rattle.sigma.proofs.Answer.{unlessRefused-positive, unlessRefused-zero}
+use Rattle.rules.proofs.Answer.{unlessRefused-positive, unlessRefused-zero}
 use Rattle.sigma.proofs.Calculus.{both-fail}
 use Rattle.sigma.proofs.Comparison.{differ-false}
 use Rattle.formats.specs.Load.{loadRules}

@@ -20,7 +20,7 @@ use Rattle.rules.proofs.Lowest.{clear-append, clear-lowest, lowest-clear}
 use Rattle.sigma.specs.Admission.{headerRules, elementRules}
 use Rattle.sigma.specs.Instance.{Instance}
 use Rattle.sigma.specs.Valid.{Valid}
-use Rattle.sigma.proofs.Answer.{unlessRefused-zero, unlessRefused-positive}
+use Rattle.rules.proofs.Answer.{unlessRefused-zero, unlessRefused-positive}
 use Rattle.sigma.proofs.Valid.{clear-valid}
 use Rattle.formats.specs.Append.{emptyFile, emptyRules}
 use Rattle.formats.specs.Encode.{headerBytes, sheetOf, encodeRules, encode}

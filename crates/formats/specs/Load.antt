@@ -9,6 +9,7 @@ use Rattle.types.specs.declared.Header.{Header}
 use Rattle.types.specs.declared.Loaded.{Loaded}
 use Rattle.lists.specs.Places.{zeros8}
 use Rattle.rules.specs.Answer.{unlessRefused}
+use Rattle.rules.specs.Call.{Call, after}
 use Rattle.rules.specs.Rule.{Rule, _when_, lowest}
 use Rattle.sigma.specs.Admission.{headerRules, elementRules}
 use Rattle.sigma.specs.Comparison.{differ}
@@ -43,6 +44,10 @@ loadRules s = shapeRules s ++ elementRules (instanceOf s)
 -- the number of a sheet's refusal, 0 where it loads
 unfoldable pub loadRefusal : List ℕ → ℕ
 loadRefusal s = lowest (loadRules s)
+
+-- a call on a sheet: the sheet's refusals are put in front of its own
+abbrev pub onSheet : {A : Type 0} → List ℕ → Call A → Call A
+onSheet s call = after (loadRules s) call
 
 -- fixed fields of zeros
 unfoldable pub noHeader : Header

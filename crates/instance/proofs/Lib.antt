@@ -5,3 +5,4 @@ pub mod SheetRows
 pub mod ElementNumber
 pub mod LoadSteps
 pub mod Answers
+pub mod OnLoaded

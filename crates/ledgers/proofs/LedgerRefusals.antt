@@ -5,7 +5,7 @@ use Rattle.lists.specs.Places.{itemsAt, tabulate}
 use Rattle.rules.specs.Order.{isSublist, refusalOrder}
 use Rattle.rules.specs.Refuses.{conditionNumbers}
 use Rattle.rules.proofs.Refuses.{refuses-tested}
-use Rattle.sigma.proofs.Answer.{unlessRefused-positive}
+use Rattle.rules.proofs.Answer.{unlessRefused-positive}
 use Rattle.ledgers.specs.Check.{checkLedger}
 use Rattle.ledgers.specs.LedgerHolds.{LedgerRefusals}
 use Rattle.ledgers.specs.Ours.{ledgerCalls}

@@ -6,7 +6,7 @@ use mathlib.Core.Logic.{inr}
 use native.Mathlib.Nat.{mod-lt}
 use native.Mathlib.Omega.{arith}
 use Rattle.patterns.specs.Table.{pedersen}
-use Rattle.sigma.proofs.Answer.{unlessRefused-zero}
+use Rattle.rules.proofs.Answer.{unlessRefused-zero}
 use Rattle.ledgers.specs.LedgerHolds.{MadeOf}
 use Rattle.ledgers.specs.Lines.{entryAt, lineAt}
 use Rattle.ledgers.specs.Meaning.{ProductEntry, Values}

@@ -8,7 +8,7 @@ use native.Mathlib.Omega.{arith}
 use lib.ListN.{length}
 use Rattle.types.specs.declared.ProverPhase.the-variants.{Answered, Dropped}
 use Rattle.lists.specs.Places.{zeros8}
-use Rattle.sigma.proofs.Answer.{unlessRefused-positive}
+use Rattle.rules.proofs.Answer.{unlessRefused-positive}
 use Rattle.runs.specs.Run.{sessionAfter, trace}
 use Rattle.runs.proofs.Run.{trace-given}
 use Rattle.runs.proofs.SavedStates.{phase-beyond, phase-of-state}

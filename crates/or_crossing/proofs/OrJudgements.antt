@@ -8,7 +8,7 @@ use native.Mathlib.Omega.{arith}
 use Rattle.types.specs.declared.Verdict.{Verdict}
 use Rattle.types.specs.declared.Verdict.the-variants.{Accepted, Rejected, Refused}
 use Rattle.rules.specs.Answer.{unlessRefused}
-use Rattle.sigma.proofs.Answer.{unlessRefused-zero, unlessRefused-positive}
+use Rattle.rules.proofs.Answer.{unlessRefused-zero, unlessRefused-positive}
 use Rattle.sigma.proofs.Verdict.{verdict-not-refused}
 use Rattle.disjunctions.specs.declared.OrRound.{OrRound}
 use Rattle.disjunctions.specs.declared.OrVerdict.{OrVerdict}

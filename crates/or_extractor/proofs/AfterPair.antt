@@ -8,7 +8,7 @@ use Rattle.rules.specs.Rule.{Clear, Rule, lowest}
 use Rattle.rules.proofs.Lowest.{lowest-earlier, lowest-later}
 use Rattle.sigma.specs.Answer.{eightPlaces}
 use Rattle.sigma.specs.Instance.{Instance}
-use Rattle.sigma.proofs.Answer.{unlessRefused-positive}
+use Rattle.rules.proofs.Answer.{unlessRefused-positive}
 use Rattle.disjunctions.specs.declared.OrRound.{OrRound}
 use Rattle.disjunctions.specs.Extractor.{extractOrAfter}
 

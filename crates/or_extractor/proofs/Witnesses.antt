@@ -20,7 +20,7 @@ use Rattle.sigma.specs.Comparison.{differ}
 use Rattle.sigma.specs.Extractor.{extractLoaded, extractRules}
 use Rattle.sigma.specs.Instance.{Instance}
 use Rattle.sigma.specs.Round.{badChallenge, badCommitment, badCoordinates}
-use Rattle.sigma.proofs.Answer.{unlessRefused-positive, unlessRefused-zero}
+use Rattle.rules.proofs.Answer.{unlessRefused-positive, unlessRefused-zero}
 use Rattle.sigma.proofs.Calculus.{both-fail}
 use Rattle.sigma.proofs.Calls.{extract-given, extract-refusal}
 use Rattle.sigma.proofs.Passed.{challenge-passes}

@@ -6,7 +6,7 @@ use mathlib.Core.List.{List, []}
 use Rattle.rules.specs.Rule.{Clear, Rule, lowest}
 use Rattle.rules.proofs.Lowest.{lowest-earlier, lowest-later}
 use Rattle.sigma.specs.Instance.{Instance}
-use Rattle.sigma.proofs.Answer.{unlessRefused-positive}
+use Rattle.rules.proofs.Answer.{unlessRefused-positive}
 use Rattle.disjunctions.specs.declared.OrRound.{OrRound}
 use Rattle.disjunctions.specs.declared.OrVerdict.the-variants.{OrRefused}
 use Rattle.disjunctions.specs.Judge.{judgeOrAfter}

@@ -7,7 +7,7 @@ use mathlib.Core.Logic.{_≢_}
 use native.Mathlib.Omega.{arith}
 use Rattle.lists.specs.Places.{pad8, zeros8}
 use Rattle.sigma.specs.Answer.{eightPlaces}
-use Rattle.sigma.proofs.Answer.{unlessRefused-positive}
+use Rattle.rules.proofs.Answer.{unlessRefused-positive}
 use Rattle.disjunctions.specs.declared.OrProver.{OrProver}
 use Rattle.disjunctions.specs.declared.OrStep.{OrStep}
 use Rattle.disjunctions.specs.Prover.{orStep}

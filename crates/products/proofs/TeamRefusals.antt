@@ -20,7 +20,7 @@ use Rattle.formats.proofs.Refusals.{shape-tests}
 use Rattle.sigma.specs.Answer.{computed, eightPlaces}
 use Rattle.sigma.specs.Instance.{Instance, statementAt}
 use Rattle.sigma.specs.Refusals.{Refusal11, SomeNonElement}
-use Rattle.sigma.proofs.Answer.{unlessRefused-positive}
+use Rattle.rules.proofs.Answer.{unlessRefused-positive}
 use Rattle.sigma.proofs.Calculus.{says-any}
 use Rattle.sigma.proofs.Comparison.{says-differ}
 use Rattle.sigma.proofs.Tests.{

@@ -9,7 +9,7 @@ use Rattle.types.specs.declared.Prover.{Prover}
 use Rattle.types.specs.declared.ProverStep.{ProverStep}
 use Rattle.lists.specs.Places.{pad8, zeros8}
 use Rattle.rules.specs.Answer.{unlessRefused}
-use Rattle.sigma.proofs.Answer.{unlessRefused-zero, unlessRefused-positive}
+use Rattle.rules.proofs.Answer.{unlessRefused-zero, unlessRefused-positive}
 use Rattle.runs.specs.Prover.{proverStep}
 use Rattle.runs.proofs.Outcome.{proverStep-zero, proverStep-positive}
 use Rattle.crossing.specs.Provers.{proverAnswer, proverSession}

@@ -16,7 +16,8 @@ use Rattle.lists.proofs.Places.{getD-zeros8}
 use Rattle.sigma.specs.Answer.{judged, outcome, rowsOf}
 use Rattle.sigma.specs.Meaning.{FailsExactly}
 use Rattle.sigma.proofs.After.{judgeAfter-refused}
-use Rattle.sigma.proofs.Answer.{accepted-not-refused, judged-given, unlessRefused-positive}
+use Rattle.rules.proofs.Answer.{unlessRefused-positive}
+use Rattle.sigma.proofs.Answer.{accepted-not-refused, judged-given}
 use Rattle.sigma.proofs.Fails.{fails-split}
 use Rattle.formats.specs.Load.{loadRefusal, loadRules}
 use Rattle.formats.specs.RoundCalls.{checkRound, fetchAfter, fetchRound, noRound}

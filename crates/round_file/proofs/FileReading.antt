@@ -13,7 +13,7 @@ use Rattle.types.specs.declared.Part.{Part}
 use Rattle.types.specs.declared.Round.{Round}
 use Rattle.rules.specs.Rule.{_when_, lowest}
 use Rattle.rules.proofs.Lowest.{lowest-append-zero, lowest-earlier, lowest-later-zero, stop}
-use Rattle.sigma.proofs.Answer.{unlessRefused-positive, unlessRefused-zero}
+use Rattle.rules.proofs.Answer.{unlessRefused-positive, unlessRefused-zero}
 use Rattle.formats.specs.Meaning.{IsRoundFile}
 use Rattle.formats.specs.RoundCalls.{
   checkAfter,

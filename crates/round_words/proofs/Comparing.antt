@@ -17,7 +17,7 @@ use Rattle.rules.specs.Rule.{Rule, Clear, lowest}
 use Rattle.rules.proofs.Lowest.{lowest-append-zero, lowest-earlier, lowest-later, lowest-later-zero, stop}
 use Rattle.rules.proofs.Says.{says-at-most, says-or}
 use Rattle.sigma.specs.Comparison.{differ, firstDifference}
-use Rattle.sigma.proofs.Answer.{unlessRefused-positive, unlessRefused-zero}
+use Rattle.rules.proofs.Answer.{unlessRefused-positive, unlessRefused-zero}
 use Rattle.sigma.proofs.Calculus.{both-fail}
 use Rattle.formats.specs.RoundCalls.{fileRules}
 use Rattle.formats.specs.RoundFile.{challengeWidth, countField, recordLength, recordStart}

@@ -21,7 +21,7 @@ use Rattle.encoding.proofs.Replaced.{part-replaced-front}
 use Rattle.rules.specs.Answer.{unlessRefused}
 use Rattle.rules.specs.Rule.{_when_, lowest}
 use Rattle.rules.proofs.Lowest.{clear-lowest, lowest-clear, pass, stop}
-use Rattle.sigma.proofs.Answer.{unlessRefused-positive, unlessRefused-zero}
+use Rattle.rules.proofs.Answer.{unlessRefused-positive, unlessRefused-zero}
 use Rattle.formats.specs.Append.{appendAfter, appendRules, appended, emptyFile, emptyRules, wideChallenge}
 use Rattle.formats.specs.Meaning.{InUse}
 use Rattle.formats.specs.RoundFile.{

@@ -2,6 +2,7 @@
 pub mod Rule
 pub mod Order
 pub mod Answer
+pub mod Call
 pub mod Says
 pub mod Condition
 pub mod Refuses

@@ -11,7 +11,8 @@ use Rattle.lists.specs.Places.{zeros8}
 use Rattle.rules.specs.Rule.{Rule, lowest, Clear}
 use Rattle.rules.proofs.Lowest.{lowest-later, lowest-earlier}
 use Rattle.sigma.specs.Instance.{Instance}
-use Rattle.sigma.proofs.Answer.{judged-positive, unlessRefused-positive}
+use Rattle.rules.proofs.Answer.{unlessRefused-positive}
+use Rattle.sigma.proofs.Answer.{judged-positive}
 use Rattle.runs.specs.Prover.{commitAfter, respondAfter}
 use Rattle.runs.specs.Verifier.{takeCommitmentAfter, takeChallengeAfter, takeResponseAfter}
 use Rattle.runs.proofs.Outcome.{proverStep-positive, verifierStep-positive}

@@ -30,7 +30,7 @@ use Rattle.sigma.specs.Answer.{isAccepted}
 use Rattle.sigma.specs.Judge.{judgeRules, judgeLoaded}
 use Rattle.sigma.specs.Refusals.{judgeConditions}
 use Rattle.sigma.proofs.After.{judgeAfter-clear}
-use Rattle.sigma.proofs.Answer.{unlessRefused-zero}
+use Rattle.rules.proofs.Answer.{unlessRefused-zero}
 use Rattle.sigma.proofs.Calculus.{all-pass, both-fail, says-passes}
 use Rattle.sigma.proofs.Calls.{judge-refused}
 use Rattle.sigma.proofs.Refusals.{judge-tests}

@@ -25,7 +25,7 @@ use Rattle.formats.specs.RoundFile.{badFile}
 use Rattle.formats.specs.Sheet.{headerOf}
 use Rattle.formats.proofs.Positive.{count-positive, load-positive}
 use Rattle.formats.proofs.Refusals.{count-tests, load-tests}
-use Rattle.sigma.proofs.Answer.{unlessRefused-positive}
+use Rattle.rules.proofs.Answer.{unlessRefused-positive}
 use Rattle.runs.specs.Level.{badLevel, markConditions, Refusal25}
 use Rattle.runs.specs.Marker.{newline, wordLine, markRules, markRefusal, refusedWord, markerText}
 use Rattle.runs.specs.RunRefusals.{OneLine}

@@ -12,7 +12,8 @@ use Rattle.types.specs.declared.Verifier.{Verifier}
 use Rattle.lists.specs.Places.{pad8, zeros8}
 use Rattle.rules.specs.Answer.{unlessRefused}
 use Rattle.sigma.specs.Answer.{outcome, judged, eightPlaces}
-use Rattle.sigma.proofs.Answer.{unlessRefused-positive, judged-zero, judged-positive}
+use Rattle.rules.proofs.Answer.{unlessRefused-positive}
+use Rattle.sigma.proofs.Answer.{judged-zero, judged-positive}
 use Rattle.runs.specs.Prover.{proverStep}
 use Rattle.runs.specs.Verifier.{verifierStep}
 

@@ -23,7 +23,8 @@ use Rattle.sigma.specs.Instance.{Instance, tableOf}
 use Rattle.sigma.specs.Judge.{judgeAfter}
 use Rattle.sigma.specs.Meaning.{Holds, FailsExactly, FailsFirst, Fits}
 use Rattle.sigma.specs.Round.{responseCoordinate}
-use Rattle.sigma.proofs.Answer.{judged-zero, unlessRefused-zero, unlessRefused-positive}
+use Rattle.rules.proofs.Answer.{unlessRefused-zero, unlessRefused-positive}
+use Rattle.sigma.proofs.Answer.{judged-zero}
 use Rattle.sigma.proofs.ByKind.{responseCoordinate-exponent, responseCoordinate-root}
 use Rattle.sigma.proofs.Calls.{judge-given, valid-judge-accepted, valid-judge-rejected}
 use Rattle.sigma.proofs.Fails.{fails-begin}

@@ -5,7 +5,7 @@ use mathlib.Core.Path.{_≡_, refl, subst}
 use mathlib.Core.List.{List, [], _∷_}
 use native.Mathlib.Decide.{decLt}
 use native.Mathlib.Omega.{arith}
-use Rattle.sigma.proofs.Answer.{unlessRefused-zero, unlessRefused-positive}
+use Rattle.rules.proofs.Answer.{unlessRefused-zero, unlessRefused-positive}
 use Rattle.runs.specs.Run.{sessionAfter, trace, Leads}
 
 module _ {Call Session Outcome : Type 0} (answer : Call → Session → Outcome) (session : Outcome → Session) (refusal : Outcome → ℕ) where

@@ -19,7 +19,7 @@ use Rattle.sigma.specs.Answer.{computed, eightPlaces}
 use Rattle.sigma.specs.Extractor.{extractAfter}
 use Rattle.sigma.specs.Judge.{judgeAfter}
 use Rattle.sigma.specs.Simulator.{simulateAfter}
-use Rattle.sigma.proofs.Answer.{unlessRefused-positive}
+use Rattle.rules.proofs.Answer.{unlessRefused-positive}
 use Rattle.sigma.proofs.Verdict.{verdict-not-refused}
 use Rattle.runs.specs.Calls.{judgeRound, simulateCommitment, extractWitness}
 use Rattle.runs.specs.Level.{markConditions}

@@ -17,7 +17,8 @@ use Rattle.sigma.specs.Answer.{outcome}
 use Rattle.sigma.specs.Instance.{Instance}
 use Rattle.sigma.specs.Meaning.{Elements}
 use Rattle.sigma.specs.Round.{badChallenge, verdict}
-use Rattle.sigma.proofs.Answer.{judged-zero, judged-positive, unlessRefused-zero, unlessRefused-positive}
+use Rattle.rules.proofs.Answer.{unlessRefused-zero, unlessRefused-positive}
+use Rattle.sigma.proofs.Answer.{judged-zero, judged-positive}
 use Rattle.sigma.proofs.Calculus.{says-passes, both-fail}
 use Rattle.sigma.proofs.Passed.{challenge-passes, commitment-passes, coordinates-pass}
 use Rattle.sigma.proofs.Verdict.{verdict-not-refused}

@@ -5,11 +5,10 @@ use mathlib.Core.Path.{_≡_, refl, sym, ap, _∙_}
 use mathlib.Core.Logic.{_↔_, _≢_}
 use mathlib.Core.List.{List}
 use native.Mathlib.Omega.{arith}
-use borrow.Author.Tests.{ne-eqb}
 use Rattle.types.specs.declared.Verdict.{Verdict}
 use Rattle.types.specs.declared.Verdict.the-variants.{Accepted, Rejected, Refused}
 use Rattle.lists.specs.Places.{pad8, zeros8}
-use Rattle.rules.specs.Answer.{unlessRefused}
+use Rattle.rules.proofs.Answer.{unlessRefused-zero, unlessRefused-positive}
 use Rattle.sigma.specs.Answer.{outcome, VerdictOutcomes, judged, eightPlaces, computed}
 use Rattle.sigma.proofs.Rows.{rows-digit, rows-rising}
 
@@ -23,17 +22,6 @@ verdict-outcomes = record {
   rows = rows-digit;
   rising = rows-rising;
 }
-
-module _ {ℓ} {A : Type ℓ} (value other : A) where
-  -- where nothing is refused the value is given
-  pub unlessRefused-zero : unlessRefused 0 value other ≡ value
-  unfolding unlessRefused
-  unlessRefused-zero = refl
-
-  -- where a refusal has a number the other is given
-  pub unlessRefused-positive : (n : ℕ) → 0 < n → unlessRefused n value other ≡ other
-  unfolding unlessRefused
-  unlessRefused-positive n h = rw (ne-eqb n 0 (λ (e : n ≡ 0). omega arith))
 
 -- a verdict that nothing refuses
 pub judged-zero : (v : Verdict) → judged 0 v ≡ v

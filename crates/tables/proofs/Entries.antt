@@ -6,7 +6,7 @@ use mathlib.Core.List.{List}
 use mathlib.Core.Logic.{_≢_}
 use native.Mathlib.Omega.{arith}
 use Rattle.types.specs.declared.Loaded.{Loaded}
-use Rattle.sigma.proofs.Answer.{unlessRefused-zero, unlessRefused-positive}
+use Rattle.rules.proofs.Answer.{unlessRefused-zero, unlessRefused-positive}
 use Rattle.formats.specs.Load.{load, loadEntries}
 use Rattle.formats.specs.Sheet.{entriesOf, instanceOf}
 use Rattle.formats.proofs.Loads.{entries-given}

@@ -1,7 +1,7 @@
 -- Entries cross row by row.
 -- Assumes nothing.
 use mathlib.Core.Path.{refl}
-use Rattle.sigma.proofs.Answer.{unlessRefused-zero, unlessRefused-positive}
+use Rattle.rules.proofs.Answer.{unlessRefused-zero, unlessRefused-positive}
 use Rattle.formats.specs.Load.{loadEntries}
 use Rattle.tables.specs.Flat.{flat, flatUnlessRefused}
 use Rattle.tables.specs.TablesCross.{TablesCross}

@@ -13,7 +13,8 @@ use Rattle.lists.specs.Places.{places}
 use Rattle.rules.specs.Rule.{lowest}
 use Rattle.sigma.specs.Instance.{Instance}
 use Rattle.sigma.specs.Round.{verdict}
-use Rattle.sigma.proofs.Answer.{judged-zero, judged-positive, unlessRefused-zero, unlessRefused-positive}
+use Rattle.rules.proofs.Answer.{unlessRefused-zero, unlessRefused-positive}
+use Rattle.sigma.proofs.Answer.{judged-zero, judged-positive}
 use Rattle.runs.specs.Verifier.{verifierStep, takeResponseRules, takeResponseAfter}
 use Rattle.runs.proofs.Outcome.{verifierStep-zero, verifierStep-positive}
 

@@ -6,7 +6,7 @@ use mathlib.Core.List.{List, _++_}
 use lib.ListN.{length, replicate}
 use Rattle.rules.specs.Rule.{lowest}
 use Rattle.formats.specs.Load.{loadRefusal, loadRules}
-use Rattle.sigma.proofs.Answer.{unlessRefused-zero, unlessRefused-positive}
+use Rattle.rules.proofs.Answer.{unlessRefused-zero, unlessRefused-positive}
 use Rattle.watches.specs.Watch.{freshWatch, openWatch, zeroRound}
 use Rattle.watches.specs.declared.Watch.{Watch}
 use Rattle.watch_parts.specs.Parts.{watchWith}

@@ -18,7 +18,7 @@ use Rattle.runs.proofs.Demand3.{sheet-extraction}
 use Rattle.runs.proofs.Loaded.{extract-loaded}
 use Rattle.sigma.specs.Answer.{outcome}
 use Rattle.sigma.specs.Extractor.{extractLoaded}
-use Rattle.sigma.proofs.Answer.{unlessRefused-zero}
+use Rattle.rules.proofs.Answer.{unlessRefused-zero}
 use Rattle.watches.specs.Ours.{watchCalls}
 use Rattle.watches.specs.Watch.{freshWatch, isNamed, namedRound, nearest, noting, openWatch, remembering, watchRound}
 use Rattle.watches.specs.Watch.{zeroRound}

@@ -31,7 +31,7 @@ use Rattle.sigma.specs.Answer.{isAccepted, outcome}
 use Rattle.sigma.specs.Judge.{judgeAfter, judgeLoaded, judgeRules}
 use Rattle.sigma.specs.Meaning.{Fits, Holds}
 use Rattle.sigma.specs.Refusals.{judgeConditions}
-use Rattle.sigma.proofs.Answer.{unlessRefused-positive}
+use Rattle.rules.proofs.Answer.{unlessRefused-positive}
 use Rattle.sigma.proofs.Calls.{valid-judge-accepted}
 use Rattle.sigma.proofs.Refusals.{judge-tests}
 use Rattle.sigma.proofs.Tests.{says-accepted}

@@ -13,7 +13,7 @@ use Rattle.rules.specs.Rule.{Rule, _when_, lowest}
 use Rattle.rules.proofs.Lowest.{lowest-clear, lowest-earlier, lowest-later-zero, stop}
 use Rattle.sigma.specs.Admission.{elementRules, headerRules}
 use Rattle.sigma.specs.Instance.{Instance}
-use Rattle.sigma.proofs.Answer.{unlessRefused-positive}
+use Rattle.rules.proofs.Answer.{unlessRefused-positive}
 use Rattle.sigma.proofs.Positive.{element-positive, header-positive}
 use Rattle.formats.specs.Encode.{encode, encodeRules, sheetOf}
 use Rattle.formats.specs.Sheet.{sheetLength}

@@ -5,7 +5,7 @@ use mathlib.Core.Path.{_≡_, ap, _∙_}
 use native.Mathlib.Omega.{arith}
 use borrow.Author.Needs.{needs}
 use Rattle.sigma.specs.Answer.{outcome}
-use Rattle.sigma.proofs.Answer.{unlessRefused-zero, unlessRefused-positive}
+use Rattle.rules.proofs.Answer.{unlessRefused-zero, unlessRefused-positive}
 use Rattle.crossing.proofs.Judgements.{judgement-number}
 use Rattle.crossing.specs.Verifiers.{verifierJudgement}
 use Rattle.crossing.specs.declared.Judgement.{Judgement}

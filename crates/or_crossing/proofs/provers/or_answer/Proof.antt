@@ -4,7 +4,7 @@ use Prim.Native.Nat.{_<_}
 use mathlib.Core.Path.{_≡_}
 use native.Mathlib.Omega.{arith}
 use borrow.Author.Needs.{needs}
-use Rattle.sigma.proofs.Answer.{unlessRefused-zero, unlessRefused-positive}
+use Rattle.rules.proofs.Answer.{unlessRefused-zero, unlessRefused-positive}
 use Rattle.or_crossing.specs.Provers.{orAnswer}
 use Rattle.or_crossing.proofs.provers.or_answer.Statement.{statement}
 use Rattle.or_crossing.proofs.provers.or_answer.Tie as tie
