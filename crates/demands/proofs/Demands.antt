@@ -4,7 +4,6 @@ use mathlib.Core.Path.{refl}
 use Rattle.rules.specs.Order.{refusalOrder}
 use Rattle.disjunctions.proofs.OneOfTwo.{or-proof}
 use Rattle.disjunctions.proofs.OrRefusals.{or-refusals}
-use Rattle.disjunctions.proofs.RunsWhere.{either-runs}
 use Rattle.examples.proofs.AnswerPage.{answer-page}
 use Rattle.examples.proofs.Corners.{every-disjunct}
 use Rattle.examples.proofs.GameCorners.{game-corners}
@@ -26,22 +25,16 @@ use Rattle.formats.specs.Load.{load}
 use Rattle.formats.proofs.ByteLayout.{layout}
 use Rattle.formats.proofs.Converts.{convert-refusals, converts}
 use Rattle.formats.proofs.FileRefusals.{file-refusals}
-use Rattle.formats.proofs.RunsWhere.{files-run}
 use Rattle.formats.proofs.SameCommitment.{words-compare, words-refusals}
 use Rattle.formats.proofs.Writers.{writers}
 use Rattle.games.proofs.Game.{game}
 use Rattle.games.proofs.Playing.{game-prints, game-refusals}
-use Rattle.games.proofs.RunsWhere.{game-runs}
 use Rattle.ledgers.proofs.LedgerHolds.{ledger-holds}
 use Rattle.ledgers.proofs.LedgerRefusals.{ledger-refusals}
-use Rattle.ledgers.proofs.RunsWhere.{ledger-runs}
 use Rattle.linear_forms.proofs.LinearSheets.{linear-refusals, linear-sheets}
-use Rattle.linear_forms.proofs.RunsWhere.{linear-runs}
 use Rattle.patterns.proofs.Meaning.{patterns-mean}
 use Rattle.patterns.proofs.PatternCalls.{pattern-calls, pattern-refusals}
-use Rattle.patterns.proofs.RunsWhere.{makers-run}
 use Rattle.products.proofs.RoundsMultiply.{products-work}
-use Rattle.products.proofs.RunsWhere.{team-runs}
 use Rattle.products.proofs.TeamRefusals.{team-refusals}
 use Rattle.products.proofs.TeamWorks.{team-works}
 use Rattle.reasons.proofs.ReasonsTrue.{reasons-true}
@@ -50,11 +43,9 @@ use Rattle.runs.proofs.MainProtocol.{main-protocol}
 use Rattle.runs.proofs.Protocol.{protocol}
 use Rattle.runs.proofs.ReadsAlike.{loses-nothing}
 use Rattle.runs.proofs.RunRefusals.{mark-refusals, run-refusals}
-use Rattle.runs.proofs.RunsWhere.{rounds-run}
 use Rattle.runs.proofs.SavedStates.{saved-states}
 use Rattle.runs.proofs.Sessions.{sessions}
 use Rattle.sigma.proofs.Answer.{verdict-outcomes}
-use Rattle.watches.proofs.RunsWhere.{watch-runs}
 use Rattle.watches.proofs.WatchRefusals.{watch-refusals}
 use Rattle.watches.proofs.WatchesNonces.{watch-works}
 use Rattle.demands.specs.Calls.{Calls}
@@ -86,17 +77,6 @@ holds = record {
     linear = linear-refusals;
     game = game-refusals;
     ledger = ledger-refusals;
-  };
-  runs-where = record {
-    files = files-run;
-    rounds = rounds-run;
-    patterns = makers-run;
-    one-of-two = either-runs;
-    team = team-runs;
-    watch = watch-runs;
-    linear = linear-runs;
-    game = game-runs;
-    ledger = ledger-runs;
   };
   main-protocol = main-protocol;
   protocol = protocol;

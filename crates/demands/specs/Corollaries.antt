@@ -22,6 +22,7 @@ use Rattle.sigma.specs.Meaning.{FailsExactly, FailsFirst}
 use Rattle.watches.specs.Corollaries.{WatchCorollaries}
 use Rattle.demands.specs.Calls.{Calls}
 use Rattle.demands.specs.MarksFiles.{printed, rowsLine}
+use Rattle.demands.specs.RunsWhere.{RunsWhere}
 
 module _ (files : FileCalls) (runs : RunCalls) (marker : MarkerCalls) where
   open FileCalls files using (load, fetchRound)
@@ -45,6 +46,8 @@ module _ (files : FileCalls) (runs : RunCalls) (marker : MarkerCalls) where
         → markerText (take a sheet) (take b f) (take n level) ≡ markerText sheet f level
 
 pub record Corollaries (code : Calls) : Type 0 where
+  -- exactly when a call is not refused, in other words than its conditions
+  pub runs-where : RunsWhere code
   pub files : FileCorollaries (code .files)
   pub runs : RunCorollaries (code .files) (code .runs)
   pub marker : MarkerCorollaries (code .files) (code .runs) (code .marker)

@@ -18,14 +18,11 @@ use Rattle.demands.specs.Cards.{Cards}
 use Rattle.demands.specs.MarksFiles.{MarksFiles}
 use Rattle.demands.specs.ReadsBack.{ReadsBack}
 use Rattle.demands.specs.Refusals.{Refusals}
-use Rattle.demands.specs.RunsWhere.{RunsWhere}
 
 pub record Demands (code : Calls) : Type 0 where
   -- 1: every call, for any bytes and any numbers, ends in a result or in one of its refusals, whose conditions are fixed, and a
   -- refused call changes neither a lent buffer nor a session
   pub refusals : Refusals code
-  -- and exactly when a call is not refused, in other words
-  pub runs-where : RunsWhere code
   -- 2: for every sheet that loads, the calls run the main protocol of Maurer's section 5 over groups and a homomorphism
   pub main-protocol : (sheet : List ℕ) → code .files .load sheet .refusal ≡ 0 → MainProtocol (code .runs) sheet
   -- which is, row by row and slot by slot, what 01 says of commitments, responses and verdicts
