@@ -1,15 +1,17 @@
 -- A number that conditions give is 0 or one of theirs, and so one of the order's, and of those that apply it is the earliest there.
 -- Assumes nothing.
-use mathlib.Core.Path.{_≡_, subst}
+use mathlib.Core.Path.{_≡_, sym, subst}
 use mathlib.Core.Bool.{true}
 use mathlib.Core.List.{List, [], _∷_}
 use mathlib.Core.Logic.{_⊎_, inl, inr, ⊎-elim}
 use Prim.Native.Nat.{ℕ, _≤_, _<_}
 use Rattle.lists.specs.Member.{Member}
+use Rattle.rules.specs.Call.{Call, answer, numberOf}
 use Rattle.rules.specs.Refuses.{conditionNumbers, Refuses}
 use Rattle.rules.specs.Condition.{Condition, _if_, Given, Applies, Tests}
 use Rattle.rules.specs.Order.{refusalOrder, isSublist, position}
 use Rattle.rules.specs.Rule.{Rule, lowest}
+use Rattle.rules.proofs.Call.{answer-number, answer-refused, number-given}
 use Rattle.rules.proofs.Condition.{given}
 use Rattle.rules.proofs.Order.{sublist-member, given-earliest, order-distinct}
 
@@ -37,6 +39,18 @@ module _ (numbers : List ℕ) (conditions : List Condition) {Left : Type 0} (num
   pub refuses-tested : (rules : List Rule) → Tests rules conditions → (0 < lowest rules → Left)
       → Refuses numbers conditions (lowest rules) Left
   refuses-tested rules tests = refuses-given (lowest rules) (given rules conditions tests)
+
+-- demand 1 of every call: its refusals test the conditions, its answer has the number in a place of its own, and what a refused call
+-- hands back is what is asked of it
+pub refuses-call : (numbers : List ℕ) (conditions : List Condition) {A : Type 0} (call : Call A) (number : A → ℕ) (Left : A → Type 0)
+    → conditionNumbers conditions ≡ numbers → isSublist numbers refusalOrder ≡ true → Tests (call .refusals) conditions
+    → number (call .value) ≡ 0 → ((n : ℕ) → number (call .refused n) ≡ n) → ((n : ℕ) → 0 < n → Left (call .refused n))
+    → Refuses numbers conditions (number (answer call)) (Left (answer call))
+refuses-call numbers conditions call number Left numbered ordered tests none some left =
+    let same = answer-number call number none some in
+    subst (λ (n : ℕ). Refuses numbers conditions n (Left (answer call))) (sym same)
+    (refuses-given numbers conditions numbered ordered (numberOf call) (number-given call conditions tests)
+    (λ above. subst Left (sym (answer-refused call above)) (left (numberOf call) above)))
 
 -- a call ends in a result or in one of the order's numbers
 pub answers-known : {numbers : List ℕ} {conditions : List Condition} {n : ℕ} {Left : Type 0} → Refuses numbers conditions n Left
