@@ -4,9 +4,9 @@ use mathlib.Core.Path.{refl}
 use Rattle.examples.specs.LedgerCorners.{LedgerCorners, askedFor, checking, checkingAt, clean, counted, counting, fiveChallenges, lastSum, late, lateEntries, put, refusedWith, sharing, sound, telling, worst, worstEntries, writing, writingAt, wroteNothing}
 use Rattle.examples.specs.LedgerPage.{accepted, added, asked, baseOf, entryWith, foundOf, given, lineWith, madeOf, multiplied, rejectedAt, wrote}
 use Rattle.examples.specs.SavedCorners.{greatest}
-use Rattle.ledgers.specs.Check.{badElements, badLineChallenge, badLineKind, badResponse, baseRules, checkLedger, checkRules, firstRejected, notAbove, rejectsLine}
+use Rattle.ledgers.specs.Check.{badElements, badLineChallenge, badLineKind, badResponse, baseRules, checkLedger, checkingLedger, firstRejected, notAbove, rejectsLine}
 use Rattle.ledgers.specs.Ledger.{commitments, lineCommitment, lineInstance, productOf}
-use Rattle.ledgers.specs.Write.{badNumbers, commitTo, ledgerOf, lineOf, madeCommitment, madeLine, madeProduct, madeSum, openingAt, openingOf, openings, productWitness, writeLedger, writeRules, zeroLine}
+use Rattle.ledgers.specs.Write.{badNumbers, commitTo, ledgerOf, lineOf, madeCommitment, madeLine, madeProduct, madeSum, openingAt, openingOf, openings, productWitness, writeLedger, writingLedger, zeroLine}
 use Rattle.lists.specs.Choices.{selected}
 use Rattle.lists.specs.Places.{eightByEight, itemsAt, pad8, places, tabulate, zeros8}
 use Rattle.numbers.specs.Bits.{bit, maskBelow}
@@ -15,6 +15,7 @@ use Rattle.numbers.specs.Product.{product, sum}
 use Rattle.numbers.specs.Search.{any, find}
 use Rattle.patterns.specs.Pattern.{digit, entryOf, headerFor, madeFor, patternEntries, root}
 use Rattle.patterns.specs.Table.{kindOf, made, patternOf, patterns, pedersen}
+use Rattle.rules.specs.Call.{answer, numberOf}
 use Rattle.rules.specs.Answer.{unlessRefused}
 use Rattle.rules.specs.Rule.{lowest}
 use Rattle.sigma.specs.Admission.{badCount, badModulus, badOrder, firstDivisor}
@@ -27,12 +28,12 @@ use Rattle.sigma.specs.Judge.{judgeAfter, judgeLoaded, judgeRules}
 use Rattle.sigma.specs.Round.{badChallenge, badCommitment, badCoordinates, expectedImage, response, responseCoordinate, verdict}
 
 pub ledger-corners : LedgerCorners
-unfolding askedFor checking checkingAt clean counted counting fiveChallenges lastSum late lateEntries put refusedWith
+unfolding answer numberOf askedFor checking checkingAt clean counted counting fiveChallenges lastSum late lateEntries put refusedWith
     sharing sound telling worst worstEntries writing writingAt wroteNothing accepted added asked baseOf entryWith
     foundOf given lineWith madeOf multiplied rejectedAt wrote greatest badElements badLineChallenge badLineKind
-    badResponse baseRules checkLedger checkRules firstRejected notAbove rejectsLine commitments lineCommitment
+    badResponse baseRules checkLedger checkingLedger firstRejected notAbove rejectsLine commitments lineCommitment
     lineInstance productOf badNumbers commitTo ledgerOf lineOf madeCommitment madeLine madeProduct madeSum openingAt
-    openingOf openings productWitness writeLedger writeRules zeroLine selected eightByEight itemsAt pad8 places
+    openingOf openings productWitness writeLedger writingLedger zeroLine selected eightByEight itemsAt pad8 places
     tabulate zeros8 bit maskBelow euclid gcd product sum any find digit entryOf headerFor madeFor patternEntries root
     kindOf made patternOf patterns pedersen unlessRefused lowest badCount badModulus badOrder firstDivisor isAccepted
     judged compareSides differ differences firstDifference isCoordinate isElement someNonCoordinate someNonElement

@@ -10,10 +10,10 @@ use Rattle.examples.specs.Sheets.{fourBytes, sheetBytes}
 use Rattle.examples.specs.TwoRows.{eight, roundWith}
 use Rattle.formats.specs.Load.{badLength, badStart, loadRules, shapeRules}
 use Rattle.formats.specs.Sheet.{entriesOf, entryCount, headerOf, instanceOf, sheetLength, sheetMark, statementOf, versionOf, zeros64}
-use Rattle.ledgers.specs.Check.{badElements, badLineChallenge, badLineKind, badResponse, baseRules, checkLedger, checkRules, firstRejected, notAbove, rejectsLine}
+use Rattle.ledgers.specs.Check.{badElements, badLineChallenge, badLineKind, badResponse, baseRules, checkLedger, checkingLedger, firstRejected, notAbove, rejectsLine}
 use Rattle.ledgers.specs.Ledger.{commitments, lineCommitment, lineInstance, productOf}
 use Rattle.ledgers.specs.Meaning.{productSheet}
-use Rattle.ledgers.specs.Write.{badNumbers, commitTo, ledgerOf, lineOf, madeCommitment, madeLine, madeProduct, madeSum, openingAt, openingOf, openings, productWitness, writeLedger, writeRules, zeroLine}
+use Rattle.ledgers.specs.Write.{badNumbers, commitTo, ledgerOf, lineOf, madeCommitment, madeLine, madeProduct, madeSum, openingAt, openingOf, openings, productWitness, writeLedger, writingLedger, zeroLine}
 use Rattle.lists.specs.Choices.{selected}
 use Rattle.lists.specs.Places.{eightByEight, itemsAt, pad8, places, tabulate, zeros8}
 use Rattle.numbers.specs.Bits.{bit, maskBelow}
@@ -24,6 +24,7 @@ use Rattle.numbers.specs.Product.{product, sum}
 use Rattle.numbers.specs.Search.{any, find}
 use Rattle.patterns.specs.Pattern.{digit, entryOf, headerFor, madeFor, patternEntries, root}
 use Rattle.patterns.specs.Table.{kindOf, made, patternOf, patterns, pedersen}
+use Rattle.rules.specs.Call.{answer, numberOf}
 use Rattle.rules.specs.Answer.{unlessRefused}
 use Rattle.rules.specs.Rule.{lowest}
 use Rattle.runs.specs.Calls.{extractWitness}
@@ -38,13 +39,13 @@ use Rattle.sigma.specs.Judge.{judgeAfter, judgeLoaded, judgeRules}
 use Rattle.sigma.specs.Round.{badChallenge, badCommitment, badCoordinates, expectedImage, response, responseCoordinate, verdict}
 
 pub ledger-page : LedgerPage
-unfolding flatten bytesOf bytesOfEach numberAt ascii accepted added asked baseOf bothOrders compositeBase compositeLines entryWith
+unfolding answer numberOf flatten bytesOf bytesOfEach numberAt ascii accepted added asked baseOf bothOrders compositeBase compositeLines entryWith
     foundOf gave given lineWith madeOf multiplied pageEntries pageLines rejectedAt smallBase unequalEntries unequalLines
     wrote array fourBytes sheetBytes eight roundWith badLength badStart loadRules shapeRules entriesOf entryCount
     headerOf instanceOf sheetLength sheetMark statementOf versionOf zeros64 badElements badLineChallenge badLineKind
-    badResponse baseRules checkLedger checkRules firstRejected notAbove rejectsLine commitments lineCommitment
+    badResponse baseRules checkLedger checkingLedger firstRejected notAbove rejectsLine commitments lineCommitment
     lineInstance productOf productSheet badNumbers commitTo ledgerOf lineOf madeCommitment madeLine madeProduct madeSum
-    openingAt openingOf openings productWitness writeLedger writeRules zeroLine selected eightByEight itemsAt pad8
+    openingAt openingOf openings productWitness writeLedger writingLedger zeroLine selected eightByEight itemsAt pad8
     places tabulate zeros8 bit maskBelow euclid gcd bezoutLeft bezoutRight power quotient residue inverse product sum
     any find digit entryOf headerFor madeFor patternEntries root kindOf made patternOf patterns pedersen unlessRefused
     lowest extractWitness badCount badEntries badKind badModulus badOrder badSize badStatement elementRules firstDivisor

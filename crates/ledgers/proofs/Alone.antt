@@ -10,11 +10,12 @@ use lib.Dec.{ltb}
 use lib.ListN.{getD}
 use Rattle.numbers.specs.Search.{any}
 use Rattle.numbers.proofs.Search.{any-agree}
+use Rattle.rules.specs.Call.{numberOf}
 use Rattle.rules.specs.Rule.{_when_, lowest}
 use Rattle.rules.proofs.Determined.{either}
 use Rattle.rules.proofs.Says.{says-iff, says-same}
 use Rattle.sigma.specs.Element.{Element}
-use Rattle.ledgers.specs.Check.{badElements, badLineChallenge, badLineKind, badResponse, baseRules, checkLedger, checkRules, notAbove}
+use Rattle.ledgers.specs.Check.{badElements, badLineChallenge, badLineKind, badResponse, baseRules, checkLedger, checkingLedger, notAbove}
 use Rattle.ledgers.specs.Lines.{lineAt}
 use Rattle.ledgers.specs.LedgerHolds.{Tells}
 use Rattle.ledgers.specs.Meaning.{Commits, ProductLine, RowsHold}
@@ -25,6 +26,7 @@ use Rattle.ledgers.specs.declared.Base.{Base}
 use Rattle.ledgers.specs.declared.Checked.{Checked}
 use Rattle.ledgers.specs.declared.Ledger.{Ledger}
 use Rattle.ledgers.specs.declared.Line.{Line}
+use Rattle.ledgers.proofs.Answers.{check-number}
 use Rattle.ledgers.proofs.Checking.{commits, lines, tells}
 use Rattle.ledgers.proofs.LedgerRefusals.{ledger-refusals}
 use Rattle.ledgers.proofs.Only.{tells-only}
@@ -104,9 +106,9 @@ pub any-same : (n n′ : ℕ) (p p′ : ℕ → Bool) → n ≡ n′ → ((i : �
 any-same n n′ p p′ count same = any-agree n p p′ same ∙ ap (λ (k : ℕ). any k p′) count
 
 module _ (base : Base) {ledger ledger′ : Ledger} (s : SameLedger ledger ledger′) where
-  -- the rules are the same
-  rules-same : lowest (checkRules base ledger) ≡ lowest (checkRules base ledger′)
-  unfolding checkRules
+  -- the refusals are the same
+  rules-same : numberOf (checkingLedger base ledger) ≡ numberOf (checkingLedger base ledger′)
+  unfolding numberOf checkingLedger
   rules-same =
       let same = any-same (ledger .count) (ledger′ .count) in
       let kinds = same _ _ (s .count) (λ i b. ap badLineKind (s .lines i b .kind)) in
@@ -203,8 +205,7 @@ module _ (base : Base) {ledger ledger′ : Ledger} (s : SameLedger ledger ledger
 
   -- the number is the same
   number : checkLedger base ledger .refusal ≡ checkLedger base ledger′ .refusal
-  unfolding checkLedger
-  number = rules-same base s
+  number = check-number base ledger ∙ rules-same base s ∙ sym (check-number base ledger′)
 
   -- so checking answers the same
   pub lines-alone : checkLedger base ledger ≡ checkLedger base ledger′

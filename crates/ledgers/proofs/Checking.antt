@@ -12,8 +12,6 @@ use lib.Dec.{ltb}
 use lib.ListN.{getD}
 use Rattle.patterns.specs.Pattern.{headerFor, madeFor}
 use Rattle.patterns.specs.Table.{kindOf, made, patternOf, patterns}
-use Rattle.rules.specs.Answer.{unlessRefused}
-use Rattle.rules.specs.Rule.{lowest}
 use Rattle.rules.specs.Says.{Says}
 use Rattle.rules.proofs.Determined.{below-or-not}
 use Rattle.rules.proofs.Says.{says-and, says-equal, says-not}
@@ -24,7 +22,7 @@ use Rattle.sigma.specs.Meaning.{Fits}
 use Rattle.sigma.specs.Valid.{Valid}
 use Rattle.sigma.proofs.Calculus.{says-first, says-nowhere, says-stable}
 use Rattle.sigma.proofs.CoordinateGroup.{coordinate-exponent}
-use Rattle.ledgers.specs.Check.{checkLedger, checkRules, firstRejected, rejectsLine}
+use Rattle.ledgers.specs.Check.{checkLedger, checkingLedger, firstRejected, rejectsLine}
 use Rattle.ledgers.specs.Ledger.{commitments, lineInstance, lineRound, productOf}
 use Rattle.ledgers.specs.LedgerHolds.{Tells}
 use Rattle.ledgers.specs.Lines.{lineAt}
@@ -35,6 +33,7 @@ use Rattle.ledgers.specs.declared.Base.{Base}
 use Rattle.ledgers.specs.declared.Checked.{Checked}
 use Rattle.ledgers.specs.declared.Ledger.{Ledger}
 use Rattle.ledgers.specs.declared.Line.{Line}
+use Rattle.ledgers.proofs.Answers.{check-value}
 use Rattle.ledgers.proofs.Commitments.{commitmentOf, commits-elements, found-at, names-above, our-commits}
 use Rattle.ledgers.proofs.Product.{says-rows}
 use Rattle.ledgers.proofs.Right.{in-group}
@@ -76,27 +75,15 @@ rows-over base line a b e (x, y) = (
 )
 
 -- what the checker answers if nothing is refused
-told-first : (n line count : ℕ) → n ≡ 0 → line < count
-    → _≡_ {A = Checked}
-    (record {
-      accepted = unlessRefused n (cond (ltb line count) 0 1) 0;
-      line = unlessRefused n (cond (ltb line count) line 0) 0;
-      refusal = n;
-    })
-    (record { accepted = 0; line = line; refusal = 0 })
-unfolding unlessRefused
-told-first n line count none inside = rw (none, lt-ltb line count inside)
+told-first : (base : Base) (ledger : Ledger) → checkLedger base ledger .refusal ≡ 0 → firstRejected base ledger < ledger .count
+    → checkLedger base ledger ≡ record { accepted = 0; line = firstRejected base ledger; refusal = 0 }
+unfolding checkingLedger
+told-first base ledger none inside = check-value base ledger none ∙ rw (lt-ltb (firstRejected base ledger) (ledger .count) inside)
 
-told-none : (n line count : ℕ) → n ≡ 0 → count ≤ line
-    → _≡_ {A = Checked}
-    (record {
-      accepted = unlessRefused n (cond (ltb line count) 0 1) 0;
-      line = unlessRefused n (cond (ltb line count) line 0) 0;
-      refusal = n;
-    })
-    (record { accepted = 1; line = 0; refusal = 0 })
-unfolding unlessRefused
-told-none n line count none past = rw (none, le-ltb line count past)
+told-none : (base : Base) (ledger : Ledger) → checkLedger base ledger .refusal ≡ 0 → ledger .count ≤ firstRejected base ledger
+    → checkLedger base ledger ≡ record { accepted = 1; line = 0; refusal = 0 }
+unfolding checkingLedger
+told-none base ledger none past = check-value base ledger none ∙ rw (le-ltb (firstRejected base ledger) (ledger .count) past)
 
 module _ (base : Base) (ledger : Ledger) (none : checkLedger base ledger .refusal ≡ 0) where
   -- what is right
@@ -181,7 +168,7 @@ module _ (base : Base) (ledger : Ledger) (none : checkLedger base ledger .refusa
 
   -- what the checker tells
   pub tells : Tells base ledger C (checkLedger base ledger)
-  unfolding checkLedger firstRejected
+  unfolding firstRejected
   tells =
       let test : ℕ → Bool = λ i. rejectsLine base (commitments (base .modulus) ledger i) (lineAt ledger i) in
       let found = firstRejected base ledger in
@@ -190,13 +177,13 @@ module _ (base : Base) (ledger : Ledger) (none : checkLedger base ledger .refusa
       let (within, (three, fails), before) = says-first (ledger .count) test Rejects says-rejects found .0 (inside, refl) in
       inr (
         found,
-        told-first (lowest (checkRules base ledger)) found (ledger .count) none inside,
+        told-first base ledger none inside,
         (_, _, _, own-product found inside three, fails),
         λ i A B E early p. holds-unless i A B E p (before i early),
       ))
       (λ past.
       let nowhere = says-nowhere (ledger .count) test Rejects says-rejects .0 past in
       inl (
-        told-none (lowest (checkRules base ledger)) found (ledger .count) none past,
+        told-none base ledger none past,
         λ i A B E p. holds-unless i A B E p (nowhere i (p .inside)),
       ))

@@ -11,6 +11,7 @@ use Rattle.types.specs.declared.Header.{Header}
 use Rattle.lists.proofs.Places.{tabulate-agree}
 use Rattle.patterns.specs.Pattern.{headerFor, madeFor}
 use Rattle.patterns.specs.Table.{kindOf, made, patternOf, patterns}
+use Rattle.rules.specs.Call.{numberOf}
 use Rattle.rules.specs.Rule.{_when_, lowest}
 use Rattle.rules.proofs.Determined.{either}
 use Rattle.rules.proofs.Says.{says-iff, says-same}
@@ -39,13 +40,14 @@ use Rattle.ledgers.specs.Write.{
   openings,
   productWitness,
   writeLedger,
-  writeRules,
+  writingLedger,
   zeroLine,
 }
 use Rattle.ledgers.specs.declared.Base.{Base}
 use Rattle.ledgers.specs.declared.Entries.{Entries}
 use Rattle.ledgers.specs.declared.Entry.{Entry}
 use Rattle.ledgers.specs.declared.Line.{Line}
+use Rattle.ledgers.proofs.Answers.{write-number}
 use Rattle.ledgers.proofs.Alone.{above-over, any-same, challenge-over, high-over, kinds-over, slots-over}
 use Rattle.ledgers.proofs.LedgerRefusals.{ledger-refusals}
 use Rattle.ledgers.proofs.Made.{commit-element, made-given, made-product, made-sum}
@@ -79,10 +81,10 @@ module _ (base : Base) {e e′ : Entry} (s : SameEntry e e′) where
       )
 
 module _ (base : Base) {entries entries′ : Entries} (s : SameEntries entries entries′) where
-  -- the rules are the same
-  number : writeLedger base entries .refusal ≡ writeLedger base entries′ .refusal
-  unfolding writeLedger writeRules
-  number =
+  -- the refusals are the same
+  rules-same : numberOf (writingLedger base entries) ≡ numberOf (writingLedger base entries′)
+  unfolding numberOf writingLedger
+  rules-same =
       let same = any-same (entries .count) (entries′ .count) in
       let kinds = same _ _ (s .count) (λ i b. ap badLineKind (s .lines i b .kind)) in
       let names = same (λ i. notAbove i (entryAt entries i .kind) (entryAt entries i .first) (entryAt entries i .second))
@@ -103,6 +105,10 @@ module _ (base : Base) {entries entries′ : Entries} (s : SameEntries entries e
       λ j. lowest
       (baseRules base ++
       (37 when ltb 64 (s .count j)) ∷ (35 when kinds j) ∷ (36 when names j) ∷ (15 when challenges j) ∷ (16 when numbers j) ∷ [])
+
+  -- so the number is
+  number : writeLedger base entries .refusal ≡ writeLedger base entries′ .refusal
+  number = write-number base entries ∙ rules-same ∙ sym (write-number base entries′)
 
 -- ---- lines
 

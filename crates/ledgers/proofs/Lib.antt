@@ -1,6 +1,7 @@
 -- Laws of a ledger of committed values.
 pub mod Tests
 pub mod LedgerRefusals
+pub mod Answers
 pub mod Right
 pub mod RunsWhere
 pub mod Valid

@@ -15,7 +15,7 @@ use Rattle.sigma.specs.Element.{Element, isCoordinate, someNonCoordinate, someN
 use Rattle.sigma.specs.Instance.{isExponent}
 use Rattle.sigma.proofs.Calculus.{says-any}
 use Rattle.sigma.proofs.Tests.{says-badCount, says-badModulus, says-badOrder, says-element, says-someNonElement}
-use Rattle.ledgers.specs.Check.{badElements, badLineChallenge, badLineKind, badResponse, baseRules, checkRules, notAbove}
+use Rattle.ledgers.specs.Check.{badElements, badLineChallenge, badLineKind, badResponse, baseRules, checkingLedger, notAbove}
 use Rattle.ledgers.specs.Lines.{entryAt, lineAt}
 use Rattle.ledgers.specs.Refusals.{
   BadElements,
@@ -30,7 +30,7 @@ use Rattle.ledgers.specs.Refusals.{
   productHeader,
   writeConditions,
 }
-use Rattle.ledgers.specs.Write.{badNumbers, writeRules}
+use Rattle.ledgers.specs.Write.{badNumbers, writingLedger}
 use Rattle.ledgers.specs.declared.Base.{Base}
 use Rattle.ledgers.specs.declared.Entries.{Entries}
 use Rattle.ledgers.specs.declared.Entry.{Entry}
@@ -130,8 +130,8 @@ module _ (base : Base) where
       )
 
   -- so do the checker's
-  pub check-tests : (ledger : Ledger) → Tests (checkRules base ledger) (checkConditions base ledger)
-  unfolding checkRules
+  pub check-tests : (ledger : Ledger) → Tests (checkingLedger base ledger .refusals) (checkConditions base ledger)
+  unfolding checkingLedger
   check-tests ledger =
       let each = says-any (ledger .count) in
       tests-append (baseRules base) _ (baseConditions base) _ base-tests (
@@ -157,8 +157,8 @@ module _ (base : Base) where
       )
 
   -- and the writer's
-  pub write-tests : (entries : Entries) → Tests (writeRules base entries) (writeConditions base entries)
-  unfolding writeRules
+  pub write-tests : (entries : Entries) → Tests (writingLedger base entries .refusals) (writeConditions base entries)
+  unfolding writingLedger
   write-tests entries =
       let each = says-any (entries .count) in
       tests-append (baseRules base) _ (baseConditions base) _ base-tests (

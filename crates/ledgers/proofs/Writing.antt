@@ -1,12 +1,11 @@
 -- What the writer answers if it is not refused: the ledger is made of the entries' values.
 -- Assumes nothing.
 use Prim.Native.Nat.{ℕ, _+_, _-_, _*_, _%_, _<_, _≤_}
-use mathlib.Core.Path.{_≡_, refl, subst, _∙_}
+use mathlib.Core.Path.{_≡_, ap, refl, subst, _∙_}
 use mathlib.Core.Logic.{inr}
 use native.Mathlib.Nat.{mod-lt}
 use native.Mathlib.Omega.{arith}
 use Rattle.patterns.specs.Table.{pedersen}
-use Rattle.rules.proofs.Answer.{unlessRefused-zero}
 use Rattle.ledgers.specs.LedgerHolds.{MadeOf}
 use Rattle.ledgers.specs.Lines.{entryAt, lineAt}
 use Rattle.ledgers.specs.Meaning.{ProductEntry, Values}
@@ -22,11 +21,14 @@ use Rattle.ledgers.specs.Write.{
   openingAt,
   openings,
   writeLedger,
+  writingLedger,
   zeroLine,
 }
+use Rattle.ledgers.specs.declared.LedgerWritten.{LedgerWritten}
 use Rattle.ledgers.specs.declared.Base.{Base}
 use Rattle.ledgers.specs.declared.Entries.{Entries}
 use Rattle.ledgers.specs.declared.Ledger.{Ledger}
+use Rattle.ledgers.proofs.Answers.{write-value}
 use Rattle.ledgers.proofs.Made.{
   difference-is,
   line-beyond,
@@ -61,8 +63,8 @@ module _ (base : Base) (entries : Entries) (none : writeLedger base entries .ref
   ledger = ledgerOf (entries .count) (madeLine base entries)
 
   pub ledger-is : writeLedger base entries .ledger ≡ ledger
-  unfolding writeLedger
-  ledger-is = rw none (unlessRefused-zero ledger (ledgerOf 0 (λ i. zeroLine)))
+  unfolding writingLedger
+  ledger-is = ap (λ (made : LedgerWritten). made .ledger) (write-value base entries none)
 
   -- the entries' values
   abbrev pub v : ℕ → ℕ

@@ -6,8 +6,8 @@ use mathlib.Core.Bool.{Bool, not, cond, _&&_, _||_}
 use mathlib.Core.List.{List, [], _∷_, _++_}
 use lib.Dec.{eqb, leb, ltb}
 use Rattle.numbers.specs.Search.{any, find}
-use Rattle.rules.specs.Answer.{unlessRefused}
-use Rattle.rules.specs.Rule.{Rule, _when_, lowest}
+use Rattle.rules.specs.Call.{Call, answer}
+use Rattle.rules.specs.Rule.{Rule, _when_}
 use Rattle.sigma.specs.Admission.{badCount, badModulus, badOrder}
 use Rattle.sigma.specs.Answer.{isAccepted}
 use Rattle.sigma.specs.Element.{isElement, someNonCoordinate, someNonElement}
@@ -50,17 +50,6 @@ badLineChallenge base kind challenge = eqb kind 3 && leb (base .challenges) chal
 unfoldable pub badResponse : Base → Line → Bool
 badResponse base line = eqb (line .kind) 3 && someNonCoordinate (productHeader base) 3 (line .response)
 
--- the checker's rules
-unfoldable pub checkRules : Base → Ledger → List Rule
-checkRules base ledger =
-    baseRules base ++
-    (37 when ltb 64 (ledger .count)) ∷
-    (35 when any (ledger .count) (λ i. badLineKind (lineAt ledger i .kind))) ∷
-    (36 when any (ledger .count) (λ i. notAbove i (lineAt ledger i .kind) (lineAt ledger i .first) (lineAt ledger i .second))) ∷
-    (14 when any (ledger .count) (λ i. badElements base (lineAt ledger i))) ∷
-    (15 when any (ledger .count) (λ i. badLineChallenge base (lineAt ledger i .kind) (lineAt ledger i .challenge))) ∷
-    (16 when any (ledger .count) (λ i. badResponse base (lineAt ledger i))) ∷ []
-
 -- a line is a product whose round is rejected, of the commitments of the lines above it
 unfoldable pub rejectsLine : Base → List ℕ → Line → Bool
 rejectsLine base above line =
@@ -71,13 +60,28 @@ unfoldable pub firstRejected : Base → Ledger → ℕ
 firstRejected base ledger =
     find (λ i. rejectsLine base (commitments (base .modulus) ledger i) (lineAt ledger i)) 0 (ledger .count)
 
--- the checker
-unfoldable pub checkLedger : Base → Ledger → Checked
-checkLedger base ledger =
-    let refusal : ℕ = lowest (checkRules base ledger) in
+-- checking: 37 for more than 64 lines, then 35, 36 and 14 to 16; accepted, or the first line that is rejected
+unfoldable pub checkingLedger : Base → Ledger → Call Checked
+checkingLedger base ledger =
     let line : ℕ = firstRejected base ledger in
     record {
-      accepted = unlessRefused refusal (cond (ltb line (ledger .count)) 0 1) 0;
-      line = unlessRefused refusal (cond (ltb line (ledger .count)) line 0) 0;
-      refusal = refusal;
+      refusals =
+          baseRules base ++
+          (37 when ltb 64 (ledger .count)) ∷
+          (35 when any (ledger .count) (λ i. badLineKind (lineAt ledger i .kind))) ∷
+          (36 when any (ledger .count) (λ i. notAbove i (lineAt ledger i .kind) (lineAt ledger i .first) (lineAt ledger i .second))) ∷
+          (14 when any (ledger .count) (λ i. badElements base (lineAt ledger i))) ∷
+          (15 when any (ledger .count) (λ i. badLineChallenge base (lineAt ledger i .kind) (lineAt ledger i .challenge))) ∷
+          (16 when any (ledger .count) (λ i. badResponse base (lineAt ledger i))) ∷ [];
+      value =
+          record {
+            accepted = cond (ltb line (ledger .count)) 0 1;
+            line = cond (ltb line (ledger .count)) line 0;
+            refusal = 0;
+          };
+      refused = λ n. record { accepted = 0; line = 0; refusal = n };
     }
+
+-- the checker
+unfoldable pub checkLedger : Base → Ledger → Checked
+checkLedger base ledger = answer (checkingLedger base ledger)

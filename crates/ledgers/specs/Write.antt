@@ -9,8 +9,8 @@ use lib.ListN.{getD, replicate}
 use Rattle.lists.specs.Places.{tabulate}
 use Rattle.numbers.specs.Search.{any}
 use Rattle.patterns.specs.Table.{pedersen}
-use Rattle.rules.specs.Answer.{unlessRefused}
-use Rattle.rules.specs.Rule.{Rule, _when_, lowest}
+use Rattle.rules.specs.Call.{Call, answer}
+use Rattle.rules.specs.Rule.{_when_}
 use Rattle.sigma.specs.Element.{someNonCoordinate}
 use Rattle.sigma.specs.Image.{image}
 use Rattle.sigma.specs.Instance.{Instance, tableOf}
@@ -121,25 +121,26 @@ badNumbers base e =
     (eqb (e .kind) 1 && (leb (base .order) (e .value) || leb (base .order) (e .blinding))) ||
     (eqb (e .kind) 3 && (leb (base .order) (e .blinding) || someNonCoordinate (productHeader base) 3 (e .nonce)))
 
--- the writer's rules
-unfoldable pub writeRules : Base → Entries → List Rule
-writeRules base entries =
-    baseRules base ++
-    (37 when ltb 64 (entries .count)) ∷
-    (35 when any (entries .count) (λ i. badLineKind (entryAt entries i .kind))) ∷
-    (36 when any (entries .count) (λ i. notAbove i (entryAt entries i .kind) (entryAt entries i .first) (entryAt entries i .second))) ∷
-    (15 when any (entries .count) (λ i. badLineChallenge base (entryAt entries i .kind) (entryAt entries i .challenge))) ∷
-    (16 when any (entries .count) (λ i. badNumbers base (entryAt entries i))) ∷ []
-
 -- a ledger of so many lines, with zeros beyond them
 unfoldable pub ledgerOf : ℕ → (ℕ → Line) → Ledger
 ledgerOf count line = record { lines = tabulate count line ++ replicate (64 - count) zeroLine; count = count }
 
--- the writer; a refused call answers a ledger of zeros
-unfoldable pub writeLedger : Base → Entries → LedgerWritten
-writeLedger base entries =
-    let refusal : ℕ = lowest (writeRules base entries) in
+-- writing: 37 for more than 64 entries, then 35, 36, 15 and 16; a refused call answers a ledger of zeros
+unfoldable pub writingLedger : Base → Entries → Call LedgerWritten
+writingLedger base entries =
     record {
-      ledger = unlessRefused refusal (ledgerOf (entries .count) (madeLine base entries)) (ledgerOf 0 (λ i. zeroLine));
-      refusal = refusal;
+      refusals =
+          baseRules base ++
+          (37 when ltb 64 (entries .count)) ∷
+          (35 when any (entries .count) (λ i. badLineKind (entryAt entries i .kind))) ∷
+          (36 when any (entries .count)
+          (λ i. notAbove i (entryAt entries i .kind) (entryAt entries i .first) (entryAt entries i .second))) ∷
+          (15 when any (entries .count) (λ i. badLineChallenge base (entryAt entries i .kind) (entryAt entries i .challenge))) ∷
+          (16 when any (entries .count) (λ i. badNumbers base (entryAt entries i))) ∷ [];
+      value = record { ledger = ledgerOf (entries .count) (madeLine base entries); refusal = 0 };
+      refused = λ n. record { ledger = ledgerOf 0 (λ i. zeroLine); refusal = n };
     }
+
+-- the writer
+unfoldable pub writeLedger : Base → Entries → LedgerWritten
+writeLedger base entries = answer (writingLedger base entries)
