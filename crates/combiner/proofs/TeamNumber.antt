@@ -20,7 +20,7 @@ use Rattle.sigma.specs.Comparison.{differ, firstDifference}
 use Rattle.sigma.specs.Instance.{Instance}
 use Rattle.sigma.proofs.Answer.{computed-positive, computed-zero}
 use Rattle.sigma.proofs.Calculus.{both-fail}
-use Rattle.team_values.specs.Parts.{nonElementPart}
+use Rattle.combiner.specs.Parts.{nonElementPart}
 use Rattle.products.specs.Team.{badImages, badProduct, badTeam, multiplyAll, teamRules}
 
 module _ (count : ℕ) where

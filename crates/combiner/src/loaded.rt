@@ -1,9 +1,9 @@
 // Multiplying a team's commitments and joining its responses, on loaded values and for a team of two to eight (02, card 6).
+use crate::joining::join_all;
+use crate::joining::multiply_all;
 use crate::testing::commitments_refusal;
 use crate::testing::responses_refusal;
 use image::refused;
-use team_values::join_all;
-use team_values::multiply_all;
 use types::Computed;
 use types::Header;
 ghost use mathlib.Core.Path.{_≡_};

@@ -1,9 +1,9 @@
 // The tests of a team (02, card 6): 27 between the two steps of testing the sheet, 2 to 9 and 10 and 11; and on loaded values 11 for
 // the images, then 14 or 16, then 28.
+use crate::joining::multiply_all;
+use crate::parts::some_non_coordinate_part;
+use crate::parts::some_non_element_part;
 use comparison::differ;
-use team_values::multiply_all;
-use team_values::some_non_coordinate_part;
-use team_values::some_non_element_part;
 use types::Header;
 ghost use mathlib.Core.Path.{_≡_};
 ghost use mathlib.Core.Bool.{false};

@@ -14,8 +14,8 @@ use Rattle.disjunctions.specs.declared.OrProver.{OrProver}
 use Rattle.disjunctions.specs.Prover.{commitOrAfter, other, own, respondOrAfter, wipedOr}
 use Rattle.disjunctions.specs.Round.{otherChallenge}
 use Rattle.or_judge.specs.Values.{FitTogether}
-use Rattle.or_sides.specs.Sides.{sideCommitment, sideResponse}
-use Rattle.or_sides.proofs.SideValues.{first-commitment, first-response, own-places, second-commitment, second-response}
+use Rattle.or_session.specs.Sides.{sideCommitment, sideResponse}
+use Rattle.or_session.proofs.SideValues.{first-commitment, first-response, own-places, second-commitment, second-response}
 use Rattle.or_prover.specs.Brought.{commitRules, respondRules}
 use Rattle.or_session.proofs.Steps.{step-given}
 

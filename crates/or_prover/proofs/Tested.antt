@@ -15,8 +15,8 @@ use Rattle.sigma.proofs.Passed.{challenge-passes}
 use Rattle.disjunctions.specs.declared.OrProver.{OrProver}
 use Rattle.disjunctions.specs.Prover.{commitOrRules, orProverIn, own, respondOrRules, unfitOr}
 use Rattle.or_judge.specs.Values.{FitTogether}
-use Rattle.or_sides.specs.Sides.{witnessRules}
-use Rattle.or_sides.proofs.SideTests.{fit-below}
+use Rattle.or_session.specs.Sides.{witnessRules}
+use Rattle.or_session.proofs.SideTests.{fit-below}
 use Rattle.or_prover.specs.Brought.{commitRules, respondRules}
 
 -- a simulated challenge that committing does not refuse is below the count of both sheets

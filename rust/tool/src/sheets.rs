@@ -139,7 +139,7 @@ pub fn image(sheet: &Instance, letter: &str, coordinates: &Places) -> Outcome<Pl
 }
 
 /// Exactly so many numbers, in places.
-fn in_places(value: &Value, count: usize, of: &str) -> Outcome<Places> {
+pub fn in_places(value: &Value, count: usize, of: &str) -> Outcome<Places> {
     let (letter, numbers) = (value.letter, value.numbers()?);
     if numbers.len() != count {
         let (wanted, found) = (counted(count, of), counted(numbers.len(), "value"));

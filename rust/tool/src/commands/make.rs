@@ -11,7 +11,7 @@ use crate::sheets::brought::{self, Brought};
 use crate::sheets::draw::Generator;
 use crate::sheets::{self, causes, notation};
 use asked::Asked;
-use dimkhoros::{EXPONENT, Header, Instance, ROOT, Refusal};
+use dimkhoros::{Header, Instance, PLACES, Places, Refusal};
 use std::ffi::OsString;
 use std::io::Write;
 
@@ -57,6 +57,9 @@ Example:
 /// The word that asks for a witness from the system's generator.
 const RANDOM: &str = "x=random";
 
+/// The statement of ones, which are elements of every group.
+const ONES: Places = [1; PLACES];
+
 const GRAMMAR: Grammar = Grammar {
     plain: &["PATTERN"],
     optional: 1,
@@ -72,15 +75,10 @@ pub fn run(words: Vec<OsString>, out: &mut dyn Write) -> Outcome {
     if words.flag(RANDOM) {
         alone(&words)?;
     }
-    let without = without_statement(&words, &asked)?;
-    let random = words.flag(RANDOM);
-    let drawn = random.then(|| Generator::open()?.coordinates(&without)).transpose()?;
-    let sheet = match &drawn {
-        Some(witness) => {
-            let statement = sheets::image(&without, "x", witness)?;
-            without.with_statement(&statement)?
-        }
-        None => with_statement(&words, &without)?,
+    let numbers = numbers(&words, &asked)?;
+    let (sheet, drawn) = match given(&words, asked.rows()) {
+        Some(statement) => (with_statement(&asked, numbers, &statement)?, None),
+        None => with_image(&words, &without_statement(&asked, numbers)?)?,
     };
     let made = notation::with_numbers(&sheet, &asked.statement(&sheet));
     let Some(witness) = drawn else {
@@ -117,18 +115,38 @@ fn root_rows(words: &Words) -> Outcome<usize> {
     Ok(stated(words)?.numbers()?.len())
 }
 
-/// The sheet that is asked for, with ones in the place of the statement.
-fn without_statement(words: &Words, asked: &Asked) -> Outcome<Instance> {
+/// The modulus, the order or exponent, and the challenge count that the words have.
+fn numbers(words: &Words, asked: &Asked) -> Outcome<[u32; 3]> {
     let modulus = words.needed("m", "the modulus")?.number()?;
-    let (kind, letter, what, other, when) = match asked {
-        Asked::Root(_) => (ROOT, "e", "the exponent", "q", "for a root sheet"),
-        _ => (EXPONENT, "q", "the order", "e", "for an exponent sheet"),
+    let (what, other, when) = match asked {
+        Asked::Root(_) => ("the exponent", "q", "for a root sheet"),
+        _ => ("the order", "e", "for an exponent sheet"),
     };
     words.without(&[other], when)?;
-    let order = words.needed(letter, what)?.number()?;
-    let sheet = |challenges| asked.sheet([modulus, order, challenges]);
+    let order = words.needed(asked.kind().1, what)?.number()?;
+    let sheet = |challenges| asked.sheet([modulus, order, challenges], &ONES);
     let challenges = words.number("K")?.unwrap_or_else(|| sheets::largest(sheet));
-    sheet(challenges).map_err(|refusal| match refusal {
+    Ok([modulus, order, challenges])
+}
+
+/// The statement in z=, if it has a value for each of so many rows.
+fn given(words: &Words, rows: usize) -> Option<Places> {
+    let stated = stated(words).ok().filter(|stated| stated.letter == "z" && rows <= PLACES)?;
+    sheets::in_places(stated, rows, "row").ok()
+}
+
+/// The sheet with these numbers and this statement.
+fn with_statement(asked: &Asked, numbers: [u32; 3], statement: &Places) -> Outcome<Instance> {
+    asked.sheet(numbers, statement).or_else(|refusal| {
+        let ones = without_statement(asked, numbers)?;
+        Err(brought::refused(refusal, &[Brought::statement(&ones, "z", statement)]))
+    })
+}
+
+/// The sheet with these numbers, with ones in the place of the statement.
+fn without_statement(asked: &Asked, numbers: [u32; 3]) -> Outcome<Instance> {
+    let ([modulus, order, challenges], (kind, letter)) = (numbers, asked.kind());
+    asked.sheet(numbers, &ONES).map_err(|refusal| match refusal {
         Refusal::Modulus => Failure::refused(refusal, format!("{modulus} in m=")),
         Refusal::Order => Failure::refused(refusal, format!("{order} in {letter}=")),
         Refusal::Challenges => {
@@ -136,17 +154,22 @@ fn without_statement(words: &Words, asked: &Asked) -> Outcome<Instance> {
             let why = causes::challenges(&header);
             Failure::cause(refusal, format!("{challenges} in K=: {why}"))
         }
-        _ => asked.refused([modulus, order, challenges], refusal),
+        _ => asked.refused(numbers, refusal),
     })
 }
 
-/// The sheet with the statement that the words have, or with that of their witness.
-fn with_statement(words: &Words, sheet: &Instance) -> Outcome<Instance> {
+/// The sheet with the image of the witness that the words have in the place of its ones, or of one that is drawn, and that one.
+/// The library computes an image on a sheet, so the sheet of ones is needed.
+fn with_image(words: &Words, ones: &Instance) -> Outcome<(Instance, Option<Places>)> {
+    if words.flag(RANDOM) {
+        let witness = Generator::open()?.coordinates(ones)?;
+        let statement = sheets::image(ones, "x", &witness)?;
+        return Ok((ones.with_statement(&statement)?, Some(witness)));
+    }
     let stated = stated(words)?;
     let statement = match stated.letter {
-        "z" => sheets::by_row(sheet, stated)?,
-        letter => sheets::image(sheet, letter, &sheets::by_column(sheet, stated)?)?,
+        "z" => sheets::by_row(ones, stated)?,
+        letter => sheets::image(ones, letter, &sheets::by_column(ones, stated)?)?,
     };
-    let brought = [Brought::statement(sheet, "z", &statement)];
-    sheet.with_statement(&statement).map_err(|refusal| brought::refused(refusal, &brought))
+    Ok((ones.with_statement(&statement)?, None))
 }

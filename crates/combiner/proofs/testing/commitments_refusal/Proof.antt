@@ -3,7 +3,7 @@
 use mathlib.Core.Path.{sym, _∙_}
 use native.Mathlib.Omega.{arith}
 use Rattle.sigma.specs.Round.{badCommitment}
-use Rattle.team_values.specs.Parts.{nonElementPart}
+use Rattle.combiner.specs.Parts.{nonElementPart}
 use Rattle.products.specs.Team.{commitmentsRules}
 use Rattle.combiner.proofs.TeamNumber.{all-right, image-bad, images-right, parts-bad, product-bad, team-first}
 use Rattle.combiner.proofs.testing.commitments_refusal.Statement.{statement}

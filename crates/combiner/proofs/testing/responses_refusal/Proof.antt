@@ -3,7 +3,7 @@
 use mathlib.Core.Path.{sym, _∙_}
 use native.Mathlib.Omega.{arith}
 use Rattle.sigma.specs.Round.{badCoordinates}
-use Rattle.team_values.specs.Parts.{nonCoordinatePart}
+use Rattle.combiner.specs.Parts.{nonCoordinatePart}
 use Rattle.products.specs.Team.{responsesRules}
 use Rattle.combiner.proofs.TeamNumber.{all-right, image-bad, images-right, parts-bad, product-bad, team-first}
 use Rattle.combiner.proofs.testing.responses_refusal.Statement.{statement}

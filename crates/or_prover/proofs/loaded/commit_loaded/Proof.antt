@@ -3,7 +3,7 @@
 use native.Mathlib.Omega.{arith}
 use Rattle.disjunctions.specs.Prover.{commitOrAfter}
 use Rattle.or_judge.proofs.Verdicts.{valid-few}
-use Rattle.or_sides.proofs.SideTests.{few-own}
+use Rattle.or_session.proofs.SideTests.{few-own}
 use Rattle.or_prover.proofs.Given.{commit-given}
 use Rattle.or_session.proofs.Steps.{step-refused}
 use Rattle.or_prover.proofs.Tested.{commit-below}

@@ -9,7 +9,7 @@ use Rattle.sigma.proofs.Passed.{challenge-passes}
 use Rattle.sigma.proofs.Tests.{says-badChallenge}
 use Rattle.disjunctions.specs.Prover.{commitOrRules}
 use Rattle.disjunctions.proofs.SessionTests.{says-or-prover}
-use Rattle.or_sides.specs.Sides.{badSlots}
+use Rattle.or_session.specs.Sides.{badSlots}
 use Rattle.or_session.proofs.States.{not-new}
 use Rattle.or_prover.proofs.loaded.commit_refusal.Statement.{statement}
 use Rattle.or_prover.proofs.loaded.commit_refusal.Tie as tie

@@ -8,7 +8,9 @@ use crate::commands::patterns;
 use crate::sheets::brought::{self, Brought};
 use crate::sheets::causes;
 use crate::sheets::notation::{self, counted};
-use dimkhoros::{EXPONENT, Header, Instance, PLACES, Patterns, Plan, ROOT, Refusal, Values};
+use dimkhoros::{
+    EXPONENT, Header, Instance, PLACES, Patterns, Places, Plan, ROOT, Refusal, Values,
+};
 use std::path::Path;
 
 /// The table that is asked for.
@@ -70,13 +72,39 @@ impl Asked {
         Ok(Asked::Pattern(Box::new(file), number, values))
     }
 
-    /// The sheet with this modulus, order and challenge count, with ones for its statement.
-    pub fn sheet(&self, numbers: [u32; 3]) -> Result<Instance, Refusal> {
+    /// The kind of the sheet, and the letter of its order or exponent.
+    pub fn kind(&self) -> (u32, &'static str) {
         match self {
-            Asked::Pattern(file, number, values) => by_pattern(file, *number, values, numbers),
-            Asked::Root(rows) => by_table(ROOT, [*rows, *rows], &[], numbers),
-            Asked::Table(rows) => by_table(EXPONENT, [rows.len(), rows[0].len()], rows, numbers),
-            Asked::Linear(linear) => linear.sheet(numbers),
+            Asked::Root(_) => (ROOT, "e"),
+            _ => (EXPONENT, "q"),
+        }
+    }
+
+    /// How many rows the table has, and none if the file has no such pattern.
+    pub fn rows(&self) -> usize {
+        match self {
+            Asked::Pattern(file, number, _) => file.layout(*number).map_or(0, |layout| layout.rows),
+            Asked::Root(rows) => *rows,
+            Asked::Table(rows) => rows.len(),
+            Asked::Linear(linear) => linear.row_count(),
+        }
+    }
+
+    /// The sheet with this modulus, order and challenge count, and with a statement.
+    pub fn sheet(&self, numbers: [u32; 3], statement: &Places) -> Result<Instance, Refusal> {
+        let rows = self.rows();
+        match self {
+            Asked::Pattern(file, pattern, values) => {
+                let [modulus, order, challenges] = numbers;
+                let (pattern, statement) = (*pattern, &statement[..rows]);
+                let plan = Plan { pattern, modulus, order, challenges, values, statement };
+                Instance::from_pattern(file, &plan)
+            }
+            Asked::Root(_) => by_table(ROOT, [rows, rows], &[], numbers, statement),
+            Asked::Table(table) => {
+                by_table(EXPONENT, [rows, table[0].len()], table, numbers, statement)
+            }
+            Asked::Linear(linear) => linear.sheet(numbers, &statement[..rows.min(PLACES)]),
         }
     }
 
@@ -146,31 +174,19 @@ fn wrong_count(file: &Patterns, number: u32, found: usize) -> String {
 
 /// Refuses an entry, public value or generator that is not an element.
 fn outside(letter: &str, values: &[u32], numbers: [u32; 3]) -> Failure {
-    match by_table(EXPONENT, [1, 1], &[vec![1]], numbers) {
+    match by_table(EXPONENT, [1, 1], &[vec![1]], numbers, &[1; PLACES]) {
         Ok(sheet) => brought::refused(Refusal::Entry, &[Brought::entries(&sheet, letter, values)]),
         Err(refusal) => refusal.into(),
     }
 }
 
-/// A pattern's sheet with ones for its statement. The numbers are modulus, order and challenge count.
-fn by_pattern(
-    file: &Patterns,
-    pattern: u32,
-    values: &[u32],
-    numbers: [u32; 3],
-) -> Result<Instance, Refusal> {
-    let [modulus, order, challenges] = numbers;
-    let rows = file.layout(pattern).map_or(0, |layout| layout.rows);
-    let statement = &[1; PLACES][..rows];
-    Instance::from_pattern(file, &Plan { pattern, modulus, order, challenges, values, statement })
-}
-
-/// A sheet of so many rows and columns with ones for its statement. The numbers are modulus, order and challenge count.
+/// A sheet of so many rows and columns with a statement. The numbers are modulus, order and challenge count.
 fn by_table(
     kind: u32,
     shape: [usize; 2],
     table: &[Vec<u32>],
     numbers: [u32; 3],
+    statement: &Places,
 ) -> Result<Instance, Refusal> {
     let [modulus, order, challenges] = numbers;
     // What is beyond the places is refused by the shape.
@@ -181,5 +197,5 @@ fn by_table(
     }
     let [rows, columns] = shape.map(|count| u32::try_from(count).unwrap_or(u32::MAX));
     let header = Header { kind, modulus, order, challenges, rows, columns };
-    Instance::encode(&Values { header, entries, statement: [1; PLACES] })
+    Instance::encode(&Values { header, entries, statement: *statement })
 }

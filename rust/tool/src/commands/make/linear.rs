@@ -63,8 +63,17 @@ impl Linear {
         all
     }
 
-    /// The sheet with this modulus, order and challenge count, with ones for its statement.
-    pub fn sheet(&self, [modulus, order, challenges]: [u32; 3]) -> Result<Instance, Refusal> {
+    /// How many rows the statement has.
+    pub fn row_count(&self) -> usize {
+        self.rows.len()
+    }
+
+    /// The sheet with this modulus, order and challenge count, and with a statement.
+    pub fn sheet(
+        &self,
+        [modulus, order, challenges]: [u32; 3],
+        statement: &[u32],
+    ) -> Result<Instance, Refusal> {
         let coefficients = self.coefficients(order);
         let [rows, columns] =
             [self.rows.len(), self.columns].map(|count| u32::try_from(count).unwrap_or(u32::MAX));
@@ -74,7 +83,7 @@ impl Linear {
             challenges,
             generators: &self.generators,
             forms: Forms { rows, columns, coefficients: &coefficients },
-            statement: &[1; PLACES][..self.rows.len().min(PLACES)],
+            statement,
         })
     }
 

@@ -1,0 +1,32 @@
+-- `or_session::session::drop_session` meets its contract: the state's rule alone decides.
+-- Assumes nothing.
+use mathlib.Core.Path.{refl, sym}
+use mathlib.Core.List.{[]}
+use native.Mathlib.Omega.{arith}
+use Rattle.lists.specs.Places.{pad8}
+use Rattle.rules.specs.Rule.{lowest}
+use Rattle.rules.proofs.Lowest.{pass, stop}
+use Rattle.disjunctions.specs.Prover.{dropOr, dropOrRules}
+use Rattle.or_session.proofs.States.{is-started, not-started}
+use Rattle.or_session.proofs.Steps.{step-refused, step-given}
+use Rattle.or_session.proofs.session.drop_session.Statement.{statement}
+use Rattle.or_session.proofs.session.drop_session.Tie as tie
+
+wiped-requires : tie.Need-wiped-requires
+wiped-requires c κs = omega arith
+
+refused-requires : tie.Need-refused-requires
+refused-requires c κs = omega arith
+
+returns : tie.Need-returns
+unfolding dropOr dropOrRules lowest pad8
+returns c =
+    step-given _ _ [] [] 0 (sym (pass 21 [] (is-started _ (c .before .match .keys1)))) refl (c .wiped .ensures) refl refl refl
+
+returns-2 : tie.Need-returns-2
+unfolding dropOr dropOrRules
+returns-2 c =
+    step-refused _ _ _ _ _ (sym (stop 21 _ (not-started _ (c .before .match .keys2)))) (omega arith) (c .refused .ensures)
+
+pub drop-session-spec : {M : Type 1} → statement M
+drop-session-spec = tie.close (tie.spec wiped-requires refused-requires returns returns-2)

@@ -1,4 +1,0 @@
--- Laws that the proofs of the functions cite, by topic.
-pub mod OwnSide
-pub mod SideValues
-pub mod SideTests
