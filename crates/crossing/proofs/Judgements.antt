@@ -1,7 +1,7 @@
 -- A verdict's three numbers tell it: no two verdicts that calls give have the same.
 -- Assumes nothing.
 use Prim.Native.Nat.{ℕ, _^_, _<_}
-use mathlib.Core.Path.{_≡_, refl, sym, ap}
+use mathlib.Core.Path.{_≡_, refl, sym, ap, _∙_}
 use mathlib.Core.Logic.{_↔_, _≢_}
 use mathlib.Core.List.{List}
 use native.Mathlib.Omega.{arith}
@@ -10,6 +10,7 @@ use Rattle.types.specs.declared.Round.{Round}
 use Rattle.types.specs.declared.Verdict.{Verdict}
 use Rattle.types.specs.declared.Verdict.the-variants.{Accepted, Rejected, Refused}
 use Rattle.types.specs.declared.Verifier.{Verifier}
+use Rattle.types.specs.declared.VerifierVerdict.{VerifierVerdict}
 use Rattle.formats.specs.Load.{loadRefusal}
 use Rattle.formats.specs.Sheet.{instanceOf}
 use Rattle.sigma.specs.Answer.{outcome, judged}
@@ -17,8 +18,9 @@ use Rattle.sigma.specs.Judge.{judgeAfter}
 use Rattle.sigma.proofs.Answer.{judged-refused}
 use Rattle.sigma.proofs.Verdict.{verdict-not-refused}
 use Rattle.runs.specs.Calls.{judgeRound}
-use Rattle.runs.specs.Verifier.{takeResponse, takeResponseAfter}
+use Rattle.runs.specs.Verifier.{takeResponse, takingResponse}
 use Rattle.runs.proofs.Protocol.{protocol}
+use Rattle.runs.proofs.VerifierSteps.{takeResponse-value}
 use Rattle.crossing.specs.Verdicts.{judgement}
 use Rattle.crossing.specs.declared.Judgement.{Judgement}
 
@@ -69,8 +71,10 @@ judge-not-zero sheet round = judged-not-zero _ _ (verdict-not-refused _ _ _ _)
 
 -- nor does Vic's session
 pub response-not-zero : (sheet : List ℕ) (v : Verifier) (r : List ℕ) → takeResponse sheet v r .verdict ≢ Refused 0
-unfolding takeResponse takeResponseAfter
-response-not-zero sheet v r = judged-not-zero _ _ (verdict-not-refused _ _ _ _)
+unfolding takingResponse outcome
+response-not-zero sheet v r e =
+    let given = takeResponse-value sheet v r (ap (λ (w : Verdict). outcome w .number) e) in
+    verdict-not-refused (instanceOf sheet) _ _ _ 0 (sym (ap (λ (told : VerifierVerdict). told .verdict) given) ∙ e)
 
 -- no bit is set of a row that the sheet does not have
 pub judgement-inside : (sheet : List ℕ) → loadRefusal sheet ≡ 0 → (round : Round)

@@ -16,15 +16,17 @@ use Rattle.lists.specs.Places.{pad8, places}
 use Rattle.lists.proofs.Places.{getD-places, length-places}
 use Rattle.rules.specs.Rule.{lowest}
 use Rattle.rules.proofs.Lowest.{lowest-append-zero}
-use Rattle.formats.specs.Load.{loadRefusal, loadRules}
+use Rattle.formats.specs.Load.{loadRefusal}
 use Rattle.formats.specs.Sheet.{instanceOf}
-use Rattle.formats.proofs.Positive.{load-positive}
 use Rattle.runs.specs.Calls.{simulateCommitment}
 use Rattle.runs.specs.OnSheet.{Below, readSlots}
-use Rattle.runs.specs.Prover.{commit, newProver, respond}
+use Rattle.runs.specs.Ours.{callProver}
+use Rattle.runs.specs.Prover.{commit, committing, newProver, respond, responding}
+use Rattle.runs.specs.ProverCalls.{Commit, Respond}
 use Rattle.runs.proofs.Loaded.{simulate-loaded}
 use Rattle.runs.proofs.Memory.{none-listed, some-room}
-use Rattle.runs.proofs.ProverSteps.{commitAfter-given, commitAfter-runs, respondAfter-given, respondAfter-runs}
+use Rattle.runs.proofs.ProverCalls.{prover-value}
+use Rattle.runs.proofs.ProverSteps.{commit-runs, respond-runs}
 use Rattle.runs.proofs.Witness.{witness-slots}
 use Rattle.sigma.specs.Comparison.{differ}
 use Rattle.sigma.specs.Image.{image}
@@ -76,11 +78,10 @@ module _ (sheet : List ℕ) (loads : loadRefusal sheet ≡ 0) where
   -- a nonce of domain slots is committed to in a new session
   commit-values : (k : List ℕ) → Coordinates (instanceOf sheet) (readSlots sheet k)
       → commit sheet newProver k .values ≡ pad8 0 (image (tableOf (instanceOf sheet)) (readSlots sheet k))
-  unfolding commit newProver loadRefusal
+  unfolding callProver committing newProver
   commit-values k slots =
-      let runs = commitAfter-runs (loadRules sheet) (instanceOf sheet) newProver k (load-positive sheet) .1
-      (loads, record { nonce = slots; phase = refl }) in
-      ap (λ (step : ProverStep). step .values) (commitAfter-given (loadRules sheet) (instanceOf sheet) newProver k runs)
+      let runs = commit-runs sheet newProver k .1 (loads, record { nonce = slots; phase = refl }) in
+      ap (λ (step : ProverStep). step .values) (prover-value (Commit sheet k) newProver runs)
 
   -- a challenge below K and a response of domain slots are simulated
   simulate-values : (d : ℕ) (r : List ℕ) → Below sheet d → Coordinates (instanceOf sheet) (readSlots sheet r)
@@ -211,12 +212,12 @@ module _ (s s′ : List ℕ) (pair : Pair s s′) (p : OrProver) where
       → Coordinates (instanceOf sheet) (readSlots sheet (q .nonce))
       → Agree 8 (pad8 0 (image (tableOf (instanceOf sheet)) (readSlots sheet (q .nonce)))) (q .commitment)
       → respond sheet q e x .values ≡ pad8 0 (response (instanceOf sheet .header) (readSlots sheet (q .nonce)) e (readSlots sheet x))
-  unfolding respond newProver loadRefusal
+  unfolding callProver responding newProver
   answer-values sheet loads q e x empty phase below slots carried nonce agree =
       let inst = instanceOf sheet in
       let n = inst .header .columns in
       let witness = witness-slots inst (places n x) (length-places n x) .0 (slots, witness-passes inst (places n x) .0 carried) in
-      let runs = respondAfter-runs (loadRules sheet) inst q e x (load-positive sheet) .1 (
+      let runs = respond-runs sheet q e x .1 (
         loads,
         record {
           challenge = below;
@@ -228,7 +229,7 @@ module _ (s s′ : List ℕ) (pair : Pair s s′) (p : OrProver) where
           room = rw empty some-room;
         },
       ) in
-      ap (λ (step : ProverStep). step .values) (respondAfter-given (loadRules sheet) inst q e x runs)
+      ap (λ (step : ProverStep). step .values) (prover-value (Respond sheet e x) q runs)
 
   -- the responses of a side that is known and of the other one
   abbrev known : ℕ → ℕ → List ℕ → List ℕ

@@ -46,6 +46,7 @@ use Rattle.patterns.specs.PatternFile.{badDigits, badPatternFile, badSizes, mis
 use Rattle.patterns.specs.Table.{patterns, shipped}
 use Rattle.products.specs.Team.{badImages, badProduct, badTeam, commitmentsRules, joinAll, joinResponses, multiplyAll, multiplyCommitments, responsesRules, teamRules}
 use Rattle.rules.specs.Answer.{unlessRefused}
+use Rattle.rules.specs.Call.{answer, numberOf}
 use Rattle.rules.specs.Either.{eitherRules}
 use Rattle.rules.specs.Rule.{lowest}
 use Rattle.runs.specs.Calls.{extractWitness, judgeRound, simulateCommitment}
@@ -53,8 +54,8 @@ use Rattle.runs.specs.Level.{badLevel, strongEnough}
 use Rattle.runs.specs.Marker.{failsAt, markRefusal, markRules, markerText, newline, refusedWord, resultLine, roundLine, roundLines, rowWord, verdictLine, verdictOn, verdictText, wordLine}
 use Rattle.runs.specs.Memory.{isFull, isListed, listedAt, listing, noMemory}
 use Rattle.runs.specs.Ours.{honestRound}
-use Rattle.runs.specs.Prover.{commit, commitAfter, commitRules, dropRules, dropSession, newProver, proverIn, proverState, proverStep, respond, respondAfter, respondRules, unfitProver}
-use Rattle.runs.specs.Verifier.{newVerifier, takeChallenge, takeChallengeAfter, takeChallengeRules, takeCommitment, takeCommitmentAfter, takeCommitmentRules, takeResponse, takeResponseAfter, takeResponseRules, unfitCommitment, verifierIn, verifierState, verifierStep}
+use Rattle.runs.specs.Prover.{commit, committing as committingCall, dropSession, dropping as droppingCall, newProver, proverIn, proverState, respond, responding as respondingCall, unfitProver}
+use Rattle.runs.specs.Verifier.{newVerifier, takeChallenge, takeCommitment, takeResponse, takingChallenge, takingCommitment, takingResponse, unfitCommitment, verifierIn, verifierState}
 use Rattle.sigma.specs.Admission.{badCount, badEntries, badKind, badModulus, badOrder, badSize, badStatement, elementRules, firstDivisor, headerRules}
 use Rattle.sigma.specs.Answer.{computed, eightPlaces, isAccepted, judged, outcome, rowsOf}
 use Rattle.sigma.specs.Comparison.{compareSides, differ, differences, firstDifference}
@@ -98,13 +99,13 @@ unfolding extractOr extractOrAfter extractOrRules extractedOf extractedOr extrac
     askedPattern badAsked madeRules makeFrom makeRules digit entryOf headerFor madeFor patternEntries root badDigits
     badPatternFile badSizes misnamed patternAt patternBytes patternCount patternEnd patternFile patternFrom
     patternMark patternStart patternVersion patterns shipped badImages badProduct badTeam commitmentsRules joinAll
-    joinResponses multiplyAll multiplyCommitments responsesRules teamRules unlessRefused eitherRules lowest
+    joinResponses multiplyAll multiplyCommitments responsesRules teamRules unlessRefused answer numberOf eitherRules lowest
     extractWitness judgeRound simulateCommitment honestRound badLevel strongEnough failsAt markRefusal markRules
     markerText newline refusedWord resultLine roundLine roundLines rowWord verdictLine verdictOn verdictText wordLine
-    commit commitAfter commitRules dropRules dropSession newProver proverIn proverState proverStep respond
-    respondAfter respondRules unfitProver isFull isListed listedAt listing noMemory newVerifier takeChallenge takeChallengeAfter takeChallengeRules
-    takeCommitment takeCommitmentAfter takeCommitmentRules takeResponse takeResponseAfter takeResponseRules
-    unfitCommitment verifierIn verifierState verifierStep badCount badEntries badKind badModulus badOrder badSize
+    commit committingCall droppingCall dropSession newProver proverIn proverState respond
+    respondingCall unfitProver isFull isListed listedAt listing noMemory newVerifier takeChallenge takingChallenge
+    takeCommitment takingCommitment takeResponse takingResponse
+    unfitCommitment verifierIn verifierState badCount badEntries badKind badModulus badOrder badSize
     badStatement elementRules firstDivisor headerRules computed eightPlaces isAccepted judged outcome rowsOf
     compareSides differ differences firstDifference isCoordinate isElement someNonCoordinate someNonElement
     extractAfter extractRules extracted formula slotFormula image rowImage entry isExponent statementAt judgeAfter

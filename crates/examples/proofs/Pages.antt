@@ -14,6 +14,7 @@ use Rattle.numbers.specs.Search.{find, any}
 use Rattle.lists.specs.Choices.{selected}
 use Rattle.lists.specs.Places.{eightByEight, itemsAt, tabulate, places, pad8, zeros8}
 use Rattle.rules.specs.Answer.{unlessRefused}
+use Rattle.rules.specs.Call.{answer, numberOf}
 use Rattle.rules.specs.Either.{eitherRules}
 use Rattle.rules.specs.Rule.{lowest}
 use Rattle.rules.proofs.Lowest.{pass, stop}
@@ -142,29 +143,22 @@ use Rattle.runs.specs.Prover.{
   proverState,
   proverIn,
   newProver,
-  proverStep,
-  commitRules,
-  commitAfter,
+  committing as committingCall,
   unfitProver,
-  respondRules,
-  respondAfter,
+  responding as respondingCall,
   commit,
   respond,
-  dropRules,
+  dropping as droppingCall,
   dropSession,
 }
 use Rattle.runs.specs.Verifier.{
   verifierState,
   verifierIn,
   newVerifier,
-  verifierStep,
   unfitCommitment,
-  takeCommitmentRules,
-  takeCommitmentAfter,
-  takeChallengeRules,
-  takeChallengeAfter,
-  takeResponseRules,
-  takeResponseAfter,
+  takingCommitment,
+  takingChallenge,
+  takingResponse,
   takeCommitment,
   takeChallenge,
   takeResponse,
@@ -301,7 +295,7 @@ above-count number values statement high =
 -- the three tables hold
 pub worked-examples : EveryPage × EveryCorner × OrPage × SessionPage
 unfolding euclid gcd residue quotient power bezoutRight bezoutLeft inverse product find any itemsAt tabulate places pad8
-    zeros8 eightByEight unlessRefused lowest numberAt bytesOf bytesOfEach ascii digits decimal firstDivisor badKind
+    zeros8 eightByEight unlessRefused answer numberOf lowest numberAt bytesOf bytesOfEach ascii digits decimal firstDivisor badKind
     badModulus badOrder badSize badCount badEntries badStatement headerRules elementRules outcome isAccepted judged
     eightPlaces computed firstDifference differ differences compareSides rowsOf selected bit maskBelow sum isElement
     someNonElement isCoordinate someNonCoordinate slotFormula formula extracted extractRules extractAfter rowImage image
@@ -315,14 +309,14 @@ unfolding euclid gcd residue quotient power bezoutRight bezoutLeft inverse produ
     recordLength recordStart roundAt badFile sheetMark versionOf headerOf entryCount sheetLength zeros64 entriesOf
     statementOf instanceOf short written writtenAtStart judgeRound simulateCommitment extractWitness newline wordLine
     rowWord verdictText verdictLine resultLine verdictOn roundLine roundLines markerText proverState proverIn newProver
-    proverStep commitRules commitAfter unfitProver respondRules respondAfter commit respond noMemory listedAt isListed isFull listing verifierState verifierIn
-    newVerifier verifierStep unfitCommitment takeCommitmentRules takeCommitmentAfter takeChallengeRules
-    takeChallengeAfter takeResponseRules takeResponseAfter takeCommitment takeChallenge takeResponse honestRound
+    committingCall unfitProver respondingCall commit respond noMemory listedAt isListed isFull listing verifierState verifierIn
+    newVerifier unfitCommitment takingCommitment takingChallenge
+    takingResponse takeCommitment takeChallenge takeResponse honestRound
     exampleFile exampleText array smallRound run bothWays judging fourBytes sheetBytes smallSheet schnorrSheet madeSheet
     okamotoSheet diffieHellmanSheet productSheet rootSheet flatten onesSheet manyChallenges changed rootBytes making
     writingIn zerosFile noBytes counting appending extracting simulating peggy committing responding dropping vic
     hearing asking telling noRounds badInUse appendRules recordBytes appended appendAfter append emptyFile noHeader load
-    loadEntries encodeRules encode dropRules dropSession checkRound firstNonElement firstNonCoordinate sheetSpot
+    loadEntries encodeRules encode droppingCall dropSession checkRound firstNonElement firstNonCoordinate sheetSpot
     fileSpot roundSpot spotOf firstVerdict spotText rowText lineText reasonLine reasonText repeated reasonOn badLevel
     strongEnough failsAt markRules markRefusal refusedWord marking lastLine eitherRules isOrAccepted extractOrRules
     extractedSide extractedOf extractedOr extractOrAfter extractOr pairRules badCommitments badChallenges badResponses

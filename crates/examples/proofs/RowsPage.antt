@@ -23,12 +23,13 @@ use Rattle.numbers.specs.Product.{product, sum}
 use Rattle.numbers.specs.Search.{find, any}
 use Rattle.reasons.specs.Reason.{firstNonElement, firstNonCoordinate, sheetSpot, fileSpot, roundSpot, spotOf, firstVerdict, spotText, rowText, lineText, reasonLine, reasonText}
 use Rattle.rules.specs.Answer.{unlessRefused}
+use Rattle.rules.specs.Call.{answer, numberOf}
 use Rattle.rules.specs.Either.{eitherRules}
 use Rattle.rules.specs.Rule.{lowest}
 use Rattle.runs.specs.Calls.{judgeRound}
 use Rattle.runs.specs.Level.{badLevel, strongEnough}
 use Rattle.runs.specs.Marker.{newline, wordLine, rowWord, verdictText, verdictLine, resultLine, verdictOn, roundLine, roundLines, markerText, failsAt, markRules, markRefusal, refusedWord}
-use Rattle.runs.specs.Verifier.{verifierState, verifierIn, verifierStep, unfitCommitment, takeResponseRules, takeResponseAfter, takeResponse}
+use Rattle.runs.specs.Verifier.{takeResponse, takingResponse, unfitCommitment, verifierIn, verifierState}
 use Rattle.sigma.specs.Admission.{firstDivisor, badKind, badModulus, badOrder, badSize, badCount, badEntries, badStatement, headerRules, elementRules}
 use Rattle.sigma.specs.Answer.{outcome, isAccepted, judged, rowsOf}
 use Rattle.sigma.specs.Comparison.{firstDifference, differ, differences, compareSides}
@@ -40,7 +41,7 @@ use Rattle.sigma.specs.Round.{expectedImage, verdict, badCommitment, badChallen
 use mathlib.Core.List.{flatten}
 
 pub rows-page : RowsPage
-unfolding euclid gcd product find any itemsAt tabulate places pad8 zeros8 eightByEight unlessRefused lowest numberAt
+unfolding euclid gcd product find any itemsAt tabulate places pad8 zeros8 eightByEight unlessRefused answer numberOf lowest numberAt
     bytesOf bytesOfEach ascii digits decimal firstDivisor badKind badModulus badOrder badSize badCount badEntries
     badStatement headerRules elementRules outcome isAccepted judged firstDifference differ differences compareSides
     rowsOf selected bit maskBelow sum isElement someNonElement isCoordinate someNonCoordinate rowImage image isExponent
@@ -49,7 +50,7 @@ unfolding euclid gcd product find any itemsAt tabulate places pad8 zeros8 eightB
     fetchRound roundMark fileVersion countField widthOf challengeWidth recordLength recordStart roundAt badFile
     sheetMark versionOf headerOf entryCount sheetLength zeros64 entriesOf statementOf instanceOf judgeRound newline
     wordLine rowWord verdictText verdictLine resultLine verdictOn roundLine roundLines markerText verifierState
-    verifierIn verifierStep unfitCommitment takeResponseRules takeResponseAfter takeResponse array fourBytes sheetBytes
+    verifierIn unfitCommitment takingResponse takeResponse array fourBytes sheetBytes
     flatten recordBytes checkRound firstNonElement firstNonCoordinate sheetSpot fileSpot roundSpot spotOf firstVerdict
     spotText rowText lineText reasonLine reasonText badLevel strongEnough failsAt markRules markRefusal refusedWord
     eitherRules pairRules badCommitments badChallenges badResponses judgeOrRules combined verdictOr judgeOrAfter judgeOr

@@ -34,12 +34,12 @@ use Rattle.numbers.specs.Gcd.{euclid, gcd}
 use Rattle.numbers.specs.Product.{product}
 use Rattle.numbers.specs.Search.{any, find}
 use Rattle.rules.specs.Answer.{unlessRefused}
+use Rattle.rules.specs.Call.{answer, numberOf}
 use Rattle.rules.specs.Rule.{lowest}
 use Rattle.runs.specs.Memory.{isFull, isListed, listedAt, listing, neverSaved, savedAt}
-use Rattle.runs.specs.Prover.{commit, commitAfter, commitRules, dropRules, dropSession, proverIn, proverState, proverStep, respond, respondAfter, respondRules, unfitProver}
-use Rattle.runs.specs.Saving.{broughtBack, proverPhase, returnRules, returnTo, save, saveRules, savedState, saving}
+use Rattle.runs.specs.Prover.{commit, committing, dropSession, dropping, proverIn, proverState, respond, responding as respondingCall, unfitProver}
+use Rattle.runs.specs.Saving.{broughtBack, keeping, proverPhase, returnTo, returning, save, savedState, saving}
 use Rattle.sigma.specs.Admission.{badCount, badEntries, badKind, badModulus, badOrder, badSize, badStatement, elementRules, firstDivisor, headerRules}
-use Rattle.sigma.specs.Answer.{eightPlaces}
 use Rattle.sigma.specs.Comparison.{differ, firstDifference}
 use Rattle.sigma.specs.Element.{isCoordinate, isElement, someNonCoordinate, someNonElement}
 use Rattle.sigma.specs.Image.{image, rowImage}
@@ -50,11 +50,11 @@ pub saved-corners : SavedCorners
 unfolding numberAt ascii responding array answering answeringElsewhere asBefore at byHand everyState flag greatest handed memoryOf old
     peggyBeyond peggyLists peggyWith returningIn savingIn fourBytes schnorrSheet sheetBytes smallSheet eight spoilt badLength
     badStart loadRules shapeRules entriesOf entryCount headerOf instanceOf sheetLength sheetMark statementOf versionOf
-    zeros64 eightByEight itemsAt pad8 places tabulate zeros8 euclid gcd product any find unlessRefused lowest isFull
-    isListed listedAt listing neverSaved savedAt commit commitAfter commitRules dropRules dropSession proverIn
-    proverState proverStep respond respondAfter respondRules unfitProver broughtBack proverPhase returnRules returnTo
-    save saveRules savedState saving badCount badEntries badKind badModulus badOrder badSize badStatement elementRules
-    firstDivisor headerRules eightPlaces differ firstDifference isCoordinate isElement someNonCoordinate someNonElement
+    zeros64 eightByEight itemsAt pad8 places tabulate zeros8 euclid gcd product any find unlessRefused answer numberOf lowest isFull
+    isListed listedAt listing neverSaved savedAt commit committing dropping dropSession proverIn
+    proverState respond respondingCall unfitProver broughtBack proverPhase returning returnTo
+    save saving savedState keeping badCount badEntries badKind badModulus badOrder badSize badStatement elementRules
+    firstDivisor headerRules differ firstDifference isCoordinate isElement someNonCoordinate someNonElement
     image rowImage entry isExponent statementAt badChallenge badCoordinates badWitness response responseCoordinate
     flatten
 saved-corners = record {

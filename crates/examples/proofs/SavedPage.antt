@@ -15,15 +15,15 @@ use Rattle.numbers.specs.Gcd.{euclid, gcd}
 use Rattle.numbers.specs.Product.{product}
 use Rattle.numbers.specs.Search.{any, find}
 use Rattle.rules.specs.Answer.{unlessRefused}
+use Rattle.rules.specs.Call.{answer, numberOf}
 use Rattle.rules.specs.Rule.{lowest}
 use Rattle.runs.specs.Memory.{isFull, isListed, listedAt, listing, neverSaved, noMemory, savedAt}
 use Rattle.runs.specs.Ours.{proverTrace}
-use Rattle.runs.specs.Prover.{commit, commitAfter, commitRules, dropRules, dropSession, newProver, proverIn, proverState, proverStep, respond, respondAfter, respondRules, unfitProver}
+use Rattle.runs.specs.Prover.{commit, committing, dropSession, dropping, newProver, proverIn, proverState, respond, responding, unfitProver}
 use Rattle.runs.specs.ProverCalls.{answered, answeredBy, answeredOn}
 use Rattle.runs.specs.Run.{trace}
-use Rattle.runs.specs.Saving.{broughtBack, proverPhase, returnRules, returnTo, save, saveRules, savedState, saving}
+use Rattle.runs.specs.Saving.{broughtBack, keeping, proverPhase, returnTo, returning, save, savedState, saving}
 use Rattle.sigma.specs.Admission.{badCount, badEntries, badKind, badModulus, badOrder, badSize, badStatement, elementRules, firstDivisor, headerRules}
-use Rattle.sigma.specs.Answer.{eightPlaces}
 use Rattle.sigma.specs.Comparison.{differ, firstDifference}
 use Rattle.sigma.specs.Element.{isCoordinate, isElement, someNonCoordinate, someNonElement}
 use Rattle.sigma.specs.Image.{image, rowImage}
@@ -33,11 +33,11 @@ use Rattle.sigma.specs.Round.{badChallenge, badCoordinates, badWitness, respons
 pub saved-page : SavedPage
 unfolding numberAt ascii array answered answeredBy answeredOn proverTrace trace flatMap both copy given inARow peggyKeeps refused fourBytes schnorrSheet sheetBytes smallSheet eight badLength badStart
     loadRules shapeRules entriesOf entryCount headerOf instanceOf sheetLength sheetMark statementOf versionOf zeros64
-    eightByEight itemsAt pad8 places tabulate zeros8 euclid gcd product any find unlessRefused lowest isFull isListed
-    listedAt listing neverSaved noMemory savedAt commit commitAfter commitRules dropRules dropSession newProver proverIn
-    proverState proverStep respond respondAfter respondRules unfitProver broughtBack proverPhase returnRules returnTo
-    save saveRules savedState saving badCount badEntries badKind badModulus badOrder badSize badStatement elementRules
-    firstDivisor headerRules eightPlaces differ firstDifference isCoordinate isElement someNonCoordinate someNonElement
+    eightByEight itemsAt pad8 places tabulate zeros8 euclid gcd product any find unlessRefused answer numberOf lowest isFull isListed
+    listedAt listing neverSaved noMemory savedAt commit committing dropping dropSession newProver proverIn
+    proverState respond responding unfitProver broughtBack proverPhase returning returnTo
+    save saving savedState keeping badCount badEntries badKind badModulus badOrder badSize badStatement elementRules
+    firstDivisor headerRules differ firstDifference isCoordinate isElement someNonCoordinate someNonElement
     image rowImage entry isExponent statementAt badChallenge badCoordinates badWitness response responseCoordinate flatten
 saved-page = record {
   saved-new = refl;

@@ -51,6 +51,7 @@ use Rattle.products.specs.Team.{
   joinResponses,
 }
 use Rattle.rules.specs.Answer.{unlessRefused}
+use Rattle.rules.specs.Call.{answer, numberOf}
 use Rattle.rules.specs.Rule.{lowest}
 use Rattle.runs.specs.Calls.{judgeRound}
 use Rattle.runs.specs.Memory.{isFull, isListed, listedAt, listing, noMemory}
@@ -59,12 +60,9 @@ use Rattle.runs.specs.Prover.{
   proverState,
   proverIn,
   newProver,
-  proverStep,
-  commitRules,
-  commitAfter,
+  committing,
   unfitProver,
-  respondRules,
-  respondAfter,
+  responding,
   commit,
   respond,
 }
@@ -98,14 +96,14 @@ use Rattle.sigma.specs.Round.{
 }
 
 pub team-page : TeamPage
-unfolding euclid gcd product sum find any itemsAt tabulate places pad8 zeros8 eightByEight unlessRefused lowest numberAt
+unfolding euclid gcd product sum find any itemsAt tabulate places pad8 zeros8 eightByEight unlessRefused answer numberOf lowest numberAt
     bytesOf bytesOfEach ascii firstDivisor badKind badModulus badOrder badSize badCount badEntries badStatement
     headerRules elementRules rowsOf selected bit maskBelow outcome judged eightPlaces computed firstDifference differ
     differences compareSides isElement someNonElement isCoordinate someNonCoordinate rowImage image isExponent entry
     judgeRules judgeAfter responseCoordinate response expectedImage verdict badCommitment badChallenge badCoordinates
     badWitness headerBytes storedEntries sheetOf badStart badLength shapeRules loadRules statementAt sheetMark versionOf
     headerOf entryCount sheetLength zeros64 entriesOf statementOf instanceOf judgeRound proverState proverIn newProver
-    proverStep commitRules commitAfter unfitProver respondRules respondAfter commit respond noMemory listedAt isListed isFull listing honestRound array fourBytes
+    committing unfitProver responding commit respond noMemory listedAt isListed isFull listing honestRound array fourBytes
     sheetBytes smallSheet schnorrSheet flatten changed rootBytes multiplyAll joinAll badTeam badImages badProduct
     teamRules commitmentsRules responsesRules multiplyCommitments joinResponses brought each combining pairBytes teamRun
     teamNumbers multiplying joining twoRows

@@ -10,14 +10,15 @@ use modular::some_non_coordinate;
 use types::Computed;
 use types::Header;
 use types::ProverPhase;
-ghost use mathlib.Core.List.{List, []};
+ghost use mathlib.Core.List.{List};
 ghost use mathlib.Core.Path.{_≡_};
 ghost use Prim.Native.Nat.{ℕ, _≤_, _<_};
 ghost use Rattle.types.specs.declared.Memory.{Memory};
-ghost use Rattle.lists.specs.Places.{places, zeros8};
+ghost use Rattle.lists.specs.Places.{zeros8};
+ghost use Rattle.rules.specs.Call.{answer, numberOf};
 ghost use Rattle.rules.specs.Rule.{lowest};
 ghost use Rattle.sigma.specs.Valid.{Valid};
-ghost use Rattle.runs.specs.Prover.{commitRules, commitAfter, unfitProver, respondRules, respondAfter};
+ghost use Rattle.runs.specs.Prover.{committing, unfitProver, responding};
 ghost use Rattle.sigma.specs.Instance.{instanceWith};
 ghost use Rattle.prover.specs.Parts.{answeredStep, committedStep, listRules, proverWith};
 
@@ -47,7 +48,7 @@ pub fn not_answered(number: u32) -> Computed
 fn commit_refusal(h: Header, held: Held, nonce: [u32; 8]) -> u32
     requires { ⌜ (0 < h .modulus) × (h .columns ≤ 8) ⌝ }
     ensures { λ r. ⌜ ((entries : List (List ℕ)) (statement : List ℕ) (m : Memory)
-        → r ≡ lowest (commitRules (instanceWith h entries statement) (proverWith held m) (places (h .columns) nonce))) ⌝ }
+        → r ≡ numberOf (committing (instanceWith h entries statement) (proverWith held m) nonce)) ⌝ }
 {
     let columns = h.columns as usize;
     if some_non_coordinate(h, nonce, columns) {
@@ -71,7 +72,7 @@ pub fn commit_loaded(
 ) -> Committing
     requires { ⌜ Valid (instanceWith h entries statement) ⌝ }
     ensures { λ r. ⌜ ((m : Memory)
-        → committedStep (proverWith held m) r ≡ commitAfter [] (instanceWith h entries statement) (proverWith held m) nonce) ⌝ }
+        → committedStep (proverWith held m) r ≡ answer (committing (instanceWith h entries statement) (proverWith held m) nonce)) ⌝ }
 {
     let refusal = commit_refusal(h, held, nonce);
     if refusal != 0 {
@@ -116,7 +117,7 @@ fn respond_refusal(
 ) -> u32
     requires { ⌜ Valid (instanceWith h entries statement) ⌝ }
     ensures { λ r. ⌜ ((m : Memory) → barred ≡ lowest (listRules m (held .commitment))
-        → r ≡ lowest (respondRules (instanceWith h entries statement) (proverWith held m) challenge (places (h .columns) witness))) ⌝ }
+        → r ≡ numberOf (responding (instanceWith h entries statement) (proverWith held m) challenge witness)) ⌝ }
 {
     let rows = h.rows as usize;
     let columns = h.columns as usize;
@@ -152,7 +153,7 @@ pub fn respond_loaded(
 ) -> Computed
     requires { ⌜ Valid (instanceWith h entries statement) ⌝ }
     ensures { λ r. ⌜ ((m : Memory) → barred ≡ lowest (listRules m (held .commitment))
-        → answeredStep (proverWith held m) r ≡ respondAfter [] (instanceWith h entries statement) (proverWith held m) challenge witness) ⌝ }
+        → answeredStep (proverWith held m) r ≡ answer (responding (instanceWith h entries statement) (proverWith held m) challenge witness)) ⌝ }
 {
     let refusal = respond_refusal(h, entries, statement, held, barred, challenge, witness);
     if refusal != 0 {

@@ -12,12 +12,9 @@ use Rattle.numbers.specs.Search.{any}
 use Rattle.numbers.proofs.Search.{any-start}
 use Rattle.rules.specs.Rule.{lowest}
 use Rattle.rules.proofs.Lowest.{pass, stop, lowest-clear}
-use Rattle.formats.specs.Load.{loadRules}
-use Rattle.formats.specs.Sheet.{instanceOf}
-use Rattle.formats.proofs.Positive.{load-positive}
 use Rattle.runs.specs.Memory.{isFull, isListed, listedAt}
 use Rattle.runs.specs.Prover.{respond}
-use Rattle.runs.proofs.ProverSteps.{respondAfter-runs}
+use Rattle.runs.proofs.ProverSteps.{respond-runs}
 use Rattle.prover.specs.Parts.{listRules}
 use Rattle.prover_session.specs.Entries.{isEntry}
 
@@ -50,5 +47,4 @@ module _ (m : Memory) (t : List ℕ) where
 
 -- a response that is given had room in the list
 pub given-room : (sheet : List ℕ) (p : Prover) (c : ℕ) (x : List ℕ) → respond sheet p c x .refusal ≡ 0 → p .memory .count < 64
-unfolding respond
-given-room sheet p c x given = respondAfter-runs (loadRules sheet) (instanceOf sheet) p c x (load-positive sheet) .0 given .1 .room
+given-room sheet p c x given = respond-runs sheet p c x .0 given .1 .room

@@ -18,7 +18,7 @@ use Rattle.types.proofs.ProverPhase.{the-type}
 use Rattle.lists.specs.Places.{zeros8}
 use Rattle.runs.specs.Memory.{listing, neverSaved, savedAt}
 use Rattle.runs.specs.Prover.{proverIn, proverState}
-use Rattle.runs.specs.Saving.{broughtBack, proverPhase, savedState, saving}
+use Rattle.runs.specs.Saving.{broughtBack, keeping, proverPhase, savedState}
 use Rattle.crossing.specs.Provers.{proverOf, proverSession}
 use Rattle.crossing.specs.declared.ProverSession.{ProverSession}
 use Rattle.prover.proofs.States.{is-started, not-started}
@@ -77,9 +77,9 @@ pub saved-session : (s : ProverSession) (name : ℕ) {k : ℕ} → k ≡ proverS
       phase = proverOf s .phase;
       nonce = proverOf s .nonce;
       commitment = proverOf s .commitment;
-      memory = saving name (proverOf s);
+      memory = keeping name (proverOf s);
     })
-unfolding proverSession proverOf saving savedState
+unfolding proverSession proverOf keeping savedState
 saved-session s name number = rw number
 
 -- the session that returning hands back

@@ -5,6 +5,7 @@ pub mod Answer
 pub mod Order
 pub mod Condition
 pub mod Call
+pub mod Told
 pub mod Refuses
 pub mod Explains
 pub mod Either

@@ -2,7 +2,7 @@
 -- Assumes nothing.
 use Prim.Native.Nat.{ℕ, _<_}
 use mathlib.Core.Path.{_≡_, refl, ap, _∙_}
-use mathlib.Core.List.{List, []}
+use mathlib.Core.List.{List}
 use native.Mathlib.Omega.{arith}
 use lib.ListN.{length}
 use Rattle.types.specs.declared.Prover.{Prover}
@@ -17,10 +17,12 @@ use Rattle.types.specs.declared.VerifierVerdict.{VerifierVerdict}
 use Rattle.lists.specs.Places.{pad8, places, zeros8}
 use Rattle.lists.proofs.Each.{each-at}
 use Rattle.lists.proofs.Places.{places-pad8, places-places, places-whole}
-use Rattle.rules.proofs.Lowest.{lowest-clear}
-use Rattle.formats.specs.Load.{loadRules, loadRefusal}
+use Rattle.rules.specs.Call.{answer}
+use Rattle.rules.proofs.Call.{answer-clear}
+use Rattle.formats.specs.Load.{loadRefusal}
 use Rattle.formats.specs.Sheet.{instanceOf}
 use Rattle.formats.proofs.Loads.{loads-valid}
+use Rattle.formats.proofs.OnSheet.{on-sheet-loads}
 use Rattle.sigma.specs.Image.{image}
 use Rattle.sigma.specs.Instance.{Instance, tableOf}
 use Rattle.sigma.specs.Knowledge.{Choice, Witness, honestOn}
@@ -35,17 +37,12 @@ use Rattle.runs.specs.JointRun.{JointRun}
 use Rattle.runs.specs.Memory.{noMemory, listing}
 use Rattle.runs.specs.OnSheet.{readSlots, Below}
 use Rattle.runs.specs.Ours.{honestRound, runCalls}
-use Rattle.runs.specs.Prover.{newProver, commitAfter, commit, respondAfter, respond}
-use Rattle.runs.specs.Verifier.{newVerifier, takeCommitmentAfter, takeChallengeAfter, takeResponseAfter}
+use Rattle.runs.specs.Prover.{newProver, commit, committing, respond, responding}
+use Rattle.runs.specs.Verifier.{newVerifier, takingCommitment, takingChallenge, takingResponse}
 use Rattle.runs.specs.Verifier.{takeCommitment, takeChallenge, takeResponse}
-use Rattle.runs.proofs.After.{commitAfter-clear, respondAfter-clear}
-use Rattle.runs.proofs.After.{takeCommitmentAfter-clear, takeChallengeAfter-clear, takeResponseAfter-clear}
-use Rattle.runs.proofs.Loaded.{sheet-clear}
 use Rattle.runs.proofs.Memory.{none-listed, some-room}
-use Rattle.runs.proofs.ProverSteps.{commitAfter-runs, commitAfter-given, respondAfter-runs, respondAfter-given}
-use Rattle.runs.proofs.VerifierSteps.{takeCommitmentAfter-runs, takeCommitmentAfter-given}
-use Rattle.runs.proofs.VerifierSteps.{takeChallengeAfter-runs, takeChallengeAfter-given}
-use Rattle.runs.proofs.VerifierSteps.{takeResponseAfter-runs, takeResponseAfter-given}
+use Rattle.runs.proofs.ProverSteps.{commit-clear, respond-clear}
+use Rattle.runs.proofs.VerifierSteps.{takeCommitment-clear, takeChallenge-clear, takeResponse-clear}
 
 -- n places of n places with zeros behind are those places
 places-stored : (n : ℕ) (xs : List ℕ) → places n (pad8 0 (places n xs)) ≡ places n xs
@@ -95,78 +92,72 @@ verifierHolding phase inst k c = record { phase = phase; commitment = pad8 0 (co
 module _ (inst : Instance) (x k : List ℕ) (c : ℕ) where
   -- Peggy commits
   pub joint-commit : Choice inst (readOf inst k)
-      → commitAfter [] inst newProver k
+      → answer (committing inst newProver k)
       ≡ record { refusal = 0; session = proverCommitted inst k; values = pad8 0 (commitmentOf inst k) }
-  unfolding newProver
+  unfolding newProver committing
   joint-commit nonce =
-      commitAfter-given [] inst newProver k
-      (commitAfter-runs [] inst newProver k tt .1
-      (lowest-clear [] tt, record { nonce = slots-read inst k nonce; phase = refl }))
+      answer-clear (committing inst newProver k)
+      (commit-clear inst newProver k .1 (record { nonce = slots-read inst k nonce; phase = refl }))
 
   -- Vic takes her commitment
   joint-commitment : Elements inst (commitmentOf inst k)
-      → takeCommitmentAfter [] inst newVerifier (pad8 0 (commitmentOf inst k))
+      → answer (takingCommitment inst newVerifier (pad8 0 (commitmentOf inst k)))
       ≡ record { refusal = 0; session = verifierHolding Holding inst k 0 }
-  unfolding newVerifier
+  unfolding newVerifier takingCommitment
   joint-commitment elements =
       let t = places-held (inst .header .rows) (commitmentOf inst k) (length-image (tableOf inst) _) in
-      rw t at
-      (takeCommitmentAfter-given [] inst newVerifier (pad8 0 (commitmentOf inst k))
-      (takeCommitmentAfter-runs [] inst newVerifier (pad8 0 (commitmentOf inst k)) tt .1
-      (lowest-clear [] tt, record { commitment = rw t elements; phase = refl })))
+      answer-clear (takingCommitment inst newVerifier (pad8 0 (commitmentOf inst k)))
+      (takeCommitment-clear inst newVerifier _ .1 (record { commitment = rw t elements; phase = refl }))
+      ∙ rw t
 
   -- Vic takes the challenge
   joint-challenge : Elements inst (commitmentOf inst k) → c < inst .header .challenges
-      → takeChallengeAfter [] inst (verifierHolding Holding inst k 0) c
+      → answer (takingChallenge inst (verifierHolding Holding inst k 0) c)
       ≡ record { refusal = 0; session = verifierHolding Asked inst k c }
+  unfolding takingChallenge
   joint-challenge elements below =
       let t = places-held (inst .header .rows) (commitmentOf inst k) (length-image (tableOf inst) _) in
-      takeChallengeAfter-given [] inst (verifierHolding Holding inst k 0) c
-      (takeChallengeAfter-runs [] inst (verifierHolding Holding inst k 0) c tt .1
-      (lowest-clear [] tt, record { challenge = below; phase = refl; held = rw t elements }))
+      answer-clear (takingChallenge inst (verifierHolding Holding inst k 0) c)
+      (takeChallenge-clear inst _ c .1 (record { challenge = below; phase = refl; held = rw t elements }))
 
   -- Peggy responds
   joint-response : Witness inst (readOf inst x) → Choice inst (readOf inst k) → c < inst .header .challenges
-      → respondAfter [] inst (proverCommitted inst k) c x
+      → answer (responding inst (proverCommitted inst k) c x)
       ≡ record {
         refusal = 0;
         session = proverAnswered inst k;
         values = pad8 0 (responseOf inst x c k);
       }
+  unfolding responding
   joint-response witness nonce below =
       let stored = places-stored (inst .header .columns) k in
-      rw stored at
-      (respondAfter-given [] inst (proverCommitted inst k) c x
-      (respondAfter-runs [] inst (proverCommitted inst k) c x tt .1 (
-        lowest-clear [] tt,
-        record {
-          challenge = below;
-          witness = witness;
-          phase = refl;
-          nonce = rw stored (slots-read inst k nonce);
-          commitment = λ j h. rw stored;
-          unlisted = none-listed (pad8 0 (commitmentOf inst k));
-          room = some-room;
-        },
-      )))
+      answer-clear (responding inst (proverCommitted inst k) c x)
+      (respond-clear inst (proverCommitted inst k) c x .1 (record {
+        challenge = below;
+        witness = witness;
+        phase = refl;
+        nonce = rw stored (slots-read inst k nonce);
+        commitment = λ j h. rw stored;
+        unlisted = none-listed (pad8 0 (commitmentOf inst k));
+        room = some-room;
+      }))
+      ∙ rw stored
 
   -- Vic gives the verdict
   joint-verdict : Fits inst (roundOf (commitmentOf inst k) c (responseOf inst x c k))
       → verdict inst (commitmentOf inst k) c (responseOf inst x c k) ≡ Accepted
-      → takeResponseAfter [] inst (verifierHolding Asked inst k c) (pad8 0 (responseOf inst x c k))
+      → answer (takingResponse inst (verifierHolding Asked inst k c) (pad8 0 (responseOf inst x c k)))
       ≡ record { verdict = Accepted; session = verifierHolding Judged inst k c }
+  unfolding takingResponse
   joint-verdict fits accepted =
       let t = places-held (inst .header .rows) (commitmentOf inst k) (length-image (tableOf inst) _) in
       let r = places-held (inst .header .columns) (responseOf inst x c k) (length-response (inst .header) _ c _) in
-      rw (t, r, accepted) at
-      (takeResponseAfter-given [] inst (verifierHolding Asked inst k c) (pad8 0 (responseOf inst x c k))
-      (takeResponseAfter-runs [] inst (verifierHolding Asked inst k c) (pad8 0 (responseOf inst x c k)) tt .1 (
-        lowest-clear [] tt,
-        record {
-          response = rw r (fits .response);
-          ready = record { phase = refl; held = rw t (fits .commitment); challenge = fits .challenge };
-        },
-      )))
+      answer-clear (takingResponse inst (verifierHolding Asked inst k c) (pad8 0 (responseOf inst x c k)))
+      (takeResponse-clear inst (verifierHolding Asked inst k c) _ .1 (record {
+        response = rw r (fits .response);
+        ready = record { phase = refl; held = rw t (fits .commitment); challenge = fits .challenge };
+      }))
+      ∙ rw (t, r, accepted)
 
 -- ---- the run
 
@@ -218,21 +209,20 @@ module _ (sheet : List ℕ) (loaded : loadRefusal sheet ≡ 0) (x k : List ℕ) 
   unfolding jointSteps commit respond takeCommitment takeChallenge takeResponse honestOn
   joint-steps =
       let inst = instanceOf sheet in
-      let none = sheet-clear sheet loaded in
       let valid = loads-valid sheet loaded in
       let accepted = honest-accepted valid (readOf inst x) witness c below (readOf inst k) nonce in
       let (fits, holds) = valid-judge-accepted inst (roundOf (commitmentOf inst k) c (responseOf inst x c k)) valid .0 accepted in
       let verdict-is = verdict-accepted inst (commitmentOf inst k) c (responseOf inst x c k) .1 holds in
       rw (
-        commitAfter-clear (loadRules sheet) inst none newProver k,
+        on-sheet-loads sheet (committing inst newProver k) loaded,
         joint-commit inst x k c nonce,
-        takeCommitmentAfter-clear (loadRules sheet) inst none newVerifier _,
+        on-sheet-loads sheet (takingCommitment inst newVerifier (pad8 0 (commitmentOf inst k))) loaded,
         joint-commitment inst x k c (fits .commitment),
-        takeChallengeAfter-clear (loadRules sheet) inst none _ c,
+        on-sheet-loads sheet (takingChallenge inst (verifierHolding Holding inst k 0) c) loaded,
         joint-challenge inst x k c (fits .commitment) below,
-        respondAfter-clear (loadRules sheet) inst none _ c x,
+        on-sheet-loads sheet (responding inst (proverCommitted inst k) c x) loaded,
         joint-response inst x k c witness nonce below,
-        takeResponseAfter-clear (loadRules sheet) inst none _ _,
+        on-sheet-loads sheet (takingResponse inst (verifierHolding Asked inst k c) (pad8 0 (responseOf inst x c k))) loaded,
         joint-verdict inst x k c fits verdict-is,
       )
 

@@ -9,9 +9,7 @@ pub mod Demand3
 pub mod MainProtocol
 pub mod Corollaries
 pub mod Refusals
-pub mod Positive
 pub mod Outcome
-pub mod After
 pub mod Unread
 pub mod ReadAlone
 pub mod Run

@@ -3,7 +3,7 @@
 use Prim.Native.Nat.{ℕ, _<_}
 use mathlib.Core.Path.{_≡_, refl, sym, ap, _∙_}
 use mathlib.Core.Logic.{_↔_, _≢_, Iff·trans}
-use mathlib.Core.List.{List, []}
+use mathlib.Core.List.{List}
 use native.Mathlib.Omega.{arith}
 use lib.IntN.{ℤ}
 use lib.ListN.{replicate, length-replicate, getD-replicate}
@@ -18,10 +18,10 @@ use Rattle.groups.specs.Vector.{vectorGroup, value-of-product}
 use Rattle.lists.specs.Places.{pad8, places}
 use Rattle.lists.proofs.Each.{each-at, each-length, each-places}
 use Rattle.lists.proofs.Places.{getD-pad8, places-pad8, places-whole}
-use Rattle.rules.proofs.Lowest.{lowest-clear}
-use Rattle.formats.specs.Load.{loadRules, loadRefusal}
+use Rattle.formats.specs.Load.{loadRefusal}
 use Rattle.formats.specs.Sheet.{instanceOf}
 use Rattle.formats.proofs.Loads.{loads-valid}
+use Rattle.formats.proofs.OnSheet.{on-sheet-loads}
 use Rattle.sigma.specs.Domain.{Domain, Codomain}
 use Rattle.sigma.specs.Instance.{Instance, tableOf}
 use Rattle.sigma.specs.Knowledge.{Witness}
@@ -43,16 +43,14 @@ use Rattle.runs.specs.Calls.{judgeRound, extractWitness}
 use Rattle.runs.specs.MainProtocol.{MainProtocol}
 use Rattle.runs.specs.OnSheet.{Below, readSlots}
 use Rattle.runs.specs.Ours.{runCalls}
-use Rattle.runs.specs.Prover.{newProver, commit, respond}
-use Rattle.runs.specs.Verifier.{newVerifier, takeCommitment, takeChallenge, takeResponse}
-use Rattle.runs.proofs.After.{commitAfter-clear, takeCommitmentAfter-clear, takeChallengeAfter-clear}
+use Rattle.runs.specs.Prover.{newProver, commit, committing, respond}
+use Rattle.runs.specs.Verifier.{newVerifier, takeCommitment, takeChallenge, takeResponse, takingChallenge, takingCommitment}
 use Rattle.runs.proofs.Demand3.{honest-run, sheet-extraction, simulated-given}
 use Rattle.runs.proofs.JointRun.{jointSteps, joint-commit}
-use Rattle.runs.proofs.Loaded.{accepts-loaded, judge-loaded, sheet-clear}
+use Rattle.runs.proofs.Loaded.{accepts-loaded, judge-loaded}
 use Rattle.runs.proofs.ReadAlone.{read-alone}
 use Rattle.runs.proofs.Verdicts.{takeResponse-judged}
-use Rattle.runs.proofs.VerifierSteps.{takeCommitmentAfter-runs, takeCommitmentAfter-given}
-use Rattle.runs.proofs.VerifierSteps.{takeChallengeAfter-runs, takeChallengeAfter-given}
+use Rattle.runs.proofs.VerifierSteps.{takeCommitment-runs, takeCommitment-value, takeChallenge-runs, takeChallenge-value}
 
 module _ (sheet : List ℕ) (loaded : loadRefusal sheet ≡ 0) where
   -- the sheet's values, which are Valid
@@ -72,7 +70,7 @@ module _ (sheet : List ℕ) (loaded : loadRefusal sheet ≡ 0) where
   committed k =
       let read = places-whole (values .header .columns) (k .0) (each-length _ _ (k .0) (k .1)) in
       let given = rw read at (joint-commit values (k .0) (k .0) 0 (rw read (k .1))) in
-      let same = commitAfter-clear (loadRules sheet) values (sheet-clear sheet loaded) newProver (k .0) ∙ given in
+      let same = on-sheet-loads sheet (committing values newProver (k .0)) loaded ∙ given in
       (ap (λ (step : ProverStep). step .refusal) same, ap (λ (step : ProverStep). step .values) same)
 
   -- what the table carries to the statement is a witness
@@ -114,28 +112,24 @@ module _ (sheet : List ℕ) (loaded : loadRefusal sheet ≡ 0) where
   -- he holds a commitment that he is brought
   held : (t : Codomain (tableOf (instanceOf sheet)))
       → takeCommitment sheet newVerifier (t .0) .session ≡ record { phase = Holding; commitment = pad8 0 (t .0); challenge = 0 }
-  unfolding takeCommitment newVerifier
+  unfolding takingCommitment newVerifier
   held t =
       let elements = each-at _ _ (t .0) (t .1) in
-      let runs = takeCommitmentAfter-runs [] values newVerifier (t .0) tt .1
-      (lowest-clear [] tt, record { commitment = rw (values-read t) elements; phase = refl }) in
-      ap (λ (step : VerifierStep). step .session)
-      (takeCommitmentAfter-clear (loadRules sheet) values (sheet-clear sheet loaded) newVerifier (t .0)
-      ∙ rw (values-read t) at (takeCommitmentAfter-given [] values newVerifier (t .0) runs))
+      let runs = takeCommitment-runs sheet newVerifier (t .0) .1
+      (loaded, record { commitment = rw (values-read t) elements; phase = refl }) in
+      ap (λ (step : VerifierStep). step .session) (rw (values-read t) at (takeCommitment-value sheet newVerifier (t .0) runs))
 
   -- and then a challenge
   asked : (t : Codomain (tableOf (instanceOf sheet))) (c : ℕ) → Below sheet c
       → takeChallenge sheet (takeCommitment sheet newVerifier (t .0) .session) c .session
       ≡ record { phase = Asked; commitment = pad8 0 (t .0); challenge = c }
-  unfolding takeChallenge
+  unfolding takingChallenge
   asked t c below =
       let v : Verifier = record { phase = Holding; commitment = pad8 0 (t .0); challenge = 0 } in
       let elements = each-at _ _ (t .0) (t .1) in
-      let runs = takeChallengeAfter-runs [] values v c tt .1
-      (lowest-clear [] tt, record { challenge = below; phase = refl; held = rw (held-read t) elements }) in
-      rw (held t)
-      (ap (λ (step : VerifierStep). step .session)
-      (takeChallengeAfter-clear (loadRules sheet) values (sheet-clear sheet loaded) v c ∙ takeChallengeAfter-given [] values v c runs))
+      let runs = takeChallenge-runs sheet v c .1
+      (loaded, record { challenge = below; phase = refl; held = rw (held-read t) elements }) in
+      rw (held t) (ap (λ (step : VerifierStep). step .session) (takeChallenge-value sheet v c runs))
 
   -- and his verdict on a response is the judging call's
   verified : (t : Codomain (tableOf (instanceOf sheet))) (c : ℕ) (r : Domain (tableOf (instanceOf sheet))) → Below sheet c

@@ -15,9 +15,7 @@ use Rattle.types.specs.declared.ProverStep.{ProverStep}
 use Rattle.lists.specs.Member.{EachOnce, Member}
 use Rattle.lists.specs.Places.{places}
 use Rattle.lists.proofs.Places.{getD-places}
-use Rattle.formats.specs.Load.{loadRules}
 use Rattle.formats.specs.Sheet.{instanceOf}
-use Rattle.formats.proofs.Positive.{load-positive}
 use Rattle.sigma.specs.Reads.{Agree}
 use Rattle.runs.specs.Meaning.{Responds}
 use Rattle.runs.specs.Memory.{listedAt}
@@ -27,7 +25,7 @@ use Rattle.runs.specs.ProverCalls.{ProverCall, Commit, Respond, Drop, Sa
 use Rattle.runs.specs.ProverCalls.{answeredBy, answeredOn, Shaped}
 use Rattle.runs.proofs.Keys.{listed-unused, used-once}
 use Rattle.runs.proofs.ProverCalls.{prover-kept, prover-moves}
-use Rattle.runs.proofs.ProverSteps.{respondAfter-runs}
+use Rattle.runs.proofs.ProverSteps.{respond-runs}
 
 -- a commitment is listed
 abbrev Lists : Prover → List ℕ → Type 0
@@ -90,7 +88,7 @@ module _ (sheet : List ℕ) (c : ℕ) (witness : List ℕ) (p : Prover) (e : cal
   -- what it asks for
   asked : Responds (instanceOf sheet) p c (places (instanceOf sheet .header .columns) witness)
   unfolding callProver respond
-  asked = respondAfter-runs (loadRules sheet) (instanceOf sheet) p c witness (load-positive sheet) .0 e .1
+  asked = respond-runs sheet p c witness .0 e .1
 
   -- what it hands back
   abbrev after : Prover

@@ -14,15 +14,17 @@ use Rattle.types.specs.declared.Verdict.{Verdict}
 use Rattle.types.specs.declared.Verdict.the-variants.{Accepted, Rejected}
 use Rattle.lists.specs.Places.{pad8, places, zeros8}
 use Rattle.lists.proofs.Places.{getD-places, getD-pad8, getD-zeros8}
-use Rattle.formats.specs.Load.{loadRules, loadRefusal}
+use Rattle.rules.specs.Call.{numberOf}
+use Rattle.rules.proofs.Call.{answer-read}
+use Rattle.formats.specs.Load.{loadRefusal, onSheet}
 use Rattle.formats.specs.Sheet.{instanceOf}
 use Rattle.formats.proofs.Loads.{loads-valid}
 use Rattle.sigma.specs.Answer.{eightPlaces, outcome, rowsOf}
-use Rattle.sigma.specs.Image.{rowImage}
+use Rattle.sigma.specs.Image.{image, rowImage}
 use Rattle.sigma.specs.Instance.{Instance, tableOf}
 use Rattle.sigma.specs.Judge.{judgeAfter}
 use Rattle.sigma.specs.Meaning.{Holds, FailsExactly, FailsFirst, Fits}
-use Rattle.sigma.specs.Round.{responseCoordinate}
+use Rattle.sigma.specs.Round.{response, responseCoordinate}
 use Rattle.rules.proofs.Answer.{unlessRefused-zero, unlessRefused-positive}
 use Rattle.sigma.proofs.Answer.{judged-zero}
 use Rattle.sigma.proofs.ByKind.{responseCoordinate-exponent, responseCoordinate-root}
@@ -32,13 +34,14 @@ use Rattle.sigma.proofs.Unread.{fits-same, rowImage-agree, same-round-of-read, 
 use Rattle.sigma.proofs.Values.{length-image, length-response, image-at, response-at}
 use Rattle.sigma.proofs.Verdict.{verdict-not-refused}
 use Rattle.runs.specs.Calls.{judgeRound}
-use Rattle.runs.specs.Ours.{runCalls}
+use Rattle.runs.specs.Ours.{callProver, runCalls}
 use Rattle.runs.specs.Protocol.{JudgesByRows, Protocol}
-use Rattle.runs.specs.Prover.{proverStep, commitAfter, commit, respondAfter, respond}
+use Rattle.runs.specs.Prover.{commit, committing, respond, responding}
+use Rattle.runs.specs.ProverCalls.{Commit, Respond}
 use Rattle.runs.proofs.JointRun.{sheet-joint-run}
 use Rattle.runs.proofs.Loaded.{judge-loaded}
 use Rattle.runs.proofs.Outcome.{judged-decided, judged-number}
-use Rattle.runs.proofs.ProverSteps.{commitAfter-given, respondAfter-given}
+use Rattle.runs.proofs.ProverCalls.{prover-value}
 use Rattle.runs.proofs.Verdicts.{takeResponse-given}
 
 -- eight places hold 0 beyond their values, refused or not
@@ -73,10 +76,10 @@ module _ (sheet : List ℕ) (loaded : loadRefusal sheet ≡ 0) where
   -- a row of the commitment
   commitment-row : (p : Prover) (k : List ℕ) → commit sheet p k .refusal ≡ 0 → (i : ℕ) → i < instanceOf sheet .header .rows
       → getD (commit sheet p k .values) i 0 ≡ rowImage (tableOf (instanceOf sheet)) k i
-  unfolding commit
+  unfolding callProver committing
   commitment-row p k e i h =
       let n = values .header .columns in
-      ap (λ (step : ProverStep). getD (step .values) i 0) (commitAfter-given (loadRules sheet) values p k e)
+      ap (λ (step : ProverStep). getD (step .values) i 0) (prover-value (Commit sheet k) p e)
       ∙ getD-pad8 0 _ i
       ∙ image-at (tableOf values) (places n k) i h
       ∙ rowImage-agree (loads-valid sheet loaded .table) (places n k) k (getD-places n k) i h
@@ -85,13 +88,28 @@ module _ (sheet : List ℕ) (loaded : loadRefusal sheet ≡ 0) where
   response-slot : (p : Prover) (c : ℕ) (x : List ℕ) → respond sheet p c x .refusal ≡ 0
       → (j : ℕ) → j < instanceOf sheet .header .columns
       → getD (respond sheet p c x .values) j 0 ≡ responseCoordinate (instanceOf sheet .header) (getD (p .nonce) j 0) c (getD x j 0)
-  unfolding respond
+  unfolding callProver responding
   response-slot p c x e j h =
       let n = values .header .columns in
-      ap (λ (step : ProverStep). getD (step .values) j 0) (respondAfter-given (loadRules sheet) values p c x e)
+      ap (λ (step : ProverStep). getD (step .values) j 0) (prover-value (Respond sheet c x) p e)
       ∙ getD-pad8 0 _ j
       ∙ response-at (values .header) (places n (p .nonce)) c (places n x) j h
       ∙ rw (getD-places n (p .nonce) j h, getD-places n x j h)
+
+  -- the values beside a number: the commitment or zeros
+  commitment-or-zeros : (p : Prover) (k : List ℕ)
+      → commit sheet p k .values
+      ≡ eightPlaces (numberOf (onSheet sheet (committing values p k))) (image (tableOf values) (places (values .header .columns) k))
+  unfolding commit committing eightPlaces
+  commitment-or-zeros p k = answer-read (onSheet sheet (committing values p k)) (λ step. step .values)
+
+  -- the response or zeros
+  response-or-zeros : (p : Prover) (c : ℕ) (x : List ℕ)
+      → respond sheet p c x .values
+      ≡ eightPlaces (numberOf (onSheet sheet (responding values p c x)))
+      (response (values .header) (places (values .header .columns) (p .nonce)) c (places (values .header .columns) x))
+  unfolding respond responding eightPlaces
+  response-or-zeros p c x = answer-read (onSheet sheet (responding values p c x)) (λ step. step .values)
 
   -- ---- Vic
 
@@ -160,17 +178,18 @@ module _ (sheet : List ℕ) (loaded : loadRefusal sheet ≡ 0) where
 
   -- the protocol holds of every sheet that loads
   pub protocol : Protocol runCalls sheet
-  unfolding commit commitAfter respond respondAfter proverStep
   protocol = record {
     commitment = commitment-row;
     exponent-response = λ kind p c x e j h. response-slot p c x e j h ∙ responseCoordinate-exponent (values .header) kind _ c _;
     root-response = λ kind p c x e j h.
         let other : values .header .kind ≢ 1 = λ one. omega arith in
         response-slot p c x e j h ∙ responseCoordinate-root (values .header) other _ c _;
-    commitment-eight = λ p k. eight-long _ _ (rw length-image (loads-valid sheet loaded .table .few-rows));
-    response-eight = λ p c x. eight-long _ _ (rw length-response (loads-valid sheet loaded .table .few-columns));
-    beyond-rows = λ p k i h. eight-beyond _ _ i (rw length-image h);
-    beyond-columns = λ p c x j h. eight-beyond _ _ j (rw length-response h);
+    commitment-eight = λ p k.
+        rw (commitment-or-zeros p k) (eight-long _ _ (rw length-image (loads-valid sheet loaded .table .few-rows)));
+    response-eight = λ p c x.
+        rw (response-or-zeros p c x) (eight-long _ _ (rw length-response (loads-valid sheet loaded .table .few-columns)));
+    beyond-rows = λ p k i h. rw (commitment-or-zeros p k) (eight-beyond _ _ i (rw length-image h));
+    beyond-columns = λ p c x j h. rw (response-or-zeros p c x) (eight-beyond _ _ j (rw length-response h));
     verdicts = verdicts;
     verifier = takeResponse-given sheet;
     joint-run = sheet-joint-run sheet loaded;

@@ -1,64 +1,85 @@
 -- One call on Peggy's session, whatever it brings: a refused call leaves the session, and each other call moves it as 01 says.
 -- Assumes nothing.
 use Prim.Native.Nat.{ℕ, _<_}
-use mathlib.Core.Path.{_≡_, sym, ap, _∙_}
+use mathlib.Core.Path.{_≡_, refl, sym, ap, _∙_}
 use mathlib.Core.Logic.{_⊎_, inl, inr}
-use mathlib.Core.List.{List}
 use native.Mathlib.Omega.{arith}
 use Rattle.types.specs.declared.Prover.{Prover}
 use Rattle.types.specs.declared.ProverPhase.{ProverPhase}
 use Rattle.types.specs.declared.ProverPhase.the-variants.{New, Committed, Answered, Dropped}
 use Rattle.types.specs.declared.ProverStep.{ProverStep}
-use Rattle.lists.specs.Places.{pad8, zeros8}
-use Rattle.formats.specs.Load.{loadRules}
+use Rattle.lists.specs.Places.{zeros8}
+use Rattle.rules.specs.Call.{Call, answer, numberOf}
+use Rattle.rules.proofs.Call.{answer-number, answer-refused, answer-value}
+use Rattle.formats.specs.Load.{onSheet}
 use Rattle.formats.specs.Sheet.{instanceOf}
-use Rattle.formats.proofs.Positive.{load-positive}
-use Rattle.runs.specs.OnSheet.{readSlots}
 use Rattle.runs.specs.Ours.{callProver}
 use Rattle.runs.specs.Memory.{listing}
-use Rattle.runs.specs.Prover.{commit, respond}
+use Rattle.runs.specs.Prover.{commit, committing, dropSession, dropping, handedBack, respond, responding}
 use Rattle.runs.specs.ProverCalls.{ProverCall, Commit, Respond, Drop, Save, Return, ProverMoves, Ended}
-use Rattle.runs.specs.Saving.{broughtBack, savedState, saving}
-use Rattle.runs.proofs.ProverSteps.{commitAfter-runs, commitAfter-given, commitAfter-kept}
-use Rattle.runs.proofs.ProverSteps.{respondAfter-runs, respondAfter-given, respondAfter-kept, drop-runs, drop-given, drop-kept}
-use Rattle.runs.proofs.ProverSteps.{save-runs, save-given, save-kept, return-runs, return-given, return-kept}
+use Rattle.runs.specs.Saving.{broughtBack, keeping, returnTo, returning, save, savedState, saving}
+use Rattle.runs.proofs.ProverSteps.{commit-runs, drop-runs, respond-runs, return-runs, save-runs}
 
--- ---- a refused call
+-- ---- the calls as records
 
--- a refused call answers its number, the same session and zeros
-pub prover-kept : (call : ProverCall) (p : Prover) → 0 < callProver call p .refusal
-    → callProver call p ≡ record { refusal = callProver call p .refusal; session = p; values = zeros8 }
-unfolding callProver commit respond
-prover-kept (Commit sheet nonce) p = commitAfter-kept (loadRules sheet) (instanceOf sheet) p nonce
-prover-kept (Respond sheet c witness) p = respondAfter-kept (loadRules sheet) (instanceOf sheet) p c witness
-prover-kept Drop p = drop-kept p
-prover-kept (Save name) p = save-kept p name
-prover-kept (Return name) p = return-kept p name
+-- what a call asks, answers and hands back
+abbrev pub proverCall : ProverCall → Prover → Call ProverStep
+proverCall (Commit sheet nonce) p = onSheet sheet (committing (instanceOf sheet) p nonce)
+proverCall (Respond sheet c witness) p = onSheet sheet (responding (instanceOf sheet) p c witness)
+proverCall Drop p = dropping p
+proverCall (Save name) p = saving p name
+proverCall (Return name) p = returning p name
 
--- ---- any other call
+-- it is the call of the list, its value has the number 0, and refused it hands back the session
+prover-form : (call : ProverCall) (p : Prover) → (callProver call p ≡ answer (proverCall call p))
+    × (proverCall call p .value .refusal ≡ 0) × ((n : ℕ) → proverCall call p .refused n ≡ handedBack p n)
+unfolding callProver commit respond dropSession save returnTo committing responding dropping saving returning
+prover-form (Commit sheet nonce) p = (refl, refl, λ n. refl)
+prover-form (Respond sheet c witness) p = (refl, refl, λ n. refl)
+prover-form Drop p = (refl, refl, λ n. refl)
+prover-form (Save name) p = (refl, refl, λ n. refl)
+prover-form (Return name) p = (refl, refl, λ n. refl)
 
--- a call that is not refused moves the session as 01 and card 13 say
+module _ (call : ProverCall) (p : Prover) where
+  -- the number of the answer is the call's
+  pub prover-number : callProver call p .refusal ≡ numberOf (proverCall call p)
+  prover-number =
+      let (is, zero, back) = prover-form call p in
+      ap (λ (step : ProverStep). step .refusal) is
+      ∙ answer-number (proverCall call p) (λ step. step .refusal) zero (λ n. ap (λ (step : ProverStep). step .refusal) (back n))
+
+  -- a call that is not refused answers its value
+  pub prover-value : callProver call p .refusal ≡ 0 → callProver call p ≡ proverCall call p .value
+  prover-value e = prover-form call p .0 ∙ answer-value (proverCall call p) (rw prover-number at e)
+
+  -- a refused call answers its number, the same session and zeros
+  pub prover-kept : 0 < callProver call p .refusal
+      → callProver call p ≡ record { refusal = callProver call p .refusal; session = p; values = zeros8 }
+  prover-kept some =
+      prover-form call p .0
+      ∙ answer-refused (proverCall call p) (rw prover-number at some)
+      ∙ prover-form call p .2 _
+      ∙ ap (handedBack p) (sym prover-number)
+
+-- ---- a call that is not refused
+
+-- it moves the session as 01 and card 13 say
 pub prover-moves : (call : ProverCall) (p : Prover) → callProver call p .refusal ≡ 0 → ProverMoves p call (callProver call p)
-unfolding callProver commit respond listing saving savedState broughtBack
+unfolding callProver committing responding dropping saving returning listing keeping savedState broughtBack
 prover-moves (Commit sheet nonce) p e =
-    let given = commitAfter-given (loadRules sheet) (instanceOf sheet) p nonce e in (
-      commitAfter-runs (loadRules sheet) (instanceOf sheet) p nonce (load-positive sheet) .0 e .1 .phase,
-      ap (λ (step : ProverStep). step .session) given
-          ∙ ap (λ (t : List ℕ). record { phase = Committed; nonce = pad8 0 (readSlots sheet nonce); commitment = t; memory = p .memory })
-          (sym (ap (λ (step : ProverStep). step .values) given)),
-    )
+    (commit-runs sheet p nonce .0 e .1 .phase, rw (prover-value (Commit sheet nonce) p e))
 prover-moves (Respond sheet c witness) p e = (
-  respondAfter-runs (loadRules sheet) (instanceOf sheet) p c witness (load-positive sheet) .0 e .1 .phase,
-  ap (λ (step : ProverStep). step .session) (respondAfter-given (loadRules sheet) (instanceOf sheet) p c witness e),
+  respond-runs sheet p c witness .0 e .1 .phase,
+  ap (λ (step : ProverStep). step .session) (prover-value (Respond sheet c witness) p e),
 )
 prover-moves Drop p e =
-    let given = drop-given p e in
+    let given = prover-value Drop p e in
     (drop-runs p .0 e, ap (λ (step : ProverStep). step .session) given, ap (λ (step : ProverStep). step .values) given)
 prover-moves (Save name) p e =
-    let given = save-given p name e in
+    let given = prover-value (Save name) p e in
     (save-runs p name .0 e, ap (λ (step : ProverStep). step .session) given, ap (λ (step : ProverStep). step .values) given)
 prover-moves (Return name) p e =
-    let given = return-given p name e in
+    let given = prover-value (Return name) p e in
     (return-runs p name .0 e, ap (λ (step : ProverStep). step .session) given, ap (λ (step : ProverStep). step .values) given)
 
 -- ---- a session that is Answered or Dropped

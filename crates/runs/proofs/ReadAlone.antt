@@ -1,12 +1,16 @@
 -- No answer depends on places beyond s and n, whether or not the sheet loads.
 -- Assumes nothing.
 use Prim.Native.Nat.{ℕ}
-use mathlib.Core.Path.{refl}
+use mathlib.Core.Path.{refl, ap}
 use mathlib.Core.List.{List}
+use Rattle.types.specs.declared.ProverStep.{ProverStep}
 use Rattle.types.specs.declared.Round.{Round}
 use Rattle.types.specs.declared.Verifier.{Verifier}
+use Rattle.types.specs.declared.VerifierStep.{VerifierStep}
+use Rattle.types.specs.declared.VerifierVerdict.{VerifierVerdict}
 use Rattle.lists.specs.Places.{places}
-use Rattle.formats.specs.Load.{loadRules}
+use Rattle.rules.specs.Call.{Call, answer}
+use Rattle.formats.specs.Load.{loadRules, onSheet}
 use Rattle.formats.specs.Sheet.{instanceOf}
 use Rattle.sigma.specs.Reads.{SameRound, paddedRound}
 use Rattle.sigma.proofs.Unread.{same-round-of-padded, same-round-sym, judgeAfter-same, simulateAfter-same, extractAfter-same}
@@ -16,8 +20,8 @@ use Rattle.runs.specs.OnSheet.{readProver, readVerifier}
 use Rattle.runs.specs.Ours.{honestRound, runCalls}
 use Rattle.runs.specs.Prover.{newProver, commit, respond}
 use Rattle.runs.specs.Verifier.{takeCommitment, takeChallenge, takeResponse}
-use Rattle.runs.proofs.Unread.{SameVerifier, read-agrees, commitAfter-same, respondAfter-same, respondAfter-held}
-use Rattle.runs.proofs.Unread.{takeCommitmentAfter-same, takeChallengeAfter-held, takeResponseAfter-same, takeResponseAfter-held}
+use Rattle.runs.proofs.Unread.{SameVerifier, committing-same, read-agrees, respond-held, responding-same}
+use Rattle.runs.proofs.Unread.{takeChallenge-held, takeResponse-held, takingCommitment-same, takingResponse-same}
 
 -- the calls on rounds, and an honest round
 pub read-alone : (sheet : List ℕ) → ReadAlone runCalls sheet
@@ -32,8 +36,8 @@ read-alone sheet =
       honest = λ x c k.
           let k′ = places (inst .header .columns) k in
           rw (
-            commitAfter-same before inst newProver k k′ (slots k),
-            respondAfter-same before inst _ c x (places (inst .header .columns) x) (slots x),
+            committing-same inst newProver k k′ (slots k),
+            responding-same inst _ c x (places (inst .header .columns) x) (slots x),
           );
       simulated = λ c r. simulateAfter-same before inst c r _ (slots r);
       judged = λ round. judgeAfter-same before inst (read round);
@@ -51,13 +55,13 @@ sessions-read-alone sheet =
     let alike : (v : Verifier) → SameVerifier (inst .header) v (readVerifier sheet v) =
     λ v. record { phase = refl; commitment = values (v .commitment); challenge = refl } in
     record {
-      committed = λ p k. commitAfter-same before inst p k _ (slots k);
-      responded = λ p c x. respondAfter-same before inst p c x _ (slots x);
+      committed = λ p k. ap (λ (call : Call ProverStep). answer (onSheet sheet call)) (committing-same inst p k _ (slots k));
+      responded = λ p c x. ap (λ (call : Call ProverStep). answer (onSheet sheet call)) (responding-same inst p c x _ (slots x));
       responded-held = λ p c x.
-          respondAfter-held before inst p (readProver sheet p)
+          respond-held before inst p (readProver sheet p)
           (record { phase = refl; nonce = slots (p .nonce); commitment = read-agrees 8 (p .commitment); memory = refl }) c x;
-      commitment = λ v t. takeCommitmentAfter-same before inst v t _ (values t);
-      challenge-held = λ v c. takeChallengeAfter-held before inst v _ refl (values (v .commitment)) c;
-      response = λ v r. takeResponseAfter-same before inst v r _ (slots r);
-      response-held = λ v r. takeResponseAfter-held before inst v (readVerifier sheet v) (alike v) r;
+      commitment = λ v t. ap (λ (call : Call VerifierStep). answer (onSheet sheet call)) (takingCommitment-same inst v t _ (values t));
+      challenge-held = λ v c. takeChallenge-held before inst v _ refl (values (v .commitment)) c;
+      response = λ v r. ap (λ (call : Call VerifierVerdict). answer (onSheet sheet call)) (takingResponse-same inst v r _ (slots r));
+      response-held = λ v r. takeResponse-held before inst v (readVerifier sheet v) (alike v) r;
     }

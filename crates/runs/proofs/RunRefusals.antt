@@ -1,8 +1,8 @@
 -- Demand 1 of the calls on rounds and sessions, and of the marker: each, for any bytes and any numbers, ends in a result or in one
 -- of its refusals, whose conditions are fixed, and a refused call changes no session.
 -- Assumes nothing.
-use Prim.Native.Nat.{ℕ}
-use mathlib.Core.Path.{_≡_, refl, ap, subst}
+use Prim.Native.Nat.{ℕ, _<_}
+use mathlib.Core.Path.{refl, ap, subst}
 use mathlib.Core.List.{[], _∷_, _++_}
 use Rattle.types.specs.declared.Prover.{Prover}
 use Rattle.types.specs.declared.ProverStep.{ProverStep}
@@ -12,7 +12,6 @@ use Rattle.rules.specs.Refuses.{conditionNumbers}
 use Rattle.rules.specs.Order.{refusalOrder, sheetNumbers, isSublist}
 use Rattle.rules.proofs.Condition.{given, given-unique}
 use Rattle.rules.proofs.Refuses.{refuses-given, refuses-tested}
-use Rattle.formats.specs.Load.{loadRules}
 use Rattle.formats.specs.Refusals.{RefusesOn, loadConditions}
 use Rattle.formats.specs.Sheet.{headerOf, instanceOf}
 use Rattle.sigma.specs.Answer.{computed, eightPlaces}
@@ -24,28 +23,26 @@ use Rattle.sigma.proofs.Verdict.{verdict-not-refused}
 use Rattle.runs.specs.Calls.{judgeRound, simulateCommitment, extractWitness}
 use Rattle.runs.specs.Level.{markConditions}
 use Rattle.runs.specs.Marker.{markRefusal, markerCalls, markerText}
-use Rattle.runs.specs.Ours.{runCalls}
-use Rattle.runs.specs.Prover.{commit, respond}
-use Rattle.runs.specs.RunRefusals.{MarkRefusals, OneLine, RunRefusals}
-use Rattle.runs.specs.Verifier.{takeCommitment, takeChallenge, takeResponse}
+use Rattle.runs.specs.Ours.{callProver, runCalls}
+use Rattle.runs.specs.ProverCalls.{Commit, Drop, ProverCall, Respond, Return, Save}
+use Rattle.runs.specs.RunRefusals.{MarkRefusals, OneLine, RunRefusals, Unmoved}
 use Rattle.runs.proofs.MarkerRefusal.{mark-tests, one-line}
 use Rattle.runs.proofs.Numbers.{judge-number, simulate-number, extract-number, commit-number, respond-number}
 use Rattle.runs.proofs.Numbers.{drop-number, save-number, return-number}
 use Rattle.runs.proofs.Numbers.{takeCommitment-number, takeChallenge-number, takeResponse-number}
 use Rattle.runs.proofs.Outcome.{judged-kept}
-use Rattle.runs.proofs.ProverSteps.{commitAfter-kept, respondAfter-kept, drop-kept, save-kept, return-kept}
-use Rattle.runs.proofs.VerifierSteps.{takeCommitmentAfter-kept, takeChallengeAfter-kept, takeResponseAfter-kept}
+use Rattle.runs.proofs.ProverCalls.{prover-kept}
+use Rattle.runs.proofs.VerifierSteps.{takeCommitment-kept, takeChallenge-kept, takeResponse-kept}
 
--- a step of Peggy that only answers a number hands back the session
-step-kept : (step : ProverStep) (p : Prover) (n : ℕ) → step ≡ record { refusal = n; session = p; values = zeros8 }
-    → (step .session ≡ p) × (step .values ≡ zeros8)
-step-kept step p n e = (ap (λ (s : ProverStep). s .session) e, ap (λ (s : ProverStep). s .values) e)
+-- a refused call on Peggy's session hands it back, and zeros
+unmoved : (call : ProverCall) (p : Prover) → 0 < callProver call p .refusal → Unmoved p (callProver call p)
+unmoved call p some =
+    let kept = prover-kept call p some in (ap (λ (s : ProverStep). s .session) kept, ap (λ (s : ProverStep). s .values) kept)
 
 -- the calls on rounds and sessions
 pub run-refusals : RunRefusals runCalls
 unfolding conditionNumbers isSublist refusalOrder sheetNumbers judgeRound judgeAfter
-    simulateCommitment simulateAfter extractWitness extractAfter computed eightPlaces commit respond takeCommitment
-    takeChallenge takeResponse zeros8
+    simulateCommitment simulateAfter extractWitness extractAfter computed eightPlaces callProver zeros8
 run-refusals = record {
   judging = λ sheet round.
       refuses-given _ _ refl refl _ (judge-number sheet round) (judged-kept _ _ (verdict-not-refused (instanceOf sheet) _ _ _));
@@ -53,23 +50,20 @@ run-refusals = record {
   extracting = λ sheet first second.
       refuses-given _ _ refl refl _ (extract-number sheet first second) (unlessRefused-positive _ zeros8 _);
   committing = λ sheet p k.
-      refuses-given _ _ refl refl _ (commit-number sheet p k)
-      (λ some. step-kept _ p _ (commitAfter-kept (loadRules sheet) (instanceOf sheet) p k some));
+      refuses-given _ _ refl refl _ (commit-number sheet p k) (unmoved (Commit sheet k) p);
   responding = λ sheet p c x.
-      refuses-given _ _ refl refl _ (respond-number sheet p c x)
-      (λ some. step-kept _ p _ (respondAfter-kept (loadRules sheet) (instanceOf sheet) p c x some));
-  dropping = λ p. refuses-given _ _ refl refl _ (drop-number p) (λ some. step-kept _ p _ (drop-kept p some));
-  saving = λ p name. refuses-given _ _ refl refl _ (save-number p name) (λ some. step-kept _ p _ (save-kept p name some));
-  returning = λ p name. refuses-given _ _ refl refl _ (return-number p name) (λ some. step-kept _ p _ (return-kept p name some));
+      refuses-given _ _ refl refl _ (respond-number sheet p c x) (unmoved (Respond sheet c x) p);
+  dropping = λ p. refuses-given _ _ refl refl _ (drop-number p) (unmoved Drop p);
+  saving = λ p name. refuses-given _ _ refl refl _ (save-number p name) (unmoved (Save name) p);
+  returning = λ p name. refuses-given _ _ refl refl _ (return-number p name) (unmoved (Return name) p);
   taking-commitment = λ sheet v t.
       refuses-given _ _ refl refl _ (takeCommitment-number sheet v t)
-      (λ some. ap (λ (step : VerifierStep). step .session) (takeCommitmentAfter-kept (loadRules sheet) (instanceOf sheet) v t some));
+      (λ some. ap (λ (step : VerifierStep). step .session) (takeCommitment-kept sheet v t some));
   taking-challenge = λ sheet v c.
       refuses-given _ _ refl refl _ (takeChallenge-number sheet v c)
-      (λ some. ap (λ (step : VerifierStep). step .session) (takeChallengeAfter-kept (loadRules sheet) (instanceOf sheet) v c some));
+      (λ some. ap (λ (step : VerifierStep). step .session) (takeChallenge-kept sheet v c some));
   taking-response = λ sheet v r.
-      refuses-given _ _ refl refl _ (takeResponse-number sheet v r)
-      (takeResponseAfter-kept (loadRules sheet) (instanceOf sheet) v r);
+      refuses-given _ _ refl refl _ (takeResponse-number sheet v r) (takeResponse-kept sheet v r);
 }
 
 -- the marker: the number is that of its one line

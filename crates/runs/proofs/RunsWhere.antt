@@ -47,8 +47,9 @@ use Rattle.sigma.proofs.Verdict.{verdict-not-refused}
 use Rattle.runs.specs.Calls.{extractWitness, judgeRound, simulateCommitment}
 use Rattle.runs.specs.Memory.{listedAt, savedAt}
 use Rattle.runs.specs.OnSheet.{Below, readSlots, readValues}
-use Rattle.runs.specs.Ours.{Accepts, runCalls, simulatedRound}
-use Rattle.runs.specs.Prover.{commit, newProver, respond}
+use Rattle.runs.specs.Ours.{Accepts, callProver, runCalls, simulatedRound}
+use Rattle.runs.specs.Prover.{commit, committing, newProver, respond}
+use Rattle.runs.specs.ProverCalls.{Commit}
 use Rattle.runs.specs.RunsWhere.{RoundsRun}
 use Rattle.runs.specs.Saving.{returnTo}
 use Rattle.runs.specs.Verifier.{newVerifier, takeChallenge, takeCommitment, takeResponse}
@@ -56,8 +57,9 @@ use Rattle.runs.proofs.Demand3.{sheet-simulated-rounds}
 use Rattle.runs.proofs.Loaded.{extract-loaded, simulate-loaded}
 use Rattle.runs.proofs.Outcome.{judged-number}
 use Rattle.runs.proofs.Protocol.{sheet-accepted}
-use Rattle.runs.proofs.ProverSteps.{commitAfter-given, commitAfter-runs, drop-runs, respondAfter-runs, return-runs, save-runs}
-use Rattle.runs.proofs.VerifierSteps.{takeChallengeAfter-runs, takeCommitmentAfter-runs, takeResponseAfter-runs}
+use Rattle.runs.proofs.ProverCalls.{prover-value}
+use Rattle.runs.proofs.ProverSteps.{commit-runs, drop-runs, respond-runs, return-runs, save-runs}
+use Rattle.runs.proofs.VerifierSteps.{takeChallenge-runs, takeCommitment-runs, takeResponse-runs}
 
 -- 18's test of two lists is the same with the lists exchanged
 differ-swapped : (n : ℕ) (xs ys : List ℕ) → differ n xs ys ≡ differ n ys xs
@@ -184,10 +186,9 @@ module _ (sheet : List ℕ) where
   -- committing
   commit-where : (p : Prover) (k : List ℕ) → (commit sheet p k .refusal ≡ 0)
       ↔ ((loadRefusal sheet ≡ 0) × (p .phase ≡ New) × Choice (instanceOf sheet) (readSlots sheet k))
-  unfolding commit loadRefusal
   commit-where p k =
       let n = instanceOf sheet .header .columns in
-      Iff·trans (commitAfter-runs (loadRules sheet) (instanceOf sheet) p k (load-positive sheet)) (
+      Iff·trans (commit-runs sheet p k) (
         λ (loaded, x). (loaded, x .phase, each-from _ n _ (length-places n k) (x .nonce)),
         λ (loaded, phase, slots). (loaded, record { nonce = each-at _ n _ slots; phase = phase }),
       )
@@ -195,9 +196,8 @@ module _ (sheet : List ℕ) where
   -- committing to a nonce in a new session answers its image
   commit-answers : (k : List ℕ) → commit sheet newProver k .refusal ≡ 0
       → commit sheet newProver k .values ≡ pad8 0 (image (tableOf (instanceOf sheet)) (readSlots sheet k))
-  unfolding commit
-  commit-answers k e =
-      ap (λ (step : ProverStep). step .values) (commitAfter-given (loadRules sheet) (instanceOf sheet) newProver k e)
+  unfolding callProver committing
+  commit-answers k e = ap (λ (step : ProverStep). step .values) (prover-value (Commit sheet k) newProver e)
 
   -- responding
   respond-where : (p : Prover) (c : ℕ) (x : List ℕ) → (respond sheet p c x .refusal ≡ 0)
@@ -205,10 +205,10 @@ module _ (sheet : List ℕ) where
       × Agree 8 (commit sheet newProver (p .nonce) .values) (p .commitment)
       × Below sheet c × Witness (instanceOf sheet) (readSlots sheet x)
       × (p .memory .count < 64) × ((i : ℕ) → i < p .memory .count → ¬ Agree 8 (listedAt (p .memory) i) (p .commitment)))
-  unfolding respond newProver loadRefusal
+  unfolding newProver
   respond-where p c x =
       let n = instanceOf sheet .header .columns in
-      Iff·trans (respondAfter-runs (loadRules sheet) (instanceOf sheet) p c x (load-positive sheet)) (
+      Iff·trans (respond-runs sheet p c x) (
         λ (loaded, r).
             let e = commit-where newProver (p .nonce) .1 (loaded, refl, each-from _ n _ (length-places n (p .nonce)) (r .nonce)) in
             (r .phase, e, rw (commit-answers (p .nonce) e) (r .commitment), r .challenge, r .witness, r .room, r .unlisted),
@@ -248,9 +248,8 @@ module _ (sheet : List ℕ) where
   -- the commitment
   take-commitment-where : (v : Verifier) (t : List ℕ) → (takeCommitment sheet v t .refusal ≡ 0)
       ↔ ((loadRefusal sheet ≡ 0) × (v .phase ≡ Waiting) × Elements (instanceOf sheet) t)
-  unfolding takeCommitment loadRefusal
   take-commitment-where v t =
-      Iff·trans (takeCommitmentAfter-runs (loadRules sheet) (instanceOf sheet) v t (load-positive sheet)) (
+      Iff·trans (takeCommitment-runs sheet v t) (
         λ (loaded, x). (loaded, x .phase, elements-read t .0 (x .commitment)),
         λ (loaded, phase, elements). (loaded, record { commitment = elements-read t .1 elements; phase = phase }),
       )
@@ -258,10 +257,10 @@ module _ (sheet : List ℕ) where
   -- the challenge
   take-challenge-where : (v : Verifier) (c : ℕ) → (takeChallenge sheet v c .refusal ≡ 0)
       ↔ ((v .phase ≡ Holding) × (takeCommitment sheet newVerifier (v .commitment) .refusal ≡ 0) × Below sheet c)
-  unfolding takeChallenge newVerifier loadRefusal
+  unfolding newVerifier
   take-challenge-where v c =
       let held = take-commitment-where newVerifier (v .commitment) in
-      Iff·trans (takeChallengeAfter-runs (loadRules sheet) (instanceOf sheet) v c (load-positive sheet)) (
+      Iff·trans (takeChallenge-runs sheet v c) (
         λ (loaded, x). (x .phase, held .1 (loaded, refl, elements-read (v .commitment) .0 (x .held)), x .challenge),
         λ (phase, e, below).
             let (loaded, waiting, elements) = held .0 e in
@@ -271,10 +270,9 @@ module _ (sheet : List ℕ) where
   -- the response
   take-response-where : (v : Verifier) (r : List ℕ) → (outcome (takeResponse sheet v r .verdict) .number ≡ 0)
       ↔ ((v .phase ≡ Asked) × (outcome (judgeRound sheet (roundOf (v .commitment) (v .challenge) r)) .number ≡ 0))
-  unfolding takeResponse loadRefusal
   take-response-where v r =
       let judged = judge-where (roundOf (v .commitment) (v .challenge) r) in
-      Iff·trans (takeResponseAfter-runs (loadRules sheet) (instanceOf sheet) v r (load-positive sheet)) (
+      Iff·trans (takeResponse-runs sheet v r) (
         λ (loaded, x). (
           x .ready .phase,
           judged .1 (

@@ -26,10 +26,10 @@ use Rattle.runs.specs.ProverCalls.{ProverCall, Commit, Respond, Drop, Sa
 use Rattle.runs.specs.ProverCalls.{Ended, NoneSaves, Shaped}
 use Rattle.runs.specs.Run.{sessionAfter}
 use Rattle.runs.specs.SavedStates.{SavedStates}
-use Rattle.runs.specs.Saving.{broughtBack, proverPhase, returnTo, save, savedState, saving}
+use Rattle.runs.specs.Saving.{broughtBack, keeping, proverPhase, returnTo, returning, save, savedState, saving}
 use Rattle.runs.proofs.PerCommitment.{call-shaped, listed-before, per-commitment}
-use Rattle.runs.proofs.ProverCalls.{ended-apart, prover-kept, prover-moves}
-use Rattle.runs.proofs.ProverSteps.{return-given, return-runs, save-given, save-runs}
+use Rattle.runs.proofs.ProverCalls.{ended-apart, prover-value, prover-kept, prover-moves}
+use Rattle.runs.proofs.ProverSteps.{return-runs, save-runs}
 
 -- ---- states and their numbers
 
@@ -49,14 +49,14 @@ phase-beyond n beyond = rw (ne-eqb n 0 (λ e. omega arith), ne-eqb n 1 (λ e. om
 -- ---- what is saved under a name stays
 
 -- saving under another name leaves it
-saving-leaves : (p : Prover) (other name : ℕ) → other ≢ name → savedAt (saving other p) name ≡ savedAt (p .memory) name
-unfolding saving savedAt
+saving-leaves : (p : Prover) (other name : ℕ) → other ≢ name → savedAt (keeping other p) name ≡ savedAt (p .memory) name
+unfolding keeping savedAt
 saving-leaves p other name apart = getD-set-other (p .memory .saved) other name _ _ (λ e. apart (sym e))
 
 -- a call that does not save under the name leaves it
 call-leaves : (call : ProverCall) (p : Prover) (name : ℕ) → NoneSaves name (call ∷ [])
     → savedAt (callProver call p .session .memory) name ≡ savedAt (p .memory) name
-unfolding saving savedState savedAt
+unfolding keeping savedState savedAt
 call-leaves call p name none = elim (decLt 0 (callProver call p .refusal)) [
   | yes some ↦ ap (λ (step : ProverStep). savedAt (step .session .memory) name) (prover-kept call p some)
   | no zero-case ↦ given call none (omega arith)
@@ -93,9 +93,9 @@ saved-stays (call ∷ calls) p name none =
 
 -- what was just saved
 saved-here : (p : Prover) (name : ℕ) → Shaped p → name < 8 → savedAt (save p name .session .memory) name ≡ savedState p
-unfolding saving savedAt
+unfolding callProver saving keeping savedAt
 saved-here p name shaped less =
-    ap (λ (step : ProverStep). savedAt (step .session .memory) name) (save-given p name (save-runs p name .1 less))
+    ap (λ (step : ProverStep). savedAt (step .session .memory) name) (prover-value (Save name) p (save-runs p name .1 less))
     ∙ getD-set-same (p .memory .saved) name _ _ (omega arith)
 
 comes-back : (calls : List ProverCall) (p : Prover) (name : ℕ) → Shaped p → name < 8 → NoneSaves name calls
@@ -111,14 +111,14 @@ comes-back : (calls : List ProverCall) (p : Prover) (name : ℕ) → Shaped p �
           };
       values = zeros8;
     }
-unfolding broughtBack savedState
+unfolding callProver returning broughtBack savedState
 comes-back calls p name shaped less none =
     let q = proverAfter calls (save p name .session) in
     let there : savedAt (q .memory) name ≡ savedState p =
     saved-stays calls (save p name .session) name none ∙ saved-here p name shaped less in
     let kept : savedAt (q .memory) name .kept ≢ 0 =
     λ e. let one : savedAt (q .memory) name .kept ≡ 1 = ap (λ (s : Saved). s .kept) there in omega arith in
-    return-given q name (return-runs q name .1 (less, kept)) ∙ rw (there, phase-of-state (p .phase))
+    prover-value (Return name) q (return-runs q name .1 (less, kept)) ∙ rw (there, phase-of-state (p .phase))
 
 -- ---- nonces of zeros
 
@@ -148,17 +148,17 @@ new-clean = record {
 }
 
 -- saving under a name that is a place, or none
-saved-there : (p : Prover) (name : ℕ) → name < length (p .memory .saved) → savedAt (saving name p) name ≡ savedState p
-unfolding saving savedAt
+saved-there : (p : Prover) (name : ℕ) → name < length (p .memory .saved) → savedAt (keeping name p) name ≡ savedState p
+unfolding keeping savedAt
 saved-there p name inside = getD-set-same (p .memory .saved) name _ _ inside
 
-saved-out : (p : Prover) (name : ℕ) → length (p .memory .saved) ≤ name → savedAt (saving name p) name ≡ savedAt (p .memory) name
-unfolding saving savedAt
+saved-out : (p : Prover) (name : ℕ) → length (p .memory .saved) ≤ name → savedAt (keeping name p) name ≡ savedAt (p .memory) name
+unfolding keeping savedAt
 saved-out p name outside = rw (set-out (p .memory .saved) name _ outside)
 
 -- what is saved of a clean session is clean
 saving-clean : (p : Prover) (other : ℕ) → Clean p → (name : ℕ)
-    → Over (proverPhase (savedAt (saving other p) name .phase)) → savedAt (saving other p) name .nonce ≡ zeros8
+    → Over (proverPhase (savedAt (keeping other p) name .phase)) → savedAt (keeping other p) name .nonce ≡ zeros8
 unfolding savedState
 saving-clean p other clean name over = elim (says-decides (says-equal other name)) [
   | inl same ↦ rw same (here name (rw same at over))
@@ -167,7 +167,7 @@ saving-clean p other clean name over = elim (says-decides (says-equal other name
       rw left (clean .saved name (rw left at over))
 ]
   where
-    here : (name : ℕ) → Over (proverPhase (savedAt (saving name p) name .phase)) → savedAt (saving name p) name .nonce ≡ zeros8
+    here : (name : ℕ) → Over (proverPhase (savedAt (keeping name p) name .phase)) → savedAt (keeping name p) name .nonce ≡ zeros8
     here name over = elim (decLt name (length (p .memory .saved))) [
       | yes inside ↦
           let there = saved-there p name inside in
@@ -179,7 +179,7 @@ saving-clean p other clean name over = elim (says-decides (says-equal other name
 
 -- every call keeps it so
 call-clean : (call : ProverCall) (p : Prover) → Clean p → Clean (callProver call p .session)
-unfolding saving savedState savedAt
+unfolding keeping savedState savedAt
 call-clean call p clean = elim (decLt 0 (callProver call p .refusal)) [
   | yes some ↦ rw (prover-kept call p some) clean
   | no zero-case ↦ given call (omega arith)

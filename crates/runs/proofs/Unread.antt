@@ -1,7 +1,7 @@
 -- A call's outcome depends only on what 01 reads of the arrays and of the session that it is handed.
 -- Assumes nothing.
 use Prim.Native.Nat.{ℕ}
-use mathlib.Core.Path.{_≡_, ap, sym, _∙_}
+use mathlib.Core.Path.{_≡_, refl, ap, sym, _∙_}
 use mathlib.Core.Bool.{not}
 use mathlib.Core.List.{List}
 use Rattle.types.specs.declared.Header.{Header}
@@ -10,16 +10,17 @@ use Rattle.types.specs.declared.Verifier.{Verifier}
 use Rattle.lists.specs.Places.{places}
 use Rattle.lists.proofs.Places.{getD-places, places-agree}
 use Rattle.numbers.proofs.Search.{any-agree}
+use Rattle.rules.specs.Call.{after, answer, numberOf}
 use Rattle.rules.specs.Rule.{Rule}
 use Rattle.rules.proofs.Says.{says-iff, says-same}
+use Rattle.rules.proofs.Told.{read-alike}
 use Rattle.sigma.specs.Comparison.{differ}
 use Rattle.sigma.specs.Instance.{Instance}
 use Rattle.sigma.specs.Reads.{Agree}
 use Rattle.sigma.proofs.Comparison.{says-differ}
 use Rattle.runs.specs.Memory.{isListed, listedAt}
-use Rattle.runs.specs.Prover.{proverIn, proverStep, unfitProver, respondRules, commitAfter, respondAfter}
-use Rattle.runs.specs.Verifier.{verifierIn, verifierStep, unfitCommitment, takeChallengeRules, takeResponseRules}
-use Rattle.runs.specs.Verifier.{takeCommitmentAfter, takeChallengeAfter, takeResponseAfter}
+use Rattle.runs.specs.Prover.{committing, proverIn, responding, unfitProver}
+use Rattle.runs.specs.Verifier.{takingChallenge, takingCommitment, takingResponse, unfitCommitment, verifierIn}
 
 -- an array agrees with what is read of it
 pub read-agrees : (n : ℕ) (xs : List ℕ) → Agree n xs (places n xs)
@@ -27,30 +28,29 @@ read-agrees n xs j h = sym (getD-places n xs j h)
 
 -- ---- what a call brings
 
-module _ (before : List Rule) (inst : Instance) where
+module _ (inst : Instance) where
   -- committing reads n places of the nonce
-  pub commitAfter-same : (p : Prover) (k k′ : List ℕ) → Agree (inst .header .columns) k k′
-      → commitAfter before inst p k ≡ commitAfter before inst p k′
-  unfolding commitAfter
-  commitAfter-same p k k′ a = rw (places-agree (inst .header .columns) k k′ a)
+  pub committing-same : (p : Prover) (k k′ : List ℕ) → Agree (inst .header .columns) k k′ → committing inst p k ≡ committing inst p k′
+  unfolding committing
+  committing-same p k k′ a = rw (places-agree (inst .header .columns) k k′ a)
 
   -- responding reads n places of the witness
-  pub respondAfter-same : (p : Prover) (c : ℕ) (x x′ : List ℕ) → Agree (inst .header .columns) x x′
-      → respondAfter before inst p c x ≡ respondAfter before inst p c x′
-  unfolding respondAfter
-  respondAfter-same p c x x′ a = rw (places-agree (inst .header .columns) x x′ a)
+  pub responding-same : (p : Prover) (c : ℕ) (x x′ : List ℕ) → Agree (inst .header .columns) x x′
+      → responding inst p c x ≡ responding inst p c x′
+  unfolding responding
+  responding-same p c x x′ a = rw (places-agree (inst .header .columns) x x′ a)
 
   -- Vic's commitment call reads s places of the commitment
-  pub takeCommitmentAfter-same : (v : Verifier) (t t′ : List ℕ) → Agree (inst .header .rows) t t′
-      → takeCommitmentAfter before inst v t ≡ takeCommitmentAfter before inst v t′
-  unfolding takeCommitmentAfter
-  takeCommitmentAfter-same v t t′ a = rw (places-agree (inst .header .rows) t t′ a)
+  pub takingCommitment-same : (v : Verifier) (t t′ : List ℕ) → Agree (inst .header .rows) t t′
+      → takingCommitment inst v t ≡ takingCommitment inst v t′
+  unfolding takingCommitment
+  takingCommitment-same v t t′ a = rw (places-agree (inst .header .rows) t t′ a)
 
   -- Vic's response call reads n places of the response
-  pub takeResponseAfter-same : (v : Verifier) (r r′ : List ℕ) → Agree (inst .header .columns) r r′
-      → takeResponseAfter before inst v r ≡ takeResponseAfter before inst v r′
-  unfolding takeResponseAfter
-  takeResponseAfter-same v r r′ a = rw (places-agree (inst .header .columns) r r′ a)
+  pub takingResponse-same : (v : Verifier) (r r′ : List ℕ) → Agree (inst .header .columns) r r′
+      → takingResponse inst v r ≡ takingResponse inst v r′
+  unfolding takingResponse
+  takingResponse-same v r r′ a = rw (places-agree (inst .header .columns) r r′ a)
 
 -- ---- what Peggy holds
 
@@ -84,14 +84,18 @@ isListed-same p p′ s =
 
 module _ (before : List Rule) (inst : Instance) (p p′ : Prover) where
   -- responding reads the state, n places of the nonce, all of the commitment and the memory
-  pub respondAfter-held : SameProver (inst .header) p p′ → (c : ℕ) (x : List ℕ)
-      → (respondAfter before inst p c x .refusal ≡ respondAfter before inst p′ c x .refusal)
-      × (respondAfter before inst p c x .values ≡ respondAfter before inst p′ c x .values)
-  unfolding respondAfter proverStep respondRules proverIn
-  respondAfter-held s c x =
+  pub respond-held : SameProver (inst .header) p p′ → (c : ℕ) (x : List ℕ)
+      → (answer (after before (responding inst p c x)) .refusal ≡ answer (after before (responding inst p′ c x)) .refusal)
+      × (answer (after before (responding inst p c x)) .values ≡ answer (after before (responding inst p′ c x)) .values)
+  unfolding responding proverIn numberOf
+  respond-held s c x =
+      let number : numberOf (after before (responding inst p c x)) ≡ numberOf (after before (responding inst p′ c x)) =
+      rw (unfitProver-same inst p p′ s, isListed-same p p′ s, s .memory, s .phase) in
       let nonce = places-agree (inst .header .columns) (p .nonce) (p′ .nonce) (s .nonce) in (
-        rw (unfitProver-same inst p p′ s, isListed-same p p′ s, s .memory, s .phase),
-        rw (unfitProver-same inst p p′ s, isListed-same p p′ s, s .memory, nonce, s .phase),
+        read-alike (after before (responding inst p c x)) (after before (responding inst p′ c x))
+            (λ step. step .refusal) (λ step. step .refusal) number refl (λ n. refl),
+        read-alike (after before (responding inst p c x)) (after before (responding inst p′ c x))
+            (λ step. step .values) (λ step. step .values) number (rw nonce) (λ n. refl),
       )
 
 -- ---- what Vic holds
@@ -110,15 +114,19 @@ unfitCommitment-same inst v v′ a = rw (places-agree (inst .header .rows) (v .c
 
 module _ (before : List Rule) (inst : Instance) (v v′ : Verifier) where
   -- the challenge call reads the state and s places of the commitment
-  pub takeChallengeAfter-held : v .phase ≡ v′ .phase → Agree (inst .header .rows) (v .commitment) (v′ .commitment) → (c : ℕ)
-      → takeChallengeAfter before inst v c .refusal ≡ takeChallengeAfter before inst v′ c .refusal
-  unfolding takeChallengeAfter verifierStep takeChallengeRules verifierIn
-  takeChallengeAfter-held e a c = rw (unfitCommitment-same inst v v′ a, e)
+  pub takeChallenge-held : v .phase ≡ v′ .phase → Agree (inst .header .rows) (v .commitment) (v′ .commitment) → (c : ℕ)
+      → answer (after before (takingChallenge inst v c)) .refusal ≡ answer (after before (takingChallenge inst v′ c)) .refusal
+  unfolding takingChallenge verifierIn numberOf
+  takeChallenge-held e a c =
+      read-alike (after before (takingChallenge inst v c)) (after before (takingChallenge inst v′ c))
+      (λ step. step .refusal) (λ step. step .refusal) (rw (unfitCommitment-same inst v v′ a, e)) refl (λ n. refl)
 
   -- the response call reads the state, s places of the commitment and the challenge
-  pub takeResponseAfter-held : SameVerifier (inst .header) v v′ → (r : List ℕ)
-      → takeResponseAfter before inst v r .verdict ≡ takeResponseAfter before inst v′ r .verdict
-  unfolding takeResponseAfter takeResponseRules verifierIn
-  takeResponseAfter-held s r =
+  pub takeResponse-held : SameVerifier (inst .header) v v′ → (r : List ℕ)
+      → answer (after before (takingResponse inst v r)) .verdict ≡ answer (after before (takingResponse inst v′ r)) .verdict
+  unfolding takingResponse verifierIn numberOf
+  takeResponse-held s r =
       let commitment = places-agree (inst .header .rows) (v .commitment) (v′ .commitment) (s .commitment) in
-      rw (unfitCommitment-same inst v v′ (s .commitment), commitment, s .phase, s .challenge)
+      read-alike (after before (takingResponse inst v r)) (after before (takingResponse inst v′ r))
+      (λ told. told .verdict) (λ told. told .verdict)
+      (rw (unfitCommitment-same inst v v′ (s .commitment), s .phase, s .challenge)) (rw (commitment, s .challenge)) (λ n. refl)

@@ -2,25 +2,26 @@
 -- brought (01, "Sessions" and "A round").
 -- Assumes nothing.
 use Prim.Native.Nat.{ℕ}
-use mathlib.Core.Path.{_≡_}
+use mathlib.Core.Path.{_≡_, _∙_}
 use mathlib.Core.List.{List}
 use Rattle.types.specs.declared.Round.{Round}
 use Rattle.types.specs.declared.Verifier.{Verifier}
 use Rattle.lists.specs.Places.{places}
+use Rattle.rules.specs.Call.{after, answer, numberOf}
 use Rattle.rules.specs.Rule.{Rule, lowest}
+use Rattle.rules.proofs.Call.{answer-read}
 use Rattle.rules.proofs.Lowest.{lowest-behind}
 use Rattle.formats.specs.Load.{loadRules}
 use Rattle.formats.specs.Sheet.{instanceOf}
-use Rattle.formats.proofs.Positive.{load-positive}
-use Rattle.sigma.specs.Answer.{outcome}
+use Rattle.sigma.specs.Answer.{judged, outcome}
 use Rattle.sigma.specs.Instance.{Instance}
 use Rattle.sigma.specs.Judge.{judgeRules, judgeAfter}
 use Rattle.sigma.specs.Reads.{roundOf}
 use Rattle.sigma.proofs.Passed.{challenge-passes, commitment-passes}
 use Rattle.runs.specs.Calls.{judgeRound}
 use Rattle.runs.specs.Meaning.{ReadyToJudge}
-use Rattle.runs.specs.Verifier.{takeResponseRules, takeResponseAfter, takeResponse}
-use Rattle.runs.proofs.VerifierSteps.{ready-passes, takeResponseAfter-runs}
+use Rattle.runs.specs.Verifier.{takeResponse, takingResponse}
+use Rattle.runs.proofs.VerifierSteps.{ready-passes, takeResponse-runs}
 
 -- the round of what Vic holds and a response
 abbrev pub heldRound : Verifier → List ℕ → Round
@@ -29,8 +30,9 @@ heldRound v r = roundOf (v .commitment) (v .challenge) r
 module _ (inst : Instance) (v : Verifier) (ready : ReadyToJudge inst v) where
   -- where 21 does not apply, the response call's rules and those of judging give the same number
   same-number : (r : List ℕ)
-      → lowest (takeResponseRules inst v r) ≡ lowest (judgeRules inst (places (inst .header .rows) (v .commitment)) (v .challenge) r)
-  unfolding takeResponseRules judgeRules lowest
+      → lowest (takingResponse inst v r .refusals)
+      ≡ lowest (judgeRules inst (places (inst .header .rows) (v .commitment)) (v .challenge) (places (inst .header .columns) r))
+  unfolding takingResponse judgeRules lowest
   same-number r =
       let t = places (inst .header .rows) (v .commitment) in
       let below = challenge-passes inst (v .challenge) .1 (ready .challenge) in
@@ -38,9 +40,10 @@ module _ (inst : Instance) (v : Verifier) (ready : ReadyToJudge inst v) where
 
   -- where 21 does not apply, the response call answers what judging answers
   pub response-judged : (before : List Rule) (r : List ℕ)
-      → takeResponseAfter before inst v r .verdict ≡ judgeAfter before inst (heldRound v r)
-  unfolding takeResponseAfter judgeAfter
-  response-judged before r = rw (lowest-behind before _ _ (same-number (places (inst .header .columns) r)))
+      → answer (after before (takingResponse inst v r)) .verdict ≡ judgeAfter before inst (heldRound v r)
+  unfolding takingResponse judgeAfter judged numberOf
+  response-judged before r =
+      answer-read (after before (takingResponse inst v r)) (λ told. told .verdict) ∙ rw (lowest-behind before _ _ (same-number r))
 
 -- on a sheet's bytes: where 21 does not apply, the response call answers what the call that judges rounds answers
 pub takeResponse-judged : (sheet : List ℕ) (v : Verifier) → ReadyToJudge (instanceOf sheet) v → (r : List ℕ)
@@ -51,7 +54,4 @@ takeResponse-judged sheet v ready r = response-judged (instanceOf sheet) v ready
 -- so does a response call that is not refused
 pub takeResponse-given : (sheet : List ℕ) (v : Verifier) (r : List ℕ) → outcome (takeResponse sheet v r .verdict) .number ≡ 0
     → takeResponse sheet v r .verdict ≡ judgeRound sheet (roundOf (v .commitment) (v .challenge) r)
-unfolding takeResponse
-takeResponse-given sheet v r passed =
-    takeResponse-judged sheet v
-    (takeResponseAfter-runs (loadRules sheet) (instanceOf sheet) v r (load-positive sheet) .0 passed .1 .ready) r
+takeResponse-given sheet v r passed = takeResponse-judged sheet v (takeResponse-runs sheet v r .0 passed .1 .ready) r

@@ -7,45 +7,39 @@ use Rattle.types.specs.declared.Verifier.{Verifier}
 use Rattle.types.specs.declared.VerifierPhase.the-variants.{Judged}
 use Rattle.types.specs.declared.VerifierStep.{VerifierStep}
 use Rattle.types.specs.declared.VerifierVerdict.{VerifierVerdict}
-use Rattle.formats.specs.Load.{loadRules}
-use Rattle.formats.specs.Sheet.{instanceOf}
-use Rattle.formats.proofs.Positive.{load-positive}
 use Rattle.runs.specs.Ours.{callVerifier}
-use Rattle.runs.specs.Verifier.{verifierState, takeCommitment, takeChallenge, takeResponse}
+use Rattle.runs.specs.Verifier.{verifierState, takingCommitment, takingChallenge, takingResponse}
 use Rattle.runs.specs.VerifierCalls.{VerifierCall, Commitment, Challenge, Response}
 use Rattle.runs.specs.VerifierCalls.{VerifierMoves}
-use Rattle.runs.proofs.VerifierSteps.{takeCommitmentAfter-runs, takeCommitmentAfter-given, takeCommitmentAfter-kept}
-use Rattle.runs.proofs.VerifierSteps.{takeChallengeAfter-runs, takeChallengeAfter-given, takeChallengeAfter-kept}
-use Rattle.runs.proofs.VerifierSteps.{takeResponseAfter-runs, takeResponseAfter-given, takeResponseAfter-kept}
+use Rattle.runs.proofs.VerifierSteps.{takeCommitment-kept, takeCommitment-runs, takeCommitment-value}
+use Rattle.runs.proofs.VerifierSteps.{takeChallenge-kept, takeChallenge-runs, takeChallenge-value}
+use Rattle.runs.proofs.VerifierSteps.{takeResponse-kept, takeResponse-runs, takeResponse-value}
 
 -- ---- a refused call
 
 -- a refused call hands back the same session
 pub verifier-kept : (call : VerifierCall) (v : Verifier) → 0 < callVerifier call v .refusal → callVerifier call v .session ≡ v
-unfolding callVerifier takeCommitment takeChallenge takeResponse
-verifier-kept (Commitment sheet t) v h =
-    ap (λ (step : VerifierStep). step .session) (takeCommitmentAfter-kept (loadRules sheet) (instanceOf sheet) v t h)
-verifier-kept (Challenge sheet c) v h =
-    ap (λ (step : VerifierStep). step .session) (takeChallengeAfter-kept (loadRules sheet) (instanceOf sheet) v c h)
-verifier-kept (Response sheet r) v h =
-    ap (λ (told : VerifierVerdict). told .session) (takeResponseAfter-kept (loadRules sheet) (instanceOf sheet) v r h)
+unfolding callVerifier
+verifier-kept (Commitment sheet t) v h = ap (λ (step : VerifierStep). step .session) (takeCommitment-kept sheet v t h)
+verifier-kept (Challenge sheet c) v h = ap (λ (step : VerifierStep). step .session) (takeChallenge-kept sheet v c h)
+verifier-kept (Response sheet r) v h = ap (λ (told : VerifierVerdict). told .session) (takeResponse-kept sheet v r h)
 
 -- ---- any other call
 
 -- a call that is not refused moves the session as 01 says
 pub verifier-moves : (call : VerifierCall) (v : Verifier) → callVerifier call v .refusal ≡ 0 → VerifierMoves v call (callVerifier call v)
-unfolding callVerifier takeCommitment takeChallenge takeResponse
+unfolding callVerifier takingCommitment takingChallenge takingResponse
 verifier-moves (Commitment sheet t) v e = (
-  takeCommitmentAfter-runs (loadRules sheet) (instanceOf sheet) v t (load-positive sheet) .0 e .1 .phase,
-  ap (λ (step : VerifierStep). step .session) (takeCommitmentAfter-given (loadRules sheet) (instanceOf sheet) v t e),
+  takeCommitment-runs sheet v t .0 e .1 .phase,
+  ap (λ (step : VerifierStep). step .session) (takeCommitment-value sheet v t e),
 )
 verifier-moves (Challenge sheet c) v e = (
-  takeChallengeAfter-runs (loadRules sheet) (instanceOf sheet) v c (load-positive sheet) .0 e .1 .phase,
-  ap (λ (step : VerifierStep). step .session) (takeChallengeAfter-given (loadRules sheet) (instanceOf sheet) v c e),
+  takeChallenge-runs sheet v c .0 e .1 .phase,
+  ap (λ (step : VerifierStep). step .session) (takeChallenge-value sheet v c e),
 )
 verifier-moves (Response sheet r) v e = (
-  takeResponseAfter-runs (loadRules sheet) (instanceOf sheet) v r (load-positive sheet) .0 e .1 .ready .phase,
-  ap (λ (told : VerifierVerdict). told .session) (takeResponseAfter-given (loadRules sheet) (instanceOf sheet) v r e),
+  takeResponse-runs sheet v r .0 e .1 .ready .phase,
+  ap (λ (told : VerifierVerdict). told .session) (takeResponse-value sheet v r e),
 )
 
 -- ---- the state

@@ -5,39 +5,38 @@ use Prim.Native.Nat.{ℕ, _<_}
 use mathlib.Core.Path.{_≡_, refl}
 use mathlib.Core.Logic.{_↔_, Iff·rfl, Iff·trans, Iff·and}
 use mathlib.Core.Bool.{false, not, _||_}
-use mathlib.Core.List.{List, _++_}
-use lib.Dec.{T}
+use mathlib.Core.List.{List}
 use Rattle.types.specs.declared.Verdict.the-variants.{Refused}
 use Rattle.types.specs.declared.Verifier.{Verifier}
-use Rattle.types.specs.declared.VerifierPhase.the-variants.{Waiting, Holding, Asked, Judged}
-use Rattle.lists.specs.Places.{pad8, places}
-use Rattle.rules.specs.Rule.{Rule, lowest, Clear, allPositive}
-use Rattle.rules.proofs.Lowest.{lowest-append-zero}
+use Rattle.types.specs.declared.VerifierPhase.the-variants.{Waiting, Holding, Asked}
+use Rattle.lists.specs.Places.{places}
+use Rattle.rules.specs.Rule.{Clear}
+use Rattle.rules.proofs.Told.{told-after, told-refused, told-value}
+use Rattle.formats.specs.Load.{loadRefusal, loadRules, onSheet}
+use Rattle.formats.specs.Sheet.{instanceOf}
+use Rattle.formats.proofs.Positive.{load-positive}
 use Rattle.sigma.specs.Answer.{outcome}
 use Rattle.sigma.specs.Instance.{Instance}
 use Rattle.sigma.specs.Meaning.{Elements}
-use Rattle.sigma.specs.Round.{badChallenge, verdict}
-use Rattle.rules.proofs.Answer.{unlessRefused-zero, unlessRefused-positive}
-use Rattle.sigma.proofs.Answer.{judged-zero, judged-positive}
+use Rattle.sigma.specs.Round.{badChallenge}
 use Rattle.sigma.proofs.Calculus.{says-passes, both-fail}
 use Rattle.sigma.proofs.Passed.{challenge-passes, commitment-passes, coordinates-pass}
 use Rattle.sigma.proofs.Verdict.{verdict-not-refused}
 use Rattle.runs.specs.Meaning.{TakesCommitment, TakesChallenge, ReadyToJudge, TakesResponse}
-use Rattle.runs.specs.Verifier.{verifierIn, unfitCommitment, verifierStep}
-use Rattle.runs.specs.Verifier.{takeCommitmentRules, takeCommitmentAfter, takeChallengeRules, takeChallengeAfter}
-use Rattle.runs.specs.Verifier.{takeResponseRules, takeResponseAfter}
-use Rattle.runs.proofs.Positive.{takeCommitment-positive, takeChallenge-positive, takeResponse-positive}
-use Rattle.runs.proofs.Outcome.{verifierStep-positive, verifierStep-given, judged-number}
+use Rattle.runs.specs.OnSheet.{readSlots, readValues}
+use Rattle.runs.specs.Verifier.{takeChallenge, takeCommitment, takeResponse, takingChallenge, takingCommitment, takingResponse}
+use Rattle.runs.specs.Verifier.{unfitCommitment, verifierIn}
+use Rattle.runs.proofs.Outcome.{decided-number}
 use Rattle.runs.proofs.Tests.{says-verifier}
 
--- ---- when no rule of a call applies
+-- ---- when no refusal of a call applies
 
 -- the commitment call
-pub takeCommitment-clear : (inst : Instance) (v : Verifier) (t : List ℕ)
-    → Clear (takeCommitmentRules inst v t) ↔ TakesCommitment inst v t
-unfolding takeCommitmentRules
-takeCommitment-clear inst v t =
-    let elements = commitment-passes inst t in
+pub takeCommitment-clear : (inst : Instance) (v : Verifier) (commitment : List ℕ)
+    → Clear (takingCommitment inst v commitment .refusals) ↔ TakesCommitment inst v (places (inst .header .rows) commitment)
+unfolding takingCommitment
+takeCommitment-clear inst v commitment =
+    let elements = commitment-passes inst (places (inst .header .rows) commitment) in
     let phase = says-passes (says-verifier Waiting v) in (
       λ (a, (b, none)). record { commitment = elements .0 a; phase = phase .0 b },
       λ x. (elements .1 (x .commitment), (phase .1 (x .phase), tt)),
@@ -51,8 +50,8 @@ unfit-passes inst v = commitment-passes inst _
 
 -- the challenge call
 pub takeChallenge-clear : (inst : Instance) (v : Verifier) (c : ℕ)
-    → Clear (takeChallengeRules inst v c) ↔ TakesChallenge inst v c
-unfolding takeChallengeRules
+    → Clear (takingChallenge inst v c .refusals) ↔ TakesChallenge inst v c
+unfolding takingChallenge
 takeChallenge-clear inst v c =
     let below = challenge-passes inst c in
     let state = both-fail (not (verifierIn Holding v)) (unfitCommitment inst v) in
@@ -80,124 +79,97 @@ ready-passes inst v =
     )
 
 -- the response call
-pub takeResponse-clear : (inst : Instance) (v : Verifier) (r : List ℕ)
-    → Clear (takeResponseRules inst v r) ↔ TakesResponse inst v r
-unfolding takeResponseRules
-takeResponse-clear inst v r =
-    let slots = coordinates-pass inst r in
+pub takeResponse-clear : (inst : Instance) (v : Verifier) (response : List ℕ)
+    → Clear (takingResponse inst v response .refusals) ↔ TakesResponse inst v (places (inst .header .columns) response)
+unfolding takingResponse
+takeResponse-clear inst v response =
+    let slots = coordinates-pass inst (places (inst .header .columns) response) in
     let ready = ready-passes inst v in (
-      λ (a, (b, none)). record {
-        response = slots .0 a;
-        ready = ready .0 b;
-      },
+      λ (a, (b, none)). record { response = slots .0 a; ready = ready .0 b },
       λ x. (slots .1 (x .response), (ready .1 (x .ready), tt)),
     )
 
--- ---- the commitment
+-- the verdict on a response is no refusal
+pub response-number : (inst : Instance) (v : Verifier) (response : List ℕ)
+    → outcome (takingResponse inst v response .value .verdict) .number ≡ 0
+unfolding takingResponse
+response-number inst v response = decided-number _ (verdict-not-refused inst _ _ _)
 
-module _ (before : List Rule) (inst : Instance) (v : Verifier) (commitment : List ℕ) where
-  -- the number is what the rules give
-  pub takeCommitmentAfter-refusal : takeCommitmentAfter before inst v commitment .refusal
-      ≡ lowest (before ++ takeCommitmentRules inst v (places (inst .header .rows) commitment))
-  unfolding takeCommitmentAfter verifierStep
-  takeCommitmentAfter-refusal = refl
+module _ (sheet : List ℕ) (v : Verifier) where
+  -- ---- the commitment
 
-  -- a commitment is taken exactly in Waiting, if it is of group elements
-  pub takeCommitmentAfter-runs : T (allPositive before)
-      → (takeCommitmentAfter before inst v commitment .refusal ≡ 0)
-      ↔ ((lowest before ≡ 0) × TakesCommitment inst v (places (inst .header .rows) commitment))
-  takeCommitmentAfter-runs safe =
-      let t = places (inst .header .rows) commitment in
-      rw takeCommitmentAfter-refusal
-      (Iff·trans (lowest-append-zero before (takeCommitmentRules inst v t) safe (takeCommitment-positive inst v t))
-      (Iff·and Iff·rfl (takeCommitment-clear inst v t)))
+  -- it is taken exactly in Waiting, if it is of group elements
+  pub takeCommitment-runs : (t : List ℕ)
+      → (takeCommitment sheet v t .refusal ≡ 0) ↔ ((loadRefusal sheet ≡ 0) × TakesCommitment (instanceOf sheet) v (readValues sheet t))
+  unfolding takeCommitment takingCommitment loadRefusal
+  takeCommitment-runs t =
+      Iff·trans (told-after (takingCommitment (instanceOf sheet) v t) (λ step. step .refusal) refl (λ n. refl)
+      (loadRules sheet) (load-positive sheet) tt)
+      (Iff·and Iff·rfl (takeCommitment-clear (instanceOf sheet) v t))
 
-  -- it is stored, and the challenge is kept
-  pub takeCommitmentAfter-given : takeCommitmentAfter before inst v commitment .refusal ≡ 0
-      → takeCommitmentAfter before inst v commitment
-      ≡ record {
-        refusal = 0;
-        session =
-            record {
-              phase = Holding;
-              commitment = pad8 0 (places (inst .header .rows) commitment);
-              challenge = v .challenge;
-            };
-      }
-  unfolding takeCommitmentAfter
-  takeCommitmentAfter-given = verifierStep-given _ v _
+  -- then it is stored
+  pub takeCommitment-value : (t : List ℕ) → takeCommitment sheet v t .refusal ≡ 0
+      → takeCommitment sheet v t ≡ takingCommitment (instanceOf sheet) v t .value
+  unfolding takeCommitment takingCommitment
+  takeCommitment-value t =
+      told-value (onSheet sheet (takingCommitment (instanceOf sheet) v t)) (λ step. step .refusal) refl (λ n. refl)
 
   -- a refused call leaves the session
-  pub takeCommitmentAfter-kept : 0 < takeCommitmentAfter before inst v commitment .refusal
-      → takeCommitmentAfter before inst v commitment
-      ≡ record { refusal = takeCommitmentAfter before inst v commitment .refusal; session = v }
-  unfolding takeCommitmentAfter verifierStep
-  takeCommitmentAfter-kept = verifierStep-positive _ v _
+  pub takeCommitment-kept : (t : List ℕ) → 0 < takeCommitment sheet v t .refusal
+      → takeCommitment sheet v t ≡ record { refusal = takeCommitment sheet v t .refusal; session = v }
+  unfolding takeCommitment takingCommitment
+  takeCommitment-kept t =
+      told-refused (onSheet sheet (takingCommitment (instanceOf sheet) v t)) (λ step. step .refusal) refl (λ n. refl)
 
--- ---- the challenge
+  -- ---- the challenge
 
-module _ (before : List Rule) (inst : Instance) (v : Verifier) (c : ℕ) where
-  -- the number is what the rules give
-  pub takeChallengeAfter-refusal : takeChallengeAfter before inst v c .refusal ≡ lowest (before ++ takeChallengeRules inst v c)
-  unfolding takeChallengeAfter verifierStep
-  takeChallengeAfter-refusal = refl
+  -- it is taken exactly in Holding, with a held commitment that fits, if it is below K
+  pub takeChallenge-runs : (c : ℕ)
+      → (takeChallenge sheet v c .refusal ≡ 0) ↔ ((loadRefusal sheet ≡ 0) × TakesChallenge (instanceOf sheet) v c)
+  unfolding takeChallenge takingChallenge loadRefusal
+  takeChallenge-runs c =
+      Iff·trans (told-after (takingChallenge (instanceOf sheet) v c) (λ step. step .refusal) refl (λ n. refl)
+      (loadRules sheet) (load-positive sheet) tt)
+      (Iff·and Iff·rfl (takeChallenge-clear (instanceOf sheet) v c))
 
-  -- a challenge is taken exactly in Holding, with a held commitment that fits, if it is below K
-  pub takeChallengeAfter-runs : T (allPositive before)
-      → (takeChallengeAfter before inst v c .refusal ≡ 0) ↔ ((lowest before ≡ 0) × TakesChallenge inst v c)
-  takeChallengeAfter-runs safe =
-      rw takeChallengeAfter-refusal
-      (Iff·trans (lowest-append-zero before (takeChallengeRules inst v c) safe (takeChallenge-positive inst v c))
-      (Iff·and Iff·rfl (takeChallenge-clear inst v c)))
-
-  -- it is stored, and the commitment is kept
-  pub takeChallengeAfter-given : takeChallengeAfter before inst v c .refusal ≡ 0
-      → takeChallengeAfter before inst v c
-      ≡ record { refusal = 0; session = record { phase = Asked; commitment = v .commitment; challenge = c } }
-  unfolding takeChallengeAfter
-  takeChallengeAfter-given = verifierStep-given _ v _
+  -- then it is stored
+  pub takeChallenge-value : (c : ℕ) → takeChallenge sheet v c .refusal ≡ 0
+      → takeChallenge sheet v c ≡ takingChallenge (instanceOf sheet) v c .value
+  unfolding takeChallenge takingChallenge
+  takeChallenge-value c =
+      told-value (onSheet sheet (takingChallenge (instanceOf sheet) v c)) (λ step. step .refusal) refl (λ n. refl)
 
   -- a refused call leaves the session
-  pub takeChallengeAfter-kept : 0 < takeChallengeAfter before inst v c .refusal
-      → takeChallengeAfter before inst v c ≡ record { refusal = takeChallengeAfter before inst v c .refusal; session = v }
-  unfolding takeChallengeAfter verifierStep
-  takeChallengeAfter-kept = verifierStep-positive _ v _
+  pub takeChallenge-kept : (c : ℕ) → 0 < takeChallenge sheet v c .refusal
+      → takeChallenge sheet v c ≡ record { refusal = takeChallenge sheet v c .refusal; session = v }
+  unfolding takeChallenge takingChallenge
+  takeChallenge-kept c =
+      told-refused (onSheet sheet (takingChallenge (instanceOf sheet) v c)) (λ step. step .refusal) refl (λ n. refl)
 
--- ---- the response
+  -- ---- the response
 
-module _ (before : List Rule) (inst : Instance) (v : Verifier) (response : List ℕ) where
-  -- the number of the answer is what the rules give
-  pub takeResponseAfter-refusal : outcome (takeResponseAfter before inst v response .verdict) .number
-      ≡ lowest (before ++ takeResponseRules inst v (places (inst .header .columns) response))
-  unfolding takeResponseAfter
-  takeResponseAfter-refusal = judged-number _ _ (verdict-not-refused inst _ _ _)
+  module _ (r : List ℕ) where
+    -- a verdict is given exactly in Asked, with held values that fit, for a response of domain slots
+    pub takeResponse-runs : (outcome (takeResponse sheet v r .verdict) .number ≡ 0)
+        ↔ ((loadRefusal sheet ≡ 0) × TakesResponse (instanceOf sheet) v (readSlots sheet r))
+    unfolding takeResponse takingResponse loadRefusal outcome
+    takeResponse-runs =
+        Iff·trans (told-after (takingResponse (instanceOf sheet) v r) (λ told. outcome (told .verdict) .number)
+        (response-number (instanceOf sheet) v r) (λ n. refl) (loadRules sheet) (load-positive sheet) tt)
+        (Iff·and Iff·rfl (takeResponse-clear (instanceOf sheet) v r))
 
-  -- a verdict is given exactly in Asked, with held values that fit, for a response of domain slots
-  pub takeResponseAfter-runs : T (allPositive before)
-      → (outcome (takeResponseAfter before inst v response .verdict) .number ≡ 0)
-      ↔ ((lowest before ≡ 0) × TakesResponse inst v (places (inst .header .columns) response))
-  takeResponseAfter-runs safe =
-      let r = places (inst .header .columns) response in
-      rw takeResponseAfter-refusal
-      (Iff·trans (lowest-append-zero before (takeResponseRules inst v r) safe (takeResponse-positive inst v r))
-      (Iff·and Iff·rfl (takeResponse-clear inst v r)))
+    -- then it is that on the held commitment and challenge and the response
+    pub takeResponse-value : outcome (takeResponse sheet v r .verdict) .number ≡ 0
+        → takeResponse sheet v r ≡ takingResponse (instanceOf sheet) v r .value
+    unfolding takeResponse takingResponse outcome
+    takeResponse-value =
+        told-value (onSheet sheet (takingResponse (instanceOf sheet) v r)) (λ told. outcome (told .verdict) .number)
+        (response-number (instanceOf sheet) v r) (λ n. refl)
 
-  -- it is the verdict on the held commitment and challenge and the response, and no held value changes
-  pub takeResponseAfter-given : outcome (takeResponseAfter before inst v response .verdict) .number ≡ 0
-      → takeResponseAfter before inst v response
-      ≡ record {
-        verdict =
-            verdict inst (places (inst .header .rows) (v .commitment)) (v .challenge) (places (inst .header .columns) response);
-        session = record { phase = Judged; commitment = v .commitment; challenge = v .challenge };
-      }
-  unfolding takeResponseAfter
-  takeResponseAfter-given e = rw (← takeResponseAfter-refusal, e, judged-zero, unlessRefused-zero)
-
-  -- a refused call leaves the session
-  pub takeResponseAfter-kept : 0 < outcome (takeResponseAfter before inst v response .verdict) .number
-      → takeResponseAfter before inst v response
-      ≡ record { verdict = Refused (outcome (takeResponseAfter before inst v response .verdict) .number); session = v }
-  unfolding takeResponseAfter
-  takeResponseAfter-kept h =
-      let some = rw takeResponseAfter-refusal at h in
-      rw (takeResponseAfter-refusal, judged-positive _ _ some, unlessRefused-positive _ _ _ some)
+    -- a refused call leaves the session
+    pub takeResponse-kept : 0 < outcome (takeResponse sheet v r .verdict) .number
+        → takeResponse sheet v r ≡ record { verdict = Refused (outcome (takeResponse sheet v r .verdict) .number); session = v }
+    unfolding takeResponse takingResponse outcome
+    takeResponse-kept =
+        told-refused (onSheet sheet (takingResponse (instanceOf sheet) v r)) (λ told. outcome (told .verdict) .number)
+        (response-number (instanceOf sheet) v r) (λ n. refl)

@@ -3,18 +3,17 @@
 -- Assumes nothing.
 use Prim.Native.Nat.{ℕ}
 use mathlib.Core.Bool.{Bool, not, _||_}
-use mathlib.Core.List.{List, [], _∷_, _++_}
+use mathlib.Core.List.{List, [], _∷_}
 use lib.Dec.{eqb}
 use Rattle.types.specs.declared.Prover.{Prover}
 use Rattle.types.specs.declared.ProverPhase.{ProverPhase}
 use Rattle.types.specs.declared.ProverPhase.the-variants.{New, Committed, Answered, Dropped}
 use Rattle.types.specs.declared.ProverStep.{ProverStep}
 use Rattle.lists.specs.Places.{pad8, places, zeros8}
-use Rattle.rules.specs.Answer.{unlessRefused}
-use Rattle.rules.specs.Rule.{Rule, _when_, lowest}
-use Rattle.formats.specs.Load.{loadRules}
+use Rattle.rules.specs.Call.{Call, answer}
+use Rattle.rules.specs.Rule.{_when_}
+use Rattle.formats.specs.Load.{onSheet}
 use Rattle.formats.specs.Sheet.{instanceOf}
-use Rattle.sigma.specs.Answer.{eightPlaces}
 use Rattle.sigma.specs.Comparison.{differ}
 use Rattle.sigma.specs.Image.{image}
 use Rattle.sigma.specs.Instance.{Instance, tableOf}
@@ -36,22 +35,25 @@ proverIn state p = eqb (proverState (p .phase)) (proverState state)
 unfoldable pub newProver : Prover
 newProver = record { phase = New; nonce = zeros8; commitment = zeros8; memory = noMemory }
 
--- the outcome of a call: the changed session and eight values, or the number, the same session and zeros
-unfoldable pub proverStep : ℕ → Prover → Prover → List ℕ → ProverStep
-proverStep refusal before after xs =
-    record { refusal = refusal; session = unlessRefused refusal after before; values = eightPlaces refusal xs }
+-- a refused call: its number, the session as it was and zeros
+abbrev pub handedBack : Prover → ℕ → ProverStep
+handedBack p n = record { refusal = n; session = p; values = zeros8 }
 
--- the rules of a nonce and the state
-unfoldable pub commitRules : Instance → Prover → List ℕ → List Rule
-commitRules inst p k = (16 when badCoordinates inst k) ∷ (21 when not (proverIn New p)) ∷ []
-
--- after the rules of the sheet: the nonce, read in n places, and its commitment are stored
-unfoldable pub commitAfter : List Rule → Instance → Prover → List ℕ → ProverStep
-commitAfter before inst p nonce =
+-- committing to a nonce, read in n places: 16 and 21, else the nonce and its image are stored, and the image is answered
+unfoldable pub committing : Instance → Prover → List ℕ → Call ProverStep
+committing inst p nonce =
     let k : List ℕ = places (inst .header .columns) nonce in
-    proverStep (lowest (before ++ commitRules inst p k)) p
-    (record { phase = Committed; nonce = pad8 0 k; commitment = pad8 0 (image (tableOf inst) k); memory = p .memory })
-    (image (tableOf inst) k)
+    let t : List ℕ = pad8 0 (image (tableOf inst) k) in
+    record {
+      refusals = (16 when badCoordinates inst k) ∷ (21 when not (proverIn New p)) ∷ [];
+      value =
+          record {
+            refusal = 0;
+            session = record { phase = Committed; nonce = pad8 0 k; commitment = t; memory = p .memory };
+            values = t;
+          };
+      refused = handedBack p;
+    }
 
 -- the held nonce has a slot that is no domain slot, or its image, 0 beyond s, is not the held commitment in all eight places
 unfoldable pub unfitProver : Instance → Prover → Bool
@@ -59,38 +61,56 @@ unfitProver inst p =
     let k : List ℕ = places (inst .header .columns) (p .nonce) in
     badCoordinates inst k || differ 8 (pad8 0 (image (tableOf inst) k)) (p .commitment)
 
--- the rules of a challenge, a witness and the session
-unfoldable pub respondRules : Instance → Prover → ℕ → List ℕ → List Rule
-respondRules inst p c x =
-    (15 when badChallenge inst c) ∷
-    (16 when badCoordinates inst x) ∷
-    (17 when badWitness inst x) ∷
-    (21 when (not (proverIn Committed p) || unfitProver inst p)) ∷
-    (32 when isListed (p .memory) (p .commitment)) ∷
-    (33 when isFull (p .memory)) ∷ []
-
--- after the rules of the sheet: the response is answered, the nonce set to zeros and the commitment listed
-unfoldable pub respondAfter : List Rule → Instance → Prover → ℕ → List ℕ → ProverStep
-respondAfter before inst p c witness =
+-- responding to a challenge with a witness, read in n places: 15 to 17, 21, 32 and 33, else the response is answered, the nonce set
+-- to zeros and the commitment listed
+unfoldable pub responding : Instance → Prover → ℕ → List ℕ → Call ProverStep
+responding inst p c witness =
     let x : List ℕ = places (inst .header .columns) witness in
-    proverStep (lowest (before ++ respondRules inst p c x)) p
-    (record { phase = Answered; nonce = zeros8; commitment = p .commitment; memory = listing (p .commitment) (p .memory) })
-    (response (inst .header) (places (inst .header .columns) (p .nonce)) c x)
+    record {
+      refusals =
+          (15 when badChallenge inst c) ∷
+          (16 when badCoordinates inst x) ∷
+          (17 when badWitness inst x) ∷
+          (21 when (not (proverIn Committed p) || unfitProver inst p)) ∷
+          (32 when isListed (p .memory) (p .commitment)) ∷
+          (33 when isFull (p .memory)) ∷ [];
+      value =
+          record {
+            refusal = 0;
+            session =
+                record {
+                  phase = Answered;
+                  nonce = zeros8;
+                  commitment = p .commitment;
+                  memory = listing (p .commitment) (p .memory);
+                };
+            values = pad8 0 (response (inst .header) (places (inst .header .columns) (p .nonce)) c x);
+          };
+      refused = handedBack p;
+    }
 
--- the rule of the state
-unfoldable pub dropRules : Prover → List Rule
-dropRules p = (21 when not (proverIn New p || proverIn Committed p)) ∷ []
+-- dropping, which takes no sheet: 21, else the nonce is set to zeros
+unfoldable pub dropping : Prover → Call ProverStep
+dropping p =
+    record {
+      refusals = (21 when not (proverIn New p || proverIn Committed p)) ∷ [];
+      value =
+          record {
+            refusal = 0;
+            session = record { phase = Dropped; nonce = zeros8; commitment = p .commitment; memory = p .memory };
+            values = zeros8;
+          };
+      refused = handedBack p;
+    }
 
 -- the call that commits to a nonce
 unfoldable pub commit : List ℕ → Prover → List ℕ → ProverStep
-commit sheet p nonce = commitAfter (loadRules sheet) (instanceOf sheet) p nonce
+commit sheet p nonce = answer (onSheet sheet (committing (instanceOf sheet) p nonce))
 
 -- the call that responds to a challenge
 unfoldable pub respond : List ℕ → Prover → ℕ → List ℕ → ProverStep
-respond sheet p c witness = respondAfter (loadRules sheet) (instanceOf sheet) p c witness
+respond sheet p c witness = answer (onSheet sheet (responding (instanceOf sheet) p c witness))
 
--- the call that drops a session: the nonce is set to zeros
+-- the call that drops a session
 unfoldable pub dropSession : Prover → ProverStep
-dropSession p =
-    proverStep (lowest (dropRules p)) p
-    (record { phase = Dropped; nonce = zeros8; commitment = p .commitment; memory = p .memory }) []
+dropSession p = answer (dropping p)

@@ -2,7 +2,7 @@
 -- Assumes nothing.
 use Prim.Native.Nat.{ℕ}
 use mathlib.Core.Bool.{cond}
-use mathlib.Core.List.{List, [], _∷_}
+use mathlib.Core.List.{[], _∷_}
 use lib.Dec.{eqb, leb}
 use lib.ListN.{set}
 use Rattle.types.specs.declared.Memory.{Memory}
@@ -11,9 +11,11 @@ use Rattle.types.specs.declared.ProverPhase.{ProverPhase}
 use Rattle.types.specs.declared.ProverPhase.the-variants.{New, Committed, Answered, Dropped}
 use Rattle.types.specs.declared.ProverStep.{ProverStep}
 use Rattle.types.specs.declared.Saved.{Saved}
-use Rattle.rules.specs.Rule.{Rule, _when_, lowest}
+use Rattle.lists.specs.Places.{zeros8}
+use Rattle.rules.specs.Call.{Call, answer}
+use Rattle.rules.specs.Rule.{_when_}
 use Rattle.runs.specs.Memory.{neverSaved, savedAt}
-use Rattle.runs.specs.Prover.{proverState, proverStep}
+use Rattle.runs.specs.Prover.{handedBack, proverState}
 
 -- the state of a number, Dropped for a number that is no state's
 unfoldable pub proverPhase : ℕ → ProverPhase
@@ -23,33 +25,46 @@ proverPhase n = cond (eqb n 0) New (cond (eqb n 1) Committed (cond (eqb n 2) Ans
 unfoldable pub savedState : Prover → Saved
 savedState p = record { nonce = p .nonce; commitment = p .commitment; phase = proverState (p .phase); kept = 1 }
 
--- the memory of a session with this session saved under a name
-unfoldable pub saving : ℕ → Prover → Memory
-saving name p =
+-- the memory of a session with this session kept under a name
+unfoldable pub keeping : ℕ → Prover → Memory
+keeping name p =
     record {
       saved = set (p .memory .saved) name (savedState p);
       answered = p .memory .answered;
       count = p .memory .count;
     }
 
--- the rule of a name to save under
-unfoldable pub saveRules : ℕ → List Rule
-saveRules name = (34 when leb 8 name) ∷ []
+-- saving under a name: 34, else the state, nonce and commitment are kept under it
+unfoldable pub saving : Prover → ℕ → Call ProverStep
+saving p name =
+    record {
+      refusals = (34 when leb 8 name) ∷ [];
+      value =
+          record {
+            refusal = 0;
+            session = record { phase = p .phase; nonce = p .nonce; commitment = p .commitment; memory = keeping name p };
+            values = zeros8;
+          };
+      refused = handedBack p;
+    }
 
 -- the call that saves a session under a name
 unfoldable pub save : Prover → ℕ → ProverStep
-save p name =
-    proverStep (lowest (saveRules name)) p
-    (record { phase = p .phase; nonce = p .nonce; commitment = p .commitment; memory = saving name p }) []
+save p name = answer (saving p name)
 
 -- a session in a saved state, with a memory
 unfoldable pub broughtBack : Saved → Memory → Prover
 broughtBack s m = record { phase = proverPhase (s .phase); nonce = s .nonce; commitment = s .commitment; memory = m }
 
--- the rule of a name to return to
-unfoldable pub returnRules : Prover → ℕ → List Rule
-returnRules p name = (34 when neverSaved (p .memory) name) ∷ []
+-- returning to a name: 34, else the state, nonce and commitment that were saved come back
+unfoldable pub returning : Prover → ℕ → Call ProverStep
+returning p name =
+    record {
+      refusals = (34 when neverSaved (p .memory) name) ∷ [];
+      value = record { refusal = 0; session = broughtBack (savedAt (p .memory) name) (p .memory); values = zeros8 };
+      refused = handedBack p;
+    }
 
 -- the call that returns to what was saved under a name
 unfoldable pub returnTo : Prover → ℕ → ProverStep
-returnTo p name = proverStep (lowest (returnRules p name)) p (broughtBack (savedAt (p .memory) name) (p .memory)) []
+returnTo p name = answer (returning p name)

@@ -2,19 +2,19 @@
 -- Assumes nothing.
 use Prim.Native.Nat.{ℕ}
 use mathlib.Core.Bool.{Bool, not, _||_}
-use mathlib.Core.List.{List, [], _∷_, _++_}
+use mathlib.Core.List.{List, [], _∷_}
 use lib.Dec.{eqb}
+use Rattle.types.specs.declared.Verdict.the-variants.{Refused}
 use Rattle.types.specs.declared.Verifier.{Verifier}
 use Rattle.types.specs.declared.VerifierPhase.{VerifierPhase}
 use Rattle.types.specs.declared.VerifierPhase.the-variants.{Waiting, Holding, Asked, Judged}
 use Rattle.types.specs.declared.VerifierStep.{VerifierStep}
 use Rattle.types.specs.declared.VerifierVerdict.{VerifierVerdict}
 use Rattle.lists.specs.Places.{pad8, places, zeros8}
-use Rattle.rules.specs.Answer.{unlessRefused}
-use Rattle.rules.specs.Rule.{Rule, _when_, lowest}
-use Rattle.formats.specs.Load.{loadRules}
+use Rattle.rules.specs.Call.{Call, answer}
+use Rattle.rules.specs.Rule.{_when_}
+use Rattle.formats.specs.Load.{onSheet}
 use Rattle.formats.specs.Sheet.{instanceOf}
-use Rattle.sigma.specs.Answer.{judged}
 use Rattle.sigma.specs.Instance.{Instance}
 use Rattle.sigma.specs.Round.{badChallenge, badCommitment, badCoordinates, verdict}
 
@@ -33,60 +33,54 @@ verifierIn state v = eqb (verifierState (v .phase)) (verifierState state)
 unfoldable pub newVerifier : Verifier
 newVerifier = record { phase = Waiting; commitment = zeros8; challenge = 0 }
 
--- the outcome of a call that brings a commitment or a challenge
-unfoldable pub verifierStep : ℕ → Verifier → Verifier → VerifierStep
-verifierStep refusal before after = record { refusal = refusal; session = unlessRefused refusal after before }
-
 -- the held commitment, read in s places, has a value that is no group element
 unfoldable pub unfitCommitment : Instance → Verifier → Bool
 unfitCommitment inst v = badCommitment inst (places (inst .header .rows) (v .commitment))
 
--- the rules of a commitment and the state
-unfoldable pub takeCommitmentRules : Instance → Verifier → List ℕ → List Rule
-takeCommitmentRules inst v t = (14 when badCommitment inst t) ∷ (21 when not (verifierIn Waiting v)) ∷ []
-
--- after the rules of the sheet: the commitment is stored, read in s places
-unfoldable pub takeCommitmentAfter : List Rule → Instance → Verifier → List ℕ → VerifierStep
-takeCommitmentAfter before inst v commitment =
+-- taking a commitment, read in s places: 14 and 21, else it is stored
+unfoldable pub takingCommitment : Instance → Verifier → List ℕ → Call VerifierStep
+takingCommitment inst v commitment =
     let t : List ℕ = places (inst .header .rows) commitment in
-    verifierStep (lowest (before ++ takeCommitmentRules inst v t)) v
-    (record { phase = Holding; commitment = pad8 0 t; challenge = v .challenge })
-
--- the rules of a challenge and the session
-unfoldable pub takeChallengeRules : Instance → Verifier → ℕ → List Rule
-takeChallengeRules inst v c =
-    (15 when badChallenge inst c) ∷ (21 when (not (verifierIn Holding v) || unfitCommitment inst v)) ∷ []
-
--- after the rules of the sheet: the challenge is stored
-unfoldable pub takeChallengeAfter : List Rule → Instance → Verifier → ℕ → VerifierStep
-takeChallengeAfter before inst v c =
-    verifierStep (lowest (before ++ takeChallengeRules inst v c)) v
-    (record { phase = Asked; commitment = v .commitment; challenge = c })
-
--- the rules of a response and the session
-unfoldable pub takeResponseRules : Instance → Verifier → List ℕ → List Rule
-takeResponseRules inst v r =
-    (16 when badCoordinates inst r) ∷
-    (21 when (not (verifierIn Asked v) || unfitCommitment inst v || badChallenge inst (v .challenge))) ∷ []
-
--- after the rules of the sheet: the verdict on the held commitment and challenge and the response; no response is stored
-unfoldable pub takeResponseAfter : List Rule → Instance → Verifier → List ℕ → VerifierVerdict
-takeResponseAfter before inst v response =
-    let r : List ℕ = places (inst .header .columns) response in
-    let refusal : ℕ = lowest (before ++ takeResponseRules inst v r) in
     record {
-      verdict = judged refusal (verdict inst (places (inst .header .rows) (v .commitment)) (v .challenge) r);
-      session = unlessRefused refusal (record { phase = Judged; commitment = v .commitment; challenge = v .challenge }) v;
+      refusals = (14 when badCommitment inst t) ∷ (21 when not (verifierIn Waiting v)) ∷ [];
+      value =
+          record { refusal = 0; session = record { phase = Holding; commitment = pad8 0 t; challenge = v .challenge } };
+      refused = λ n. record { refusal = n; session = v };
+    }
+
+-- taking a challenge: 15 and 21, else it is stored
+unfoldable pub takingChallenge : Instance → Verifier → ℕ → Call VerifierStep
+takingChallenge inst v c =
+    record {
+      refusals = (15 when badChallenge inst c) ∷ (21 when (not (verifierIn Holding v) || unfitCommitment inst v)) ∷ [];
+      value = record { refusal = 0; session = record { phase = Asked; commitment = v .commitment; challenge = c } };
+      refused = λ n. record { refusal = n; session = v };
+    }
+
+-- taking a response, read in n places: 16 and 21, else the verdict on it and the held commitment and challenge; it is not stored
+unfoldable pub takingResponse : Instance → Verifier → List ℕ → Call VerifierVerdict
+takingResponse inst v response =
+    let r : List ℕ = places (inst .header .columns) response in
+    record {
+      refusals =
+          (16 when badCoordinates inst r) ∷
+          (21 when (not (verifierIn Asked v) || unfitCommitment inst v || badChallenge inst (v .challenge))) ∷ [];
+      value =
+          record {
+            verdict = verdict inst (places (inst .header .rows) (v .commitment)) (v .challenge) r;
+            session = record { phase = Judged; commitment = v .commitment; challenge = v .challenge };
+          };
+      refused = λ n. record { verdict = Refused n; session = v };
     }
 
 -- the call that brings the commitment
 unfoldable pub takeCommitment : List ℕ → Verifier → List ℕ → VerifierStep
-takeCommitment sheet v commitment = takeCommitmentAfter (loadRules sheet) (instanceOf sheet) v commitment
+takeCommitment sheet v commitment = answer (onSheet sheet (takingCommitment (instanceOf sheet) v commitment))
 
 -- the call that brings the challenge
 unfoldable pub takeChallenge : List ℕ → Verifier → ℕ → VerifierStep
-takeChallenge sheet v c = takeChallengeAfter (loadRules sheet) (instanceOf sheet) v c
+takeChallenge sheet v c = answer (onSheet sheet (takingChallenge (instanceOf sheet) v c))
 
 -- the call that brings the response
 unfoldable pub takeResponse : List ℕ → Verifier → List ℕ → VerifierVerdict
-takeResponse sheet v response = takeResponseAfter (loadRules sheet) (instanceOf sheet) v response
+takeResponse sheet v response = answer (onSheet sheet (takingResponse (instanceOf sheet) v response))

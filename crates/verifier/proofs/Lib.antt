@@ -1,3 +1,2 @@
 -- Laws that the proofs of the functions cite, by topic.
 pub mod States
-pub mod Outcomes

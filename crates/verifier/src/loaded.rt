@@ -11,15 +11,14 @@ use types::VerifierPhase;
 use types::VerifierStep;
 use types::VerifierVerdict;
 ghost use mathlib.Core.Path.{_≡_};
-ghost use mathlib.Core.List.{List, []};
+ghost use mathlib.Core.List.{List};
 ghost use Prim.Native.Nat.{ℕ, _≤_, _<_};
 ghost use Rattle.lists.specs.Places.{places};
-ghost use Rattle.rules.specs.Rule.{lowest};
+ghost use Rattle.rules.specs.Call.{answer, numberOf};
 ghost use Rattle.sigma.specs.Round.{badCommitment};
 ghost use Rattle.sigma.specs.Valid.{Valid};
 ghost use Rattle.sigma.specs.Instance.{instanceWith};
-ghost use Rattle.runs.specs.Verifier.{takeCommitmentRules, takeChallengeRules, takeResponseRules};
-ghost use Rattle.runs.specs.Verifier.{takeCommitmentAfter, takeChallengeAfter, takeResponseAfter};
+ghost use Rattle.runs.specs.Verifier.{takingCommitment, takingChallenge, takingResponse};
 
 // Whether a commitment, read in s places, has a value that is no group element.
 fn bad_commitment(h: Header, commitment: [u32; 8]) -> bool
@@ -36,7 +35,7 @@ fn bad_commitment(h: Header, commitment: [u32; 8]) -> bool
 fn commitment_refusal(h: Header, session: Verifier, commitment: [u32; 8]) -> u32
     requires { ⌜ (0 < h .modulus) × (h .rows ≤ 8) ⌝ }
     ensures { λ r. ⌜ ((entries : List (List ℕ)) (statement : List ℕ)
-        → r ≡ lowest (takeCommitmentRules (instanceWith h entries statement) session (places (h .rows) commitment))) ⌝ }
+        → r ≡ numberOf (takingCommitment (instanceWith h entries statement) session commitment)) ⌝ }
 {
     if bad_commitment(h, commitment) {
         return 14;
@@ -53,7 +52,7 @@ fn commitment_refusal(h: Header, session: Verifier, commitment: [u32; 8]) -> u32
 fn challenge_refusal(h: Header, session: Verifier, challenge: u32) -> u32
     requires { ⌜ (0 < h .modulus) × (h .rows ≤ 8) ⌝ }
     ensures { λ r. ⌜ ((entries : List (List ℕ)) (statement : List ℕ)
-        → r ≡ lowest (takeChallengeRules (instanceWith h entries statement) session challenge)) ⌝ }
+        → r ≡ numberOf (takingChallenge (instanceWith h entries statement) session challenge)) ⌝ }
 {
     if challenge >= h.challenges {
         return 15;
@@ -74,7 +73,7 @@ fn challenge_refusal(h: Header, session: Verifier, challenge: u32) -> u32
 fn response_refusal(h: Header, session: Verifier, response: [u32; 8]) -> u32
     requires { ⌜ (0 < h .modulus) × (h .rows ≤ 8) × (h .columns ≤ 8) ⌝ }
     ensures { λ r. ⌜ ((entries : List (List ℕ)) (statement : List ℕ)
-        → r ≡ lowest (takeResponseRules (instanceWith h entries statement) session (places (h .columns) response))) ⌝ }
+        → r ≡ numberOf (takingResponse (instanceWith h entries statement) session response)) ⌝ }
 {
     let columns = h.columns as usize;
     if some_non_coordinate(h, response, columns) {
@@ -98,7 +97,7 @@ fn response_refusal(h: Header, session: Verifier, response: [u32; 8]) -> u32
 pub fn take_commitment_loaded(h: Header, session: Verifier, commitment: [u32; 8]) -> VerifierStep
     requires { ⌜ (0 < h .modulus) × (h .rows ≤ 8) ⌝ }
     ensures { λ r. ⌜ ((entries : List (List ℕ)) (statement : List ℕ)
-        → r ≡ takeCommitmentAfter [] (instanceWith h entries statement) session commitment) ⌝ }
+        → r ≡ answer (takingCommitment (instanceWith h entries statement) session commitment)) ⌝ }
 {
     let refusal = commitment_refusal(h, session, commitment);
     if refusal != 0 {
@@ -118,7 +117,7 @@ pub fn take_commitment_loaded(h: Header, session: Verifier, commitment: [u32; 8]
 pub fn take_challenge_loaded(h: Header, session: Verifier, challenge: u32) -> VerifierStep
     requires { ⌜ (0 < h .modulus) × (h .rows ≤ 8) ⌝ }
     ensures { λ r. ⌜ ((entries : List (List ℕ)) (statement : List ℕ)
-        → r ≡ takeChallengeAfter [] (instanceWith h entries statement) session challenge) ⌝ }
+        → r ≡ answer (takingChallenge (instanceWith h entries statement) session challenge)) ⌝ }
 {
     let refusal = challenge_refusal(h, session, challenge);
     if refusal != 0 {
@@ -145,7 +144,7 @@ pub fn take_response_loaded(
     response: [u32; 8],
 ) -> VerifierVerdict
     requires { ⌜ Valid (instanceWith h entries statement) ⌝ }
-    ensures { λ r. ⌜ r ≡ takeResponseAfter [] (instanceWith h entries statement) session response ⌝ }
+    ensures { λ r. ⌜ r ≡ answer (takingResponse (instanceWith h entries statement) session response) ⌝ }
 {
     let refusal = response_refusal(h, session, response);
     if refusal != 0 {

@@ -1,11 +1,12 @@
 -- `prover::calls::commit` meets its contract: a refused sheet's number is the answer, else the call is that on the sheet's values.
 -- Assumes nothing.
+use mathlib.Core.Path.{_∙_}
 use borrow.Author.Needs.{needs}
-use Rattle.runs.specs.Prover.{commit}
-use Rattle.runs.proofs.After.{commitAfter-clear, commitAfter-refused}
-use Rattle.instance.proofs.Answers.{answer-refused, answer-header, answer-valid, answer-call}
+use Rattle.runs.specs.Prover.{commit, committing}
+use Rattle.instance.proofs.Answers.{answer-header, answer-valid}
+use Rattle.instance.proofs.OnLoaded.{loaded-refused, on-instance}
 use Rattle.prover.specs.Parts.{committedStep, proverWith}
-use Rattle.prover.proofs.Steps.{stepWith-refused}
+use Rattle.prover.proofs.Steps.{step-refused}
 use Rattle.prover.proofs.calls.commit.Statement.{statement}
 use Rattle.prover.proofs.calls.commit.Tie as tie
 
@@ -16,10 +17,11 @@ not-committed-requires : tie.Need-not-committed-requires
 not-committed-requires c κs = search needs
 
 returns : tie.Need-returns
-unfolding commit committedStep
+unfolding commit committing committedStep
 returns c = λ m.
-    let (number, some) = answer-refused _ _ (c .before .before .load .ensures) (c .before .if1 .taken) in
-    rw (c .not-committed .ensures) (stepWith-refused _ _ number some (commitAfter-refused _ _ some _ _))
+    let other = c .before .if1 .taken in
+    rw (c .not-committed .ensures)
+    (step-refused _ _ other ∙ loaded-refused _ _ (c .before .before .load .ensures) other (committing _ _ _))
 
 loaded-entries-requires : tie.Need-loaded-entries-requires
 loaded-entries-requires c κs =
@@ -36,8 +38,8 @@ unfolding commit
 returns-2 c = λ m.
     let passed = c .before .before .before .before in
     let args = passed .before .before .before .args in
-    answer-call _ _ (passed .before .load .ensures) (passed .if1 .left)
-    (λ before inst none. commitAfter-clear before inst none (proverWith (args .held) m) (args .nonce))
+    on-instance _ _ (passed .before .load .ensures) (passed .if1 .left)
+    (λ inst. committing inst (proverWith (args .held) m) (args .nonce))
     (c .before .loaded-entries .ensures) (c .commit-loaded .ensures m)
 
 pub commit-spec : {M : Type 1} → statement M

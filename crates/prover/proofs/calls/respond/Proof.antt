@@ -1,11 +1,12 @@
 -- `prover::calls::respond` meets its contract: a refused sheet's number is the answer, else the call is that on the sheet's values.
 -- Assumes nothing.
+use mathlib.Core.Path.{_∙_}
 use borrow.Author.Needs.{needs}
-use Rattle.runs.specs.Prover.{respond}
-use Rattle.runs.proofs.After.{respondAfter-clear, respondAfter-refused}
-use Rattle.instance.proofs.Answers.{answer-refused, answer-header, answer-valid, answer-call}
+use Rattle.runs.specs.Prover.{respond, responding}
+use Rattle.instance.proofs.Answers.{answer-header, answer-valid}
+use Rattle.instance.proofs.OnLoaded.{loaded-refused, on-instance}
 use Rattle.prover.specs.Parts.{answeredStep, proverWith}
-use Rattle.prover.proofs.Steps.{stepWith-refused}
+use Rattle.prover.proofs.Steps.{step-refused}
 use Rattle.prover.proofs.calls.respond.Statement.{statement}
 use Rattle.prover.proofs.calls.respond.Tie as tie
 
@@ -16,10 +17,11 @@ not-answered-requires : tie.Need-not-answered-requires
 not-answered-requires c κs = search needs
 
 returns : tie.Need-returns
-unfolding respond answeredStep
+unfolding respond responding answeredStep
 returns c = λ m bars.
-    let (number, some) = answer-refused _ _ (c .before .before .load .ensures) (c .before .if1 .taken) in
-    rw (c .not-answered .ensures) (stepWith-refused _ _ number some (respondAfter-refused _ _ some _ _ _))
+    let other = c .before .if1 .taken in
+    rw (c .not-answered .ensures)
+    (step-refused _ _ other ∙ loaded-refused _ _ (c .before .before .load .ensures) other (responding _ _ _ _))
 
 loaded-entries-requires : tie.Need-loaded-entries-requires
 loaded-entries-requires c κs =
@@ -36,8 +38,8 @@ unfolding respond
 returns-2 c = λ m bars.
     let passed = c .before .before .before .before in
     let args = passed .before .before .before .args in
-    answer-call _ _ (passed .before .load .ensures) (passed .if1 .left)
-    (λ before inst none. respondAfter-clear before inst none (proverWith (args .held) m) (args .challenge) (args .witness))
+    on-instance _ _ (passed .before .load .ensures) (passed .if1 .left)
+    (λ inst. responding inst (proverWith (args .held) m) (args .challenge) (args .witness))
     (c .before .loaded-entries .ensures) (c .respond-loaded .ensures m bars)
 
 pub respond-spec : {M : Type 1} → statement M

@@ -1,4 +1,4 @@
--- `prover::loaded::commit_loaded` meets its contract: the rules' number decides, and the image reads n places of the nonce.
+-- `prover::loaded::commit_loaded` meets its contract: the number decides, and the image reads n places of the nonce.
 -- Assumes nothing.
 use mathlib.Core.Path.{sym, ap, _∙_}
 use mathlib.Core.List.{List}
@@ -6,7 +6,8 @@ use Prim.Native.Nat.{ℕ}
 use borrow.Author.Needs.{needs}
 use Rattle.types.specs.declared.ProverPhase.the-variants.{Committed}
 use Rattle.lists.specs.Places.{pad8}
-use Rattle.runs.specs.Prover.{commitAfter}
+use Rattle.rules.proofs.Told.{numbered-refused, numbered-value}
+use Rattle.runs.specs.Prover.{committing}
 use Rattle.prover.specs.Parts.{committedStep}
 use Rattle.image.proofs.Unread.{image-places}
 use Rattle.prover.proofs.Steps.{step-refused, step-given}
@@ -20,11 +21,12 @@ not-committed-requires : tie.Need-not-committed-requires
 not-committed-requires c κs = search needs
 
 returns : tie.Need-returns
-unfolding commitAfter committedStep
+unfolding committing committedStep
 returns c = λ m.
     let start = c .before .before .before in
     let number = c .before .before .commit-refusal .ensures (start .args .entries) (start .args .statement) m in
-    rw (c .not-committed .ensures) (step-refused _ _ _ number (c .before .if1 .taken) _)
+    rw (c .not-committed .ensures)
+    (step-refused _ _ (c .before .if1 .taken) ∙ numbered-refused (committing _ _ _) number (c .before .if1 .taken))
 
 cast-first-places : tie.Need-cast-first-places
 cast-first-places c = search needs
@@ -36,14 +38,14 @@ image-requires : tie.Need-image-requires
 image-requires c κs = search needs
 
 returns-2 : tie.Need-returns-2
-unfolding commitAfter committedStep
+unfolding committing committedStep
 returns-2 c = λ m.
     let numbered = c .before .before .before in
     let start = numbered .before .before in
     let number = numbered .before .commit-refusal .ensures (start .args .entries) (start .args .statement) m in
     let read = c .image .ensures ∙ ap (λ (xs : List ℕ). pad8 0 xs) (sym (image-places _ (start .pre .table) _)) in
-    step-given _ _ _ number (numbered .if1 .left)
-    (λ j. record { phase = Committed; nonce = c .before .first-places .ensures j; commitment = read j; memory = m }) read
+    step-given _ _ (λ j. record { phase = Committed; nonce = c .before .first-places .ensures j; commitment = read j; memory = m }) read
+    ∙ numbered-value (committing _ _ _) number (numbered .if1 .left)
 
 pub commit-loaded-spec : {M : Type 1} → statement M
 commit-loaded-spec =

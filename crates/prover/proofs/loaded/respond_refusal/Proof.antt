@@ -1,4 +1,4 @@
--- `prover::loaded::respond_refusal` meets its contract: each return is a law of the rules of responding, and each test that fails
+-- `prover::loaded::respond_refusal` meets its contract: each return is a law of the refusals of responding, and each test that fails
 -- leaves the rules behind it.
 -- Assumes nothing.
 use mathlib.Core.Path.{_≡_, sym, _∙_}
@@ -7,7 +7,7 @@ use mathlib.Core.Logic.{Or·inl, Or·inr}
 use Prim.Native.Nat.{ℕ}
 use lib.ListN.{drop}
 use borrow.Author.Needs.{needs}
-use Rattle.lists.specs.Places.{places}
+use Rattle.rules.specs.Call.{numberOf}
 use Rattle.rules.specs.Rule.{lowest}
 use Rattle.rules.proofs.Lowest.{pass, stop}
 use Rattle.sigma.specs.Comparison.{differ}
@@ -16,7 +16,7 @@ use Rattle.sigma.proofs.Passed.{challenge-passes}
 use Rattle.sigma.proofs.Tests.{says-badChallenge}
 use Rattle.types.specs.declared.Memory.{Memory}
 use Rattle.types.specs.declared.ProverPhase.the-variants.{Committed}
-use Rattle.runs.specs.Prover.{proverIn, respondRules}
+use Rattle.runs.specs.Prover.{proverIn, responding}
 use Rattle.runs.proofs.Tests.{says-prover}
 use Rattle.sigma.specs.Instance.{instanceWith}
 use Rattle.image.proofs.Tested.{coordinates-read, witness-read}
@@ -29,18 +29,18 @@ use Rattle.prover.proofs.loaded.respond_refusal.Tie as tie
 abbrev Rest : ℕ → Memory → tie.Start → Type 0
 Rest k m start =
     let args = start .args in
-    let rules = respondRules (instanceWith (args .h) (args .entries) (args .statement))
-    (proverWith (args .held) m) (args .challenge) (places (args .h .columns) (args .witness)) in
+    let rules = responding (instanceWith (args .h) (args .entries) (args .statement))
+    (proverWith (args .held) m) (args .challenge) (args .witness) .refusals in
     lowest rules ≡ lowest (drop k rules)
 
 -- behind the challenge
 challenge : (c : tie.Else1) (m : Memory) → Rest 1 m (c .before .before .before .before)
-unfolding respondRules
+unfolding responding
 challenge c m = pass 15 _ (challenge-passes _ _ .1 (c .if1 .left))
 
 -- behind the search of the witness's slots
 slots : (c : tie.Else2) (m : Memory) → Rest 2 m (c .before .before .before .before .before .before)
-unfolding respondRules
+unfolding responding
 slots c m =
     challenge (c .before .before) m ∙ pass 16 _ (coordinates-read _ _ ∙ sym (c .before .some-non-coordinate .ensures) ∙ c .if2 .left)
 
@@ -52,7 +52,7 @@ compared c = c .differ .ensures
 
 -- behind the comparison of its image
 witness : (c : tie.Else3) (m : Memory) → Rest 3 m (c .before .before .before .before .before .before .before .before .before)
-unfolding respondRules
+unfolding responding
 witness c m =
     let imaged = c .before .before in
     let start = imaged .before .before .before .before .before .before .before in
@@ -66,14 +66,14 @@ cast-columns : tie.Need-cast-columns
 cast-columns c = search needs
 
 returns : tie.Need-returns
-unfolding respondRules
+unfolding responding numberOf
 returns c = λ m bars. sym (stop 15 _ (says-badChallenge _ _ .complete (c .if1 .taken)))
 
 some-non-coordinate-requires : tie.Need-some-non-coordinate-requires
 some-non-coordinate-requires c κs = search needs
 
 returns-2 : tie.Need-returns-2
-unfolding respondRules
+unfolding responding numberOf
 returns-2 c = λ m bars.
     sym (challenge (c .before .before) m ∙ stop 16 _ (coordinates-read _ _ ∙ sym (c .before .some-non-coordinate .ensures) ∙ c .if2 .taken))
 
@@ -84,7 +84,7 @@ differ-requires : tie.Need-differ-requires
 differ-requires c κs = search needs
 
 returns-3 : tie.Need-returns-3
-unfolding respondRules
+unfolding responding numberOf
 returns-3 c = λ m bars.
     let imaged = c .before .before in
     let start = imaged .before .before .before .before .before .before .before in
@@ -95,7 +95,7 @@ enum-told : tie.Need-enum-told
 enum-told c = search needs
 
 returns-4 : tie.Need-returns-4
-unfolding respondRules
+unfolding responding numberOf
 returns-4 c = λ m bars.
     sym (witness (c .before) m ∙ stop 21 _ (or-eq-true-iff _ _ .1 (Or·inl (not-committed _ (c .match .keys2)))))
 
@@ -103,7 +103,7 @@ unfit-requires : tie.Need-unfit-requires
 unfit-requires c κs = search needs
 
 returns-5 : tie.Need-returns-5
-unfolding respondRules
+unfolding responding numberOf
 returns-5 c = λ m bars.
     let asked = c .before .before in
     let start = asked .before .before .before .before .before .before .before .before .before .before .before in
@@ -112,7 +112,7 @@ returns-5 c = λ m bars.
     ∙ stop 21 _ (or-eq-true-iff (not (proverIn Committed _)) _ .1 (Or·inr (sym held ∙ c .if4 .taken))))
 
 returns-6 : tie.Need-returns-6
-unfolding respondRules listRules
+unfolding responding numberOf listRules
 returns-6 c = λ m bars.
     let asked = c .before .before in
     let start = asked .before .before .before .before .before .before .before .before .before .before .before in

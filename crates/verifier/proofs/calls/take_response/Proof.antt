@@ -1,10 +1,9 @@
 -- `verifier::calls::take_response` meets its contract: a refused sheet's number is the answer, else its values are loaded.
 -- Assumes nothing.
-use mathlib.Core.Path.{sym}
 use borrow.Author.Needs.{needs}
-use Rattle.runs.specs.Verifier.{takeResponse}
-use Rattle.runs.proofs.After.{takeResponseAfter-clear, takeResponseAfter-refused}
-use Rattle.instance.proofs.Answers.{answer-refused, answer-header, answer-valid, answer-call}
+use Rattle.runs.specs.Verifier.{takeResponse, takingResponse}
+use Rattle.instance.proofs.Answers.{answer-header, answer-valid}
+use Rattle.instance.proofs.OnLoaded.{loaded-refused, on-instance}
 use Rattle.verifier.proofs.calls.take_response.Statement.{statement}
 use Rattle.verifier.proofs.calls.take_response.Tie as tie
 
@@ -12,10 +11,8 @@ load-requires : tie.Need-load-requires
 load-requires c κs = search needs
 
 returns : tie.Need-returns
-unfolding takeResponse
-returns c =
-    let (number, some) = answer-refused _ _ (c .before .load .ensures) (c .if1 .taken) in
-    rw number (sym (takeResponseAfter-refused _ _ some _ _))
+unfolding takeResponse takingResponse
+returns c = loaded-refused _ _ (c .before .load .ensures) (c .if1 .taken) (takingResponse _ _ _)
 
 loaded-entries-requires : tie.Need-loaded-entries-requires
 loaded-entries-requires c κs = answer-header _ _ (c .before .before .load .ensures) (c .before .if1 .left)
@@ -30,8 +27,8 @@ unfolding takeResponse
 returns-2 c =
     let passed = c .before .before .before .before in
     let args = passed .before .before .before .args in
-    answer-call _ _ (passed .before .load .ensures) (passed .if1 .left)
-    (λ before inst none. takeResponseAfter-clear before inst none (args .session) (args .response))
+    on-instance _ _ (passed .before .load .ensures) (passed .if1 .left)
+    (λ inst. takingResponse inst (args .session) (args .response))
     (c .before .before .loaded-entries .ensures) (c .take-response-loaded .ensures)
 
 pub take-response-spec : {M : Type 1} → statement M

@@ -2,10 +2,11 @@
 -- Assumes nothing.
 use mathlib.Core.Path.{sym, _∙_}
 use borrow.Author.Needs.{needs}
+use Rattle.rules.specs.Call.{numberOf}
 use Rattle.rules.proofs.Lowest.{pass, stop, lowest-clear}
 use Rattle.sigma.proofs.Calculus.{says-passes}
 use Rattle.types.specs.declared.VerifierPhase.the-variants.{Waiting}
-use Rattle.runs.specs.Verifier.{takeCommitmentRules}
+use Rattle.runs.specs.Verifier.{takingCommitment}
 use Rattle.runs.proofs.Tests.{says-verifier}
 use Rattle.verifier.proofs.States.{not-waiting}
 use Rattle.verifier.proofs.loaded.commitment_refusal.Statement.{statement}
@@ -15,7 +16,7 @@ bad-commitment-requires : tie.Need-bad-commitment-requires
 bad-commitment-requires c κs = search needs
 
 returns : tie.Need-returns
-unfolding takeCommitmentRules
+unfolding takingCommitment numberOf
 returns c = λ entries statement.
     sym (stop 14 _ (sym (c .before .bad-commitment .ensures entries statement) ∙ c .if1 .taken))
 
@@ -23,14 +24,14 @@ enum-told : tie.Need-enum-told
 enum-told c = search needs
 
 returns-2 : tie.Need-returns-2
-unfolding takeCommitmentRules
+unfolding takingCommitment numberOf
 returns-2 c = λ entries statement.
     let tested = c .before in
     sym (pass 14 _ (sym (tested .before .bad-commitment .ensures entries statement) ∙ tested .if1 .left)
     ∙ stop 21 _ (not-waiting _ (c .match .keys2)))
 
 returns-3 : tie.Need-returns-3
-unfolding takeCommitmentRules
+unfolding takingCommitment numberOf
 returns-3 c = λ entries statement.
     let tested = c .before .before in
     sym (lowest-clear _ (

@@ -8,14 +8,14 @@ use Prim.Native.Nat.{ℕ}
 use lib.ListN.{drop}
 use native.Mathlib.Omega.{arith}
 use borrow.Author.Needs.{needs}
-use Rattle.lists.specs.Places.{places}
+use Rattle.rules.specs.Call.{numberOf}
 use Rattle.rules.specs.Rule.{lowest}
 use Rattle.rules.proofs.Lowest.{pass, stop, lowest-clear}
 use Rattle.sigma.proofs.Calculus.{says-passes, both-fail}
 use Rattle.sigma.proofs.Passed.{challenge-passes}
 use Rattle.sigma.proofs.Tests.{says-badChallenge}
 use Rattle.types.specs.declared.VerifierPhase.the-variants.{Asked}
-use Rattle.runs.specs.Verifier.{verifierIn, unfitCommitment, takeResponseRules}
+use Rattle.runs.specs.Verifier.{verifierIn, unfitCommitment, takingResponse}
 use Rattle.runs.proofs.Tests.{says-verifier}
 use Rattle.sigma.specs.Instance.{instanceWith}
 use Rattle.image.proofs.Tested.{coordinates-read}
@@ -26,9 +26,9 @@ use Rattle.verifier.proofs.loaded.response_refusal.Tie as tie
 -- behind the search no slot of the response is bad: the session's rule is left
 slots : (c : tie.Else1) (entries : List (List ℕ)) (statement : List ℕ)
     → let args = c .before .before .before .args in
-    let rules = takeResponseRules (instanceWith (args .h) entries statement) (args .session) (places (args .h .columns) (args .response)) in
+    let rules = takingResponse (instanceWith (args .h) entries statement) (args .session) (args .response) .refusals in
     lowest rules ≡ lowest (drop 1 rules)
-unfolding takeResponseRules
+unfolding takingResponse
 slots c entries statement = pass 16 _ (coordinates-read _ _ ∙ sym (c .before .some-non-coordinate .ensures) ∙ c .if1 .left)
 
 cast-columns : tie.Need-cast-columns
@@ -38,7 +38,7 @@ some-non-coordinate-requires : tie.Need-some-non-coordinate-requires
 some-non-coordinate-requires c κs = search needs
 
 returns : tie.Need-returns
-unfolding takeResponseRules
+unfolding takingResponse numberOf
 returns c = λ entries statement.
     sym (stop 16 _ (coordinates-read _ _ ∙ sym (c .before .some-non-coordinate .ensures) ∙ c .if1 .taken))
 
@@ -46,7 +46,7 @@ enum-told : tie.Need-enum-told
 enum-told c = search needs
 
 returns-2 : tie.Need-returns-2
-unfolding takeResponseRules
+unfolding takingResponse numberOf
 returns-2 c = λ entries statement.
     sym (slots (c .before) entries statement
     ∙ stop 21 _ (or-eq-true-iff _ _ .1 (Or·inl (or-eq-true-iff _ _ .1 (Or·inl (not-asked _ (c .match .keys2)))))))
@@ -55,21 +55,21 @@ bad-commitment-requires : tie.Need-bad-commitment-requires
 bad-commitment-requires c κs = search needs
 
 returns-3 : tie.Need-returns-3
-unfolding takeResponseRules unfitCommitment
+unfolding takingResponse numberOf unfitCommitment
 returns-3 c = λ entries statement.
     let unfit = sym (c .before .bad-commitment .ensures entries statement) ∙ c .if2 .taken in
     sym (slots (c .before .before .before .before .before) entries statement
     ∙ stop 21 _ (or-eq-true-iff _ _ .1 (Or·inl (or-eq-true-iff (not (verifierIn Asked _)) _ .1 (Or·inr unfit)))))
 
 returns-4 : tie.Need-returns-4
-unfolding takeResponseRules
+unfolding takingResponse numberOf
 returns-4 c = λ entries statement.
     sym (slots (c .before .before .before .before .before .before .before .before) entries statement
     ∙ stop 21 _ (or-eq-true-iff (not (verifierIn Asked _) || unfitCommitment _ _) _ .1
     (Or·inr (says-badChallenge _ _ .complete (omega (arith, c .if3 .taken))))))
 
 returns-5 : tie.Need-returns-5
-unfolding takeResponseRules unfitCommitment
+unfolding takingResponse numberOf unfitCommitment
 returns-5 c = λ entries statement.
     let fits = c .before .before .before in
     let asked = fits .before .before .before in

@@ -1,8 +1,8 @@
--- `verifier::loaded::take_commitment_loaded` meets its contract: the number is that of the rules, and decides the outcome.
+-- `verifier::loaded::take_commitment_loaded` meets its contract: the number decides the outcome.
 -- Assumes nothing.
 use borrow.Author.Needs.{needs}
-use Rattle.runs.specs.Verifier.{takeCommitmentAfter}
-use Rattle.verifier.proofs.Outcomes.{step-refused, step-taken}
+use Rattle.rules.proofs.Told.{numbered-refused, numbered-value}
+use Rattle.runs.specs.Verifier.{takingCommitment}
 use Rattle.verifier.proofs.loaded.take_commitment_loaded.Statement.{statement}
 use Rattle.verifier.proofs.loaded.take_commitment_loaded.Tie as tie
 
@@ -10,8 +10,8 @@ commitment-refusal-requires : tie.Need-commitment-refusal-requires
 commitment-refusal-requires c κs = search needs
 
 returns : tie.Need-returns
-unfolding takeCommitmentAfter
-returns c = λ entries statement. step-refused _ _ (c .before .commitment-refusal .ensures entries statement) (c .if1 .taken)
+unfolding takingCommitment
+returns c = λ entries statement. numbered-refused (takingCommitment _ _ _) (c .before .commitment-refusal .ensures entries statement) (c .if1 .taken)
 
 cast-first-places : tie.Need-cast-first-places
 cast-first-places c = search needs
@@ -20,10 +20,10 @@ first-places-requires : tie.Need-first-places-requires
 first-places-requires c κs = search needs
 
 returns-2 : tie.Need-returns-2
-unfolding takeCommitmentAfter
+unfolding takingCommitment
 returns-2 c = λ entries statement.
     let passed = c .before .before in
-    rw (c .first-places .ensures) (step-taken _ _ (passed .before .commitment-refusal .ensures entries statement) (passed .if1 .left))
+    rw (c .first-places .ensures) (numbered-value (takingCommitment _ _ _) (passed .before .commitment-refusal .ensures entries statement) (passed .if1 .left))
 
 pub take-commitment-loaded-spec : {M : Type 1} → statement M
 take-commitment-loaded-spec =

@@ -1,7 +1,8 @@
--- `verifier::loaded::take_response_loaded` meets its contract: the number is that of the rules, and decides the outcome.
+-- `verifier::loaded::take_response_loaded` meets its contract: the number decides the outcome.
 -- Assumes nothing.
 use borrow.Author.Needs.{needs}
-use Rattle.verifier.proofs.Outcomes.{response-refused, response-judged}
+use Rattle.rules.proofs.Told.{numbered-refused, numbered-value}
+use Rattle.runs.specs.Verifier.{takingResponse}
 use Rattle.verifier.proofs.loaded.take_response_loaded.Statement.{statement}
 use Rattle.verifier.proofs.loaded.take_response_loaded.Tie as tie
 
@@ -9,15 +10,18 @@ response-refusal-requires : tie.Need-response-refusal-requires
 response-refusal-requires c κs = search needs
 
 returns : tie.Need-returns
-returns c = response-refused _ _ _ (c .before .response-refusal .ensures _ _) (c .if1 .taken)
+unfolding takingResponse
+returns c = numbered-refused (takingResponse _ _ _) (c .before .response-refusal .ensures _ _) (c .if1 .taken)
 
 verdict-requires : tie.Need-verdict-requires
 verdict-requires c κs = search needs
 
 returns-2 : tie.Need-returns-2
+unfolding takingResponse
 returns-2 c =
     let passed = c .before .before in
-    response-judged _ _ _ (passed .before .response-refusal .ensures _ _) (passed .if1 .left) (c .verdict .ensures)
+    rw (c .verdict .ensures)
+    (numbered-value (takingResponse _ _ _) (passed .before .response-refusal .ensures _ _) (passed .if1 .left))
 
 pub take-response-loaded-spec : {M : Type 1} → statement M
 take-response-loaded-spec =
