@@ -46,6 +46,7 @@ use Rattle.patterns.specs.PatternFile.{badDigits, badPatternFile, badSizes, mis
 use Rattle.patterns.specs.Table.{patterns, shipped}
 use Rattle.products.specs.Team.{badImages, badProduct, badTeam, commitmentsRules, joinAll, joinResponses, multiplyAll, multiplyCommitments, responsesRules, teamRules}
 use Rattle.rules.specs.Answer.{unlessRefused}
+use Rattle.rules.specs.Call.{answer, numberOf}
 use Rattle.rules.specs.Either.{eitherRules}
 use Rattle.rules.specs.Rule.{lowest}
 use Rattle.runs.specs.Calls.{extractWitness, judgeRound, simulateCommitment}
@@ -59,13 +60,13 @@ use Rattle.sigma.specs.Admission.{badCount, badEntries, badKind, badModulus, ba
 use Rattle.sigma.specs.Answer.{computed, eightPlaces, isAccepted, judged, outcome, rowsOf}
 use Rattle.sigma.specs.Comparison.{compareSides, differ, differences, firstDifference}
 use Rattle.sigma.specs.Element.{isCoordinate, isElement, someNonCoordinate, someNonElement}
-use Rattle.sigma.specs.Extractor.{extractAfter, extractLoaded, extractRules, extracted, formula, slotFormula}
+use Rattle.sigma.specs.Extractor.{extracting, extractLoaded, extracted, formula, slotFormula}
 use Rattle.sigma.specs.Image.{image, rowImage}
 use Rattle.sigma.specs.Instance.{entry, isExponent, statementAt}
-use Rattle.sigma.specs.Judge.{judgeAfter, judgeLoaded, judgeRules}
+use Rattle.sigma.specs.Judge.{judging, judgeLoaded}
 use Rattle.sigma.specs.Reads.{paddedRound}
 use Rattle.sigma.specs.Round.{badChallenge, badCommitment, badCoordinates, badWitness, expectedImage, response, responseCoordinate, verdict}
-use Rattle.sigma.specs.Simulator.{simulateAfter, simulateRules, simulated}
+use Rattle.sigma.specs.Simulator.{simulating, simulated}
 use Rattle.watches.specs.Watch.{freshWatch, isNamed, isWatched, namedRound, nearest, noting, openWatch, remembering, reuses, unfitWatch, watchAfter, watchRound, watchRules, watchVerdict, zeroRound}
 use Rattle.watches.specs.Window.{rememberedAt}
 use Rattle.games.specs.Text.{badGame, gameRefusal, gameRules, namedCommitment}
@@ -107,9 +108,9 @@ unfolding extractOr extractOrAfter extractOrRules extractedOf extractedOr extrac
     unfitCommitment verifierIn verifierState verifierStep badCount badEntries badKind badModulus badOrder badSize
     badStatement elementRules firstDivisor headerRules computed eightPlaces isAccepted judged outcome rowsOf
     compareSides differ differences firstDifference isCoordinate isElement someNonCoordinate someNonElement
-    extractAfter extractRules extracted formula slotFormula image rowImage entry isExponent statementAt judgeAfter
-    judgeRules badChallenge badCommitment badCoordinates badWitness expectedImage response responseCoordinate verdict
-    simulateAfter simulateRules simulated extractLoaded judgeLoaded paddedRound badGame gameRefusal gameRules
+    extracting answer numberOf extracted formula slotFormula image rowImage entry isExponent statementAt judging
+    badChallenge badCommitment badCoordinates badWitness expectedImage response responseCoordinate verdict
+    simulating simulated extractLoaded judgeLoaded paddedRound badGame gameRefusal gameRules
     namedCommitment freshWatch isNamed isWatched namedRound nearest noting openWatch remembering reuses unfitWatch
     watchAfter watchRound watchRules watchVerdict zeroRound rememberedAt newWatch flatten
 every-disjunct = (

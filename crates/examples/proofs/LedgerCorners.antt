@@ -16,6 +16,7 @@ use Rattle.numbers.specs.Search.{any, find}
 use Rattle.patterns.specs.Pattern.{digit, entryOf, headerFor, madeFor, patternEntries, root}
 use Rattle.patterns.specs.Table.{kindOf, made, patternOf, patterns, pedersen}
 use Rattle.rules.specs.Answer.{unlessRefused}
+use Rattle.rules.specs.Call.{answer, numberOf}
 use Rattle.rules.specs.Rule.{lowest}
 use Rattle.sigma.specs.Admission.{badCount, badModulus, badOrder, firstDivisor}
 use Rattle.sigma.specs.Answer.{isAccepted, judged}
@@ -23,7 +24,7 @@ use Rattle.sigma.specs.Comparison.{compareSides, differ, differences, firstDiff
 use Rattle.sigma.specs.Element.{isCoordinate, isElement, someNonCoordinate, someNonElement}
 use Rattle.sigma.specs.Image.{image, rowImage}
 use Rattle.sigma.specs.Instance.{entry, isExponent, statementAt}
-use Rattle.sigma.specs.Judge.{judgeAfter, judgeLoaded, judgeRules}
+use Rattle.sigma.specs.Judge.{judging, judgeLoaded}
 use Rattle.sigma.specs.Round.{badChallenge, badCommitment, badCoordinates, expectedImage, response, responseCoordinate, verdict}
 
 pub ledger-corners : LedgerCorners
@@ -36,7 +37,7 @@ unfolding askedFor checking checkingAt clean counted counting fiveChallenges las
     tabulate zeros8 bit maskBelow euclid gcd product sum any find digit entryOf headerFor madeFor patternEntries root
     kindOf made patternOf patterns pedersen unlessRefused lowest badCount badModulus badOrder firstDivisor isAccepted
     judged compareSides differ differences firstDifference isCoordinate isElement someNonCoordinate someNonElement
-    image rowImage entry isExponent statementAt judgeAfter judgeLoaded judgeRules badChallenge badCommitment
+    image rowImage entry isExponent statementAt judging answer numberOf judgeLoaded badChallenge badCommitment
     badCoordinates expectedImage response responseCoordinate verdict
 ledger-corners = record {
   refusal5 = (refl, refl);

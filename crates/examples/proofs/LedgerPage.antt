@@ -25,16 +25,17 @@ use Rattle.numbers.specs.Search.{any, find}
 use Rattle.patterns.specs.Pattern.{digit, entryOf, headerFor, madeFor, patternEntries, root}
 use Rattle.patterns.specs.Table.{kindOf, made, patternOf, patterns, pedersen}
 use Rattle.rules.specs.Answer.{unlessRefused}
+use Rattle.rules.specs.Call.{answer, numberOf}
 use Rattle.rules.specs.Rule.{lowest}
 use Rattle.runs.specs.Calls.{extractWitness}
 use Rattle.sigma.specs.Admission.{badCount, badEntries, badKind, badModulus, badOrder, badSize, badStatement, elementRules, firstDivisor, headerRules}
 use Rattle.sigma.specs.Answer.{computed, eightPlaces, isAccepted, judged}
 use Rattle.sigma.specs.Comparison.{compareSides, differ, differences, firstDifference}
 use Rattle.sigma.specs.Element.{isCoordinate, isElement, someNonCoordinate, someNonElement}
-use Rattle.sigma.specs.Extractor.{extractAfter, extractRules, extracted, formula, slotFormula}
+use Rattle.sigma.specs.Extractor.{extracting, extracted, formula, slotFormula}
 use Rattle.sigma.specs.Image.{image, rowImage}
 use Rattle.sigma.specs.Instance.{entry, isExponent, statementAt}
-use Rattle.sigma.specs.Judge.{judgeAfter, judgeLoaded, judgeRules}
+use Rattle.sigma.specs.Judge.{judging, judgeLoaded}
 use Rattle.sigma.specs.Round.{badChallenge, badCommitment, badCoordinates, expectedImage, response, responseCoordinate, verdict}
 
 pub ledger-page : LedgerPage
@@ -49,8 +50,8 @@ unfolding flatten bytesOf bytesOfEach numberAt ascii accepted added asked baseOf
     any find digit entryOf headerFor madeFor patternEntries root kindOf made patternOf patterns pedersen unlessRefused
     lowest extractWitness badCount badEntries badKind badModulus badOrder badSize badStatement elementRules firstDivisor
     headerRules computed eightPlaces isAccepted judged compareSides differ differences firstDifference isCoordinate
-    isElement someNonCoordinate someNonElement extractAfter extractRules extracted formula slotFormula image rowImage
-    entry isExponent statementAt judgeAfter judgeLoaded judgeRules badChallenge badCommitment badCoordinates
+    isElement someNonCoordinate someNonElement extracting answer numberOf extracted formula slotFormula image rowImage
+    entry isExponent statementAt judging judgeLoaded badChallenge badCommitment badCoordinates
     expectedImage response responseCoordinate verdict
 ledger-page = record {
   made = refl;

@@ -14,6 +14,7 @@ use Rattle.numbers.specs.Search.{find, any}
 use Rattle.lists.specs.Choices.{selected}
 use Rattle.lists.specs.Places.{eightByEight, itemsAt, tabulate, places, pad8, zeros8}
 use Rattle.rules.specs.Answer.{unlessRefused}
+use Rattle.rules.specs.Call.{answer, numberOf}
 use Rattle.rules.specs.Either.{eitherRules}
 use Rattle.rules.specs.Rule.{lowest}
 use Rattle.rules.proofs.Lowest.{pass, stop}
@@ -34,16 +35,10 @@ use Rattle.sigma.specs.Admission.{
 use Rattle.sigma.specs.Answer.{rowsOf, outcome, isAccepted, judged, eightPlaces, computed}
 use Rattle.sigma.specs.Comparison.{firstDifference, differ, differences, compareSides}
 use Rattle.sigma.specs.Element.{isElement, someNonElement, isCoordinate, someNonCoordinate}
-use Rattle.sigma.specs.Extractor.{
-  slotFormula,
-  formula,
-  extracted,
-  extractRules,
-  extractAfter,
-}
+use Rattle.sigma.specs.Extractor.{slotFormula, formula, extracted, extracting as extractingCall}
 use Rattle.sigma.specs.Image.{rowImage, image}
 use Rattle.sigma.specs.Instance.{isExponent, entry, statementAt}
-use Rattle.sigma.specs.Judge.{judgeRules, judgeAfter}
+use Rattle.sigma.specs.Judge.{judging as judgingCall}
 use Rattle.sigma.specs.Round.{
   responseCoordinate,
   response,
@@ -54,7 +49,7 @@ use Rattle.sigma.specs.Round.{
   badCoordinates,
   badWitness,
 }
-use Rattle.sigma.specs.Simulator.{simulated, simulateRules, simulateAfter}
+use Rattle.sigma.specs.Simulator.{simulated, simulating as simulatingCall}
 use Rattle.formats.specs.Append.{emptyRules, emptyFile, badInUse, wideChallenge, appendRules, appended, appendAfter, append}
 use Rattle.formats.specs.Convert.{otherVersion, wideRecord, converted, convertRules, convertAfter, convert}
 use Rattle.formats.specs.Encode.{headerBytes, storedEntries, sheetOf, encodeRules, encode}
@@ -304,9 +299,9 @@ unfolding euclid gcd residue quotient power bezoutRight bezoutLeft inverse produ
     zeros8 eightByEight unlessRefused lowest numberAt bytesOf bytesOfEach ascii digits decimal firstDivisor badKind
     badModulus badOrder badSize badCount badEntries badStatement headerRules elementRules outcome isAccepted judged
     eightPlaces computed firstDifference differ differences compareSides rowsOf selected bit maskBelow sum isElement
-    someNonElement isCoordinate someNonCoordinate slotFormula formula extracted extractRules extractAfter rowImage image
-    isExponent entry statementAt judgeRules judgeAfter responseCoordinate response expectedImage verdict badCommitment
-    badChallenge badCoordinates badWitness simulated simulateRules simulateAfter headerBytes storedEntries sheetOf
+    someNonElement isCoordinate someNonCoordinate slotFormula formula extracted extractingCall answer numberOf rowImage image
+    isExponent entry statementAt judgingCall responseCoordinate response expectedImage verdict badCommitment
+    badChallenge badCoordinates badWitness simulated simulatingCall headerBytes storedEntries sheetOf
     badStart badLength shapeRules loadRules loadRefusal askedKind askedPattern asked badAsked madeRules makeRules
     makeFrom digit entryOf patternEntries headerFor madeFor root patternMark patternVersion patternCount patternEnd
     patternStart patternFrom patternAt badSizes badPatternFile misnamed badDigits patternBytes patternFile patterns

@@ -23,6 +23,7 @@ use Rattle.numbers.specs.Product.{product, sum}
 use Rattle.numbers.specs.Search.{find, any}
 use Rattle.reasons.specs.Reason.{firstNonElement, firstNonCoordinate, sheetSpot, fileSpot, roundSpot, spotOf, firstVerdict, spotText, rowText, lineText, reasonLine, reasonText}
 use Rattle.rules.specs.Answer.{unlessRefused}
+use Rattle.rules.specs.Call.{answer, numberOf}
 use Rattle.rules.specs.Either.{eitherRules}
 use Rattle.rules.specs.Rule.{lowest}
 use Rattle.runs.specs.Calls.{judgeRound}
@@ -35,7 +36,7 @@ use Rattle.sigma.specs.Comparison.{firstDifference, differ, differences, compar
 use Rattle.sigma.specs.Element.{isElement, someNonElement, isCoordinate, someNonCoordinate}
 use Rattle.sigma.specs.Image.{rowImage, image}
 use Rattle.sigma.specs.Instance.{isExponent, entry, statementAt}
-use Rattle.sigma.specs.Judge.{judgeRules, judgeAfter}
+use Rattle.sigma.specs.Judge.{judging}
 use Rattle.sigma.specs.Round.{expectedImage, verdict, badCommitment, badChallenge, badCoordinates}
 use mathlib.Core.List.{flatten}
 
@@ -44,7 +45,7 @@ unfolding euclid gcd product find any itemsAt tabulate places pad8 zeros8 eightB
     bytesOf bytesOfEach ascii digits decimal firstDivisor badKind badModulus badOrder badSize badCount badEntries
     badStatement headerRules elementRules outcome isAccepted judged firstDifference differ differences compareSides
     rowsOf selected bit maskBelow sum isElement someNonElement isCoordinate someNonCoordinate rowImage image isExponent
-    entry statementAt judgeRules judgeAfter expectedImage verdict badCommitment badChallenge badCoordinates badStart
+    entry statementAt judging answer numberOf expectedImage verdict badCommitment badChallenge badCoordinates badStart
     badLength shapeRules loadRules loadRefusal fileRules roundRules noRound countAfter checkAfter fetchAfter countRounds
     fetchRound roundMark fileVersion countField widthOf challengeWidth recordLength recordStart roundAt badFile
     sheetMark versionOf headerOf entryCount sheetLength zeros64 entriesOf statementOf instanceOf judgeRound newline

@@ -51,6 +51,7 @@ use Rattle.products.specs.Team.{
   joinResponses,
 }
 use Rattle.rules.specs.Answer.{unlessRefused}
+use Rattle.rules.specs.Call.{answer, numberOf}
 use Rattle.rules.specs.Rule.{lowest}
 use Rattle.runs.specs.Calls.{judgeRound}
 use Rattle.runs.specs.Memory.{isFull, isListed, listedAt, listing, noMemory}
@@ -85,7 +86,7 @@ use Rattle.sigma.specs.Comparison.{firstDifference, differ, differences, compar
 use Rattle.sigma.specs.Element.{isElement, someNonElement, isCoordinate, someNonCoordinate}
 use Rattle.sigma.specs.Image.{rowImage, image}
 use Rattle.sigma.specs.Instance.{isExponent, entry, statementAt}
-use Rattle.sigma.specs.Judge.{judgeRules, judgeAfter}
+use Rattle.sigma.specs.Judge.{judging}
 use Rattle.sigma.specs.Round.{
   responseCoordinate,
   response,
@@ -102,7 +103,7 @@ unfolding euclid gcd product sum find any itemsAt tabulate places pad8 zeros8 ei
     bytesOf bytesOfEach ascii firstDivisor badKind badModulus badOrder badSize badCount badEntries badStatement
     headerRules elementRules rowsOf selected bit maskBelow outcome judged eightPlaces computed firstDifference differ
     differences compareSides isElement someNonElement isCoordinate someNonCoordinate rowImage image isExponent entry
-    judgeRules judgeAfter responseCoordinate response expectedImage verdict badCommitment badChallenge badCoordinates
+    judging answer numberOf responseCoordinate response expectedImage verdict badCommitment badChallenge badCoordinates
     badWitness headerBytes storedEntries sheetOf badStart badLength shapeRules loadRules statementAt sheetMark versionOf
     headerOf entryCount sheetLength zeros64 entriesOf statementOf instanceOf judgeRound proverState proverIn newProver
     proverStep commitRules commitAfter unfitProver respondRules respondAfter commit respond noMemory listedAt isListed isFull listing honestRound array fourBytes

@@ -7,14 +7,15 @@ use mathlib.Core.List.{List}
 use Rattle.types.specs.declared.Round.{Round}
 use Rattle.types.specs.declared.Verifier.{Verifier}
 use Rattle.lists.specs.Places.{places}
+use Rattle.rules.specs.Call.{after, answer, numberOf}
 use Rattle.rules.specs.Rule.{Rule, lowest}
 use Rattle.rules.proofs.Lowest.{lowest-behind}
 use Rattle.formats.specs.Load.{loadRules}
 use Rattle.formats.specs.Sheet.{instanceOf}
 use Rattle.formats.proofs.Positive.{load-positive}
-use Rattle.sigma.specs.Answer.{outcome}
+use Rattle.sigma.specs.Answer.{judged, outcome}
 use Rattle.sigma.specs.Instance.{Instance}
-use Rattle.sigma.specs.Judge.{judgeRules, judgeAfter}
+use Rattle.sigma.specs.Judge.{judging}
 use Rattle.sigma.specs.Reads.{roundOf}
 use Rattle.sigma.proofs.Passed.{challenge-passes, commitment-passes}
 use Rattle.runs.specs.Calls.{judgeRound}
@@ -29,8 +30,8 @@ heldRound v r = roundOf (v .commitment) (v .challenge) r
 module _ (inst : Instance) (v : Verifier) (ready : ReadyToJudge inst v) where
   -- where 21 does not apply, the response call's rules and those of judging give the same number
   same-number : (r : List ℕ)
-      → lowest (takeResponseRules inst v r) ≡ lowest (judgeRules inst (places (inst .header .rows) (v .commitment)) (v .challenge) r)
-  unfolding takeResponseRules judgeRules lowest
+      → lowest (takeResponseRules inst v (places (inst .header .columns) r)) ≡ lowest (judging inst (heldRound v r) .refusals)
+  unfolding takeResponseRules judging lowest
   same-number r =
       let t = places (inst .header .rows) (v .commitment) in
       let below = challenge-passes inst (v .challenge) .1 (ready .challenge) in
@@ -38,9 +39,9 @@ module _ (inst : Instance) (v : Verifier) (ready : ReadyToJudge inst v) where
 
   -- where 21 does not apply, the response call answers what judging answers
   pub response-judged : (before : List Rule) (r : List ℕ)
-      → takeResponseAfter before inst v r .verdict ≡ judgeAfter before inst (heldRound v r)
-  unfolding takeResponseAfter judgeAfter
-  response-judged before r = rw (lowest-behind before _ _ (same-number (places (inst .header .columns) r)))
+      → takeResponseAfter before inst v r .verdict ≡ answer (after before (judging inst (heldRound v r)))
+  unfolding takeResponseAfter judging answer numberOf judged
+  response-judged before r = rw (lowest-behind before _ _ (same-number r))
 
 -- on a sheet's bytes: where 21 does not apply, the response call answers what the call that judges rounds answers
 pub takeResponse-judged : (sheet : List ℕ) (v : Verifier) → ReadyToJudge (instanceOf sheet) v → (r : List ℕ)
