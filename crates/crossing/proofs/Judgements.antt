@@ -11,11 +11,13 @@ use Rattle.types.specs.declared.Verdict.{Verdict}
 use Rattle.types.specs.declared.Verdict.the-variants.{Accepted, Rejected, Refused}
 use Rattle.types.specs.declared.Verifier.{Verifier}
 use Rattle.types.specs.declared.VerifierVerdict.{VerifierVerdict}
+use Rattle.rules.specs.Call.{answer}
 use Rattle.formats.specs.Load.{loadRefusal}
 use Rattle.formats.specs.Sheet.{instanceOf}
 use Rattle.sigma.specs.Answer.{outcome, judged}
-use Rattle.sigma.specs.Judge.{judgeAfter}
+use Rattle.sigma.specs.Judge.{judging}
 use Rattle.sigma.proofs.Answer.{judged-refused}
+use Rattle.sigma.proofs.Calls.{judge-not-refused}
 use Rattle.sigma.proofs.Verdict.{verdict-not-refused}
 use Rattle.runs.specs.Calls.{judgeRound}
 use Rattle.runs.specs.Verifier.{takeResponse, takingResponse}
@@ -66,8 +68,8 @@ judged-not-zero n v never e = let some : 0 < 0 = judged-refused n v 0 never .0 e
 
 -- judging does not
 pub judge-not-zero : (sheet : List ℕ) (round : Round) → judgeRound sheet round ≢ Refused 0
-unfolding judgeRound judgeAfter
-judge-not-zero sheet round = judged-not-zero _ _ (verdict-not-refused _ _ _ _)
+unfolding judgeRound judging answer judged
+judge-not-zero sheet round = judged-not-zero _ _ (judge-not-refused (instanceOf sheet) round)
 
 -- nor does Vic's session
 pub response-not-zero : (sheet : List ℕ) (v : Verifier) (r : List ℕ) → takeResponse sheet v r .verdict ≢ Refused 0

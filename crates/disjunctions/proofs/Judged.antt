@@ -1,23 +1,21 @@
 -- Judging a round of two sheets that load with one K is judging both of its sides.
 -- Assumes nothing.
 use Prim.Native.Nat.{ℕ, _<_}
-use mathlib.Core.Path.{_≡_, refl, sym, ap, ap₂, subst, _∙_}
+use mathlib.Core.Path.{_≡_, refl, sym, ap, ap₂, _∙_}
 use mathlib.Core.Logic.{_↔_, _≢_, _⊎_, inl, inr}
-use mathlib.Core.Bool.{Bool, true, false, not, _&&_}
-use mathlib.Core.List.{List, [], _∷_, _++_}
+use mathlib.Core.Bool.{not}
+use mathlib.Core.List.{List, [], _∷_}
 use native.Mathlib.Omega.{arith}
 use lib.Dec.{T, eqb}
 use borrow.Author.Tests.{eq-eqb}
-use Rattle.types.specs.declared.Round.{Round}
 use Rattle.types.specs.declared.Verdict.{Verdict}
 use Rattle.types.specs.declared.Verdict.the-variants.{Accepted, Rejected, Refused}
 use Rattle.disjunctions.specs.declared.OrRound.{OrRound}
 use Rattle.disjunctions.specs.declared.OrVerdict.{OrVerdict}
 use Rattle.disjunctions.specs.declared.OrVerdict.the-variants.{OrAccepted, OrRejected, OrRefused}
 use Rattle.lists.specs.Places.{places}
-use Rattle.rules.specs.Answer.{unlessRefused}
 use Rattle.rules.specs.Either.{eitherRules}
-use Rattle.rules.specs.Rule.{Clear, Rule, _when_, allPositive, lowest}
+use Rattle.rules.specs.Rule.{Clear, _when_, allPositive, lowest}
 use Rattle.rules.proofs.Either.{clear-either}
 use Rattle.rules.proofs.Lowest.{clear-append, clear-lowest, lowest-clear, lowest-later}
 use Rattle.formats.specs.Load.{loadRules}
@@ -27,17 +25,16 @@ use Rattle.runs.specs.Calls.{judgeRound}
 use Rattle.runs.specs.OnSheet.{Below}
 use Rattle.runs.specs.Ours.{Accepts}
 use Rattle.runs.proofs.Loaded.{judge-loaded, sheet-clear}
-use Rattle.sigma.specs.Answer.{isAccepted}
+use Rattle.runs.proofs.Protocol.{sheet-accepted}
 use Rattle.sigma.specs.Instance.{Instance}
-use Rattle.sigma.specs.Judge.{judgeLoaded}
+use Rattle.sigma.specs.Judge.{judging}
 use Rattle.sigma.specs.Meaning.{Fits}
-use Rattle.sigma.specs.Reads.{readRound}
-use Rattle.sigma.specs.Round.{badChallenge, badCommitment, badCoordinates, verdict}
+use Rattle.sigma.specs.Round.{verdict}
 use Rattle.sigma.specs.Valid.{Valid}
 use Rattle.rules.proofs.Answer.{unlessRefused-zero}
 use Rattle.sigma.proofs.Calculus.{both-fail}
-use Rattle.sigma.proofs.Calls.{judge-accepted, judge-given}
-use Rattle.sigma.proofs.Passed.{challenge-passes, commitment-passes, coordinates-pass}
+use Rattle.sigma.proofs.Calls.{judge-clear, judge-given}
+use Rattle.sigma.proofs.Passed.{challenge-passes}
 use Rattle.sigma.proofs.Verdict.{verdict-not-refused}
 use Rattle.disjunctions.specs.Judge.{
   badChallenges,
@@ -178,38 +175,24 @@ module _ (s s′ : List ℕ) (pair : Pair s s′) where
   module _ (round : OrRound) where
     -- the rules of a round pass exactly where c is below K and both sides fit
     pub round-clear : Clear (judgeOrRules i j (readOr i j round))
-        ↔ (Below s (round .challenge) × Fits i (readRound (i .header) (firstRound round))
-        × Fits j (readRound (j .header) (secondRound K round)))
-    unfolding judgeOrRules badCommitments badChallenges badResponses readOr firstRound secondRound
-    round-clear =
-        let t = places (i .header .rows) (round .commitment0) in
-        let t′ = places (j .header .rows) (round .commitment1) in
-        let r = places (i .header .columns) (round .response0) in
-        let r′ = places (j .header .columns) (round .response1) in
-        let elements = both-fail (badCommitment i t) (badCommitment j t′) in
-        let below = both-fail (badChallenge i (round .challenge)) (badChallenge i (round .challenge0)) in
-        let slots = both-fail (badCoordinates i r) (badCoordinates j r′) in (
-          λ (a, (b, (c, none))). (
-            challenge-passes i (round .challenge) .0 (below .0 b .0),
-            record {
-              commitment = commitment-passes i t .0 (elements .0 a .0);
-              challenge = challenge-passes i (round .challenge0) .0 (below .0 b .1);
-              response = coordinates-pass i r .0 (slots .0 c .0);
-            },
-            record {
-              commitment = commitment-passes j t′ .0 (elements .0 a .1);
-              challenge = rw (sym (pair .one-count)) (other-less K _ _ some-challenge);
-              response = coordinates-pass j r′ .0 (slots .0 c .1);
-            },
+        ↔ (Below s (round .challenge) × Fits i (firstRound round) × Fits j (secondRound K round))
+    unfolding judgeOrRules badCommitments badChallenges badResponses readOr judging firstRound secondRound
+    round-clear = (
+      λ (a, (b, (c, none))).
+          let (t, t′) = both-fail _ _ .0 a in
+          let (below, below0) = both-fail _ _ .0 b in
+          let (r, r′) = both-fail _ _ .0 c in
+          let below1 = challenge-passes j (secondRound K round .challenge) .1 (rw (sym (pair .one-count)) (other-less K _ _ some-challenge)) in (
+            challenge-passes i (round .challenge) .0 below,
+            judge-clear i (firstRound round) .0 (t, (below0, (r, tt))),
+            judge-clear j (secondRound K round) .0 (t′, (below1, (r′, tt))),
           ),
-          λ (small, first, second). (
-            elements .1 (commitment-passes i t .1 (first .commitment), commitment-passes j t′ .1 (second .commitment)),
-            (
-              below .1 (challenge-passes i (round .challenge) .1 small, challenge-passes i (round .challenge0) .1 (first .challenge)),
-              (slots .1 (coordinates-pass i r .1 (first .response), coordinates-pass j r′ .1 (second .response)), tt),
-            ),
-          ),
-        )
+      λ (small, first, second).
+          let (t, (below0, (r, none))) = judge-clear i (firstRound round) .1 first in
+          let (t′, (below1, (r′, none′))) = judge-clear j (secondRound K round) .1 second in
+          let below = both-fail _ _ .1 (challenge-passes i (round .challenge) .1 small, below0) in
+          (both-fail _ _ .1 (t, t′), (below, (both-fail _ _ .1 (r, r′), tt))),
+    )
 
     -- the number of judging is what the rules of the round give
     judge-or-number : orNumber (judgeOr s s′ round) ≡ lowest (judgeOrRules i j (readOr i j round))
@@ -226,19 +209,19 @@ module _ (s s′ : List ℕ) (pair : Pair s s′) where
         rw (zero) (unlessRefused-zero (verdictOr i j (readOr i j round)) (OrRefused 0))
 
     -- a side that fits has the verdict of 01's judging call
-    first-judged : Fits i (readRound (i .header) (firstRound round))
+    first-judged : Fits i (firstRound round)
         → judgeRound s (firstRound round)
         ≡ verdict i (places (i .header .rows) (round .commitment0)) (round .challenge0) (places (i .header .columns) (round .response0))
-    unfolding firstRound
+    unfolding judging firstRound
     first-judged fits =
         judge-loaded s (first-loads pair) (firstRound round)
         ∙ judge-given i (firstRound round) _ (verdict-not-refused i _ _ _) .1 (fits, refl)
 
-    second-judged : Fits j (readRound (j .header) (secondRound K round))
+    second-judged : Fits j (secondRound K round)
         → judgeRound s′ (secondRound K round)
         ≡ verdict j (places (j .header .rows) (round .commitment1)) (otherChallenge K (round .challenge) (round .challenge0))
         (places (j .header .columns) (round .response1))
-    unfolding secondRound
+    unfolding judging secondRound
     second-judged fits =
         judge-loaded s′ (second-loads pair) (secondRound K round)
         ∙ judge-given j (secondRound K round) _ (verdict-not-refused j _ _ _) .1 (fits, refl)
@@ -277,8 +260,8 @@ module _ (s s′ : List ℕ) (pair : Pair s s′) where
           let both = combined-both _ _ .0 (sym (both-judged none) ∙ e) in
           (round-clear .0 none .0, both .0, both .1),
       λ (small, first, second).
-          let fits = judge-accepted i (firstRound round) .0 (sym (judge-loaded s (first-loads pair) (firstRound round)) ∙ first) .0 in
-          let fits′ = judge-accepted j (secondRound K round) .0 (sym (judge-loaded s′ (second-loads pair) (secondRound K round)) ∙ second) .0 in
+          let fits = sheet-accepted s (first-loads pair) (firstRound round) .0 first .0 in
+          let fits′ = sheet-accepted s′ (second-loads pair) (secondRound K round) .0 second .0 in
           both-judged (round-clear .1 (small, fits, fits′)) ∙ combined-both _ _ .1 (first, second),
     )
 
@@ -293,7 +276,7 @@ module _ (s s′ : List ℕ) (pair : Pair s s′) where
     unfolding combined
     or-ways e = go (judgeRound s (firstRound round)) (judgeRound s′ (secondRound K round)) refl refl
       where
-        fits : Fits i (readRound (i .header) (firstRound round)) × Fits j (readRound (j .header) (secondRound K round))
+        fits : Fits i (firstRound round) × Fits j (secondRound K round)
         fits = let (small, first, second) = round-clear .0 (clear-lowest _ (judge-or-positive round) (sym judge-or-number ∙ e)) in (first, second)
 
         first-given : (n : ℕ) → judgeRound s (firstRound round) ≢ Refused n

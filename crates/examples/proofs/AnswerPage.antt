@@ -30,6 +30,7 @@ use Rattle.patterns.specs.PatternFile.{badDigits, badPatternFile, badSizes, mis
 use Rattle.patterns.specs.Table.{patterns, shipped, writeShipped}
 use Rattle.products.specs.Team.{badImages, badProduct, badTeam, commitmentsRules, joinAll, joinResponses, multiplyAll, multiplyCommitments, responsesRules, teamRules}
 use Rattle.rules.specs.Answer.{unlessRefused}
+use Rattle.rules.specs.Call.{answer, numberOf}
 use Rattle.rules.specs.Either.{eitherRules}
 use Rattle.rules.specs.Rule.{lowest}
 use Rattle.runs.specs.Calls.{extractWitness, judgeRound, simulateCommitment}
@@ -37,12 +38,12 @@ use Rattle.sigma.specs.Admission.{badCount, badEntries, badKind, badModulus, ba
 use Rattle.sigma.specs.Answer.{computed, eightPlaces, isAccepted, judged}
 use Rattle.sigma.specs.Comparison.{compareSides, differ, differences, firstDifference}
 use Rattle.sigma.specs.Element.{isCoordinate, isElement, someNonCoordinate, someNonElement}
-use Rattle.sigma.specs.Extractor.{extractAfter, extractRules, extracted, formula, slotFormula}
+use Rattle.sigma.specs.Extractor.{extracting, extracted, formula, slotFormula}
 use Rattle.sigma.specs.Image.{image, rowImage}
 use Rattle.sigma.specs.Instance.{entry, isExponent, statementAt}
-use Rattle.sigma.specs.Judge.{judgeAfter, judgeRules}
+use Rattle.sigma.specs.Judge.{judging}
 use Rattle.sigma.specs.Round.{badChallenge, badCommitment, badCoordinates, expectedImage, verdict}
-use Rattle.sigma.specs.Simulator.{simulateAfter, simulateRules, simulated}
+use Rattle.sigma.specs.Simulator.{simulating, simulated}
 use Rattle.examples.specs.AnswerPage.{AnswerPage, narrowThree, one, sevens, tableHeader, tableValues, three, wideThree}
 use Rattle.examples.specs.Corners.{changed, noBytes, rootBytes, shippedBytes, zerosFile}
 use Rattle.examples.specs.FileCorners.{twice}
@@ -60,19 +61,19 @@ unfolding any append appendAfter appendRules appended array ascii asked askedKin
     badTeam bezoutLeft bezoutRight brought bytesOf bytesOfEach challengeWidth challengesOr changed checkAfter combined
     commitmentBytes commitmentsRules compareSides computed convert convertAfter convertRules converted countAfter
     countField countRounds differ differences digit eight eightByEight eightPlaces eitherRules elementRules emptyFile
-    emptyRules encode encodeRules entriesOf entry entryCount entryOf euclid expectedImage extractAfter extractOr
-    extractOrAfter extractOrRules extractRules extractWitness extracted extractedOf extractedOr extractedSide fetchAfter
+    emptyRules encode encodeRules entriesOf entry entryCount entryOf euclid expectedImage extracting answer numberOf extractOr
+    extractOrAfter extractOrRules extractWitness extracted extractedOf extractedOr extractedSide fetchAfter
     fetchRound fileIn fileRules fileVersion find firstDifference firstDivisor firstRound formula fourBytes gcd
     headerBytes headerFor headerOf headerRules honestOr image instanceOf inverse isAccepted isCoordinate isElement
-    isExponent isOrAccepted itemsAt joinAll joinResponses judgeAfter judgeOr judgeOrAfter judgeOrRules judgeRound
-    judgeRules judged load loadEntries loadRefusal loadRules locateAfter locateRound logarithmSheet lowest madeFor
+    isExponent isOrAccepted itemsAt joinAll joinResponses judging judgeOr judgeOrAfter judgeOrRules judgeRound
+    judged load loadEntries loadRefusal loadRules locateAfter locateRound logarithmSheet lowest madeFor
     madeRules makeFrom makeRules maskBelow misnamed multiplyAll multiplyCommitments narrow narrowThree noBytes noHeader
     noRound noRounds numberAt one orWith otherChallenge otherVersion pad8 pairRules partOfRound patternAt patternBytes
     patternCount patternEnd patternEntries patternFile patternFrom patternMark patternStart patternVersion patterns
     places power product quotient readOr recordBytes recordLength recordStart residue responsesOr responsesRules root
     rootBytes roundAt roundMark roundRules roundWith roundsOf rowImage sameAfter sameCommitment sameRules secondOr
-    secondRound sevens shapeRules sheetBytes sheetLength sheetMark sheetOf shipped shippedBytes short simulateAfter
-    simulateCommitment simulateRules simulated slotFormula smallOr smallSheet someNonCoordinate someNonElement
+    secondRound sevens shapeRules sheetBytes sheetLength sheetMark sheetOf shipped shippedBytes short simulating
+    simulateCommitment simulated slotFormula smallOr smallSheet someNonCoordinate someNonElement
     statementAt statementOf storedEntries sum table tableHeader tableValues tabulate teamRules three twice twoRoots
     unknownVersion unlessRefused verdict verdictOr versionOf wide wideChallenge wideRecord wideThree widthOf
     writeShipped written writtenAtStart zeros64 zeros8 zerosFile flatten

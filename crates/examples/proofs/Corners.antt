@@ -60,59 +60,61 @@ use Rattle.sigma.specs.Admission.{badCount, badEntries, badKind, badModulus, ba
 use Rattle.sigma.specs.Answer.{computed, eightPlaces, isAccepted, judged, outcome, rowsOf}
 use Rattle.sigma.specs.Comparison.{compareSides, differ, differences, firstDifference}
 use Rattle.sigma.specs.Element.{isCoordinate, isElement, someNonCoordinate, someNonElement}
-use Rattle.sigma.specs.Extractor.{extractAfter, extractLoaded, extractRules, extracted, formula, slotFormula}
+use Rattle.sigma.specs.Extractor.{extracting, extractLoaded, extracted, formula, slotFormula}
 use Rattle.sigma.specs.Image.{image, rowImage}
 use Rattle.sigma.specs.Instance.{entry, isExponent, statementAt}
-use Rattle.sigma.specs.Judge.{judgeAfter, judgeLoaded, judgeRules}
+use Rattle.sigma.specs.Judge.{judging, judgeLoaded}
 use Rattle.sigma.specs.Reads.{paddedRound}
 use Rattle.sigma.specs.Round.{badChallenge, badCommitment, badCoordinates, badWitness, expectedImage, response, responseCoordinate, verdict}
-use Rattle.sigma.specs.Simulator.{simulateAfter, simulateRules, simulated}
+use Rattle.sigma.specs.Simulator.{simulating, simulated}
 use Rattle.watches.specs.Watch.{freshWatch, isNamed, isWatched, namedRound, nearest, noting, openWatch, remembering, reuses, unfitWatch, watchAfter, watchRound, watchRules, watchVerdict, zeroRound}
 use Rattle.watches.specs.Window.{rememberedAt}
 use Rattle.games.specs.Text.{badGame, gameRefusal, gameRules, namedCommitment}
 use mathlib.Core.List.{flatten}
 
 pub every-disjunct : SheetCorners × PatternCorners × FileCorners × RoundCorners × OrCorners × TeamCorners
-unfolding extractOr extractOrAfter extractOrRules extractedOf extractedOr extractedSide isOrAccepted badChallenges
-    badCommitments badResponses combined judgeOr judgeOrAfter judgeOrRules pairRules verdictOr orOutcome sideRows
-    commitOr commitOrAfter commitOrRules firstCommitment newOrProver orProverIn orStep other own respondOr
-    respondOrAfter respondOrRules secondCommitment unfitOr wipedOr firstRound otherChallenge readOr secondRound
-    bytesOf bytesOfEach numberAt ascii decimal digits askingRoot changed committing converting dropping makingFrom
-    manyChallenges noBytes onesSheet peggy responding rootBytes shippedBytes vic zerosFile alike appendingTo badFiles
-    lastOf oneOfThree partLength readingFile readingRound twice exampleFile narrowFile answeringOr challengesOr
-    cleanOr commitmentsOr committingOr extractingOr highOr holding holdingHonest honestOr knowsRoots knowsTable onOr
-    orWith respondingWith responsesOr secondOr statesOr strangeOr unfitOrPeggy fewerChallenges knowsFirst
-    logarithmSheet orNumbers orPeggy smallOr array repeated run smallRound asF eitherPlace makingProduct makingRoot
-    onlyDigit twoPatterns askingOn clean committingOn extractingBoth hearingOn highChallenge holder onRound
+unfolding extractOr extractOrAfter extractOrRules extractedOf extractedOr extractedSide isOrAccepted
+    badChallenges badCommitments badResponses combined judgeOr judgeOrAfter judgeOrRules pairRules verdictOr
+    orOutcome sideRows commitOr commitOrAfter commitOrRules firstCommitment newOrProver orProverIn orStep
+    other own respondOr respondOrAfter respondOrRules secondCommitment unfitOr wipedOr firstRound
+    otherChallenge readOr secondRound bytesOf bytesOfEach numberAt ascii decimal digits askingRoot changed
+    committing converting dropping makingFrom manyChallenges noBytes onesSheet peggy responding rootBytes
+    shippedBytes vic zerosFile alike appendingTo badFiles lastOf oneOfThree partLength readingFile
+    readingRound twice exampleFile narrowFile answeringOr challengesOr cleanOr commitmentsOr committingOr
+    extractingOr highOr holding holdingHonest honestOr knowsRoots knowsTable onOr orWith respondingWith
+    responsesOr secondOr statesOr strangeOr unfitOrPeggy fewerChallenges knowsFirst logarithmSheet orNumbers
+    orPeggy smallOr array repeated run smallRound asF eitherPlace makingProduct makingRoot onlyDigit
+    twoPatterns askingOn clean committingOn extractingBoth hearingOn highChallenge holder onRound
     otherCommitment otherStatement respondingIn respondingTo simulatingOn strangeRows strangeSlots tellingOn
-    unfitPeggy unfitVic wrongRows badSheets callsOn writing fourBytes schnorrSheet sheetBytes smallSheet bothPlayers
-    commitments images onOther responses withCommitments withImages withResponses brought each joining multiplying
-    pairBytes teamNumbers exponents first narrow raised reworded roots roundWith second spoilt table twoRoots wide
-    append appendAfter appendRules appended badInUse wideChallenge convert convertAfter convertRules converted
-    otherVersion wideRecord encode encodeRules headerBytes sheetOf storedEntries badLength badStart load loadEntries
-    loadRefusal loadRules noHeader shapeRules checkAfter checkRound countAfter countRounds fetchAfter fetchRound
-    fileRules locateAfter locateRound noRound partOfRound roundRules badFile challengeWidth countField fileVersion
-    recordBytes recordLength recordStart roundAt roundMark unknownVersion widthOf fileIn roundsOf commitmentBytes
-    sameAfter sameCommitment sameRules entriesOf entryCount headerOf instanceOf sheetLength sheetMark statementOf
-    versionOf zeros64 short written writtenAtStart selected eightByEight itemsAt pad8 places tabulate zeros8 bit
-    maskBelow euclid gcd bezoutLeft bezoutRight power quotient residue inverse product sum any find asked askedKind
-    askedPattern badAsked madeRules makeFrom makeRules digit entryOf headerFor madeFor patternEntries root badDigits
-    badPatternFile badSizes misnamed patternAt patternBytes patternCount patternEnd patternFile patternFrom
-    patternMark patternStart patternVersion patterns shipped badImages badProduct badTeam commitmentsRules joinAll
-    joinResponses multiplyAll multiplyCommitments responsesRules teamRules unlessRefused answer numberOf eitherRules lowest
-    extractWitness judgeRound simulateCommitment honestRound badLevel strongEnough failsAt markRefusal markRules
-    markerText newline refusedWord resultLine roundLine roundLines rowWord verdictLine verdictOn verdictText wordLine
-    commit committingCall droppingCall dropSession newProver proverIn proverState respond
-    respondingCall unfitProver isFull isListed listedAt listing noMemory newVerifier takeChallenge takingChallenge
-    takeCommitment takingCommitment takeResponse takingResponse
-    unfitCommitment verifierIn verifierState badCount badEntries badKind badModulus badOrder badSize
-    badStatement elementRules firstDivisor headerRules computed eightPlaces isAccepted judged outcome rowsOf
-    compareSides differ differences firstDifference isCoordinate isElement someNonCoordinate someNonElement
-    extractAfter extractRules extracted formula slotFormula image rowImage entry isExponent statementAt judgeAfter
-    judgeRules badChallenge badCommitment badCoordinates badWitness expectedImage response responseCoordinate verdict
-    simulateAfter simulateRules simulated extractLoaded judgeLoaded paddedRound badGame gameRefusal gameRules
-    namedCommitment freshWatch isNamed isWatched namedRound nearest noting openWatch remembering reuses unfitWatch
-    watchAfter watchRound watchRules watchVerdict zeroRound rememberedAt newWatch flatten
+    unfitPeggy unfitVic wrongRows badSheets callsOn writing fourBytes schnorrSheet sheetBytes smallSheet
+    bothPlayers commitments images onOther responses withCommitments withImages withResponses brought each
+    joining multiplying pairBytes teamNumbers exponents first narrow raised reworded roots roundWith second
+    spoilt table twoRoots wide append appendAfter appendRules appended badInUse wideChallenge convert
+    convertAfter convertRules converted otherVersion wideRecord encode encodeRules headerBytes sheetOf
+    storedEntries badLength badStart load loadEntries loadRefusal loadRules noHeader shapeRules checkAfter
+    checkRound countAfter countRounds fetchAfter fetchRound fileRules locateAfter locateRound noRound
+    partOfRound roundRules badFile challengeWidth countField fileVersion recordBytes recordLength recordStart
+    roundAt roundMark unknownVersion widthOf fileIn roundsOf commitmentBytes sameAfter sameCommitment
+    sameRules entriesOf entryCount headerOf instanceOf sheetLength sheetMark statementOf versionOf zeros64
+    short written writtenAtStart selected eightByEight itemsAt pad8 places tabulate zeros8 bit maskBelow
+    euclid gcd bezoutLeft bezoutRight power quotient residue inverse product sum any find asked askedKind
+    askedPattern badAsked madeRules makeFrom makeRules digit entryOf headerFor madeFor patternEntries root
+    badDigits badPatternFile badSizes misnamed patternAt patternBytes patternCount patternEnd patternFile
+    patternFrom patternMark patternStart patternVersion patterns shipped badImages badProduct badTeam
+    commitmentsRules joinAll joinResponses multiplyAll multiplyCommitments responsesRules teamRules
+    unlessRefused answer numberOf eitherRules lowest extractWitness judgeRound simulateCommitment honestRound
+    badLevel strongEnough failsAt markRefusal markRules markerText newline refusedWord resultLine roundLine
+    roundLines rowWord verdictLine verdictOn verdictText wordLine commit committingCall droppingCall
+    dropSession newProver proverIn proverState respond respondingCall unfitProver isFull isListed listedAt
+    listing noMemory newVerifier takeChallenge takingChallenge takeCommitment takingCommitment takeResponse
+    takingResponse unfitCommitment verifierIn verifierState badCount badEntries badKind badModulus badOrder
+    badSize badStatement elementRules firstDivisor headerRules computed eightPlaces isAccepted judged outcome
+    rowsOf compareSides differ differences firstDifference isCoordinate isElement someNonCoordinate
+    someNonElement extracting extracted formula slotFormula image rowImage entry isExponent statementAt
+    judging badChallenge badCommitment badCoordinates badWitness expectedImage response responseCoordinate
+    verdict simulating simulated extractLoaded judgeLoaded paddedRound badGame gameRefusal gameRules
+    namedCommitment freshWatch isNamed isWatched namedRound nearest noting openWatch remembering reuses
+    unfitWatch watchAfter watchRound watchRules watchVerdict zeroRound rememberedAt newWatch flatten
 every-disjunct = (
   record {
     passing = refl;

@@ -21,6 +21,7 @@ use Rattle.numbers.specs.Gcd.{euclid, gcd}
 use Rattle.numbers.specs.Product.{product}
 use Rattle.numbers.specs.Search.{any, find}
 use Rattle.rules.specs.Answer.{unlessRefused}
+use Rattle.rules.specs.Call.{answer, numberOf}
 use Rattle.rules.specs.Rule.{lowest}
 use Rattle.runs.specs.Marker.{newline, rowWord, wordLine}
 use Rattle.sigma.specs.Admission.{badCount, badEntries, badKind, badModulus, badOrder, badSize, badStatement, elementRules, firstDivisor, headerRules}
@@ -29,7 +30,7 @@ use Rattle.sigma.specs.Comparison.{compareSides, differ, differences, firstDiff
 use Rattle.sigma.specs.Element.{isCoordinate, isElement, someNonCoordinate, someNonElement}
 use Rattle.sigma.specs.Image.{image, rowImage}
 use Rattle.sigma.specs.Instance.{entry, isExponent, statementAt}
-use Rattle.sigma.specs.Judge.{judgeAfter, judgeLoaded, judgeRules}
+use Rattle.sigma.specs.Judge.{judging, judgeLoaded}
 use Rattle.sigma.specs.Round.{badChallenge, badCommitment, badCoordinates, expectedImage, verdict}
 
 pub game-page : GamePage
@@ -42,7 +43,7 @@ unfolding flatten numberAt ascii decimal digits rootBytes oneRound okamotoBytes 
     zeros8 euclid gcd product any find unlessRefused lowest newline rowWord wordLine badCount badEntries badKind
     badModulus badOrder badSize badStatement elementRules firstDivisor headerRules isAccepted judged compareSides
     differ differences firstDifference isCoordinate isElement someNonCoordinate someNonElement image rowImage entry
-    isExponent statementAt judgeAfter judgeLoaded judgeRules badChallenge badCommitment badCoordinates expectedImage
+    isExponent statementAt judging answer numberOf judgeLoaded badChallenge badCommitment badCoordinates expectedImage
     verdict
 game-page = record {
   A = refl;

@@ -24,21 +24,22 @@ use Rattle.sigma.specs.Comparison.{compareSides, differ, differences, firstDiff
 use Rattle.sigma.specs.Element.{isCoordinate, isElement, someNonCoordinate, someNonElement}
 use Rattle.sigma.specs.Image.{image, rowImage}
 use Rattle.sigma.specs.Instance.{entry, isExponent, statementAt}
-use Rattle.sigma.specs.Judge.{judgeAfter, judgeLoaded, judgeRules}
+use Rattle.sigma.specs.Judge.{judging, judgeLoaded}
 use Rattle.sigma.specs.Round.{badChallenge, badCommitment, badCoordinates, expectedImage, response, responseCoordinate, verdict}
 
 pub ledger-corners : LedgerCorners
-unfolding answer numberOf askedFor checking checkingAt clean counted counting fiveChallenges lastSum late lateEntries put refusedWith
-    sharing sound telling worst worstEntries writing writingAt wroteNothing accepted added asked baseOf entryWith
-    foundOf given lineWith madeOf multiplied rejectedAt wrote greatest badElements badLineChallenge badLineKind
-    badResponse baseRules checkLedger checkingLedger firstRejected notAbove rejectsLine commitments lineCommitment
-    lineInstance productOf badNumbers commitTo ledgerOf lineOf madeCommitment madeLine madeProduct madeSum openingAt
-    openingOf openings productWitness writeLedger writingLedger zeroLine selected eightByEight itemsAt pad8 places
-    tabulate zeros8 bit maskBelow euclid gcd product sum any find digit entryOf headerFor madeFor patternEntries root
-    kindOf made patternOf patterns pedersen unlessRefused lowest badCount badModulus badOrder firstDivisor isAccepted
-    judged compareSides differ differences firstDifference isCoordinate isElement someNonCoordinate someNonElement
-    image rowImage entry isExponent statementAt judgeAfter judgeLoaded judgeRules badChallenge badCommitment
-    badCoordinates expectedImage response responseCoordinate verdict
+unfolding answer numberOf askedFor checking checkingAt clean counted counting fiveChallenges lastSum late
+    lateEntries put refusedWith sharing sound telling worst worstEntries writing writingAt wroteNothing
+    accepted added asked baseOf entryWith foundOf given lineWith madeOf multiplied rejectedAt wrote greatest
+    badElements badLineChallenge badLineKind badResponse baseRules checkLedger checkingLedger firstRejected
+    notAbove rejectsLine commitments lineCommitment lineInstance productOf badNumbers commitTo ledgerOf lineOf
+    madeCommitment madeLine madeProduct madeSum openingAt openingOf openings productWitness writeLedger
+    writingLedger zeroLine selected eightByEight itemsAt pad8 places tabulate zeros8 bit maskBelow euclid gcd
+    product sum any find digit entryOf headerFor madeFor patternEntries root kindOf made patternOf patterns
+    pedersen unlessRefused lowest badCount badModulus badOrder firstDivisor isAccepted judged compareSides
+    differ differences firstDifference isCoordinate isElement someNonCoordinate someNonElement image rowImage
+    entry isExponent statementAt judging judgeLoaded badChallenge badCommitment badCoordinates expectedImage
+    response responseCoordinate verdict
 ledger-corners = record {
   refusal5 = (refl, refl);
   refusal6 = (refl, refl);

@@ -32,27 +32,28 @@ use Rattle.sigma.specs.Admission.{badCount, badEntries, badKind, badModulus, ba
 use Rattle.sigma.specs.Answer.{computed, eightPlaces, isAccepted, judged}
 use Rattle.sigma.specs.Comparison.{compareSides, differ, differences, firstDifference}
 use Rattle.sigma.specs.Element.{isCoordinate, isElement, someNonCoordinate, someNonElement}
-use Rattle.sigma.specs.Extractor.{extractAfter, extractRules, extracted, formula, slotFormula}
+use Rattle.sigma.specs.Extractor.{extracting, extracted, formula, slotFormula}
 use Rattle.sigma.specs.Image.{image, rowImage}
 use Rattle.sigma.specs.Instance.{entry, isExponent, statementAt}
-use Rattle.sigma.specs.Judge.{judgeAfter, judgeLoaded, judgeRules}
+use Rattle.sigma.specs.Judge.{judging, judgeLoaded}
 use Rattle.sigma.specs.Round.{badChallenge, badCommitment, badCoordinates, expectedImage, response, responseCoordinate, verdict}
 
 pub ledger-page : LedgerPage
-unfolding answer numberOf flatten bytesOf bytesOfEach numberAt ascii accepted added asked baseOf bothOrders compositeBase compositeLines entryWith
-    foundOf gave given lineWith madeOf multiplied pageEntries pageLines rejectedAt smallBase unequalEntries unequalLines
-    wrote array fourBytes sheetBytes eight roundWith badLength badStart loadRules shapeRules entriesOf entryCount
-    headerOf instanceOf sheetLength sheetMark statementOf versionOf zeros64 badElements badLineChallenge badLineKind
-    badResponse baseRules checkLedger checkingLedger firstRejected notAbove rejectsLine commitments lineCommitment
-    lineInstance productOf productSheet badNumbers commitTo ledgerOf lineOf madeCommitment madeLine madeProduct madeSum
-    openingAt openingOf openings productWitness writeLedger writingLedger zeroLine selected eightByEight itemsAt pad8
-    places tabulate zeros8 bit maskBelow euclid gcd bezoutLeft bezoutRight power quotient residue inverse product sum
-    any find digit entryOf headerFor madeFor patternEntries root kindOf made patternOf patterns pedersen unlessRefused
-    lowest extractWitness badCount badEntries badKind badModulus badOrder badSize badStatement elementRules firstDivisor
-    headerRules computed eightPlaces isAccepted judged compareSides differ differences firstDifference isCoordinate
-    isElement someNonCoordinate someNonElement extractAfter extractRules extracted formula slotFormula image rowImage
-    entry isExponent statementAt judgeAfter judgeLoaded judgeRules badChallenge badCommitment badCoordinates
-    expectedImage response responseCoordinate verdict
+unfolding answer numberOf flatten bytesOf bytesOfEach numberAt ascii accepted added asked baseOf bothOrders
+    compositeBase compositeLines entryWith foundOf gave given lineWith madeOf multiplied pageEntries pageLines
+    rejectedAt smallBase unequalEntries unequalLines wrote array fourBytes sheetBytes eight roundWith
+    badLength badStart loadRules shapeRules entriesOf entryCount headerOf instanceOf sheetLength sheetMark
+    statementOf versionOf zeros64 badElements badLineChallenge badLineKind badResponse baseRules checkLedger
+    checkingLedger firstRejected notAbove rejectsLine commitments lineCommitment lineInstance productOf
+    productSheet badNumbers commitTo ledgerOf lineOf madeCommitment madeLine madeProduct madeSum openingAt
+    openingOf openings productWitness writeLedger writingLedger zeroLine selected eightByEight itemsAt pad8
+    places tabulate zeros8 bit maskBelow euclid gcd bezoutLeft bezoutRight power quotient residue inverse
+    product sum any find digit entryOf headerFor madeFor patternEntries root kindOf made patternOf patterns
+    pedersen unlessRefused lowest extractWitness badCount badEntries badKind badModulus badOrder badSize
+    badStatement elementRules firstDivisor headerRules computed eightPlaces isAccepted judged compareSides
+    differ differences firstDifference isCoordinate isElement someNonCoordinate someNonElement extracting
+    extracted formula slotFormula image rowImage entry isExponent statementAt judging judgeLoaded badChallenge
+    badCommitment badCoordinates expectedImage response responseCoordinate verdict
 ledger-page = record {
   made = refl;
   made-again = refl;

@@ -35,16 +35,10 @@ use Rattle.sigma.specs.Admission.{
 use Rattle.sigma.specs.Answer.{rowsOf, outcome, isAccepted, judged, eightPlaces, computed}
 use Rattle.sigma.specs.Comparison.{firstDifference, differ, differences, compareSides}
 use Rattle.sigma.specs.Element.{isElement, someNonElement, isCoordinate, someNonCoordinate}
-use Rattle.sigma.specs.Extractor.{
-  slotFormula,
-  formula,
-  extracted,
-  extractRules,
-  extractAfter,
-}
+use Rattle.sigma.specs.Extractor.{slotFormula, formula, extracted, extracting as extractingCall}
 use Rattle.sigma.specs.Image.{rowImage, image}
 use Rattle.sigma.specs.Instance.{isExponent, entry, statementAt}
-use Rattle.sigma.specs.Judge.{judgeRules, judgeAfter}
+use Rattle.sigma.specs.Judge.{judging as judgingCall}
 use Rattle.sigma.specs.Round.{
   responseCoordinate,
   response,
@@ -55,7 +49,7 @@ use Rattle.sigma.specs.Round.{
   badCoordinates,
   badWitness,
 }
-use Rattle.sigma.specs.Simulator.{simulated, simulateRules, simulateAfter}
+use Rattle.sigma.specs.Simulator.{simulated, simulating as simulatingCall}
 use Rattle.formats.specs.Append.{emptyRules, emptyFile, badInUse, wideChallenge, appendRules, appended, appendAfter, append}
 use Rattle.formats.specs.Convert.{otherVersion, wideRecord, converted, convertRules, convertAfter, convert}
 use Rattle.formats.specs.Encode.{headerBytes, storedEntries, sheetOf, encodeRules, encode}
@@ -294,38 +288,41 @@ above-count number values statement high =
 
 -- the three tables hold
 pub worked-examples : EveryPage × EveryCorner × OrPage × SessionPage
-unfolding euclid gcd residue quotient power bezoutRight bezoutLeft inverse product find any itemsAt tabulate places pad8
-    zeros8 eightByEight unlessRefused answer numberOf lowest numberAt bytesOf bytesOfEach ascii digits decimal firstDivisor badKind
-    badModulus badOrder badSize badCount badEntries badStatement headerRules elementRules outcome isAccepted judged
-    eightPlaces computed firstDifference differ differences compareSides rowsOf selected bit maskBelow sum isElement
-    someNonElement isCoordinate someNonCoordinate slotFormula formula extracted extractRules extractAfter rowImage image
-    isExponent entry statementAt judgeRules judgeAfter responseCoordinate response expectedImage verdict badCommitment
-    badChallenge badCoordinates badWitness simulated simulateRules simulateAfter headerBytes storedEntries sheetOf
-    badStart badLength shapeRules loadRules loadRefusal askedKind askedPattern asked badAsked madeRules makeRules
-    makeFrom digit entryOf patternEntries headerFor madeFor root patternMark patternVersion patternCount patternEnd
-    patternStart patternFrom patternAt badSizes badPatternFile misnamed badDigits patternBytes patternFile patterns
-    shipped writeShipped shippedBytes onePattern manyPatterns makingFrom askingRoot fileRules roundRules noRound
-    countAfter checkAfter fetchAfter countRounds fetchRound roundMark fileVersion countField widthOf challengeWidth
-    recordLength recordStart roundAt badFile sheetMark versionOf headerOf entryCount sheetLength zeros64 entriesOf
-    statementOf instanceOf short written writtenAtStart judgeRound simulateCommitment extractWitness newline wordLine
-    rowWord verdictText verdictLine resultLine verdictOn roundLine roundLines markerText proverState proverIn newProver
-    committingCall unfitProver respondingCall commit respond noMemory listedAt isListed isFull listing verifierState verifierIn
-    newVerifier unfitCommitment takingCommitment takingChallenge
-    takingResponse takeCommitment takeChallenge takeResponse honestRound
-    exampleFile exampleText array smallRound run bothWays judging fourBytes sheetBytes smallSheet schnorrSheet madeSheet
-    okamotoSheet diffieHellmanSheet productSheet rootSheet flatten onesSheet manyChallenges changed rootBytes making
-    writingIn zerosFile noBytes counting appending extracting simulating peggy committing responding dropping vic
-    hearing asking telling noRounds badInUse appendRules recordBytes appended appendAfter append emptyFile noHeader load
-    loadEntries encodeRules encode droppingCall dropSession checkRound firstNonElement firstNonCoordinate sheetSpot
-    fileSpot roundSpot spotOf firstVerdict spotText rowText lineText reasonLine reasonText repeated reasonOn badLevel
-    strongEnough failsAt markRules markRefusal refusedWord marking lastLine eitherRules isOrAccepted extractOrRules
-    extractedSide extractedOf extractedOr extractOrAfter extractOr pairRules badCommitments badChallenges badResponses
-    judgeOrRules combined verdictOr judgeOrAfter judgeOr orRound sideRows orOutcome own other orProverIn wipedOr
-    newOrProver orStep firstCommitment secondCommitment commitOrRules commitOrAfter unfitOr respondOrRules
-    respondOrAfter dropOrRules commitOr respondOr dropOr otherChallenge firstRound secondRound readOr logarithmSheet
-    smallOr judgingOr orRun bothWaysOr orJudging orExtracting orPeggy knowsFirst orCommitting orResponding orNumbers
-    fewerChallenges unknownVersion emptyRules wideChallenge otherVersion wideRecord converted convertRules convertAfter
-    convert roundsOf fileIn storing starting converting narrowFile eight peggyListed peggyHolds vicHolds orHolds
+unfolding euclid gcd residue quotient power bezoutRight bezoutLeft inverse product find any itemsAt tabulate
+    places pad8 zeros8 eightByEight unlessRefused answer numberOf lowest numberAt bytesOf bytesOfEach ascii
+    digits decimal firstDivisor badKind badModulus badOrder badSize badCount badEntries badStatement
+    headerRules elementRules outcome isAccepted judged eightPlaces computed firstDifference differ differences
+    compareSides rowsOf selected bit maskBelow sum isElement someNonElement isCoordinate someNonCoordinate
+    slotFormula formula extracted extractingCall rowImage image isExponent entry statementAt judgingCall
+    responseCoordinate response expectedImage verdict badCommitment badChallenge badCoordinates badWitness
+    simulated simulatingCall headerBytes storedEntries sheetOf badStart badLength shapeRules loadRules
+    loadRefusal askedKind askedPattern asked badAsked madeRules makeRules makeFrom digit entryOf
+    patternEntries headerFor madeFor root patternMark patternVersion patternCount patternEnd patternStart
+    patternFrom patternAt badSizes badPatternFile misnamed badDigits patternBytes patternFile patterns shipped
+    writeShipped shippedBytes onePattern manyPatterns makingFrom askingRoot fileRules roundRules noRound
+    countAfter checkAfter fetchAfter countRounds fetchRound roundMark fileVersion countField widthOf
+    challengeWidth recordLength recordStart roundAt badFile sheetMark versionOf headerOf entryCount
+    sheetLength zeros64 entriesOf statementOf instanceOf short written writtenAtStart judgeRound
+    simulateCommitment extractWitness newline wordLine rowWord verdictText verdictLine resultLine verdictOn
+    roundLine roundLines markerText proverState proverIn newProver committingCall unfitProver respondingCall
+    commit respond noMemory listedAt isListed isFull listing verifierState verifierIn newVerifier
+    unfitCommitment takingCommitment takingChallenge takingResponse takeCommitment takeChallenge takeResponse
+    honestRound exampleFile exampleText array smallRound run bothWays judging fourBytes sheetBytes smallSheet
+    schnorrSheet madeSheet okamotoSheet diffieHellmanSheet productSheet rootSheet flatten onesSheet
+    manyChallenges changed rootBytes making writingIn zerosFile noBytes counting appending extracting
+    simulating peggy committing responding dropping vic hearing asking telling noRounds badInUse appendRules
+    recordBytes appended appendAfter append emptyFile noHeader load loadEntries encodeRules encode
+    droppingCall dropSession checkRound firstNonElement firstNonCoordinate sheetSpot fileSpot roundSpot spotOf
+    firstVerdict spotText rowText lineText reasonLine reasonText repeated reasonOn badLevel strongEnough
+    failsAt markRules markRefusal refusedWord marking lastLine eitherRules isOrAccepted extractOrRules
+    extractedSide extractedOf extractedOr extractOrAfter extractOr pairRules badCommitments badChallenges
+    badResponses judgeOrRules combined verdictOr judgeOrAfter judgeOr orRound sideRows orOutcome own other
+    orProverIn wipedOr newOrProver orStep firstCommitment secondCommitment commitOrRules commitOrAfter unfitOr
+    respondOrRules respondOrAfter dropOrRules commitOr respondOr dropOr otherChallenge firstRound secondRound
+    readOr logarithmSheet smallOr judgingOr orRun bothWaysOr orJudging orExtracting orPeggy knowsFirst
+    orCommitting orResponding orNumbers fewerChallenges unknownVersion emptyRules wideChallenge otherVersion
+    wideRecord converted convertRules convertAfter convert roundsOf fileIn storing starting converting
+    narrowFile eight peggyListed peggyHolds vicHolds orHolds
 worked-examples = (
   record {
     A = refl;

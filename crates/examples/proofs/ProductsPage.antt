@@ -21,17 +21,18 @@ use Rattle.numbers.specs.Inverse.{inverse}
 use Rattle.numbers.specs.Product.{product}
 use Rattle.numbers.specs.Search.{any, find}
 use Rattle.rules.specs.Answer.{unlessRefused}
+use Rattle.rules.specs.Call.{answer, numberOf}
 use Rattle.rules.specs.Rule.{lowest}
 use Rattle.runs.specs.Calls.{extractWitness, judgeRound}
 use Rattle.sigma.specs.Admission.{badCount, badEntries, badKind, badModulus, badOrder, badSize, badStatement, elementRules, firstDivisor, headerRules}
 use Rattle.sigma.specs.Answer.{computed, eightPlaces, isAccepted, judged}
 use Rattle.sigma.specs.Comparison.{compareSides, differ, differences, firstDifference}
 use Rattle.sigma.specs.Element.{combine, isCoordinate, isElement, someNonCoordinate, someNonElement}
-use Rattle.sigma.specs.Extractor.{extractAfter, extractRules, extracted, formula, slotFormula}
+use Rattle.sigma.specs.Extractor.{extracting, extracted, formula, slotFormula}
 use Rattle.sigma.specs.Image.{image, rowImage}
 use Rattle.sigma.specs.Instance.{entry, isExponent, statementAt}
 use Rattle.sigma.specs.Joined.{joinSlots, multiplyRows}
-use Rattle.sigma.specs.Judge.{judgeAfter, judgeRules}
+use Rattle.sigma.specs.Judge.{judging}
 use Rattle.sigma.specs.Round.{badChallenge, badCommitment, badCoordinates, expectedImage, verdict}
 
 pub products-page : ProductsPage
@@ -42,8 +43,8 @@ unfolding flatten bytesOf bytesOfEach numberAt ascii rootBytes array smallRound 
     tabulate zeros8 maskBelow euclid gcd bezoutLeft bezoutRight power quotient residue inverse product any find
     unlessRefused lowest extractWitness judgeRound badCount badEntries badKind badModulus badOrder badSize badStatement
     elementRules firstDivisor headerRules computed eightPlaces isAccepted judged compareSides differ differences
-    firstDifference combine isCoordinate isElement someNonCoordinate someNonElement extractAfter extractRules extracted
-    formula slotFormula image rowImage entry isExponent statementAt joinSlots multiplyRows judgeAfter judgeRules
+    firstDifference combine isCoordinate isElement someNonCoordinate someNonElement extracting answer numberOf extracted
+    formula slotFormula image rowImage entry isExponent statementAt joinSlots multiplyRows judging
     badChallenge badCommitment badCoordinates expectedImage verdict
 products-page =
     record {

@@ -25,6 +25,7 @@ use Rattle.patterns.specs.PatternFile.{patternBytes, patternFile, patternMark}
 use Rattle.patterns.specs.Table.{patterns, shipped}
 use Rattle.reasons.specs.Reason.{fileSpot, firstNonCoordinate, firstNonElement, firstVerdict, lineText, reasonLine, reasonText, roundSpot, rowText, sheetSpot, spotOf, spotText}
 use Rattle.rules.specs.Answer.{unlessRefused}
+use Rattle.rules.specs.Call.{answer, numberOf}
 use Rattle.rules.specs.Rule.{lowest}
 use Rattle.runs.specs.Calls.{judgeRound}
 use Rattle.sigma.specs.Admission.{badCount, badEntries, badKind, badModulus, badOrder, badSize, badStatement, elementRules, firstDivisor, headerRules}
@@ -33,7 +34,7 @@ use Rattle.sigma.specs.Comparison.{compareSides, differ, differences, firstDiff
 use Rattle.sigma.specs.Element.{isCoordinate, isElement, someNonCoordinate, someNonElement}
 use Rattle.sigma.specs.Image.{image, rowImage}
 use Rattle.sigma.specs.Instance.{entry, isExponent, statementAt}
-use Rattle.sigma.specs.Judge.{judgeAfter, judgeRules}
+use Rattle.sigma.specs.Judge.{judging}
 use Rattle.sigma.specs.Round.{badChallenge, badCommitment, badCoordinates, expectedImage, response, responseCoordinate, verdict}
 use mathlib.Core.List.{flatten}
 
@@ -48,7 +49,7 @@ unfolding bytesOf numberAt ascii decimal digits changed manyChallenges noBytes o
     lineText reasonLine reasonText roundSpot rowText sheetSpot spotOf spotText unlessRefused lowest judgeRound
     badCount badEntries badKind badModulus badOrder badSize badStatement elementRules firstDivisor headerRules judged
     outcome rowsOf compareSides differ differences firstDifference isCoordinate isElement someNonCoordinate
-    someNonElement image rowImage entry isExponent statementAt judgeAfter judgeRules badChallenge badCommitment
+    someNonElement image rowImage entry isExponent statementAt judging answer numberOf badChallenge badCommitment
     badCoordinates expectedImage response responseCoordinate verdict flatten
 reason-page = record {
   refusal2 = refl;

@@ -36,26 +36,27 @@ use Rattle.sigma.specs.Comparison.{firstDifference, differ, differences, compar
 use Rattle.sigma.specs.Element.{isElement, someNonElement, isCoordinate, someNonCoordinate}
 use Rattle.sigma.specs.Image.{rowImage, image}
 use Rattle.sigma.specs.Instance.{isExponent, entry, statementAt}
-use Rattle.sigma.specs.Judge.{judgeRules, judgeAfter}
+use Rattle.sigma.specs.Judge.{judging}
 use Rattle.sigma.specs.Round.{expectedImage, verdict, badCommitment, badChallenge, badCoordinates}
 use mathlib.Core.List.{flatten}
 
 pub rows-page : RowsPage
-unfolding euclid gcd product find any itemsAt tabulate places pad8 zeros8 eightByEight unlessRefused answer numberOf lowest numberAt
-    bytesOf bytesOfEach ascii digits decimal firstDivisor badKind badModulus badOrder badSize badCount badEntries
-    badStatement headerRules elementRules outcome isAccepted judged firstDifference differ differences compareSides
-    rowsOf selected bit maskBelow sum isElement someNonElement isCoordinate someNonCoordinate rowImage image isExponent
-    entry statementAt judgeRules judgeAfter expectedImage verdict badCommitment badChallenge badCoordinates badStart
-    badLength shapeRules loadRules loadRefusal fileRules roundRules noRound countAfter checkAfter fetchAfter countRounds
-    fetchRound roundMark fileVersion countField widthOf challengeWidth recordLength recordStart roundAt badFile
-    sheetMark versionOf headerOf entryCount sheetLength zeros64 entriesOf statementOf instanceOf judgeRound newline
-    wordLine rowWord verdictText verdictLine resultLine verdictOn roundLine roundLines markerText verifierState
-    verifierIn unfitCommitment takingResponse takeResponse array fourBytes sheetBytes
-    flatten recordBytes checkRound firstNonElement firstNonCoordinate sheetSpot fileSpot roundSpot spotOf firstVerdict
-    spotText rowText lineText reasonLine reasonText badLevel strongEnough failsAt markRules markRefusal refusedWord
-    eitherRules pairRules badCommitments badChallenges badResponses judgeOrRules combined verdictOr judgeOrAfter judgeOr
-    sideRows orOutcome otherChallenge firstRound secondRound readOr unknownVersion fileIn eightRows withRows threeDiffer
-    pairRound pairBytes
+unfolding euclid gcd product find any itemsAt tabulate places pad8 zeros8 eightByEight unlessRefused answer
+    numberOf lowest numberAt bytesOf bytesOfEach ascii digits decimal firstDivisor badKind badModulus badOrder
+    badSize badCount badEntries badStatement headerRules elementRules outcome isAccepted judged
+    firstDifference differ differences compareSides rowsOf selected bit maskBelow sum isElement someNonElement
+    isCoordinate someNonCoordinate rowImage image isExponent entry statementAt judging expectedImage verdict
+    badCommitment badChallenge badCoordinates badStart badLength shapeRules loadRules loadRefusal fileRules
+    roundRules noRound countAfter checkAfter fetchAfter countRounds fetchRound roundMark fileVersion
+    countField widthOf challengeWidth recordLength recordStart roundAt badFile sheetMark versionOf headerOf
+    entryCount sheetLength zeros64 entriesOf statementOf instanceOf judgeRound newline wordLine rowWord
+    verdictText verdictLine resultLine verdictOn roundLine roundLines markerText verifierState verifierIn
+    unfitCommitment takingResponse takeResponse array fourBytes sheetBytes flatten recordBytes checkRound
+    firstNonElement firstNonCoordinate sheetSpot fileSpot roundSpot spotOf firstVerdict spotText rowText
+    lineText reasonLine reasonText badLevel strongEnough failsAt markRules markRefusal refusedWord eitherRules
+    pairRules badCommitments badChallenges badResponses judgeOrRules combined verdictOr judgeOrAfter judgeOr
+    sideRows orOutcome otherChallenge firstRound secondRound readOr unknownVersion fileIn eightRows withRows
+    threeDiffer pairRound pairBytes
 rows-page = record {
   none = refl;
   three = refl;

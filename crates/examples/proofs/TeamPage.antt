@@ -83,7 +83,7 @@ use Rattle.sigma.specs.Comparison.{firstDifference, differ, differences, compar
 use Rattle.sigma.specs.Element.{isElement, someNonElement, isCoordinate, someNonCoordinate}
 use Rattle.sigma.specs.Image.{rowImage, image}
 use Rattle.sigma.specs.Instance.{isExponent, entry, statementAt}
-use Rattle.sigma.specs.Judge.{judgeRules, judgeAfter}
+use Rattle.sigma.specs.Judge.{judging}
 use Rattle.sigma.specs.Round.{
   responseCoordinate,
   response,
@@ -96,17 +96,18 @@ use Rattle.sigma.specs.Round.{
 }
 
 pub team-page : TeamPage
-unfolding euclid gcd product sum find any itemsAt tabulate places pad8 zeros8 eightByEight unlessRefused answer numberOf lowest numberAt
-    bytesOf bytesOfEach ascii firstDivisor badKind badModulus badOrder badSize badCount badEntries badStatement
-    headerRules elementRules rowsOf selected bit maskBelow outcome judged eightPlaces computed firstDifference differ
-    differences compareSides isElement someNonElement isCoordinate someNonCoordinate rowImage image isExponent entry
-    judgeRules judgeAfter responseCoordinate response expectedImage verdict badCommitment badChallenge badCoordinates
-    badWitness headerBytes storedEntries sheetOf badStart badLength shapeRules loadRules statementAt sheetMark versionOf
-    headerOf entryCount sheetLength zeros64 entriesOf statementOf instanceOf judgeRound proverState proverIn newProver
-    committing unfitProver responding commit respond noMemory listedAt isListed isFull listing honestRound array fourBytes
-    sheetBytes smallSheet schnorrSheet flatten changed rootBytes multiplyAll joinAll badTeam badImages badProduct
-    teamRules commitmentsRules responsesRules multiplyCommitments joinResponses brought each combining pairBytes teamRun
-    teamNumbers multiplying joining twoRows
+unfolding euclid gcd product sum find any itemsAt tabulate places pad8 zeros8 eightByEight unlessRefused
+    answer numberOf lowest numberAt bytesOf bytesOfEach ascii firstDivisor badKind badModulus badOrder badSize
+    badCount badEntries badStatement headerRules elementRules rowsOf selected bit maskBelow outcome judged
+    eightPlaces computed firstDifference differ differences compareSides isElement someNonElement isCoordinate
+    someNonCoordinate rowImage image isExponent entry judging responseCoordinate response expectedImage
+    verdict badCommitment badChallenge badCoordinates badWitness headerBytes storedEntries sheetOf badStart
+    badLength shapeRules loadRules statementAt sheetMark versionOf headerOf entryCount sheetLength zeros64
+    entriesOf statementOf instanceOf judgeRound proverState proverIn newProver committing unfitProver
+    responding commit respond noMemory listedAt isListed isFull listing honestRound array fourBytes sheetBytes
+    smallSheet schnorrSheet flatten changed rootBytes multiplyAll joinAll badTeam badImages badProduct
+    teamRules commitmentsRules responsesRules multiplyCommitments joinResponses brought each combining
+    pairBytes teamRun teamNumbers multiplying joining twoRows
 team-page = record {
   A = refl;
   E = refl;

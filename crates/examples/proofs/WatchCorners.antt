@@ -21,15 +21,16 @@ use Rattle.numbers.specs.Inverse.{inverse}
 use Rattle.numbers.specs.Product.{product, sum}
 use Rattle.numbers.specs.Search.{any, find}
 use Rattle.rules.specs.Answer.{unlessRefused}
+use Rattle.rules.specs.Call.{answer, numberOf}
 use Rattle.rules.specs.Rule.{lowest}
 use Rattle.sigma.specs.Admission.{badCount, badEntries, badKind, badModulus, badOrder, badSize, badStatement, elementRules, firstDivisor, headerRules}
 use Rattle.sigma.specs.Answer.{computed, eightPlaces, isAccepted, judged, outcome, rowsOf}
 use Rattle.sigma.specs.Comparison.{compareSides, differ, differences, firstDifference}
 use Rattle.sigma.specs.Element.{isCoordinate, isElement, someNonCoordinate, someNonElement}
-use Rattle.sigma.specs.Extractor.{extractAfter, extractLoaded, extractRules, extracted, formula, slotFormula}
+use Rattle.sigma.specs.Extractor.{extracting, extractLoaded, extracted, formula, slotFormula}
 use Rattle.sigma.specs.Image.{image, rowImage}
 use Rattle.sigma.specs.Instance.{entry, isExponent, statementAt}
-use Rattle.sigma.specs.Judge.{judgeAfter, judgeLoaded, judgeRules}
+use Rattle.sigma.specs.Judge.{judging, judgeLoaded}
 use Rattle.sigma.specs.Reads.{paddedRound}
 use Rattle.sigma.specs.Round.{badChallenge, badCommitment, badCoordinates, expectedImage, verdict}
 use Rattle.watches.specs.Watch.{isNamed, isWatched, namedRound, nearest, noting, remembering, reuses, unfitWatch, watchAfter, watchRound, watchRules, watchVerdict}
@@ -44,8 +45,8 @@ unfolding numberAt ascii changed array smallRound fourBytes schnorrSheet sheetBy
     zeros8 bit maskBelow euclid gcd bezoutLeft bezoutRight power quotient residue inverse product sum any find
     unlessRefused lowest badCount badEntries badKind badModulus badOrder badSize badStatement elementRules firstDivisor
     headerRules computed eightPlaces isAccepted judged outcome rowsOf compareSides differ differences firstDifference
-    isCoordinate isElement someNonCoordinate someNonElement extractAfter extractLoaded extractRules extracted formula
-    slotFormula image rowImage entry isExponent statementAt judgeAfter judgeLoaded judgeRules paddedRound badChallenge
+    isCoordinate isElement someNonCoordinate someNonElement extracting answer numberOf extractLoaded extracted formula
+    slotFormula image rowImage entry isExponent statementAt judging judgeLoaded paddedRound badChallenge
     badCommitment badCoordinates expectedImage verdict isNamed isWatched namedRound nearest noting remembering reuses
     unfitWatch watchAfter watchRound watchRules watchVerdict rememberedAt flatten
 watch-corners = record {

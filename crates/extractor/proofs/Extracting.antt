@@ -18,17 +18,18 @@ use Rattle.lists.specs.Places.{places, pad8, zeros8}
 use Rattle.lists.proofs.Each.{each-length}
 use Rattle.numbers.specs.Inverse.{inverse}
 use Rattle.numbers.proofs.Coprime.{coprime-below}
+use Rattle.rules.specs.Call.{numberOf}
 use Rattle.rules.specs.Rule.{Rule, _when_, lowest, allPositive}
+use Rattle.rules.proofs.Call.{answer-refused}
 use Rattle.rules.proofs.Lowest.{stop, lowest-clear, lowest-earlier, lowest-later-zero}
 use Rattle.rules.proofs.Says.{says-false}
-use Rattle.sigma.specs.Answer.{isAccepted, computed}
-use Rattle.sigma.specs.Extractor.{formula, extractRules, extractAfter, extractLoaded}
+use Rattle.sigma.specs.Answer.{isAccepted}
+use Rattle.sigma.specs.Extractor.{formula, extracting, extractLoaded}
 use Rattle.sigma.specs.Instance.{Instance, statementAt}
 use Rattle.sigma.specs.Knowledge.{AcceptedRound, AcceptedPair}
 use Rattle.sigma.specs.Meaning.{Extracts}
 use Rattle.sigma.specs.Round.{verdict}
 use Rattle.sigma.specs.Valid.{Valid}
-use Rattle.sigma.proofs.Answer.{computed-positive}
 use Rattle.sigma.proofs.Formula.{formula-by-kind}
 use Rattle.sigma.proofs.Calls.{valid-judge-accepted, extract-refusal, valid-extract-runs}
 use Rattle.sigma.proofs.Extractor.{extraction}
@@ -56,14 +57,16 @@ module _ (inst : Instance) (first second : Round) where
 
   -- the number is that of the rules before judging, or 20
   refusal-split : extractLoaded inst first second .refusal ≡ lowest (rulesOfPair inst first second ++ verdictRules)
-  unfolding extractRules
+  unfolding extracting numberOf
   refusal-split = extract-refusal inst first second
 
   -- where the number is above 0 it is the whole answer
   refused-with : (n : ℕ) → 0 < n → extractLoaded inst first second .refusal ≡ n
       → record { refusal = n; values = zeros8 } ≡ extractLoaded inst first second
-  unfolding extractLoaded extractAfter computed
-  refused-with n some e = rw (sym e) (sym (computed-positive _ _ (rw e some)))
+  unfolding extractLoaded extracting
+  refused-with n some e =
+      let is : numberOf (extracting inst first second) ≡ n = sym (extract-refusal inst first second) ∙ e in
+      rw (← is) (sym (answer-refused (extracting inst first second) (rw is some)))
 
   -- a rule before judging gives the answer
   pub pair-refused : {n : ℕ} → n ≡ lowest (rulesOfPair inst first second) → n ≢ 0
@@ -74,7 +77,7 @@ module _ (inst : Instance) (first second : Round) where
 
   -- the numbers of these rules are above 0
   pair-positive : T (allPositive (rulesOfPair inst first second))
-  unfolding extractRules
+  unfolding extracting
   pair-positive = tt
 
   module _ (none : 0 ≡ lowest (rulesOfPair inst first second)) where

@@ -12,7 +12,7 @@ use Rattle.lists.specs.Member.{Member}
 use Rattle.lists.specs.Places.{places}
 use Rattle.lists.proofs.Each.{each-places}
 use Rattle.lists.proofs.Places.{getD-places}
-use Rattle.formats.specs.Load.{loadRefusal, loadRules}
+use Rattle.formats.specs.Load.{loadRefusal}
 use Rattle.formats.specs.Sheet.{instanceOf}
 use Rattle.formats.proofs.Loads.{loads-valid}
 use Rattle.runs.specs.Calls.{judgeRound}
@@ -21,13 +21,13 @@ use Rattle.runs.specs.OnSheet.{Below}
 use Rattle.runs.specs.Prover.{commit, newProver, respond}
 use Rattle.runs.proofs.Demand3.{sheet-extraction, sheet-honest-rounds}
 use Rattle.runs.proofs.Protocol.{sheet-accepted}
+use Rattle.runs.proofs.ReadAlone.{judgeRound-same}
 use Rattle.sigma.specs.Answer.{isAccepted}
 use Rattle.sigma.specs.Listed.{allChoices}
 use Rattle.sigma.specs.Knowledge.{Choice, Witness}
 use Rattle.sigma.specs.Reads.{SameRound, roundOf}
 use Rattle.sigma.proofs.Lists.{all-choices-member}
 use Rattle.sigma.proofs.Tests.{says-accepted}
-use Rattle.sigma.proofs.Unread.{judgeAfter-same}
 use Rattle.games.specs.Game.{HasWitness}
 use Rattle.games.specs.Ours.{Answers, AnswersAll, Game}
 
@@ -45,8 +45,7 @@ some-or-none {A} p (y ∷ ys) = here (p y) refl (some-or-none p ys)
 -- rounds that are the same are accepted together
 accepts-same : (sheet : List ℕ) (round round′ : Round) → SameRound (instanceOf sheet .header) round round′ → Accepts sheet round′
     → Accepts sheet round
-unfolding judgeRound
-accepts-same sheet round round′ same e = judgeAfter-same (loadRules sheet) (instanceOf sheet) same ∙ e
+accepts-same sheet round round′ same e = judgeRound-same sheet same ∙ e
 
 module _ (sheet : List ℕ) (loaded : loadRefusal sheet ≡ 0) where
   -- a challenge that is answered is below K

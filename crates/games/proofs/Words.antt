@@ -10,15 +10,13 @@ use Rattle.types.specs.declared.Fetched.{Fetched}
 use Rattle.encoding.specs.Bytes.{wordsAt}
 use Rattle.lists.specs.Places.{pad8}
 use Rattle.lists.proofs.Places.{getD-pad8}
-use Rattle.formats.specs.Load.{loadRules}
 use Rattle.formats.specs.RoundCalls.{checkRound}
 use Rattle.formats.specs.RoundFile.{challengeWidth, recordLength, recordStart, roundAt}
 use Rattle.formats.specs.Sheet.{headerOf, instanceOf}
 use Rattle.formats.proofs.Files.{fetch-given}
-use Rattle.runs.specs.Calls.{judgeRound}
 use Rattle.runs.specs.Ours.{Accepts}
+use Rattle.runs.proofs.ReadAlone.{judgeRound-same}
 use Rattle.sigma.specs.Reads.{Agree, SameRound, roundOf}
-use Rattle.sigma.proofs.Unread.{judgeAfter-same}
 use Rattle.games.specs.Ours.{AnswersOf}
 use Rattle.games.specs.Prints.{commitmentWords}
 use Rattle.games.specs.Text.{namedCommitment}
@@ -40,18 +38,18 @@ module _ (sheet f : List ℕ) (checked : checkRound sheet f 0 ≡ 0) where
 -- the answers on a commitment are those on every other that agrees with it in s places
 module _ (sheet t t′ : List ℕ) (agree : Agree (headerOf sheet .rows) t t′) where
   accepts-over : (c : ℕ) (r : List ℕ) → Accepts sheet (roundOf t c r) → Accepts sheet (roundOf t′ c r)
-  unfolding judgeRound instanceOf
+  unfolding instanceOf
   accepts-over c r e =
       let same : SameRound (headerOf sheet) (roundOf t′ c r) (roundOf t c r) =
       record { commitment = λ i b. sym (agree i b); challenge = refl; response = λ j b. refl } in
-      judgeAfter-same (loadRules sheet) (instanceOf sheet) same ∙ e
+      judgeRound-same sheet same ∙ e
 
   accepts-back : (c : ℕ) (r : List ℕ) → Accepts sheet (roundOf t′ c r) → Accepts sheet (roundOf t c r)
-  unfolding judgeRound instanceOf
+  unfolding instanceOf
   accepts-back c r e =
       let same : SameRound (headerOf sheet) (roundOf t c r) (roundOf t′ c r) =
       record { commitment = agree; challenge = refl; response = λ j b. refl } in
-      judgeAfter-same (loadRules sheet) (instanceOf sheet) same ∙ e
+      judgeRound-same sheet same ∙ e
 
   pub answers-agree : (challenges : List ℕ) (response : ℕ → List ℕ) → AnswersOf sheet t challenges response
       → AnswersOf sheet t′ challenges response

@@ -14,7 +14,7 @@ use Rattle.lists.specs.Places.{itemsAt, pad8, places, tabulate}
 use Rattle.patterns.specs.Pattern.{headerFor, madeFor}
 use Rattle.patterns.specs.Table.{kindOf, made, patternOf, patterns}
 use Rattle.sigma.specs.Instance.{Instance, instanceWith}
-use Rattle.sigma.specs.Judge.{judgeAfter, judgeLoaded}
+use Rattle.sigma.specs.Judge.{judging, judgeLoaded}
 use Rattle.sigma.specs.Reads.{roundOf}
 use Rattle.sigma.specs.Valid.{Valid}
 use Rattle.sigma.specs.Answer.{isAccepted}
@@ -43,7 +43,7 @@ statement-is base A B E h entries fields table = rw (fields, table)
 pub judged-alike : (base : Base) (A B E : ℕ) (t : List ℕ) (c : ℕ) (r xs ys : List ℕ)
     → judgeLoaded (productOf base A B E) (roundOf (getD t 0 0 ∷ getD t 1 0 ∷ xs) c (getD r 0 0 ∷ getD r 1 0 ∷ getD r 2 0 ∷ ys))
     ≡ judgeLoaded (productOf base A B E) (roundOf t c r)
-unfolding judgeLoaded judgeAfter places tabulate itemsAt productOf made madeFor headerFor kindOf patternOf patterns
+unfolding judgeLoaded judging places tabulate itemsAt productOf made madeFor headerFor kindOf patternOf patterns
 judged-alike base A B E t c r xs ys = refl
 
 -- a product line is rejected if the verdict on its round is not accepted

@@ -14,10 +14,11 @@ use Rattle.types.specs.declared.Computed.{Computed}
 use Rattle.types.specs.declared.Verdict.{Verdict}
 use Rattle.lists.specs.Places.{pad8, places, zeros8}
 use Rattle.rules.specs.Rule.{Clear, Rule, _when_, lowest}
+use Rattle.rules.proofs.Call.{number-clear}
 use Rattle.rules.proofs.Lowest.{clear-append, clear-lowest, lowest-clear, lowest-earlier, lowest-later, stop}
 use Rattle.sigma.specs.Answer.{eightPlaces, isAccepted}
 use Rattle.sigma.specs.Comparison.{differ}
-use Rattle.sigma.specs.Extractor.{extractLoaded, extractRules}
+use Rattle.sigma.specs.Extractor.{extracting, extractLoaded}
 use Rattle.sigma.specs.Instance.{Instance}
 use Rattle.sigma.specs.Round.{badChallenge, badCommitment, badCoordinates}
 use Rattle.rules.proofs.Answer.{unlessRefused-positive, unlessRefused-zero}
@@ -156,9 +157,8 @@ module _ {i j : Instance} (fit : FitTogether i j) (a b : OrRound) (none : NotRef
 
   -- no rule of 01's extractor applies to the rounds of side 0 where the c0 differ
   first-clear : a .challenge0 ≢ b .challenge0
-      → Clear (extractRules i (places (i .header .rows) (a .commitment0)) (a .challenge0) (places (i .header .columns) (a .response0))
-      (places (i .header .rows) (b .commitment0)) (b .challenge0) (places (i .header .columns) (b .response0)))
-  unfolding extractOrRules extractRules badCommitments badChallenges badResponses verdictOr readOr
+      → Clear (extracting i (firstRound a) (firstRound b) .refusals)
+  unfolding extractOrRules extracting firstRound badCommitments badChallenges badResponses verdictOr readOr
   first-clear apart =
       let (elements, (challenges, (slots, (same, (other, (accepted, end)))))) = none in
       let both = both-fail (not (isOrAccepted (verdictOr i j (readOr i j a)))) _ .0 accepted in (
@@ -177,11 +177,8 @@ module _ {i j : Instance} (fit : FitTogether i j) (a b : OrRound) (none : NotRef
 
   -- nor to those of side 1 where they are the same: then what is left of different c is different
   second-clear : a .challenge0 ≡ b .challenge0
-      → Clear (extractRules j (places (j .header .rows) (a .commitment1))
-      (otherChallenge (i .header .challenges) (a .challenge) (a .challenge0)) (places (j .header .columns) (a .response1))
-      (places (j .header .rows) (b .commitment1)) (otherChallenge (i .header .challenges) (b .challenge) (b .challenge0))
-      (places (j .header .columns) (b .response1)))
-  unfolding extractOrRules extractRules badCommitments badResponses verdictOr readOr
+      → Clear (extracting j (secondRound (i .header .challenges) a) (secondRound (i .header .challenges) b) .refusals)
+  unfolding extractOrRules extracting secondRound badCommitments badResponses verdictOr readOr
   second-clear one =
       let K = i .header .challenges in
       let (elements, (challenges, (slots, (same, (other, (accepted, end)))))) = none in
@@ -212,7 +209,7 @@ module _ {i j : Instance} (fit : FitTogether i j) (a b : OrRound) (none : NotRef
         → record { values = answer .values; side = 0; refusal = 0 } ≡ extractOrAfter [] i j a b
     unfolding firstRound extractedOr extractedSide extractedOf readOr
     first-side apart is-answer =
-        let runs = extract-refusal i (firstRound a) (firstRound b) ∙ lowest-clear _ (first-clear apart) in
+        let runs = extract-refusal i (firstRound a) (firstRound b) ∙ number-clear _ (first-clear apart) in
         let whole = is-answer ∙ extract-given i (firstRound a) (firstRound b) runs in
         let values = ap (λ (answer : Computed). answer .values) whole in
         sym (given ∙ rw (ne-eqb (a .challenge0) (b .challenge0) apart, values))
@@ -224,7 +221,7 @@ module _ {i j : Instance} (fit : FitTogether i j) (a b : OrRound) (none : NotRef
     unfolding secondRound extractedOr extractedSide extractedOf readOr
     second-side same is-answer =
         let K = i .header .challenges in
-        let runs = extract-refusal j (secondRound K a) (secondRound K b) ∙ lowest-clear _ (second-clear same) in
+        let runs = extract-refusal j (secondRound K a) (secondRound K b) ∙ number-clear _ (second-clear same) in
         let whole = is-answer ∙ extract-given j (secondRound K a) (secondRound K b) runs in
         let values = ap (λ (answer : Computed). answer .values) whole in
         sym (given ∙ rw (eq-eqb (a .challenge0) (b .challenge0) same, values))

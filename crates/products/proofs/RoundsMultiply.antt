@@ -17,16 +17,17 @@ use Rattle.lists.proofs.Each.{each-length}
 use Rattle.lists.proofs.Places.{getD-pad8, length-tabulate, places-pad8, places-whole}
 use Rattle.groups.specs.Transcript.{Bezout}
 use Rattle.formats.specs.Encode.{encode, sheetOf}
-use Rattle.formats.specs.Load.{load, loadRefusal, loadRules}
+use Rattle.formats.specs.Load.{load, loadRefusal}
 use Rattle.formats.specs.Ours.{fileCalls, loaded}
 use Rattle.formats.specs.Outcome.{front}
 use Rattle.formats.specs.Sheet.{instanceOf}
 use Rattle.formats.proofs.Loads.{entries-given, load-given, loaded-given, loads, loads-valid}
 use Rattle.formats.proofs.Writing.{encode-puts, encode-runs, puts-front}
-use Rattle.runs.specs.Calls.{extractWitness, judgeRound}
+use Rattle.runs.specs.Calls.{extractWitness}
 use Rattle.runs.specs.Ours.{Accepts, runCalls}
 use Rattle.runs.proofs.Demand3.{sheet-extraction}
 use Rattle.runs.proofs.Protocol.{sheet-accepted}
+use Rattle.runs.proofs.ReadAlone.{judgeRound-same}
 use Rattle.sigma.specs.Extractor.{formula}
 use Rattle.sigma.specs.Instance.{Instance, statementAt}
 use Rattle.sigma.specs.Joined.{joinSlots, multiplyRows, withStatement}
@@ -38,7 +39,6 @@ use Rattle.sigma.proofs.ByKind.{combine-exponent, combine-root}
 use Rattle.sigma.proofs.Formula.{formula-agree, formula-by-kind}
 use Rattle.sigma.proofs.Joined.{join-at, join-in, joins-agree, multiply-at, multiply-in, second-decides, withStatement-valid}
 use Rattle.sigma.proofs.JoinedFormula.{formula-joined, formula-restated}
-use Rattle.sigma.proofs.Unread.{judgeAfter-same}
 use Rattle.products.specs.RoundsMultiply.{
   ProductSheet,
   ProductsWork,
@@ -129,14 +129,12 @@ module _ (sheet sheet′ : List ℕ) (first : loadRefusal sheet ≡ 0) (second :
     pub product-accepted : (round round′ made : Round) → Accepts sheet round → Accepts sheet′ round′ → round .challenge ≡ round′ .challenge
         → SameRound (instanceOf sheet .header) made (productRound (instanceOf sheet .header) round round′)
         → Accepts product made
-    unfolding judgeRound
     product-accepted round round′ made e e′ same is =
         let inst = instanceOf sheet in
         let z = productStatement inst (instanceOf sheet′) in
         let exact = productRound (inst .header) round round′ in
         let fits = product-fits round round′ e e′ in
-        judgeAfter-same (loadRules product) (instanceOf product)
-        (subst (λ (h : Header). SameRound h made exact) (sym same-header) is)
+        judgeRound-same product (subst (λ (h : Header). SameRound h made exact) (sym same-header) is)
         ∙ sheet-accepted product whole exact .1 (rw values (
           record { commitment = fits .commitment; challenge = fits .challenge; response = fits .response },
           λ i b. row-restated inst z (pad8 0 z) exact i (sym (getD-pad8 0 z i)) (product-holds round round′ e e′ same i b),

@@ -14,12 +14,13 @@ use Rattle.types.specs.declared.Verdict.the-variants.{Rejected}
 use Rattle.encoding.specs.Bytes.{AllBytes}
 use Rattle.lists.specs.Places.{pad8}
 use Rattle.lists.proofs.Places.{getD-pad8}
-use Rattle.formats.specs.Load.{loadRefusal, loadRules}
+use Rattle.formats.specs.Load.{loadRefusal}
 use Rattle.formats.specs.Sheet.{instanceOf}
 use Rattle.formats.proofs.Loads.{loads-valid}
 use Rattle.runs.specs.Calls.{judgeRound}
 use Rattle.runs.specs.Ours.{Accepts}
 use Rattle.runs.proofs.Protocol.{sheet-accepted, sheet-rejected}
+use Rattle.runs.proofs.ReadAlone.{judgeRound-same}
 use Rattle.rules.proofs.Says.{says-equal}
 use Rattle.sigma.specs.Answer.{rowsOf}
 use Rattle.sigma.specs.Meaning.{Coordinates, FailsExactly, Fits, Holds, RowHolds}
@@ -28,7 +29,6 @@ use Rattle.sigma.specs.Reads.{roundOf}
 use Rattle.sigma.specs.Valid.{Valid}
 use Rattle.sigma.proofs.Calculus.{says-stable}
 use Rattle.sigma.proofs.Fails.{fails-alike}
-use Rattle.sigma.proofs.Unread.{judgeAfter-same}
 use Rattle.products.specs.Ours.{BothRun, wholeRound}
 use Rattle.products.specs.Players.{IsTeam, partRound, playerSheet}
 use Rattle.products.specs.Team.{joinAll, multiplyAll, part}
@@ -81,11 +81,9 @@ module _ (sheet : List ℕ) (loaded : loadRefusal sheet ≡ 0) (count : ℕ) (im
 
     -- it is judged as the round in s rows and n slots
     whole-judged : judgeRound sheet (wholeRound sheet count images ts c rs) ≡ judgeRound sheet whole
-    unfolding judgeRound
     whole-judged =
         ap (judgeRound sheet) whole-is
-        ∙ judgeAfter-same (loadRules sheet) (instanceOf sheet)
-        (record { commitment = λ j b. getD-pad8 0 _ j; challenge = refl; response = λ j b. getD-pad8 0 _ j })
+        ∙ judgeRound-same sheet (record { commitment = λ j b. getD-pad8 0 _ j; challenge = refl; response = λ j b. getD-pad8 0 _ j })
 
     -- it fits
     whole-fits : Fits (instanceOf sheet) whole

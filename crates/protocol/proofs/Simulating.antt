@@ -8,14 +8,14 @@ use lib.ListN.{getD}
 use Rattle.lists.specs.Places.{tabulate, places, pad8, zeros8}
 use Rattle.lists.proofs.Places.{getD-places, pad8-at, tabulate-agree}
 use Rattle.numbers.specs.Integer.{power}
+use Rattle.rules.specs.Call.{numberOf}
 use Rattle.rules.specs.Rule.{lowest, Clear}
-use Rattle.rules.proofs.Lowest.{lowest-clear}
+use Rattle.rules.proofs.Call.{answer-clear, answer-refused}
 use Rattle.negatives.specs.Negative.{mulNegativePowers}
 use Rattle.sigma.specs.Image.{rowImage, image}
 use Rattle.sigma.specs.Instance.{Instance, tableOf, statementAt}
-use Rattle.sigma.specs.Simulator.{simulated, simulateRules, simulateAfter, simulateLoaded}
+use Rattle.sigma.specs.Simulator.{simulated, simulating, simulateLoaded}
 use Rattle.sigma.specs.Valid.{Valid}
-use Rattle.sigma.proofs.Answer.{computed-zero, computed-positive}
 use Rattle.sigma.proofs.Unread.{rowImage-agree}
 
 -- row i of [r] · z^(−c)
@@ -46,14 +46,14 @@ simulated-images inst v c r are-images are =
     ∙ sym (simulated-rows inst v c r))
 
 module _ (inst : Instance) (c : ℕ) (r : List ℕ) where
-  -- a number above 0 that the rules give is the whole answer
-  pub simulate-refused : (n : ℕ) → 0 < n → lowest (simulateRules inst c (places (inst .header .columns) r)) ≡ n
+  -- a number above 0 that the refusals give is the whole answer
+  pub simulate-refused : (n : ℕ) → 0 < n → lowest (simulating inst c r .refusals) ≡ n
       → record { refusal = n; values = zeros8 } ≡ simulateLoaded inst c r
-  unfolding simulateLoaded simulateAfter
-  simulate-refused n some given = rw given (sym (computed-positive n _ some))
+  unfolding simulateLoaded simulating numberOf
+  simulate-refused n some given = rw (← given) (sym (answer-refused (simulating inst c r) (rw given some)))
 
-  -- where no rule applies the simulated commitment is given
-  pub simulate-passed : Clear (simulateRules inst c (places (inst .header .columns) r)) → {values : List ℕ}
+  -- if no refusal applies the simulated commitment is given
+  pub simulate-passed : Clear (simulating inst c r .refusals) → {values : List ℕ}
       → values ≡ pad8 0 (simulated inst c (places (inst .header .columns) r)) → record { refusal = 0; values = values } ≡ simulateLoaded inst c r
-  unfolding simulateLoaded simulateAfter
-  simulate-passed none is-values = rw (lowest-clear _ none, is-values) (sym (computed-zero _))
+  unfolding simulateLoaded simulating
+  simulate-passed none is-values = rw is-values (sym (answer-clear (simulating inst c r) none))

@@ -17,8 +17,9 @@ ghost use mathlib.Core.Path.{_≡_};
 ghost use mathlib.Core.List.{List};
 ghost use Prim.Native.Nat.{ℕ, _≤_, _<_};
 ghost use Rattle.lists.specs.Places.{pad8, places};
-ghost use Rattle.rules.specs.Rule.{lowest};
-ghost use Rattle.sigma.specs.Judge.{judgeRules, judgeLoaded};
+ghost use Rattle.rules.specs.Call.{numberOf};
+ghost use Rattle.sigma.specs.Judge.{judging, judgeLoaded};
+ghost use Rattle.sigma.specs.Reads.{roundOf};
 ghost use Rattle.sigma.specs.Simulator.{simulated, simulateLoaded};
 ghost use Rattle.sigma.specs.Valid.{Valid};
 ghost use Rattle.sigma.specs.Instance.{instanceWith};
@@ -28,8 +29,7 @@ ghost use Rattle.sigma.specs.Instance.{instanceWith};
 pub fn round_refusal(h: Header, commitment: [u32; 8], challenge: u32, response: [u32; 8]) -> u32
     requires { ⌜ (0 < h .modulus) × (h .rows ≤ 8) × (h .columns ≤ 8) ⌝ }
     ensures { λ r. ⌜ ((entries : List (List ℕ)) (statement : List ℕ)
-        → r ≡ lowest (judgeRules (instanceWith h entries statement) (places (h .rows) commitment) challenge
-        (places (h .columns) response))) ⌝ }
+        → r ≡ numberOf (judging (instanceWith h entries statement) (roundOf commitment challenge response))) ⌝ }
 {
     let rows = h.rows as usize;
     let columns = h.columns as usize;

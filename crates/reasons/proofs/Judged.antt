@@ -14,16 +14,17 @@ use Rattle.encoding.specs.Text.{ascii}
 use Rattle.lists.specs.Places.{zeros8}
 use Rattle.lists.proofs.Places.{getD-zeros8}
 use Rattle.sigma.specs.Answer.{judged, outcome, rowsOf}
+use Rattle.sigma.specs.Judge.{judging}
 use Rattle.sigma.specs.Meaning.{FailsExactly}
-use Rattle.sigma.proofs.After.{judgeAfter-refused}
 use Rattle.rules.proofs.Answer.{unlessRefused-positive}
 use Rattle.sigma.proofs.Answer.{accepted-not-refused, judged-given}
 use Rattle.sigma.proofs.Fails.{fails-split}
-use Rattle.formats.specs.Load.{loadRefusal, loadRules}
+use Rattle.formats.specs.Load.{loadRefusal}
 use Rattle.formats.specs.RoundCalls.{checkRound, fetchAfter, fetchRound, noRound}
 use Rattle.formats.specs.Sheet.{instanceOf}
 use Rattle.formats.proofs.Files.{check-runs}
 use Rattle.formats.proofs.Loads.{loads, loads-valid}
+use Rattle.formats.proofs.OnSheet.{on-sheet-refused}
 use Rattle.runs.specs.Calls.{judgeRound}
 use Rattle.runs.proofs.Protocol.{sheet-accepted, verdicts}
 use Rattle.reasons.specs.declared.Spot.{Spot}
@@ -42,9 +43,9 @@ accepted-line (Refused n) spot left right same = absurd (omega (arith, ap (λ (l
 
 -- where judging accepts a round, the sheet loads
 accepted-loads : (s : List ℕ) (round : Round) → judgeRound s round ≡ Accepted → loadRefusal s ≡ 0
-unfolding judgeRound loadRefusal
+unfolding judgeRound judging
 accepted-loads s round accepted = elim (decLt 0 (loadRefusal s)) [
-  | yes refused ↦ absurd (accepted-not-refused _ (sym accepted ∙ judgeAfter-refused (loadRules s) (instanceOf s) refused round))
+  | yes refused ↦ absurd (accepted-not-refused _ (sym accepted ∙ on-sheet-refused s (judging (instanceOf s) round) refused))
   | no passed ↦ omega arith
 ]
 

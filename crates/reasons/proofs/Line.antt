@@ -10,7 +10,6 @@ use Rattle.types.specs.declared.Verdict.{Verdict}
 use Rattle.types.specs.declared.Verdict.the-variants.{Accepted, Rejected, Refused}
 use Rattle.encoding.specs.Text.{ascii, decimal}
 use Rattle.lists.specs.Member.{Member}
-use Rattle.lists.specs.Places.{places}
 use Rattle.lists.proofs.Words.{words-agree}
 use Rattle.rules.specs.Condition.{Given}
 use Rattle.rules.specs.Rule.{Rule, lowest}
@@ -19,13 +18,12 @@ use Rattle.rules.proofs.Lowest.{clear-append, clear-lowest, lowest-earlier, low
 use Rattle.sigma.specs.Answer.{judged, outcome, rowsOf}
 use Rattle.sigma.specs.Image.{image}
 use Rattle.sigma.specs.Instance.{tableOf}
-use Rattle.sigma.specs.Judge.{judgeAfter, judgeRules}
+use Rattle.sigma.specs.Judge.{judging}
 use Rattle.sigma.specs.Refusals.{judgeConditions}
 use Rattle.sigma.specs.Round.{expectedImage}
 use Rattle.sigma.proofs.Answer.{judged-positive, judged-zero}
 use Rattle.sigma.proofs.Refusals.{judge-tests}
 use Rattle.sigma.proofs.Values.{expected-image-at, image-at}
-use Rattle.sigma.proofs.Verdict.{verdict-not-refused}
 use Rattle.formats.specs.Load.{loadRules}
 use Rattle.formats.specs.Refusals.{loadConditions, roundConditions}
 use Rattle.formats.specs.RoundCalls.{checkAfter, checkRound, roundRules}
@@ -33,7 +31,7 @@ use Rattle.formats.specs.Sheet.{headerOf, instanceOf}
 use Rattle.formats.proofs.Positive.{check-positive}
 use Rattle.formats.proofs.Refusals.{load-tests, round-tests}
 use Rattle.runs.specs.Calls.{judgeRound}
-use Rattle.runs.proofs.Outcome.{judged-number}
+use Rattle.runs.proofs.Numbers.{judge-lowest}
 use Rattle.reasons.specs.declared.Spot.{Spot}
 use Rattle.reasons.specs.declared.Spot.the-variants.{At, Length}
 use Rattle.reasons.specs.Ours.{firstRound, reasonConditions}
@@ -62,11 +60,9 @@ rejected-line mask spots left right = refl
 module _ (s f : List ℕ) where
   -- ---- the number
 
-  -- the rules of judging round 0
+  -- the refusals of judging round 0
   abbrev roundJudged : List Rule
-  roundJudged =
-      judgeRules (instanceOf s) (places (instanceOf s .header .rows) (firstRound s f .commitment)) (firstRound s f .challenge)
-      (places (instanceOf s .header .columns) (firstRound s f .response))
+  roundJudged = judging (instanceOf s) (firstRound s f) .refusals
 
   -- where the check refuses, its number is told
   pub checked-refused : 0 < checkRound s f 0 → firstVerdict s f ≡ Refused (checkRound s f 0)
@@ -80,7 +76,7 @@ module _ (s f : List ℕ) where
 
   -- the number is that of the lowest rule of the sheet, the file and round 0
   number-lowest : reasonNumber s f ≡ lowest (loadRules s ++ (roundRules (headerOf s) f 0 ++ roundJudged))
-  unfolding reasonNumber outcome checkRound checkAfter judgeRound judgeAfter
+  unfolding reasonNumber outcome checkRound checkAfter
   number-lowest =
       let load = loadRules s in
       let file = roundRules (headerOf s) f 0 in
@@ -92,7 +88,7 @@ module _ (s f : List ℕ) where
             let none : checkRound s f 0 ≡ 0 = omega arith in
             let (clear, clear′) = clear-append load file .0 (clear-lowest (load ++ file) (check-positive s (headerOf s) f 0) none) in
             ap (λ (v : Verdict). outcome v .number) (checked-judged none)
-            ∙ judged-number _ _ (verdict-not-refused (instanceOf s) _ _ _) ∙ lowest-later load roundJudged clear
+            ∙ judge-lowest s (firstRound s f) ∙ lowest-later load roundJudged clear
             ∙ sym (lowest-later load (file ++ roundJudged) clear ∙ lowest-later file roundJudged clear′)
       ]
 

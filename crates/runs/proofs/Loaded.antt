@@ -9,11 +9,11 @@ use Rattle.rules.specs.Rule.{Clear}
 use Rattle.formats.specs.Load.{loadRules, loadRefusal}
 use Rattle.formats.specs.Sheet.{instanceOf}
 use Rattle.formats.proofs.Loads.{load-clear, loads}
-use Rattle.sigma.specs.Extractor.{extractLoaded}
-use Rattle.sigma.specs.Judge.{judgeLoaded}
+use Rattle.formats.proofs.OnSheet.{on-sheet-loads}
+use Rattle.sigma.specs.Extractor.{extracting, extractLoaded}
+use Rattle.sigma.specs.Judge.{judging, judgeLoaded}
 use Rattle.sigma.specs.Knowledge.{AcceptedRound}
-use Rattle.sigma.specs.Simulator.{simulateLoaded}
-use Rattle.sigma.proofs.After.{judgeAfter-clear, simulateAfter-clear, extractAfter-clear}
+use Rattle.sigma.specs.Simulator.{simulating, simulateLoaded}
 use Rattle.runs.specs.Calls.{judgeRound, simulateCommitment, extractWitness}
 use Rattle.runs.specs.Ours.{Accepts}
 
@@ -24,8 +24,8 @@ module _ (sheet : List ℕ) (loaded : loadRefusal sheet ≡ 0) where
 
   -- judging
   pub judge-loaded : (round : Round) → judgeRound sheet round ≡ judgeLoaded (instanceOf sheet) round
-  unfolding judgeRound
-  judge-loaded = judgeAfter-clear (loadRules sheet) (instanceOf sheet) sheet-clear
+  unfolding judgeRound judgeLoaded
+  judge-loaded round = on-sheet-loads sheet (judging (instanceOf sheet) round) loaded
 
   -- the same rounds are accepted
   pub accepts-loaded : (round : Round) → Accepts sheet round ↔ AcceptedRound (instanceOf sheet) round
@@ -33,10 +33,10 @@ module _ (sheet : List ℕ) (loaded : loadRefusal sheet ≡ 0) where
 
   -- simulating
   pub simulate-loaded : (c : ℕ) (r : List ℕ) → simulateCommitment sheet c r ≡ simulateLoaded (instanceOf sheet) c r
-  unfolding simulateCommitment
-  simulate-loaded = simulateAfter-clear (loadRules sheet) (instanceOf sheet) sheet-clear
+  unfolding simulateCommitment simulateLoaded
+  simulate-loaded c r = on-sheet-loads sheet (simulating (instanceOf sheet) c r) loaded
 
   -- extracting
   pub extract-loaded : (first second : Round) → extractWitness sheet first second ≡ extractLoaded (instanceOf sheet) first second
-  unfolding extractWitness
-  extract-loaded = extractAfter-clear (loadRules sheet) (instanceOf sheet) sheet-clear
+  unfolding extractWitness extractLoaded
+  extract-loaded first second = on-sheet-loads sheet (extracting (instanceOf sheet) first second) loaded

@@ -11,31 +11,27 @@ use lib.Dec.{leb}
 use Rattle.types.specs.declared.Verdict.the-variants.{Accepted, Refused}
 use Rattle.numbers.specs.Search.{any, find}
 use Rattle.lists.specs.Member.{Member}
-use Rattle.lists.specs.Places.{itemsAt, tabulate, places}
+use Rattle.lists.specs.Places.{itemsAt, tabulate}
 use Rattle.encoding.specs.Text.{ascii, digits, decimal}
+use Rattle.rules.specs.Call.{numberOf}
 use Rattle.rules.specs.Refuses.{conditionNumbers}
-use Rattle.rules.specs.Rule.{lowest}
+use Rattle.rules.proofs.Call.{number-given}
 use Rattle.rules.proofs.Refuses.{given-among}
-use Rattle.rules.proofs.Condition.{given}
-use Rattle.rules.proofs.Lowest.{clear-lowest}
 use Rattle.rules.proofs.Says.{says-at-most}
-use Rattle.formats.specs.Load.{loadRules, loadRefusal}
+use Rattle.formats.specs.Load.{loadRefusal}
 use Rattle.formats.specs.RoundCalls.{countRounds, fetchRound}
 use Rattle.formats.specs.RoundFile.{challengeWidth, countField, recordStart, roundAt}
 use Rattle.formats.specs.Sheet.{headerOf, instanceOf}
 use Rattle.formats.proofs.Files.{count-runs, count-given, check-runs, fetch-given}
-use Rattle.formats.proofs.Loads.{load-clear}
-use Rattle.formats.proofs.Positive.{load-positive}
+use Rattle.formats.proofs.Loads.{loads}
 use Rattle.sigma.specs.Answer.{isAccepted}
-use Rattle.sigma.specs.Judge.{judgeRules, judgeLoaded}
+use Rattle.sigma.specs.Judge.{judging, judgeLoaded}
 use Rattle.sigma.specs.Refusals.{judgeConditions}
-use Rattle.sigma.proofs.After.{judgeAfter-clear}
 use Rattle.rules.proofs.Answer.{unlessRefused-zero}
 use Rattle.sigma.proofs.Calculus.{all-pass, both-fail, says-passes}
 use Rattle.sigma.proofs.Calls.{judge-refused}
 use Rattle.sigma.proofs.Refusals.{judge-tests}
 use Rattle.sigma.proofs.Tests.{says-accepted}
-use Rattle.runs.specs.Calls.{judgeRound}
 use Rattle.runs.specs.Level.{badLevel, levelOf, strongEnough}
 use Rattle.runs.specs.Marker.{
   newline,
@@ -47,6 +43,7 @@ use Rattle.runs.specs.Marker.{
   roundLines,
   markerText,
 }
+use Rattle.runs.proofs.Loaded.{judge-loaded}
 use Rattle.runs.proofs.Level.{level-passes, none-weak}
 use Rattle.runs.proofs.MarkerRefusal.{none-refused}
 
@@ -63,11 +60,11 @@ module _ (sheet f : List ℕ) where
   pub verdict-on-record : countRounds sheet f .refusal ≡ 0 → (k : ℕ) → k < countField f
       → verdictOn sheet f k
       ≡ judgeLoaded (instanceOf sheet) (roundAt (challengeWidth f) (headerOf sheet) f (recordStart (challengeWidth f) (headerOf sheet) k))
-  unfolding verdictOn judgeRound
+  unfolding verdictOn
   verdict-on-record e k h =
       let (sheet-loads, file) = count-runs sheet f .0 e in
       let round = fetch-given sheet f k (check-runs sheet f k .1 (sheet-loads, file, h)) in
-      rw round (judgeAfter-clear (loadRules sheet) (instanceOf sheet) (load-clear sheet .1 sheet-loads) _)
+      rw round (judge-loaded sheet (loads sheet .1 sheet-loads) _)
 
   -- no round fails exactly where all are accepted
   pub all-accepted : (count : ℕ) → (any count (λ k. not (isAccepted (verdictOn sheet f k))) ≡ false)
@@ -118,16 +115,13 @@ module _ (sheet f : List ℕ) where
   -- of a sheet that loads, a round is refused with 14, 15 or 16
   pub round-refusal : loadRefusal sheet ≡ 0 → (k number : ℕ) → verdictOn sheet f k ≡ Refused number
       → Member number (14 ∷ 15 ∷ 16 ∷ [])
-  unfolding verdictOn judgeRound loadRefusal judgeRules conditionNumbers
+  unfolding verdictOn conditionNumbers
   round-refusal e k number refused =
       let round = fetchRound sheet f k .round in
       let inst = instanceOf sheet in
-      let t = places (inst .header .rows) (round .commitment) in
-      let r = places (inst .header .columns) (round .response) in
-      let rules = judgeRules inst t (round .challenge) r in
-      let none = clear-lowest (loadRules sheet) (load-positive sheet) e in
-      let (some, same) = judge-refused inst round number .0 (sym (judgeAfter-clear (loadRules sheet) inst none round) ∙ refused) in
-      let member : Member (lowest rules) (14 ∷ 15 ∷ 16 ∷ []) =
-      ⊎-elim (λ (z : lowest rules ≡ 0). absurd (omega arith)) (λ found. found)
-      (given-among (judgeConditions inst round) (lowest rules) (given rules (judgeConditions inst round) (judge-tests inst round))) in
+      let n = numberOf (judging inst round) in
+      let (some, same) = judge-refused inst round number .0 (sym (judge-loaded sheet e round) ∙ refused) in
+      let member : Member n (14 ∷ 15 ∷ 16 ∷ []) =
+      ⊎-elim (λ (z : n ≡ 0). absurd (omega arith)) (λ found. found)
+      (given-among (judgeConditions inst round) n (number-given (judging inst round) (judgeConditions inst round) (judge-tests inst round))) in
       subst (λ (n : ℕ). Member n (14 ∷ 15 ∷ 16 ∷ [])) same member

@@ -11,7 +11,7 @@ use Rattle.rules.specs.Call.{Call, answer, numberOf}
 use Rattle.rules.specs.Condition.{Condition, Given, Tests}
 use Rattle.rules.specs.Rule.{Rule, lowest}
 use Rattle.rules.proofs.Call.{answer-number}
-use Rattle.rules.proofs.Condition.{given-behind}
+use Rattle.rules.proofs.Condition.{given-behind, given}
 use Rattle.rules.proofs.Lowest.{lowest-clear}
 use Rattle.rules.proofs.Told.{told-given}
 use Rattle.formats.specs.Load.{loadRules, loadRefusal, onSheet}
@@ -19,14 +19,14 @@ use Rattle.formats.specs.Refusals.{loadConditions}
 use Rattle.formats.specs.Sheet.{instanceOf}
 use Rattle.formats.proofs.Loads.{loads-valid}
 use Rattle.formats.proofs.Refusals.{load-tests}
-use Rattle.sigma.specs.Answer.{outcome, computed}
-use Rattle.sigma.specs.Extractor.{extractAfter}
-use Rattle.sigma.specs.Judge.{judgeAfter}
+use Rattle.sigma.specs.Answer.{outcome, judged}
+use Rattle.sigma.specs.Extractor.{extracting}
+use Rattle.sigma.specs.Judge.{judging}
 use Rattle.sigma.specs.Refusals.{judgeConditions, simulateConditions, extractConditions}
-use Rattle.sigma.specs.Simulator.{simulateAfter}
+use Rattle.sigma.specs.Simulator.{simulating}
 use Rattle.sigma.specs.Valid.{Valid}
+use Rattle.sigma.proofs.Calls.{judge-not-refused}
 use Rattle.sigma.proofs.Refusals.{judge-tests, simulate-tests, extract-tests}
-use Rattle.sigma.proofs.Verdict.{verdict-not-refused}
 use Rattle.runs.specs.Calls.{judgeRound, simulateCommitment, extractWitness}
 use Rattle.runs.specs.Prover.{commit, committing, dropSession, dropping, respond, responding}
 use Rattle.runs.specs.Refusals.{
@@ -67,23 +67,35 @@ module _ (sheet : List ℕ) where
   -- ---- calls on rounds
 
   -- judging
+  pub judge-lowest : (round : Round)
+      → outcome (judgeRound sheet round) .number ≡ lowest (loadRules sheet ++ judging (instanceOf sheet) round .refusals)
+  unfolding judgeRound judging answer numberOf judged
+  judge-lowest round = judged-number _ _ (judge-not-refused (instanceOf sheet) round)
+
   pub judge-number : (round : Round)
       → Given (loadConditions sheet ++ judgeConditions (instanceOf sheet) round) (outcome (judgeRound sheet round) .number)
-  unfolding judgeRound judgeAfter
-  judge-number round =
-      rw (judged-number _ _ (verdict-not-refused (instanceOf sheet) _ _ _)) (behind-sheet sheet _ _ (λ valid. judge-tests (instanceOf sheet) round))
+  judge-number round = rw (judge-lowest round) (behind-sheet sheet _ _ (λ valid. judge-tests (instanceOf sheet) round))
 
   -- simulating
+  pub simulate-lowest : (c : ℕ) (r : List ℕ)
+      → simulateCommitment sheet c r .refusal ≡ lowest (loadRules sheet ++ simulating (instanceOf sheet) c r .refusals)
+  unfolding simulateCommitment simulating numberOf
+  simulate-lowest c r = answer-number (onSheet sheet (simulating (instanceOf sheet) c r)) (λ a. a .refusal) refl (λ n. refl)
+
   pub simulate-number : (c : ℕ) (r : List ℕ)
       → Given (loadConditions sheet ++ simulateConditions (instanceOf sheet) c r) (simulateCommitment sheet c r .refusal)
-  unfolding simulateCommitment simulateAfter computed
-  simulate-number c r = behind-sheet sheet _ _ (λ valid. simulate-tests (instanceOf sheet) c r)
+  simulate-number c r = rw (simulate-lowest c r) (behind-sheet sheet _ _ (λ valid. simulate-tests (instanceOf sheet) c r))
 
   -- extracting
+  pub extract-lowest : (first second : Round)
+      → extractWitness sheet first second .refusal ≡ lowest (loadRules sheet ++ extracting (instanceOf sheet) first second .refusals)
+  unfolding extractWitness extracting numberOf
+  extract-lowest first second =
+      answer-number (onSheet sheet (extracting (instanceOf sheet) first second)) (λ a. a .refusal) refl (λ n. refl)
+
   pub extract-number : (first second : Round)
       → Given (loadConditions sheet ++ extractConditions (instanceOf sheet) first second) (extractWitness sheet first second .refusal)
-  unfolding extractWitness extractAfter computed
-  extract-number first second = behind-sheet sheet _ _ (λ valid. extract-tests valid first second)
+  extract-number first second = rw (extract-lowest first second) (behind-sheet sheet _ _ (λ valid. extract-tests valid first second))
 
   -- ---- Peggy
 

@@ -2,7 +2,7 @@
 -- protocol in section 5 of Maurer's paper, as 01 writes it down.
 -- Assumes nothing.
 use Prim.Native.Nat.{ℕ, zero, suc, _-_, _^_, _<_, _≤_}
-use mathlib.Core.Path.{_≡_, refl, sym, ap, _∙_}
+use mathlib.Core.Path.{_≡_, sym, ap, _∙_}
 use mathlib.Core.Logic.{_↔_, _≢_, _⊎_, ⊎-elim}
 use mathlib.Core.List.{List, _∷_, head-eq-of-cons-eq, tail-eq-of-cons-eq}
 use native.Mathlib.Omega.{arith}
@@ -14,34 +14,34 @@ use Rattle.types.specs.declared.Verdict.{Verdict}
 use Rattle.types.specs.declared.Verdict.the-variants.{Accepted, Rejected}
 use Rattle.lists.specs.Places.{pad8, places, zeros8}
 use Rattle.lists.proofs.Places.{getD-places, getD-pad8, getD-zeros8}
-use Rattle.rules.specs.Call.{numberOf}
+use Rattle.rules.specs.Call.{numberOf, answer}
 use Rattle.rules.proofs.Call.{answer-read}
-use Rattle.formats.specs.Load.{loadRefusal, onSheet}
+use Rattle.formats.specs.Load.{loadRefusal, onSheet, loadRules}
 use Rattle.formats.specs.Sheet.{instanceOf}
 use Rattle.formats.proofs.Loads.{loads-valid}
-use Rattle.sigma.specs.Answer.{eightPlaces, outcome, rowsOf}
+use Rattle.sigma.specs.Answer.{eightPlaces, outcome, rowsOf, judged}
 use Rattle.sigma.specs.Image.{image, rowImage}
+use Rattle.rules.proofs.Lowest.{clear-append, lowest-clear}
 use Rattle.sigma.specs.Instance.{Instance, tableOf}
-use Rattle.sigma.specs.Judge.{judgeAfter}
+use Rattle.sigma.specs.Judge.{judging}
 use Rattle.sigma.specs.Meaning.{Holds, FailsExactly, FailsFirst, Fits}
 use Rattle.sigma.specs.Round.{response, responseCoordinate}
 use Rattle.rules.proofs.Answer.{unlessRefused-zero, unlessRefused-positive}
-use Rattle.sigma.proofs.Answer.{judged-zero}
 use Rattle.sigma.proofs.ByKind.{responseCoordinate-exponent, responseCoordinate-root}
-use Rattle.sigma.proofs.Calls.{judge-given, valid-judge-accepted, valid-judge-rejected}
+use Rattle.sigma.proofs.Calls.{judge-clear, judge-not-refused, valid-judge-accepted, valid-judge-rejected}
 use Rattle.sigma.proofs.Fails.{fails-begin}
-use Rattle.sigma.proofs.Unread.{fits-same, rowImage-agree, same-round-of-read, same-round-sym}
+use Rattle.sigma.proofs.Unread.{rowImage-agree}
 use Rattle.sigma.proofs.Values.{length-image, length-response, image-at, response-at}
-use Rattle.sigma.proofs.Verdict.{verdict-not-refused}
 use Rattle.runs.specs.Calls.{judgeRound}
 use Rattle.runs.specs.Ours.{callProver, runCalls}
 use Rattle.runs.specs.Protocol.{JudgesByRows, Protocol}
 use Rattle.runs.specs.Prover.{commit, committing, respond, responding}
 use Rattle.runs.specs.ProverCalls.{Commit, Respond}
 use Rattle.runs.proofs.JointRun.{sheet-joint-run}
-use Rattle.runs.proofs.Loaded.{judge-loaded}
+use Rattle.runs.proofs.Loaded.{judge-loaded, sheet-clear}
 use Rattle.runs.proofs.Outcome.{judged-decided, judged-number}
 use Rattle.runs.proofs.ProverCalls.{prover-value}
+use Rattle.runs.proofs.Numbers.{judge-lowest}
 use Rattle.runs.proofs.Verdicts.{takeResponse-given}
 
 -- eight places hold 0 beyond their values, refused or not
@@ -129,16 +129,14 @@ module _ (sheet : List ℕ) (loaded : loadRefusal sheet ≡ 0) where
   -- a round that fits is not refused
   pub fits-judged : (round : Round) → Fits (instanceOf sheet) round → outcome (judgeRound sheet round) .number ≡ 0
   fits-judged round fits =
-      let read = same-round-sym (same-round-of-read (values .header) round) in
-      let given = judge-given values round _ (verdict-not-refused values _ _ _) .1 (fits-same values read fits, refl) in
-      ap (λ (v : Verdict). outcome v .number) (judge-loaded sheet loaded round ∙ given ∙ sym (judged-zero _))
-      ∙ judged-number 0 _ (verdict-not-refused values _ _ _)
+      judge-lowest sheet round
+      ∙ lowest-clear _ (clear-append (loadRules sheet) _ .1 (sheet-clear sheet loaded, judge-clear values round .1 fits))
 
   -- a round that is not refused is accepted or rejected
   not-refused : (round : Round) → outcome (judgeRound sheet round) .number ≡ 0
       → (judgeRound sheet round ≡ Accepted) ⊎ ((mask : ℕ) × (judgeRound sheet round ≡ Rejected mask))
-  unfolding judgeRound judgeAfter
-  not-refused round = judged-decided _ _ (verdict-not-refused (instanceOf sheet) _ _ _)
+  unfolding judgeRound judging answer judged
+  not-refused round = judged-decided _ _ (judge-not-refused (instanceOf sheet) round)
 
   -- it fits
   not-refused-fits : (round : Round) → outcome (judgeRound sheet round) .number ≡ 0 → Fits (instanceOf sheet) round

@@ -1,10 +1,12 @@
 -- No answer depends on places beyond s and n, whether or not the sheet loads.
 -- Assumes nothing.
 use Prim.Native.Nat.{ℕ}
-use mathlib.Core.Path.{refl, ap}
+use mathlib.Core.Path.{refl, ap, _≡_}
 use mathlib.Core.List.{List}
 use Rattle.types.specs.declared.ProverStep.{ProverStep}
+use Rattle.types.specs.declared.Computed.{Computed}
 use Rattle.types.specs.declared.Round.{Round}
+use Rattle.types.specs.declared.Verdict.{Verdict}
 use Rattle.types.specs.declared.Verifier.{Verifier}
 use Rattle.types.specs.declared.VerifierStep.{VerifierStep}
 use Rattle.types.specs.declared.VerifierVerdict.{VerifierVerdict}
@@ -13,7 +15,7 @@ use Rattle.rules.specs.Call.{Call, answer}
 use Rattle.formats.specs.Load.{loadRules, onSheet}
 use Rattle.formats.specs.Sheet.{instanceOf}
 use Rattle.sigma.specs.Reads.{SameRound, paddedRound}
-use Rattle.sigma.proofs.Unread.{same-round-of-padded, same-round-sym, judgeAfter-same, simulateAfter-same, extractAfter-same}
+use Rattle.sigma.proofs.Unread.{same-round-of-padded, same-round-sym, judging-same, simulating-same, extracting-same}
 use Rattle.runs.specs.Calls.{judgeRound, simulateCommitment, extractWitness}
 use Rattle.runs.specs.Corollaries.{ReadAlone, SessionsReadAlone}
 use Rattle.runs.specs.OnSheet.{readProver, readVerifier}
@@ -23,13 +25,20 @@ use Rattle.runs.specs.Verifier.{takeCommitment, takeChallenge, takeRespo
 use Rattle.runs.proofs.Unread.{SameVerifier, committing-same, read-agrees, respond-held, responding-same}
 use Rattle.runs.proofs.Unread.{takeChallenge-held, takeResponse-held, takingCommitment-same, takingResponse-same}
 
+-- judging rounds that are the same
+pub judgeRound-same : (sheet : List ℕ) {round round′ : Round} → SameRound (instanceOf sheet .header) round round′
+    → judgeRound sheet round ≡ judgeRound sheet round′
+unfolding judgeRound
+judgeRound-same sheet same = ap (λ (call : Call Verdict). answer (onSheet sheet call)) (judging-same (instanceOf sheet) same)
+
 -- the calls on rounds, and an honest round
 pub read-alone : (sheet : List ℕ) → ReadAlone runCalls sheet
-unfolding honestRound judgeRound simulateCommitment extractWitness commit respond instanceOf
+unfolding honestRound simulateCommitment extractWitness commit respond instanceOf
 read-alone sheet =
     let before = loadRules sheet in
     let inst = instanceOf sheet in
     let slots = read-agrees (inst .header .columns) in
+    let on-sheet : Call Computed → Computed = λ call. answer (onSheet sheet call) in
     let read : (round : Round) → SameRound (inst .header) round (paddedRound (inst .header) round) =
     λ round. same-round-sym (same-round-of-padded (inst .header) round) in
     record {
@@ -39,9 +48,9 @@ read-alone sheet =
             committing-same inst newProver k k′ (slots k),
             responding-same inst _ c x (places (inst .header .columns) x) (slots x),
           );
-      simulated = λ c r. simulateAfter-same before inst c r _ (slots r);
-      judged = λ round. judgeAfter-same before inst (read round);
-      extracted = λ first second. extractAfter-same before inst (read first) (read second);
+      simulated = λ c r. ap on-sheet (simulating-same inst c r _ (slots r));
+      judged = λ round. judgeRound-same sheet (read round);
+      extracted = λ first second. ap on-sheet (extracting-same inst (read first) (read second));
     }
 
 -- the calls on sessions

@@ -2,24 +2,28 @@
 -- of its refusals, whose conditions are fixed, and a refused call changes no session.
 -- Assumes nothing.
 use Prim.Native.Nat.{ℕ, _<_}
-use mathlib.Core.Path.{refl, ap, subst}
-use mathlib.Core.List.{[], _∷_, _++_}
+use mathlib.Core.Path.{refl, ap, subst, _≡_}
+use mathlib.Core.List.{[], _∷_, _++_, List}
+use Rattle.types.specs.declared.Computed.{Computed}
 use Rattle.types.specs.declared.Prover.{Prover}
 use Rattle.types.specs.declared.ProverStep.{ProverStep}
+use Rattle.types.specs.declared.Round.{Round}
 use Rattle.types.specs.declared.VerifierStep.{VerifierStep}
 use Rattle.lists.specs.Places.{zeros8}
+use Rattle.rules.specs.Call.{answer, numberOf}
 use Rattle.rules.specs.Refuses.{conditionNumbers}
 use Rattle.rules.specs.Order.{refusalOrder, sheetNumbers, isSublist}
+use Rattle.rules.proofs.Call.{answer-refused}
 use Rattle.rules.proofs.Condition.{given, given-unique}
 use Rattle.rules.proofs.Refuses.{refuses-given, refuses-tested}
+use Rattle.formats.specs.Load.{loadRules, onSheet}
 use Rattle.formats.specs.Refusals.{RefusesOn, loadConditions}
 use Rattle.formats.specs.Sheet.{headerOf, instanceOf}
-use Rattle.sigma.specs.Answer.{computed, eightPlaces}
-use Rattle.sigma.specs.Extractor.{extractAfter}
-use Rattle.sigma.specs.Judge.{judgeAfter}
-use Rattle.sigma.specs.Simulator.{simulateAfter}
-use Rattle.rules.proofs.Answer.{unlessRefused-positive}
-use Rattle.sigma.proofs.Verdict.{verdict-not-refused}
+use Rattle.sigma.specs.Answer.{judged}
+use Rattle.sigma.specs.Extractor.{extracting}
+use Rattle.sigma.specs.Judge.{judging}
+use Rattle.sigma.specs.Simulator.{simulating}
+use Rattle.sigma.proofs.Calls.{judge-not-refused}
 use Rattle.runs.specs.Calls.{judgeRound, simulateCommitment, extractWitness}
 use Rattle.runs.specs.Level.{markConditions}
 use Rattle.runs.specs.Marker.{markRefusal, markerCalls, markerText}
@@ -27,7 +31,7 @@ use Rattle.runs.specs.Ours.{callProver, runCalls}
 use Rattle.runs.specs.ProverCalls.{Commit, Drop, ProverCall, Respond, Return, Save}
 use Rattle.runs.specs.RunRefusals.{MarkRefusals, OneLine, RunRefusals, Unmoved}
 use Rattle.runs.proofs.MarkerRefusal.{mark-tests, one-line}
-use Rattle.runs.proofs.Numbers.{judge-number, simulate-number, extract-number, commit-number, respond-number}
+use Rattle.runs.proofs.Numbers.{judge-number, simulate-lowest, simulate-number, extract-lowest, extract-number, commit-number, respond-number}
 use Rattle.runs.proofs.Numbers.{drop-number, save-number, return-number}
 use Rattle.runs.proofs.Numbers.{takeCommitment-number, takeChallenge-number, takeResponse-number}
 use Rattle.runs.proofs.Outcome.{judged-kept}
@@ -39,16 +43,33 @@ unmoved : (call : ProverCall) (p : Prover) → 0 < callProver call p .refusal �
 unmoved call p some =
     let kept = prover-kept call p some in (ap (λ (s : ProverStep). s .session) kept, ap (λ (s : ProverStep). s .values) kept)
 
+-- a simulator that is refused leaves zeros
+simulate-left : (sheet : List ℕ) (c : ℕ) (r : List ℕ) → 0 < simulateCommitment sheet c r .refusal
+    → simulateCommitment sheet c r .values ≡ zeros8
+unfolding simulateCommitment simulating numberOf
+simulate-left sheet c r some =
+    ap (λ (a : Computed). a .values)
+    (answer-refused (onSheet sheet (simulating (instanceOf sheet) c r)) (subst (λ (n : ℕ). 0 < n) (simulate-lowest sheet c r) some))
+
+-- so does an extractor
+extract-left : (sheet : List ℕ) (first second : Round) → 0 < extractWitness sheet first second .refusal
+    → extractWitness sheet first second .values ≡ zeros8
+unfolding extractWitness extracting numberOf
+extract-left sheet first second some =
+    ap (λ (a : Computed). a .values)
+    (answer-refused (onSheet sheet (extracting (instanceOf sheet) first second))
+    (subst (λ (n : ℕ). 0 < n) (extract-lowest sheet first second) some))
+
 -- the calls on rounds and sessions
 pub run-refusals : RunRefusals runCalls
-unfolding conditionNumbers isSublist refusalOrder sheetNumbers judgeRound judgeAfter
-    simulateCommitment simulateAfter extractWitness extractAfter computed eightPlaces callProver zeros8
+unfolding conditionNumbers isSublist refusalOrder sheetNumbers judgeRound judging judged
+    simulateCommitment simulating extractWitness extracting answer callProver zeros8
 run-refusals = record {
   judging = λ sheet round.
-      refuses-given _ _ refl refl _ (judge-number sheet round) (judged-kept _ _ (verdict-not-refused (instanceOf sheet) _ _ _));
-  simulating = λ sheet c r. refuses-given _ _ refl refl _ (simulate-number sheet c r) (unlessRefused-positive _ zeros8 _);
+      refuses-given _ _ refl refl _ (judge-number sheet round) (judged-kept _ _ (judge-not-refused (instanceOf sheet) round));
+  simulating = λ sheet c r. refuses-given _ _ refl refl _ (simulate-number sheet c r) (simulate-left sheet c r);
   extracting = λ sheet first second.
-      refuses-given _ _ refl refl _ (extract-number sheet first second) (unlessRefused-positive _ zeros8 _);
+      refuses-given _ _ refl refl _ (extract-number sheet first second) (extract-left sheet first second);
   committing = λ sheet p k.
       refuses-given _ _ refl refl _ (commit-number sheet p k) (unmoved (Commit sheet k) p);
   responding = λ sheet p c x.

@@ -28,22 +28,19 @@ use Rattle.formats.specs.Ours.{fileCalls}
 use Rattle.formats.specs.Sheet.{instanceOf}
 use Rattle.formats.proofs.Loads.{loads-valid}
 use Rattle.formats.proofs.Positive.{load-positive}
-use Rattle.sigma.specs.Answer.{computed, isAccepted, outcome}
+use Rattle.sigma.specs.Answer.{isAccepted, outcome}
 use Rattle.sigma.specs.Comparison.{differ}
-use Rattle.sigma.specs.Extractor.{extractAfter, extractRules}
+use Rattle.sigma.specs.Extractor.{extracting}
 use Rattle.sigma.specs.Image.{image}
 use Rattle.sigma.specs.Instance.{tableOf}
-use Rattle.sigma.specs.Judge.{judgeAfter}
 use Rattle.sigma.specs.Knowledge.{AcceptedPair, Choice, Witness}
 use Rattle.sigma.specs.Meaning.{Coordinates, Elements, Extracts, Fits}
 use Rattle.sigma.specs.Reads.{Agree, roundOf}
 use Rattle.sigma.specs.Round.{badChallenge, badCommitment, badCoordinates, verdict}
-use Rattle.sigma.specs.Simulator.{simulateAfter}
 use Rattle.sigma.proofs.Calls.{judge-clear, simulate-runs, valid-extract-runs}
 use Rattle.sigma.proofs.Comparison.{says-differ}
 use Rattle.sigma.proofs.Positive.{extract-positive, judge-positive, simulate-positive}
-use Rattle.sigma.proofs.Unread.{coordinates-agree, elements-agree, fits-same, judgeAfter-same, same-round-of-read, same-round-sym}
-use Rattle.sigma.proofs.Verdict.{verdict-not-refused}
+use Rattle.sigma.proofs.Unread.{coordinates-agree, elements-agree}
 use Rattle.runs.specs.Calls.{extractWitness, judgeRound, simulateCommitment}
 use Rattle.runs.specs.Memory.{listedAt, savedAt}
 use Rattle.runs.specs.OnSheet.{Below, readSlots, readValues}
@@ -55,11 +52,12 @@ use Rattle.runs.specs.Saving.{returnTo}
 use Rattle.runs.specs.Verifier.{newVerifier, takeChallenge, takeCommitment, takeResponse}
 use Rattle.runs.proofs.Demand3.{sheet-simulated-rounds}
 use Rattle.runs.proofs.Loaded.{extract-loaded, simulate-loaded}
-use Rattle.runs.proofs.Outcome.{judged-number}
+use Rattle.runs.proofs.Numbers.{extract-lowest, judge-lowest, simulate-lowest}
 use Rattle.runs.proofs.Protocol.{sheet-accepted}
 use Rattle.runs.proofs.ProverCalls.{prover-value}
 use Rattle.runs.proofs.ProverSteps.{commit-runs, drop-runs, respond-runs, return-runs, save-runs}
 use Rattle.runs.proofs.VerifierSteps.{takeChallenge-runs, takeCommitment-runs, takeResponse-runs}
+use Rattle.runs.proofs.ReadAlone.{judgeRound-same}
 
 -- 18's test of two lists is the same with the lists exchanged
 differ-swapped : (n : ℕ) (xs ys : List ℕ) → differ n xs ys ≡ differ n ys xs
@@ -82,13 +80,12 @@ module _ (sheet : List ℕ) where
   -- judging
   judge-where : (round : Round)
       → (outcome (judgeRound sheet round) .number ≡ 0) ↔ ((loadRefusal sheet ≡ 0) × Fits (instanceOf sheet) round)
-  unfolding judgeRound judgeAfter loadRefusal
+  unfolding loadRefusal
   judge-where round =
       let inst = instanceOf sheet in
-      let read = same-round-of-read (inst .header) round in
-      rw (judged-number _ _ (verdict-not-refused inst _ _ _))
-      (Iff·trans (lowest-append-zero (loadRules sheet) _ (load-positive sheet) (judge-positive inst _ _ _))
-      (Iff·and Iff·rfl (Iff·trans (judge-clear inst _ _ _) (fits-same inst read, fits-same inst (same-round-sym read)))))
+      rw (judge-lowest sheet round)
+      (Iff·trans (lowest-append-zero (loadRules sheet) _ (load-positive sheet) (judge-positive inst round))
+      (Iff·and Iff·rfl (judge-clear inst round)))
 
   -- so a sheet with an accepted round loads, and the round fits
   accepted-fits : (round : Round) → Accepts sheet round → (loadRefusal sheet ≡ 0) × Fits (instanceOf sheet) round
@@ -98,10 +95,10 @@ module _ (sheet : List ℕ) where
   -- a simulated commitment makes the round accepted
   simulated-accepted : loadRefusal sheet ≡ 0 → (c : ℕ) → Below sheet c → (r : List ℕ) → Coordinates (instanceOf sheet) r
       → Accepts sheet (roundOf (simulateCommitment sheet c (readSlots sheet r) .values) c r)
-  unfolding simulatedRound judgeRound
+  unfolding simulatedRound
   simulated-accepted loaded c below r slots =
       let n = instanceOf sheet .header .columns in
-      judgeAfter-same (loadRules sheet) (instanceOf sheet) (record {
+      judgeRound-same sheet (record {
         commitment = λ i b. refl;
         challenge = refl;
         response = λ j b. sym (getD-pad8 0 (places n r) j ∙ getD-places n r j b);
@@ -116,10 +113,9 @@ module _ (sheet : List ℕ) where
   -- and for any bytes
   simulate-where : (c : ℕ) (r : List ℕ)
       → (simulateCommitment sheet c r .refusal ≡ 0) ↔ ((t : List ℕ) × Accepts sheet (roundOf t c r))
-  unfolding simulateCommitment simulateAfter computed
   simulate-where c r = (
     λ e.
-        let loaded = first-loads _ (simulate-positive (instanceOf sheet) c _) e in
+        let loaded = first-loads _ (simulate-positive (instanceOf sheet) c r) (sym (simulate-lowest sheet c r) ∙ e) in
         let (below, slots) = loaded-simulates loaded c r .0 e in
         (simulateCommitment sheet c (readSlots sheet r) .values, simulated-accepted loaded c below r slots),
     λ (t, e).
@@ -136,10 +132,9 @@ module _ (sheet : List ℕ) where
   -- and for any bytes
   extract-where : (first second : Round)
       → (extractWitness sheet first second .refusal ≡ 0) ↔ AcceptedPair (instanceOf sheet .header) (Accepts sheet) first second
-  unfolding extractWitness extractAfter computed
   extract-where first second = (
     λ e.
-        let loaded = first-loads _ (extract-positive (instanceOf sheet) _ _ _ _ _ _) e in
+        let loaded = first-loads _ (extract-positive (instanceOf sheet) first second) (sym (extract-lowest sheet first second) ∙ e) in
         let x = loaded-extracts loaded first second .0 e in
         record {
           first-accepted = sheet-accepted sheet loaded first .1 (x .first-fits, x .first-holds);
@@ -163,7 +158,7 @@ module _ (sheet : List ℕ) where
 
   -- with the rounds exchanged each rule tests the same
   extract-swapped : (first second : Round) → extractWitness sheet second first .refusal ≡ extractWitness sheet first second .refusal
-  unfolding extractWitness extractAfter extractRules computed
+  unfolding extracting
   extract-swapped first second =
       let inst = instanceOf sheet in
       let t = places (inst .header .rows) (first .commitment) in
@@ -173,6 +168,8 @@ module _ (sheet : List ℕ) where
       let holds = isAccepted (verdict inst t (first .challenge) r) in
       let holds′ = isAccepted (verdict inst t′ (second .challenge) r′) in
       rw (
+        extract-lowest sheet second first,
+        extract-lowest sheet first second,
         or-comm (badCommitment inst t′) (badCommitment inst t),
         or-comm (badChallenge inst (second .challenge)) (badChallenge inst (first .challenge)),
         or-comm (badCoordinates inst r′) (badCoordinates inst r),

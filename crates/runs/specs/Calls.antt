@@ -5,20 +5,21 @@ use mathlib.Core.List.{List}
 use Rattle.types.specs.declared.Computed.{Computed}
 use Rattle.types.specs.declared.Round.{Round}
 use Rattle.types.specs.declared.Verdict.{Verdict}
-use Rattle.formats.specs.Load.{loadRules}
+use Rattle.rules.specs.Call.{answer}
+use Rattle.formats.specs.Load.{onSheet}
 use Rattle.formats.specs.Sheet.{instanceOf}
-use Rattle.sigma.specs.Extractor.{extractAfter}
-use Rattle.sigma.specs.Judge.{judgeAfter}
-use Rattle.sigma.specs.Simulator.{simulateAfter}
+use Rattle.sigma.specs.Extractor.{extracting}
+use Rattle.sigma.specs.Judge.{judging}
+use Rattle.sigma.specs.Simulator.{simulating}
 
 -- the call that judges a round
 unfoldable pub judgeRound : List ℕ → Round → Verdict
-judgeRound sheet round = judgeAfter (loadRules sheet) (instanceOf sheet) round
+judgeRound sheet round = answer (onSheet sheet (judging (instanceOf sheet) round))
 
 -- the call that simulates a commitment
 unfoldable pub simulateCommitment : List ℕ → ℕ → List ℕ → Computed
-simulateCommitment sheet c r = simulateAfter (loadRules sheet) (instanceOf sheet) c r
+simulateCommitment sheet c r = answer (onSheet sheet (simulating (instanceOf sheet) c r))
 
 -- the call that extracts a witness
 unfoldable pub extractWitness : List ℕ → Round → Round → Computed
-extractWitness sheet first second = extractAfter (loadRules sheet) (instanceOf sheet) first second
+extractWitness sheet first second = answer (onSheet sheet (extracting (instanceOf sheet) first second))

@@ -2,7 +2,6 @@
 pub mod Rows
 pub mod Answer
 pub mod Positive
-pub mod After
 pub mod Calculus
 pub mod Comparison
 pub mod Values

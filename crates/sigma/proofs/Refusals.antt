@@ -16,16 +16,16 @@ use Rattle.sigma.specs.Admission.{headerRules, elementRules}
 use Rattle.sigma.specs.Answer.{isAccepted}
 use Rattle.sigma.specs.Comparison.{differ}
 use Rattle.sigma.specs.Element.{Element, Coordinate}
-use Rattle.sigma.specs.Extractor.{extractRules}
+use Rattle.sigma.specs.Extractor.{extracting}
 use Rattle.sigma.specs.Image.{rowImage, image}
 use Rattle.sigma.specs.Instance.{Instance, Table, tableOf, statementAt}
-use Rattle.sigma.specs.Judge.{judgeRules}
+use Rattle.sigma.specs.Judge.{judging}
 use Rattle.sigma.specs.Meaning.{Holds}
 use Rattle.sigma.specs.Reads.{Differ}
 use Rattle.sigma.specs.Refusals.{Refusal14, Refusal16}
 use Rattle.sigma.specs.Refusals.{headerConditions, elementConditions, judgeConditions, simulateConditions, extractConditions}
 use Rattle.sigma.specs.Round.{badCommitment, badCoordinates, badWitness, verdict}
-use Rattle.sigma.specs.Simulator.{simulateRules}
+use Rattle.sigma.specs.Simulator.{simulating}
 use Rattle.sigma.specs.Valid.{Valid, ValidTable}
 use Rattle.sigma.proofs.Comparison.{says-differ}
 use Rattle.sigma.proofs.Tests.{says-badKind, says-badModulus, says-badOrder, says-badSize, says-badCount}
@@ -102,25 +102,21 @@ holds-read {i} v round =
 
 -- 14 to 16 of a round
 pub judge-tests : (i : Instance) (round : Round)
-    → Tests (judgeRules i (places (i .header .rows) (round .commitment)) (round .challenge) (places (i .header .columns) (round .response)))
-    (judgeConditions i round)
-unfolding judgeRules
+    → Tests (judging i round .refusals) (judgeConditions i round)
+unfolding judging
 judge-tests i round =
     (refl, commitment-read i _, (refl, says-badChallenge i _, (refl, coordinates-read i _, tt)))
 
 -- 15 and 16
 pub simulate-tests : (i : Instance) (c : ℕ) (r : List ℕ)
-    → Tests (simulateRules i c (places (i .header .columns) r)) (simulateConditions i c r)
-unfolding simulateRules
+    → Tests (simulating i c r .refusals) (simulateConditions i c r)
+unfolding simulating
 simulate-tests i c r = (refl, says-badChallenge i c, (refl, coordinates-read i r, tt))
 
 -- 14 to 16 of both rounds, then 18 to 20
 pub extract-tests : {i : Instance} → Valid i → (first second : Round)
-    → Tests
-    (extractRules i (places (i .header .rows) (first .commitment)) (first .challenge) (places (i .header .columns) (first .response))
-    (places (i .header .rows) (second .commitment)) (second .challenge) (places (i .header .columns) (second .response)))
-    (extractConditions i first second)
-unfolding extractRules
+    → Tests (extracting i first second .refusals) (extractConditions i first second)
+unfolding extracting
 extract-tests {i} v first second = (
   refl,
   says-or (commitment-read i (first .commitment)) (commitment-read i (second .commitment)),

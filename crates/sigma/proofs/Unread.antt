@@ -3,7 +3,7 @@
 use Prim.Native.Nat.{ℕ, _*_, _%_, _^_, _<_}
 use mathlib.Core.Path.{_≡_, refl, sym, ap, ap₂, _∙_, subst}
 use mathlib.Core.Logic.{inl, inr}
-use mathlib.Core.List.{List, []}
+use mathlib.Core.List.{List}
 use native.Mathlib.Omega.{arith}
 use lib.ListN.{getD}
 use Rattle.types.specs.declared.Header.{Header}
@@ -11,17 +11,17 @@ use Rattle.types.specs.declared.Round.{Round}
 use Rattle.numbers.proofs.Product.{product-agree}
 use Rattle.lists.specs.Places.{places}
 use Rattle.lists.proofs.Places.{places-agree, getD-pad8, getD-places}
-use Rattle.rules.specs.Rule.{Rule}
+use Rattle.rules.specs.Call.{answer}
 use Rattle.rules.proofs.Says.{says-decides}
 use Rattle.sigma.specs.Instance.{Instance, Table, entry, statementAt}
 use Rattle.sigma.specs.Element.{Element, Coordinate}
 use Rattle.sigma.specs.Valid.{Valid, ValidTable}
 use Rattle.sigma.specs.Image.{rowImage}
 use Rattle.sigma.specs.Reads.{Agree, SameRound, paddedRound, readRound}
-use Rattle.sigma.specs.Meaning.{RowHolds, Holds, FailsExactly, Elements, Coordinates, Fits, Extracts}
-use Rattle.sigma.specs.Judge.{judgeAfter, judgeLoaded}
-use Rattle.sigma.specs.Simulator.{simulateAfter}
-use Rattle.sigma.specs.Extractor.{extractAfter}
+use Rattle.sigma.specs.Meaning.{RowHolds, Holds, FailsExactly, Elements, Coordinates, Fits}
+use Rattle.sigma.specs.Judge.{judging, judgeLoaded}
+use Rattle.sigma.specs.Simulator.{simulating}
+use Rattle.sigma.specs.Extractor.{extracting}
 use Rattle.sigma.proofs.Tests.{says-exponent}
 use Rattle.sigma.proofs.ByKind.{rowImage-exponent, rowImage-root}
 use Rattle.sigma.proofs.Fails.{fails-alike}
@@ -124,43 +124,28 @@ pub fails-same : (i : Instance) {round round′ : Round} → SameRound (i .heade
 fails-same i {round} {round′} s v rows =
     fails-alike i i round round′ refl (λ row h. (row-same i s v row h, row-same i (same-round-sym s) v row h)) rows
 
--- so does what the extractor asks for
-pub extracts-same : (i : Instance) {first first′ second second′ : Round}
-    → SameRound (i .header) first first′ → SameRound (i .header) second second′ → Valid i
-    → Extracts i first second → Extracts i first′ second′
-extracts-same i s t v x = record {
-  first-fits = fits-same i s (x .first-fits);
-  second-fits = fits-same i t (x .second-fits);
-  commitments = λ j h. sym (s .commitment j h) ∙ x .commitments j h ∙ t .commitment j h;
-  challenges = λ e. x .challenges (s .challenge ∙ e ∙ sym (t .challenge));
-  first-holds = holds-same i s v (x .first-holds);
-  second-holds = holds-same i t v (x .second-holds);
-}
-
 -- ---- the calls
 
-module _ (before : List Rule) (i : Instance) where
+module _ (i : Instance) where
   -- judging
-  pub judgeAfter-same : {round round′ : Round} → SameRound (i .header) round round′
-      → judgeAfter before i round ≡ judgeAfter before i round′
-  unfolding judgeAfter
-  judgeAfter-same s = cc (same-commitment s, same-response s, s .challenge)
+  pub judging-same : {round round′ : Round} → SameRound (i .header) round round′ → judging i round ≡ judging i round′
+  unfolding judging
+  judging-same s = cc (same-commitment s, same-response s, s .challenge)
 
   -- simulating
-  pub simulateAfter-same : (c : ℕ) (r r′ : List ℕ) → Agree (i .header .columns) r r′
-      → simulateAfter before i c r ≡ simulateAfter before i c r′
-  unfolding simulateAfter
-  simulateAfter-same c r r′ a = rw (places-agree (i .header .columns) r r′ a)
+  pub simulating-same : (c : ℕ) (r r′ : List ℕ) → Agree (i .header .columns) r r′ → simulating i c r ≡ simulating i c r′
+  unfolding simulating
+  simulating-same c r r′ a = rw (places-agree (i .header .columns) r r′ a)
 
   -- extracting
-  pub extractAfter-same : {first first′ second second′ : Round}
+  pub extracting-same : {first first′ second second′ : Round}
       → SameRound (i .header) first first′ → SameRound (i .header) second second′
-      → extractAfter before i first second ≡ extractAfter before i first′ second′
-  unfolding extractAfter
-  extractAfter-same s t =
+      → extracting i first second ≡ extracting i first′ second′
+  unfolding extracting
+  extracting-same s t =
       cc (same-commitment s, same-response s, s .challenge, same-commitment t, same-response t, t .challenge)
 
--- judging a round of a Valid instance
-pub judge-same : (i : Instance) {round round′ : Round} → SameRound (i .header) round round′ → judgeLoaded i round ≡ judgeLoaded i round′
-unfolding judgeLoaded
-judge-same i s = judgeAfter-same [] i s
+  -- judging on loaded values
+  pub judge-same : {round round′ : Round} → SameRound (i .header) round round′ → judgeLoaded i round ≡ judgeLoaded i round′
+  unfolding judgeLoaded
+  judge-same s = ap answer (judging-same s)

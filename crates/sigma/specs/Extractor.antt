@@ -2,18 +2,19 @@
 -- Assumes nothing.
 use Prim.Native.Nat.{ℕ, _*_, _%_}
 use mathlib.Core.Bool.{not, cond, _||_}
-use mathlib.Core.List.{List, [], _∷_, _++_}
+use mathlib.Core.List.{List, [], _∷_}
 use lib.Dec.{eqb}
 use lib.IntN.{ℤ, pos, _-ℤ_, _*ℤ_}
 use lib.ListN.{getD}
 use Rattle.types.specs.declared.Computed.{Computed}
 use Rattle.types.specs.declared.Header.{Header}
 use Rattle.types.specs.declared.Round.{Round}
-use Rattle.lists.specs.Places.{tabulate, places}
+use Rattle.lists.specs.Places.{tabulate, places, pad8, zeros8}
 use Rattle.numbers.specs.Integer.{residue, power, bezoutLeft, bezoutRight}
 use Rattle.numbers.specs.Inverse.{inverse}
-use Rattle.rules.specs.Rule.{Rule, _when_, lowest}
-use Rattle.sigma.specs.Answer.{isAccepted, computed}
+use Rattle.rules.specs.Call.{Call, answer}
+use Rattle.rules.specs.Rule.{_when_}
+use Rattle.sigma.specs.Answer.{isAccepted}
 use Rattle.sigma.specs.Comparison.{differ}
 use Rattle.sigma.specs.Instance.{Instance, isExponent, statementAt}
 use Rattle.sigma.specs.Round.{verdict, badCommitment, badChallenge, badCoordinates}
@@ -36,26 +37,28 @@ extracted inst c r c′ r′ =
     let delta : ℤ = pos c -ℤ pos c′ in
     formula inst (bezoutLeft (inst .header .order) delta) (bezoutRight (inst .header .order) delta) r r′
 
--- the rules of the rounds (t, c, r) and (t′, c′, r′), each asked of both rounds before the next
-unfoldable pub extractRules : Instance → List ℕ → ℕ → List ℕ → List ℕ → ℕ → List ℕ → List Rule
-extractRules inst t c r t′ c′ r′ =
-    (14 when (badCommitment inst t || badCommitment inst t′)) ∷
-    (15 when (badChallenge inst c || badChallenge inst c′)) ∷
-    (16 when (badCoordinates inst r || badCoordinates inst r′)) ∷
-    (18 when differ (inst .header .rows) t t′) ∷
-    (19 when eqb c c′) ∷
-    (20 when (not (isAccepted (verdict inst t c r)) || not (isAccepted (verdict inst t′ c′ r′)))) ∷ []
-
--- the witness from two rounds after the rules of the sheet; s places of each commitment and n of each response are read
-unfoldable pub extractAfter : List Rule → Instance → Round → Round → Computed
-extractAfter before inst first second =
+-- extracting from the rounds (t, c, r) and (t′, c′, r′): each of 14 to 16 asked of both before the next, then 18 to 20, else the
+-- witness in eight places; s places of each commitment and n of each response are read
+unfoldable pub extracting : Instance → Round → Round → Call Computed
+extracting inst first second =
     let t : List ℕ = places (inst .header .rows) (first .commitment) in
+    let c : ℕ = first .challenge in
     let r : List ℕ = places (inst .header .columns) (first .response) in
     let t′ : List ℕ = places (inst .header .rows) (second .commitment) in
+    let c′ : ℕ = second .challenge in
     let r′ : List ℕ = places (inst .header .columns) (second .response) in
-    computed (lowest (before ++ extractRules inst t (first .challenge) r t′ (second .challenge) r′))
-    (extracted inst (first .challenge) r (second .challenge) r′)
+    record {
+      refusals =
+          (14 when (badCommitment inst t || badCommitment inst t′)) ∷
+          (15 when (badChallenge inst c || badChallenge inst c′)) ∷
+          (16 when (badCoordinates inst r || badCoordinates inst r′)) ∷
+          (18 when differ (inst .header .rows) t t′) ∷
+          (19 when eqb c c′) ∷
+          (20 when (not (isAccepted (verdict inst t c r)) || not (isAccepted (verdict inst t′ c′ r′)))) ∷ [];
+      value = record { refusal = 0; values = pad8 0 (extracted inst c r c′ r′) };
+      refused = λ n. record { refusal = n; values = zeros8 };
+    }
 
 -- the witness from two rounds of a Valid instance, for callers that have loaded the sheet
 unfoldable pub extractLoaded : Instance → Round → Round → Computed
-extractLoaded inst first second = extractAfter [] inst first second
+extractLoaded inst first second = answer (extracting inst first second)

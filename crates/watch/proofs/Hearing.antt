@@ -16,18 +16,19 @@ use Rattle.types.specs.declared.Round.{Round}
 use Rattle.types.specs.declared.Verdict.{Verdict}
 use Rattle.types.specs.declared.Verdict.the-variants.{Accepted, Rejected, Refused}
 use Rattle.types.proofs.Verdict.{the-type}
-use Rattle.lists.specs.Places.{places, zeros8}
+use Rattle.lists.specs.Places.{zeros8}
+use Rattle.rules.specs.Call.{answer, numberOf}
 use Rattle.rules.specs.Rule.{Rule, _when_, lowest}
 use Rattle.rules.proofs.Lowest.{pass, stop, lowest-behind, lowest-earlier, lowest-later-zero}
 use Rattle.rules.proofs.Says.{says-false}
-use Rattle.sigma.specs.Answer.{isAccepted, outcome}
+use Rattle.sigma.specs.Answer.{isAccepted, judged, outcome}
 use Rattle.sigma.specs.Extractor.{extractLoaded}
 use Rattle.sigma.specs.Instance.{Instance}
-use Rattle.sigma.specs.Judge.{judgeRules, judgeAfter, judgeLoaded}
-use Rattle.sigma.proofs.Answer.{judged-positive, judged-refused}
+use Rattle.sigma.specs.Judge.{judging, judgeLoaded}
+use Rattle.sigma.proofs.Answer.{judged-positive}
+use Rattle.sigma.proofs.Calls.{judge-not-refused, judge-refused}
 use Rattle.sigma.proofs.Positive.{judge-positive}
 use Rattle.sigma.proofs.Tests.{says-accepted}
-use Rattle.sigma.proofs.Verdict.{verdict-not-refused}
 use Rattle.runs.proofs.Outcome.{judged-number}
 use Rattle.watches.specs.Watch.{isNamed, isWatched, namedRound, nearest, noting, unfitWatch, watchAfter, watchRules}
 use Rattle.watches.specs.Watch.{watchVerdict}
@@ -47,11 +48,9 @@ refused-other : (n : ℕ) → Refused n ≢ Accepted
 refused-other n e = let z : _≡_ {A = ℕ} 0 1 = cc in omega arith
 
 module _ (sheet : List ℕ) (inst : Instance) (w : Watch) (round : Round) where
-  -- the rules of the round
+  -- the refusals of the round
   abbrev roundRules : List Rule
-  roundRules =
-      judgeRules inst (places (inst .header .rows) (round .commitment)) (round .challenge)
-      (places (inst .header .columns) (round .response))
+  roundRules = judging inst round .refusals
 
   -- the verdict that the watch gives
   abbrev toldVerdict : Verdict
@@ -61,15 +60,15 @@ module _ (sheet : List ℕ) (inst : Instance) (w : Watch) (round : Round) where
 
   -- where 21 applies, a round that judging does not refuse gets it
   verdict-unfit : outcome (judgeLoaded inst round) .number ≡ 0 → unfitWatch sheet inst w round ≡ true → toldVerdict ≡ Refused 21
-  unfolding judgeLoaded judgeAfter watchVerdict watchRules
+  unfolding judgeLoaded judging answer numberOf judged watchVerdict watchRules
   verdict-unfit none unfit =
-      let clear = sym (judged-number (lowest roundRules) _ (verdict-not-refused inst _ _ _)) ∙ none in
-      rw (lowest-later-zero roundRules ((21 when unfitWatch sheet inst w round) ∷ []) (judge-positive inst _ _ _) clear, stop 21 [] unfit)
+      let clear = sym (judged-number (lowest roundRules) _ (judge-not-refused inst round)) ∙ none in
+      rw (lowest-later-zero roundRules ((21 when unfitWatch sheet inst w round) ∷ []) (judge-positive inst round) clear, stop 21 [] unfit)
       (judged-positive 21 _ (omega arith))
 
   -- where it does not, each gets judging's verdict
   verdict-fit : unfitWatch sheet inst w round ≡ false → toldVerdict ≡ judgeLoaded inst round
-  unfolding judgeLoaded judgeAfter judgeRules watchVerdict watchRules
+  unfolding judgeLoaded judging answer numberOf judged watchVerdict watchRules
   verdict-fit fit = rw (lowest-behind roundRules ((21 when unfitWatch sheet inst w round) ∷ []) [] (pass 21 [] fit))
 
   -- ---- the whole answer
@@ -95,9 +94,9 @@ module _ (sheet : List ℕ) (inst : Instance) (w : Watch) (round : Round) where
   -- a round that judging refuses is refused alike
   pub refused-told : {v : Verdict} → v ≡ judgeLoaded inst round → {n : ℕ} → v ≡ Refused n
       → record { witness = zeros8; back = 0; verdict = Refused n } ≡ toldOf (watchAfter [] sheet inst w round)
-  unfolding judgeLoaded judgeAfter watchVerdict watchRules
+  unfolding numberOf watchVerdict watchRules
   refused-told same {n} given =
-      let (some, number) = judged-refused (lowest roundRules) _ n (verdict-not-refused inst _ _ _) .0 (sym same ∙ given) in
+      let (some, number) = judge-refused inst round n .0 (sym same ∙ given) in
       let alike : toldVerdict ≡ Refused n =
       rw (lowest-earlier roundRules ((21 when unfitWatch sheet inst w round) ∷ []) (rw number some), number) (judged-positive n _ some) in
       unnamed-told alike (refused-other n)

@@ -4,7 +4,7 @@ use Prim.Native.Nat.{ℕ, zero, suc, _<_, min}
 use mathlib.Core.Path.{_≡_, refl, sym, ap, _∙_}
 use mathlib.Core.Logic.{_≢_}
 use mathlib.Core.Bool.{Bool, true, false, not, _&&_}
-use mathlib.Core.List.{List, [], _∷_}
+use mathlib.Core.List.{List, _∷_}
 use native.Mathlib.Omega.{arith}
 use borrow.Author.Tests.{ltb-true}
 use lib.ListN.{getD}
@@ -17,13 +17,14 @@ use Rattle.lists.specs.Places.{places}
 use Rattle.lists.proofs.Places.{places-agree}
 use Rattle.numbers.proofs.Search.{find-agree}
 use Rattle.numbers.specs.Search.{find}
+use Rattle.rules.specs.Call.{Call, answer}
 use Rattle.rules.proofs.Says.{says-elim, says-iff, says-same}
 use Rattle.formats.specs.Sheet.{instanceOf}
 use Rattle.sigma.specs.Answer.{isAccepted}
 use Rattle.sigma.specs.Extractor.{extractLoaded}
 use Rattle.sigma.specs.Reads.{Agree, SameRound, paddedRound}
 use Rattle.sigma.proofs.Tests.{says-accepted}
-use Rattle.sigma.proofs.Unread.{extractAfter-same, judge-same, same-commitment, same-response, same-round-of-padded}
+use Rattle.sigma.proofs.Unread.{extracting-same, judge-same, judging-same, same-round-of-padded}
 use Rattle.sigma.proofs.Unread.{same-round-sym, same-round-trans}
 use Rattle.watches.specs.Corollaries.{SameWatch, WatchCorollaries}
 use Rattle.watches.specs.Ours.{watchCalls}
@@ -95,7 +96,7 @@ module _ (sheet : List ℕ) (w w′ : Watch) (round round′ : Round) (same : Sa
   -- the verdict is one
   verdict-same : toldVerdict sheet w round ≡ toldVerdict sheet w′ round′
   unfolding watchVerdict watchRules
-  verdict-same = rw (unfit-same, same-commitment alike, same-response alike, alike .challenge)
+  verdict-same = rw (unfit-same, judging-same (instanceOf sheet) alike)
 
   -- so is what is noted of an accepted round
   noted-back : noting (instanceOf sheet) w round .back ≡ noting (instanceOf sheet) w′ round′ .back
@@ -109,7 +110,8 @@ module _ (sheet : List ℕ) (w w′ : Watch) (round round′ : Round) (same : Sa
       go : (t : Bool) → isNamed (instanceOf sheet .header) w round ≡ t
           → noting (instanceOf sheet) w round .witness ≡ noting (instanceOf sheet) w′ round′ .witness
       go true e =
-          rw (e, sym named-same ∙ e) (ap (λ (c : Computed). c .values) (extractAfter-same [] (instanceOf sheet) alike (round-same e)))
+          rw (e, sym named-same ∙ e)
+          (ap (λ (c : Call Computed). answer c .values) (extracting-same (instanceOf sheet) alike (round-same e)))
       go false e = rw (e, sym named-same ∙ e)
 
   -- what both are told

@@ -10,6 +10,7 @@ use Rattle.types.specs.declared.Round.{Round}
 use Rattle.types.specs.declared.Verdict.{Verdict}
 use Rattle.types.specs.declared.Verdict.the-variants.{Refused}
 use Rattle.lists.specs.Places.{places}
+use Rattle.rules.specs.Call.{answer, numberOf}
 use Rattle.rules.specs.Condition.{_if_}
 use Rattle.rules.proofs.Determined.{either, refused-alike, refused-own}
 use Rattle.formats.specs.Load.{load, loadRefusal}
@@ -21,10 +22,10 @@ use Rattle.runs.proofs.Protocol.{sheet-accepted}
 use Rattle.runs.proofs.RunRefusals.{run-refusals}
 use Rattle.runs.proofs.RunsWhere.{rounds-run}
 use Rattle.sigma.specs.Answer.{judged, outcome}
-use Rattle.sigma.specs.Judge.{judgeAfter}
+use Rattle.sigma.specs.Judge.{judging}
 use Rattle.sigma.specs.Knowledge.{AcceptedPair}
 use Rattle.sigma.proofs.Calculus.{says-stable}
-use Rattle.sigma.proofs.Verdict.{verdict-not-refused}
+use Rattle.sigma.proofs.Calls.{judge-not-refused}
 use Rattle.watches.specs.Watch.{watchRound, watchVerdict}
 use Rattle.watches.specs.Window.{Nearest, noRound, window}
 use Rattle.watches.specs.declared.Watch.{Watch}
@@ -73,11 +74,11 @@ module _ (sheet : List ℕ) (w : Watch) (round : Round) where
 
   -- its verdict is that of judging
   pub told-judged : numberTold ≡ 0 → watchRound sheet w round .verdict ≡ judgeRound sheet round
-  unfolding watchVerdict judgeRound judgeAfter
+  unfolding watchVerdict judgeRound judging answer numberOf judged
   told-judged none =
       let is = told-verdict sheet w round in
       is
-      ∙ judged-alike _ _ _ (verdict-not-refused (instanceOf sheet) _ _ _) (ap (λ (v : Verdict). outcome v .number) (sym is) ∙ none)
+      ∙ judged-alike _ _ _ (judge-not-refused (instanceOf sheet) round) (ap (λ (v : Verdict). outcome v .number) (sym is) ∙ none)
       (told-clear none .0)
 
   -- a verdict with a number is that refusal

@@ -11,16 +11,15 @@ use Rattle.types.specs.declared.Verdict.{Verdict}
 use Rattle.types.specs.declared.Verdict.the-variants.{Accepted}
 use Rattle.lists.specs.Places.{places}
 use Rattle.rules.proofs.Determined.{below-or-not, either}
-use Rattle.formats.specs.Load.{load, loadRefusal, loadRules}
+use Rattle.formats.specs.Load.{load, loadRefusal}
 use Rattle.formats.specs.Ours.{fileCalls}
-use Rattle.formats.specs.Sheet.{instanceOf}
 use Rattle.runs.specs.Calls.{extractWitness, judgeRound}
 use Rattle.runs.specs.Ours.{Accepts, runCalls}
 use Rattle.runs.proofs.Demand3.{one-commitment}
 use Rattle.runs.proofs.Protocol.{sheet-accepted}
+use Rattle.runs.proofs.ReadAlone.{judgeRound-same}
 use Rattle.runs.proofs.RunsWhere.{rounds-run}
 use Rattle.sigma.specs.Answer.{outcome}
-use Rattle.sigma.proofs.Unread.{judgeAfter-same}
 use Rattle.watches.specs.Ours.{watchCalls}
 use Rattle.watches.specs.RunsWhere.{Again as AgainBy, WatchRuns}
 use Rattle.watches.specs.Watch.{openWatch, watchRound}
@@ -52,13 +51,11 @@ module _ (sheet : List ℕ) (w : Watch) (round : Round) where
   module _ (loaded : loadRefusal sheet ≡ 0) (accepts : Accepts sheet round) where
     -- to have an accepted round's commitment is to be accepted with its c and r
     again-reuses : (other : Round) → Again sheet round other ↔ Reuses sheet round other
-    unfolding judgeRound
     again-reuses other = (
       λ (with-it, apart).
           (one-commitment sheet loaded (other .commitment) (round .commitment) (round .challenge) (round .response) with-it accepts, apart),
       λ (same, apart). (
-        judgeAfter-same (loadRules sheet) (instanceOf sheet)
-            (record { commitment = same; challenge = refl; response = λ j inside. refl }) ∙ accepts,
+        judgeRound-same sheet (record { commitment = same; challenge = refl; response = λ j inside. refl }) ∙ accepts,
         apart,
       ),
     )

@@ -9,7 +9,7 @@ use native.Mathlib.Omega.{arith}
 use Rattle.types.specs.declared.Round.{Round}
 use Rattle.types.specs.declared.Verdict.{Verdict}
 use Rattle.types.specs.declared.Verdict.the-variants.{Accepted, Refused}
-use Rattle.lists.specs.Places.{places, zeros8}
+use Rattle.lists.specs.Places.{zeros8}
 use Rattle.rules.specs.Condition.{Given, _if_}
 use Rattle.rules.specs.Order.{isSublist, refusalOrder, sheetNumbers}
 use Rattle.rules.specs.Refuses.{conditionNumbers}
@@ -24,18 +24,17 @@ use Rattle.formats.specs.Refusals.{loadConditions}
 use Rattle.formats.specs.Sheet.{instanceOf}
 use Rattle.formats.proofs.Loads.{loads-valid}
 use Rattle.formats.proofs.Refusals.{load-tests}
-use Rattle.runs.specs.Calls.{judgeRound}
+use Rattle.runs.proofs.Numbers.{judge-lowest}
 use Rattle.runs.proofs.Outcome.{judged-kept, judged-number}
 use Rattle.runs.proofs.RunsWhere.{rounds-run}
 use Rattle.sigma.specs.Answer.{isAccepted, outcome}
-use Rattle.sigma.specs.Judge.{judgeAfter, judgeLoaded, judgeRules}
+use Rattle.sigma.specs.Judge.{judging, judgeLoaded}
 use Rattle.sigma.specs.Meaning.{Fits, Holds}
 use Rattle.sigma.specs.Refusals.{judgeConditions}
 use Rattle.rules.proofs.Answer.{unlessRefused-positive}
-use Rattle.sigma.proofs.Calls.{valid-judge-accepted}
+use Rattle.sigma.proofs.Calls.{judge-not-refused, valid-judge-accepted}
 use Rattle.sigma.proofs.Refusals.{judge-tests}
 use Rattle.sigma.proofs.Tests.{says-accepted}
-use Rattle.sigma.proofs.Verdict.{verdict-not-refused}
 use Rattle.watches.specs.Ours.{watchCalls}
 use Rattle.watches.specs.Refusals.{NamesForged, OtherBytes, watchConditions}
 use Rattle.watches.specs.Watch.{freshWatch, isNamed, namedRound, nearest, openWatch, unfitWatch, watchRound, watchRules}
@@ -55,19 +54,15 @@ numbered-other v some e = let none : outcome v .number ≡ 0 = ap (λ (u : Verdi
 
 -- ---- what 21 says
 
--- the rules of a sheet and a round
-abbrev judging : List ℕ → Round → List Rule
-judging sheet round =
-    loadRules sheet ++
-    judgeRules (instanceOf sheet) (places (instanceOf sheet .header .rows) (round .commitment)) (round .challenge)
-    (places (instanceOf sheet .header .columns) (round .response))
+-- the refusals of a sheet and a round
+abbrev sheetJudging : List ℕ → Round → List Rule
+sheetJudging sheet round = loadRules sheet ++ judging (instanceOf sheet) round .refusals
 
--- where none of them applies, the sheet loads and the round fits
-clear-fits : (sheet : List ℕ) (round : Round) → Clear (judging sheet round) → (loadRefusal sheet ≡ 0) × Fits (instanceOf sheet) round
-unfolding load judgeRound judgeAfter
+-- if none of them applies, the sheet loads and the round fits
+clear-fits : (sheet : List ℕ) (round : Round) → Clear (sheetJudging sheet round) → (loadRefusal sheet ≡ 0) × Fits (instanceOf sheet) round
+unfolding load
 clear-fits sheet round none =
-    rounds-run .judges sheet round .0
-    (judged-number _ _ (verdict-not-refused (instanceOf sheet) _ _ _) ∙ lowest-clear (judging sheet round) none)
+    rounds-run .judges sheet round .0 (judge-lowest sheet round ∙ lowest-clear (sheetJudging sheet round) none)
 
 -- the test whether a round is accepted
 pub says-accepts : (sheet : List ℕ) → loadRefusal sheet ≡ 0 → (round : Round)
@@ -117,10 +112,10 @@ module _ (sheet : List ℕ) (w : Watch) (round : Round) where
   watch-number =
       rw (
         told-verdict sheet w round,
-        judged-number _ _ (verdict-not-refused (instanceOf sheet) _ _ _),
+        judged-number _ _ (judge-not-refused (instanceOf sheet) round),
         ← append-assoc (loadRules sheet) _ ((21 when unfitWatch sheet (instanceOf sheet) w round) ∷ []),
       )
-      (given-behind (judging sheet round) ((21 when unfitWatch sheet (instanceOf sheet) w round) ∷ [])
+      (given-behind (sheetJudging sheet round) ((21 when unfitWatch sheet (instanceOf sheet) w round) ∷ [])
       (loadConditions sheet ++ judgeConditions (instanceOf sheet) round) ((21 if Unfit) ∷ [])
       (tests-append (loadRules sheet) _ (loadConditions sheet) _ (load-tests sheet) (judge-tests (instanceOf sheet) round))
       (λ none. let (loaded, fits) = clear-fits sheet round none in (refl, says-unfit loaded fits, tt)))
@@ -129,7 +124,7 @@ module _ (sheet : List ℕ) (w : Watch) (round : Round) where
   told-refused : 0 < outcome (toldVerdict sheet w round) .number
       → toldVerdict sheet w round ≡ Refused (outcome (toldVerdict sheet w round) .number)
   unfolding watchVerdict
-  told-refused = judged-kept _ _ (verdict-not-refused (instanceOf sheet) _ _ _)
+  told-refused = judged-kept _ _ (judge-not-refused (instanceOf sheet) round)
 
   -- a refused call hands back the watch
   watch-left : 0 < outcome (watchRound sheet w round .verdict) .number

@@ -1,10 +1,11 @@
 -- `extractor::calls::extract` meets its contract: a refused sheet's number is the answer, else its values are loaded.
 -- Assumes nothing.
-use mathlib.Core.Path.{sym}
+use mathlib.Core.Path.{_∙_}
 use native.Mathlib.Omega.{arith}
 use Rattle.runs.specs.Calls.{extractWitness}
-use Rattle.sigma.proofs.After.{extractAfter-clear, extractAfter-refused}
-use Rattle.instance.proofs.Answers.{answer-refused, answer-header, answer-valid, answer-call}
+use Rattle.sigma.specs.Extractor.{extracting, extractLoaded}
+use Rattle.instance.proofs.Answers.{answer-header, answer-valid}
+use Rattle.instance.proofs.OnLoaded.{loaded-refused, on-instance}
 use Rattle.extractor.proofs.calls.extract.Statement.{statement}
 use Rattle.extractor.proofs.calls.extract.Tie as tie
 
@@ -15,10 +16,11 @@ refused-requires : tie.Need-refused-requires
 refused-requires c κs = omega arith
 
 returns : tie.Need-returns
-unfolding extractWitness
+unfolding extractWitness extracting
 returns c =
-    let (number, some) = answer-refused _ _ (c .before .before .load .ensures) (c .before .if1 .taken) in
-    rw (c .refused .ensures, number) (sym (extractAfter-refused _ _ some _ _))
+    let loads = c .before .before in
+    let args = loads .before .before .args in
+    c .refused .ensures ∙ loaded-refused _ _ (loads .load .ensures) (c .before .if1 .taken) (extracting _ (args .first) (args .second))
 
 loaded-entries-requires : tie.Need-loaded-entries-requires
 loaded-entries-requires c κs =
@@ -31,12 +33,11 @@ extract-loaded-requires c κs =
     answer-valid _ _ (passed .before .load .ensures) (passed .if1 .left) (c .loaded-entries .ensures)
 
 returns-2 : tie.Need-returns-2
-unfolding extractWitness
+unfolding extractWitness extractLoaded
 returns-2 c =
     let passed = c .before .before .before .before in
     let args = passed .before .before .before .args in
-    answer-call _ _ (passed .before .load .ensures) (passed .if1 .left)
-    (λ before inst none. extractAfter-clear before inst none (args .first) (args .second))
+    on-instance _ _ (passed .before .load .ensures) (passed .if1 .left) (λ inst. extracting inst (args .first) (args .second))
     (c .before .loaded-entries .ensures) (c .extract-loaded .ensures)
 
 pub extract-spec : {M : Type 1} → statement M

@@ -15,7 +15,7 @@ use Rattle.sigma.specs.Round.{badCommitment, badChallenge, badCoordinates}
 use Rattle.sigma.proofs.Calculus.{both-fail}
 use Rattle.sigma.proofs.Passed.{challenge-passes}
 use Rattle.sigma.proofs.Tests.{says-badChallenge}
-use Rattle.sigma.specs.Extractor.{extractRules}
+use Rattle.sigma.specs.Extractor.{extracting}
 use Rattle.sigma.specs.Instance.{instanceWith}
 use Rattle.image.proofs.Tested.{commitment-read, coordinates-read, difference-read}
 use Rattle.extractor.specs.Rules.{rulesOfPair}
@@ -44,7 +44,7 @@ start-7 c = start-6 (c .before .before)
 
 -- behind both searches of the commitments
 elements : (c : tie.Else2) → Rest 1 (start-2 c)
-unfolding extractRules
+unfolding extracting
 elements c = λ entries statement.
     let searched = c .before .before .before in
     pass 14 _ (both-fail _ _ .1 (
@@ -54,7 +54,7 @@ elements c = λ entries statement.
 
 -- behind both challenges
 challenges : (c : tie.Else4) → Rest 2 (start-4 c)
-unfolding extractRules
+unfolding extracting
 challenges c = λ entries statement.
     let first = c .before .before .before in
     elements (first .before .before .before) entries statement
@@ -62,7 +62,7 @@ challenges c = λ entries statement.
 
 -- behind both searches of the responses
 slots : (c : tie.Else6) → Rest 3 (start-6 c)
-unfolding extractRules
+unfolding extracting
 slots c = λ entries statement.
     let first = c .before .before in
     challenges (first .before .before) entries statement
@@ -73,7 +73,7 @@ slots c = λ entries statement.
 
 -- behind the comparison of the commitments
 same : (c : tie.Else7) → Rest 4 (start-7 c)
-unfolding extractRules
+unfolding extracting
 same c = λ entries statement.
     slots (c .before .before) entries statement
     ∙ pass 18 _ (difference-read _ _ _ ∙ sym (c .before .differ .ensures) ∙ c .if7 .left)
@@ -88,7 +88,7 @@ some-non-element-requires : tie.Need-some-non-element-requires
 some-non-element-requires c κs = search needs
 
 returns : tie.Need-returns
-unfolding extractRules
+unfolding extracting
 returns c = λ entries statement.
     let bad = commitment-read _ _ ∙ sym (c .before .some-non-element .ensures) ∙ c .if1 .taken in
     sym (stop 14 _ (or-eq-true-iff _ _ .1 (Or·inl bad)))
@@ -97,19 +97,19 @@ some-non-element-requires-2 : tie.Need-some-non-element-requires-2
 some-non-element-requires-2 c κs = search needs
 
 returns-2 : tie.Need-returns-2
-unfolding extractRules
+unfolding extracting
 returns-2 c = λ entries statement.
     let bad = commitment-read _ _ ∙ sym (c .before .some-non-element2 .ensures) ∙ c .if2 .taken in
     sym (stop 14 _ (or-eq-true-iff (badCommitment _ _) _ .1 (Or·inr bad)))
 
 returns-3 : tie.Need-returns-3
-unfolding extractRules
+unfolding extracting
 returns-3 c = λ entries statement.
     sym (elements (c .before .before .before) entries statement
     ∙ stop 15 _ (or-eq-true-iff _ _ .1 (Or·inl (says-badChallenge _ _ .complete (c .if3 .taken)))))
 
 returns-4 : tie.Need-returns-4
-unfolding extractRules
+unfolding extracting
 returns-4 c = λ entries statement.
     sym (elements (c .before .before .before .before .before .before) entries statement
     ∙ stop 15 _ (or-eq-true-iff (badChallenge _ _) _ .1 (Or·inr (says-badChallenge _ _ .complete (c .if4 .taken)))))
@@ -118,7 +118,7 @@ some-non-coordinate-requires : tie.Need-some-non-coordinate-requires
 some-non-coordinate-requires c κs = search needs
 
 returns-5 : tie.Need-returns-5
-unfolding extractRules
+unfolding extracting
 returns-5 c = λ entries statement.
     let bad = coordinates-read _ _ ∙ sym (c .before .some-non-coordinate .ensures) ∙ c .if5 .taken in
     sym (challenges (c .before .before) entries statement ∙ stop 16 _ (or-eq-true-iff _ _ .1 (Or·inl bad)))
@@ -127,7 +127,7 @@ some-non-coordinate-requires-2 : tie.Need-some-non-coordinate-requires-2
 some-non-coordinate-requires-2 c κs = search needs
 
 returns-6 : tie.Need-returns-6
-unfolding extractRules
+unfolding extracting
 returns-6 c = λ entries statement.
     let bad = coordinates-read _ _ ∙ sym (c .before .some-non-coordinate2 .ensures) ∙ c .if6 .taken in
     sym (challenges (c .before .before .before .before) entries statement
@@ -137,18 +137,18 @@ differ-requires : tie.Need-differ-requires
 differ-requires c κs = search needs
 
 returns-7 : tie.Need-returns-7
-unfolding extractRules
+unfolding extracting
 returns-7 c = λ entries statement.
     sym (slots (c .before .before) entries statement
     ∙ stop 18 _ (difference-read _ _ _ ∙ sym (c .before .differ .ensures) ∙ c .if7 .taken))
 
 returns-8 : tie.Need-returns-8
-unfolding extractRules
+unfolding extracting
 returns-8 c = λ entries statement.
     sym (same (c .before .before .before) entries statement ∙ stop 19 _ (eq-eqb _ _ (c .if8 .taken)))
 
 returns-9 : tie.Need-returns-9
-unfolding extractRules
+unfolding extracting
 returns-9 c = λ entries statement.
     sym (same (c .before .before .before) entries statement ∙ lowest-clear _ (ne-eqb _ _ (c .if8 .left), tt))
 

@@ -1,10 +1,11 @@
 -- `protocol::calls::simulate` meets its contract: a refused sheet's number is the answer, else its values are loaded.
 -- Assumes nothing.
-use mathlib.Core.Path.{sym}
+use mathlib.Core.Path.{_∙_}
 use native.Mathlib.Omega.{arith}
 use Rattle.runs.specs.Calls.{simulateCommitment}
-use Rattle.sigma.proofs.After.{simulateAfter-clear, simulateAfter-refused}
-use Rattle.instance.proofs.Answers.{answer-refused, answer-header, answer-valid, answer-call}
+use Rattle.sigma.specs.Simulator.{simulating, simulateLoaded}
+use Rattle.instance.proofs.Answers.{answer-header, answer-valid}
+use Rattle.instance.proofs.OnLoaded.{loaded-refused, on-instance}
 use Rattle.protocol.proofs.calls.simulate.Statement.{statement}
 use Rattle.protocol.proofs.calls.simulate.Tie as tie
 
@@ -15,10 +16,11 @@ refused-requires : tie.Need-refused-requires
 refused-requires c κs = omega arith
 
 returns : tie.Need-returns
-unfolding simulateCommitment
+unfolding simulateCommitment simulating
 returns c =
-    let (number, some) = answer-refused _ _ (c .before .before .load .ensures) (c .before .if1 .taken) in
-    rw (c .refused .ensures, number) (sym (simulateAfter-refused _ _ some _ _))
+    let loads = c .before .before in
+    let args = loads .before .before .args in
+    c .refused .ensures ∙ loaded-refused _ _ (loads .load .ensures) (c .before .if1 .taken) (simulating _ (args .c) (args .r))
 
 loaded-entries-requires : tie.Need-loaded-entries-requires
 loaded-entries-requires c κs =
@@ -31,12 +33,11 @@ simulate-loaded-requires c κs =
     answer-valid _ _ (passed .before .load .ensures) (passed .if1 .left) (c .loaded-entries .ensures)
 
 returns-2 : tie.Need-returns-2
-unfolding simulateCommitment
+unfolding simulateCommitment simulateLoaded
 returns-2 c =
     let passed = c .before .before .before .before in
     let args = passed .before .before .before .args in
-    answer-call _ _ (passed .before .load .ensures) (passed .if1 .left)
-    (λ before inst none. simulateAfter-clear before inst none (args .c) (args .r))
+    on-instance _ _ (passed .before .load .ensures) (passed .if1 .left) (λ inst. simulating inst (args .c) (args .r))
     (c .before .loaded-entries .ensures) (c .simulate-loaded .ensures)
 
 pub simulate-spec : {M : Type 1} → statement M

@@ -1,10 +1,11 @@
--- `protocol::loaded::round_refusal` meets its contract: each return is a law of the three rules.
+-- `protocol::loaded::round_refusal` meets its contract: each return is a law of the three refusals.
 -- Assumes nothing.
 use mathlib.Core.Path.{sym, _∙_}
 use native.Mathlib.Omega.{arith}
 use borrow.Author.Needs.{needs}
+use Rattle.rules.specs.Call.{numberOf}
 use Rattle.rules.proofs.Lowest.{pass, stop, lowest-clear}
-use Rattle.sigma.specs.Judge.{judgeRules}
+use Rattle.sigma.specs.Judge.{judging}
 use Rattle.sigma.proofs.Passed.{challenge-passes}
 use Rattle.sigma.proofs.Tests.{says-badChallenge}
 use Rattle.image.proofs.Tested.{commitment-read, coordinates-read}
@@ -21,12 +22,12 @@ some-non-element-requires : tie.Need-some-non-element-requires
 some-non-element-requires c κs = search needs
 
 returns : tie.Need-returns
-unfolding judgeRules
+unfolding judging numberOf
 returns c = λ entries statement.
     sym (stop 14 _ (commitment-read _ _ ∙ sym (c .before .some-non-element .ensures) ∙ c .if1 .taken))
 
 returns-2 : tie.Need-returns-2
-unfolding judgeRules
+unfolding judging numberOf
 returns-2 c = λ entries statement.
     let good = c .before .before in
     sym (pass 14 _ (commitment-read _ _ ∙ sym (good .before .some-non-element .ensures) ∙ good .if1 .left)
@@ -36,7 +37,7 @@ some-non-coordinate-requires : tie.Need-some-non-coordinate-requires
 some-non-coordinate-requires c κs = search needs
 
 returns-3 : tie.Need-returns-3
-unfolding judgeRules
+unfolding judging numberOf
 returns-3 c = λ entries statement.
     let below = c .before .before in
     let good = below .before .before in
@@ -45,7 +46,7 @@ returns-3 c = λ entries statement.
     ∙ stop 16 _ (coordinates-read _ _ ∙ sym (c .before .some-non-coordinate .ensures) ∙ c .if3 .taken))
 
 returns-4 : tie.Need-returns-4
-unfolding judgeRules
+unfolding judging numberOf
 returns-4 c = λ entries statement.
     let below = c .before .before in
     let good = below .before .before in

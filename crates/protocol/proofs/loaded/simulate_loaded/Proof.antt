@@ -4,7 +4,7 @@ use mathlib.Core.Path.{sym, _∙_}
 use native.Mathlib.Omega.{arith}
 use borrow.Author.Needs.{needs}
 use Rattle.rules.proofs.Lowest.{pass, stop}
-use Rattle.sigma.specs.Simulator.{simulateRules}
+use Rattle.sigma.specs.Simulator.{simulating}
 use Rattle.sigma.proofs.Passed.{challenge-passes}
 use Rattle.sigma.proofs.Tests.{says-badChallenge}
 use Rattle.image.proofs.Tested.{coordinates-read}
@@ -19,7 +19,7 @@ refused-requires : tie.Need-refused-requires
 refused-requires c κs = search needs
 
 returns : tie.Need-returns
-unfolding simulateRules
+unfolding simulating
 returns c =
     rw (c .refused .ensures)
     (simulate-refused _ _ _ 15 (omega arith) (stop 15 _ (says-badChallenge _ _ .complete (c .before .if1 .taken))))
@@ -31,7 +31,7 @@ refused-requires-2 : tie.Need-refused-requires-2
 refused-requires-2 c κs = search needs
 
 returns-2 : tie.Need-returns-2
-unfolding simulateRules
+unfolding simulating
 returns-2 c =
     let searched = c .before in
     rw (c .refused2 .ensures)
@@ -43,7 +43,7 @@ simulated-requires : tie.Need-simulated-requires
 simulated-requires c κs = search needs
 
 returns-3 : tie.Need-returns-3
-unfolding simulateRules
+unfolding simulating
 returns-3 c =
     let fits = c .before in
     simulate-passed _ _ _ (
