@@ -1,10 +1,10 @@
 -- The corners that tell a row, a column, a round, a side, a player or a record from another hold, computed.
 -- Assumes nothing.
 use mathlib.Core.Path.{refl}
-use Rattle.disjunctions.specs.Extractor.{extractOr, extractOrAfter, extractOrRules, extractedOf, extractedOr, extractedSide, isOrAccepted}
-use Rattle.disjunctions.specs.Judge.{badChallenges, badCommitments, badResponses, combined, judgeOr, judgeOrAfter, judgeOrRules, pairRules, verdictOr}
+use Rattle.disjunctions.specs.Extractor.{extractOr, extractingOr as extractingOrCall, extractedOf, extractedOr, extractedSide, isOrAccepted}
+use Rattle.disjunctions.specs.Judge.{badChallenges, badCommitments, badResponses, combined, judgeOr, judgingOr, pairRules, verdictOr}
 use Rattle.disjunctions.specs.OneOfTwo.{orOutcome, sideRows}
-use Rattle.disjunctions.specs.Prover.{commitOr, commitOrAfter, commitOrRules, firstCommitment, newOrProver, orProverIn, orStep, other, own, respondOr, respondOrAfter, respondOrRules, secondCommitment, unfitOr, wipedOr}
+use Rattle.disjunctions.specs.Prover.{commitOr, committingOr as committingOrCall, firstCommitment, newOrProver, orProverIn, other, own, respondOr, respondingOr, secondCommitment, unfitOr, wipedOr}
 use Rattle.disjunctions.specs.Round.{firstRound, otherChallenge, readOr, secondRound}
 use Rattle.encoding.specs.Bytes.{bytesOf, bytesOfEach, numberAt}
 use Rattle.encoding.specs.Text.{ascii, decimal, digits}
@@ -44,8 +44,9 @@ use Rattle.patterns.specs.Maker.{asked, askedKind, askedPattern, badAsked, made
 use Rattle.patterns.specs.Pattern.{digit, entryOf, headerFor, madeFor, patternEntries, root}
 use Rattle.patterns.specs.PatternFile.{badDigits, badPatternFile, badSizes, misnamed, patternAt, patternBytes, patternCount, patternEnd, patternFile, patternFrom, patternMark, patternStart, patternVersion}
 use Rattle.patterns.specs.Table.{patterns, shipped}
-use Rattle.products.specs.Team.{badImages, badProduct, badTeam, commitmentsRules, joinAll, joinResponses, multiplyAll, multiplyCommitments, responsesRules, teamRules}
+use Rattle.products.specs.Team.{badImages, badProduct, badTeam, joinAll, joinResponses, joining as joiningCall, multiplyAll, multiplyCommitments, multiplying as multiplyingCall, teamRules}
 use Rattle.rules.specs.Answer.{unlessRefused}
+use Rattle.rules.specs.Call.{answer, numberOf}
 use Rattle.rules.specs.Either.{eitherRules}
 use Rattle.rules.specs.Rule.{lowest}
 use Rattle.runs.specs.Calls.{extractWitness, judgeRound, simulateCommitment}
@@ -72,10 +73,10 @@ use Rattle.games.specs.Text.{badGame, gameRefusal, gameRules, namedCommitment}
 use mathlib.Core.List.{flatten}
 
 pub every-disjunct : SheetCorners × PatternCorners × FileCorners × RoundCorners × OrCorners × TeamCorners
-unfolding extractOr extractOrAfter extractOrRules extractedOf extractedOr extractedSide isOrAccepted badChallenges
-    badCommitments badResponses combined judgeOr judgeOrAfter judgeOrRules pairRules verdictOr orOutcome sideRows
-    commitOr commitOrAfter commitOrRules firstCommitment newOrProver orProverIn orStep other own respondOr
-    respondOrAfter respondOrRules secondCommitment unfitOr wipedOr firstRound otherChallenge readOr secondRound
+unfolding answer numberOf extractOr extractingOrCall extractedOf extractedOr extractedSide isOrAccepted badChallenges
+    badCommitments badResponses combined judgeOr judgingOr pairRules verdictOr orOutcome sideRows
+    commitOr committingOrCall firstCommitment newOrProver orProverIn other own respondOr respondingOr
+    secondCommitment unfitOr wipedOr firstRound otherChallenge readOr secondRound
     bytesOf bytesOfEach numberAt ascii decimal digits askingRoot changed committing converting dropping makingFrom
     manyChallenges noBytes onesSheet peggy responding rootBytes shippedBytes vic zerosFile alike appendingTo badFiles
     lastOf oneOfThree partLength readingFile readingRound twice exampleFile narrowFile answeringOr challengesOr
@@ -97,8 +98,8 @@ unfolding extractOr extractOrAfter extractOrRules extractedOf extractedOr extrac
     maskBelow euclid gcd bezoutLeft bezoutRight power quotient residue inverse product sum any find asked askedKind
     askedPattern badAsked madeRules makeFrom makeRules digit entryOf headerFor madeFor patternEntries root badDigits
     badPatternFile badSizes misnamed patternAt patternBytes patternCount patternEnd patternFile patternFrom
-    patternMark patternStart patternVersion patterns shipped badImages badProduct badTeam commitmentsRules joinAll
-    joinResponses multiplyAll multiplyCommitments responsesRules teamRules unlessRefused eitherRules lowest
+    patternMark patternStart patternVersion patterns shipped badImages badProduct badTeam joinAll joiningCall
+    joinResponses multiplyAll multiplyCommitments multiplyingCall teamRules unlessRefused eitherRules lowest
     extractWitness judgeRound simulateCommitment honestRound badLevel strongEnough failsAt markRefusal markRules
     markerText newline refusedWord resultLine roundLine roundLines rowWord verdictLine verdictOn verdictText wordLine
     commit commitAfter commitRules dropRules dropSession newProver proverIn proverState proverStep respond

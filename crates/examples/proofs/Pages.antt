@@ -14,6 +14,7 @@ use Rattle.numbers.specs.Search.{find, any}
 use Rattle.lists.specs.Choices.{selected}
 use Rattle.lists.specs.Places.{eightByEight, itemsAt, tabulate, places, pad8, zeros8}
 use Rattle.rules.specs.Answer.{unlessRefused}
+use Rattle.rules.specs.Call.{answer, numberOf}
 use Rattle.rules.specs.Either.{eitherRules}
 use Rattle.rules.specs.Rule.{lowest}
 use Rattle.rules.proofs.Lowest.{pass, stop}
@@ -185,11 +186,10 @@ use Rattle.reasons.specs.Reason.{
 }
 use Rattle.disjunctions.specs.Extractor.{
   isOrAccepted,
-  extractOrRules,
   extractedSide,
   extractedOf,
   extractedOr,
-  extractOrAfter,
+  extractingOr,
   extractOr,
 }
 use Rattle.disjunctions.specs.Judge.{
@@ -197,10 +197,9 @@ use Rattle.disjunctions.specs.Judge.{
   badCommitments,
   badChallenges,
   badResponses,
-  judgeOrRules,
   combined,
   verdictOr,
-  judgeOrAfter,
+  judgingOr as judgingOrCall,
   judgeOr,
 }
 use Rattle.disjunctions.specs.OneOfTwo.{sideRows, orOutcome}
@@ -211,15 +210,12 @@ use Rattle.disjunctions.specs.Prover.{
   orProverIn,
   wipedOr,
   newOrProver,
-  orStep,
   firstCommitment,
   secondCommitment,
-  commitOrRules,
-  commitOrAfter,
+  committingOr,
   unfitOr,
-  respondOrRules,
-  respondOrAfter,
-  dropOrRules,
+  respondingOr,
+  droppingOr,
   commitOr,
   respondOr,
   dropOr,
@@ -324,11 +320,10 @@ unfolding euclid gcd residue quotient power bezoutRight bezoutLeft inverse produ
     hearing asking telling noRounds badInUse appendRules recordBytes appended appendAfter append emptyFile noHeader load
     loadEntries encodeRules encode dropRules dropSession checkRound firstNonElement firstNonCoordinate sheetSpot
     fileSpot roundSpot spotOf firstVerdict spotText rowText lineText reasonLine reasonText repeated reasonOn badLevel
-    strongEnough failsAt markRules markRefusal refusedWord marking lastLine eitherRules isOrAccepted extractOrRules
-    extractedSide extractedOf extractedOr extractOrAfter extractOr pairRules badCommitments badChallenges badResponses
-    judgeOrRules combined verdictOr judgeOrAfter judgeOr orRound sideRows orOutcome own other orProverIn wipedOr
-    newOrProver orStep firstCommitment secondCommitment commitOrRules commitOrAfter unfitOr respondOrRules
-    respondOrAfter dropOrRules commitOr respondOr dropOr otherChallenge firstRound secondRound readOr logarithmSheet
+    strongEnough failsAt markRules markRefusal refusedWord marking lastLine eitherRules isOrAccepted
+    answer numberOf extractedSide extractedOf extractedOr extractingOr extractOr pairRules badCommitments badChallenges badResponses
+    combined verdictOr judgingOrCall judgeOr orRound sideRows orOutcome own other orProverIn wipedOr
+    newOrProver firstCommitment secondCommitment committingOr unfitOr respondingOr droppingOr commitOr respondOr dropOr otherChallenge firstRound secondRound readOr logarithmSheet
     smallOr judgingOr orRun bothWaysOr orJudging orExtracting orPeggy knowsFirst orCommitting orResponding orNumbers
     fewerChallenges unknownVersion emptyRules wideChallenge otherVersion wideRecord converted convertRules convertAfter
     convert roundsOf fileIn storing starting converting narrowFile eight peggyListed peggyHolds vicHolds orHolds

@@ -1,7 +1,7 @@
 -- The worked rows that differ hold, computed.
 -- Assumes nothing.
 use mathlib.Core.Path.{refl}
-use Rattle.disjunctions.specs.Judge.{pairRules, badCommitments, badChallenges, badResponses, judgeOrRules, combined, verdictOr, judgeOrAfter, judgeOr}
+use Rattle.disjunctions.specs.Judge.{pairRules, badCommitments, badChallenges, badResponses, combined, verdictOr, judgingOr, judgeOr}
 use Rattle.disjunctions.specs.OneOfTwo.{sideRows, orOutcome}
 use Rattle.disjunctions.specs.Round.{otherChallenge, firstRound, secondRound, readOr}
 use Rattle.encoding.specs.Bytes.{numberAt, bytesOf, bytesOfEach}
@@ -23,6 +23,7 @@ use Rattle.numbers.specs.Product.{product, sum}
 use Rattle.numbers.specs.Search.{find, any}
 use Rattle.reasons.specs.Reason.{firstNonElement, firstNonCoordinate, sheetSpot, fileSpot, roundSpot, spotOf, firstVerdict, spotText, rowText, lineText, reasonLine, reasonText}
 use Rattle.rules.specs.Answer.{unlessRefused}
+use Rattle.rules.specs.Call.{answer, numberOf}
 use Rattle.rules.specs.Either.{eitherRules}
 use Rattle.rules.specs.Rule.{lowest}
 use Rattle.runs.specs.Calls.{judgeRound}
@@ -52,7 +53,7 @@ unfolding euclid gcd product find any itemsAt tabulate places pad8 zeros8 eightB
     verifierIn verifierStep unfitCommitment takeResponseRules takeResponseAfter takeResponse array fourBytes sheetBytes
     flatten recordBytes checkRound firstNonElement firstNonCoordinate sheetSpot fileSpot roundSpot spotOf firstVerdict
     spotText rowText lineText reasonLine reasonText badLevel strongEnough failsAt markRules markRefusal refusedWord
-    eitherRules pairRules badCommitments badChallenges badResponses judgeOrRules combined verdictOr judgeOrAfter judgeOr
+    eitherRules pairRules badCommitments badChallenges badResponses combined verdictOr answer numberOf judgingOr judgeOr
     sideRows orOutcome otherChallenge firstRound secondRound readOr unknownVersion fileIn eightRows withRows threeDiffer
     pairRound pairBytes
 rows-page = record {

@@ -45,12 +45,13 @@ use Rattle.products.specs.Team.{
   badImages,
   badProduct,
   teamRules,
-  commitmentsRules,
-  responsesRules,
+  multiplying as multiplyingCall,
+  joining as joiningCall,
   multiplyCommitments,
   joinResponses,
 }
 use Rattle.rules.specs.Answer.{unlessRefused}
+use Rattle.rules.specs.Call.{answer, numberOf}
 use Rattle.rules.specs.Rule.{lowest}
 use Rattle.runs.specs.Calls.{judgeRound}
 use Rattle.runs.specs.Memory.{isFull, isListed, listedAt, listing, noMemory}
@@ -107,7 +108,7 @@ unfolding euclid gcd product sum find any itemsAt tabulate places pad8 zeros8 ei
     headerOf entryCount sheetLength zeros64 entriesOf statementOf instanceOf judgeRound proverState proverIn newProver
     proverStep commitRules commitAfter unfitProver respondRules respondAfter commit respond noMemory listedAt isListed isFull listing honestRound array fourBytes
     sheetBytes smallSheet schnorrSheet flatten changed rootBytes multiplyAll joinAll badTeam badImages badProduct
-    teamRules commitmentsRules responsesRules multiplyCommitments joinResponses brought each combining pairBytes teamRun
+    teamRules answer numberOf multiplyingCall joiningCall multiplyCommitments joinResponses brought each combining pairBytes teamRun
     teamNumbers multiplying joining twoRows
 team-page = record {
   A = refl;
