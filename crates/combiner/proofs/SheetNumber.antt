@@ -2,15 +2,16 @@
 -- that number, or is the call on the sheet's values.
 -- Assumes nothing.
 use Prim.Native.Nat.{ℕ, _<_, _≤_}
-use mathlib.Core.Path.{_≡_, refl, sym, _∙_}
+use mathlib.Core.Path.{_≡_, refl, sym, ap, _∙_}
 use mathlib.Core.Bool.{Bool, false, true, _||_}
 use mathlib.Core.List.{List, [], _∷_, _++_}
 use mathlib.Core.Logic.{_≢_}
 use native.Mathlib.Decide.{decLt}
 use native.Mathlib.Omega.{arith}
 use Rattle.types.specs.declared.Computed.{Computed}
-use Rattle.types.specs.declared.Header.{Header}
+use Rattle.rules.specs.Call.{Call, after, answer}
 use Rattle.rules.specs.Rule.{Rule, _when_, lowest}
+use Rattle.rules.proofs.Call.{after-clear}
 use Rattle.rules.proofs.Lowest.{
   clear-lowest,
   lowest-append-zero,
@@ -21,10 +22,9 @@ use Rattle.rules.proofs.Lowest.{
   pass,
 }
 use Rattle.sigma.specs.Admission.{badEntries, badStatement, elementRules, headerRules}
-use Rattle.sigma.specs.Answer.{computed}
 use Rattle.sigma.specs.Instance.{Instance}
 use Rattle.formats.specs.Load.{loadRefusal, loadRules, shapeRules}
-use Rattle.formats.specs.Sheet.{headerOf, instanceOf}
+use Rattle.formats.specs.Sheet.{instanceOf}
 use Rattle.products.specs.Team.{badImages, badTeam, teamRules}
 
 -- a rule before others whose numbers are at most 9
@@ -144,8 +144,10 @@ module _ (s : List ℕ) where
         unfolding loadRefusal loadRules
         sized-loads = let (shape, (team, elements)) = sized-passes in behind-shape _ shape ∙ elements
 
-        -- and a call computes by its values
-        pub sized-call : (rules : Instance → List Rule) (values : Header → List ℕ) {inst : Instance} → inst ≡ instanceOf s
-            → {result : Computed} → result ≡ computed (lowest (rules inst)) (values (inst .header))
-            → result ≡ computed (lowest (shapeRules s ++ rules (instanceOf s))) (values (instanceOf s .header))
-        sized-call rules values same is-result = is-result ∙ rw (behind-shape (rules (instanceOf s)) (sized-passes .0), same)
+        -- and a call is the call on its values
+        pub sized-call : (call : Instance → Call Computed) {inst : Instance} → inst ≡ instanceOf s → {result : Computed}
+            → result ≡ answer (call inst) → result ≡ answer (after (shapeRules s) (call (instanceOf s)))
+        unfolding shapeRules headerRules
+        sized-call call same is-result =
+            is-result ∙ ap (λ (inst : Instance). answer (call inst)) same
+            ∙ sym (after-clear (call (instanceOf s)) (shapeRules s) (clear-lowest (shapeRules s) tt (sized-passes .0)))

@@ -1,24 +1,25 @@
 -- The numbers of a team, test by test, and the answers that they give.
 -- Assumes nothing.
 use Prim.Native.Nat.{ℕ, _<_, _≤_}
-use mathlib.Core.Path.{_≡_, sym, _∙_}
+use mathlib.Core.Path.{_≡_, sym, ap, _∙_}
 use mathlib.Core.Bool.{Bool, false, true, or-eq-true-iff}
 use mathlib.Core.List.{List, [], _∷_, _++_}
 use mathlib.Core.Logic.{_≢_, Or·inr}
 use native.Mathlib.Omega.{arith}
 use lib.Dec.{ltb}
 use borrow.Author.Tests.{le-ltb, lt-ltb, ltb-false}
-use Rattle.lists.specs.Places.{pad8, zeros8}
+use Rattle.types.specs.declared.Computed.{Computed}
+use Rattle.lists.specs.Places.{pad8}
 use Rattle.lists.proofs.Places.{getD-pad8}
 use Rattle.numbers.specs.Search.{any}
 use Rattle.numbers.proofs.Search.{any-agree}
+use Rattle.rules.specs.Call.{Call, answer, numberOf}
 use Rattle.rules.specs.Rule.{Rule, _when_, lowest}
+use Rattle.rules.proofs.Call.{answer-refused, answer-value}
 use Rattle.rules.proofs.Lowest.{clear-lowest, lowest-clear, lowest-earlier, lowest-later-zero, pass, stop}
 use Rattle.sigma.specs.Admission.{badStatement, elementRules}
-use Rattle.sigma.specs.Answer.{computed}
 use Rattle.sigma.specs.Comparison.{differ, firstDifference}
 use Rattle.sigma.specs.Instance.{Instance}
-use Rattle.sigma.proofs.Answer.{computed-positive, computed-zero}
 use Rattle.sigma.proofs.Calculus.{both-fail}
 use Rattle.combiner.specs.Parts.{nonElementPart}
 use Rattle.products.specs.Team.{badImages, badProduct, badTeam, multiplyAll, teamRules}
@@ -101,13 +102,13 @@ module _ (inst : Instance) (count : ℕ) (images : List (List ℕ)) where
         pub all-right : parts ≡ false → whole ≡ false → 0 ≡ lowest (teamRules inst count images ++ rest)
         all-right good right = sym (passed ∙ lowest-clear rest (good, (right, tt)))
 
--- ---- the answer of a call that computes values
+-- ---- the answer of a call, by its number
 
-module _ {n m : ℕ} (number : n ≡ m) (xs : List ℕ) where
-  -- a number above 0 stands beside zeros
-  pub number-answer : n ≢ 0 → record { refusal = n; values = zeros8 } ≡ computed m xs
-  number-answer other = rw (sym number) (sym (computed-positive n xs (omega arith)))
+module _ (call : Call Computed) {n : ℕ} (is-number : n ≡ numberOf call) {result : Computed} where
+  -- a number above 0: what a refused call gives with it
+  pub number-answer : n ≢ 0 → result ≡ call .refused n → result ≡ answer call
+  number-answer other is-result = is-result ∙ ap (call .refused) is-number ∙ sym (answer-refused call (omega (arith, is-number)))
 
-  -- and where it is 0 the values are given
-  pub values-answer : n ≡ 0 → {values : List ℕ} → values ≡ pad8 0 xs → record { refusal = 0; values = values } ≡ computed m xs
-  values-answer none are = rw (sym number, none, are) (sym (computed-zero xs))
+  -- 0: the value
+  pub values-answer : n ≡ 0 → result ≡ call .value → result ≡ answer call
+  values-answer none is-result = is-result ∙ sym (answer-value call (sym is-number ∙ none))

@@ -10,11 +10,11 @@ ghost use mathlib.Core.Path.{_≡_};
 ghost use mathlib.Core.Bool.{false};
 ghost use mathlib.Core.List.{List};
 ghost use Prim.Native.Nat.{ℕ, _≤_, _<_};
+ghost use Rattle.rules.specs.Call.{answer};
 ghost use Rattle.rules.specs.Rule.{lowest};
 ghost use Rattle.sigma.specs.Admission.{elementRules};
-ghost use Rattle.sigma.specs.Answer.{computed};
 ghost use Rattle.sigma.specs.Instance.{instanceWith};
-ghost use Rattle.products.specs.Team.{badTeam, commitmentsRules, joinAll, multiplyAll, responsesRules};
+ghost use Rattle.products.specs.Team.{badTeam, joining, multiplying};
 
 // The players' commitments multiplied, or the number of 11, 14 and 28 that is refused with, beside zeros.
 pub fn multiply_loaded(
@@ -26,7 +26,7 @@ pub fn multiply_loaded(
 ) -> Computed
     requires { ⌜ (0 < h .modulus) × (h .rows ≤ 8) × (h .columns ≤ 8) × (count ≤ 8) ⌝ }
     ensures { λ r. ⌜ ((entries : List (List ℕ)) → badTeam count ≡ false → lowest (elementRules (instanceWith h entries statement)) ≡ 0
-        → r ≡ computed (lowest (commitmentsRules (instanceWith h entries statement) count images parts)) (multiplyAll h count parts)) ⌝ }
+        → r ≡ answer (multiplying (instanceWith h entries statement) count images parts)) ⌝ }
 {
     let refusal = commitments_refusal(h, statement, count, images, parts);
     if refusal != 0 {
@@ -50,7 +50,7 @@ pub fn join_loaded(
     requires fields { ⌜ (0 < h .modulus) × (h .rows ≤ 8) × (h .columns ≤ 8) × (count ≤ 8) ⌝ }
     requires order { ⌜ 0 < h .order ⌝ }
     ensures { λ r. ⌜ ((entries : List (List ℕ)) → badTeam count ≡ false → lowest (elementRules (instanceWith h entries statement)) ≡ 0
-        → r ≡ computed (lowest (responsesRules (instanceWith h entries statement) count images parts)) (joinAll h count parts)) ⌝ }
+        → r ≡ answer (joining (instanceWith h entries statement) count images parts)) ⌝ }
 {
     let refusal = responses_refusal(h, statement, count, images, parts);
     if refusal != 0 {

@@ -9,12 +9,13 @@ ghost use mathlib.Core.Path.{_≡_};
 ghost use mathlib.Core.Bool.{false};
 ghost use mathlib.Core.List.{List, [], _∷_, _++_};
 ghost use Prim.Native.Nat.{ℕ, _≤_, _<_};
+ghost use Rattle.rules.specs.Call.{numberOf};
 ghost use Rattle.rules.specs.Rule.{_when_, lowest};
 ghost use Rattle.sigma.specs.Admission.{elementRules};
 ghost use Rattle.sigma.specs.Instance.{instanceWith};
 ghost use Rattle.formats.specs.Load.{loadRefusal, shapeRules};
 ghost use Rattle.formats.specs.Sheet.{instanceOf};
-ghost use Rattle.products.specs.Team.{badProduct, badTeam, commitmentsRules, responsesRules};
+ghost use Rattle.products.specs.Team.{badProduct, badTeam, joining, multiplying};
 
 // The number of a team outside 2 to 8, which is 27, or 0.
 fn team_number(count: u32) -> u32
@@ -69,7 +70,7 @@ pub fn commitments_refusal(
 ) -> u32
     requires { ⌜ (0 < h .modulus) × (h .rows ≤ 8) × (h .columns ≤ 8) × (count ≤ 8) ⌝ }
     ensures { λ r. ⌜ ((entries : List (List ℕ)) → badTeam count ≡ false → lowest (elementRules (instanceWith h entries statement)) ≡ 0
-        → r ≡ lowest (commitmentsRules (instanceWith h entries statement) count images parts)) ⌝ }
+        → r ≡ numberOf (multiplying (instanceWith h entries statement) count images parts)) ⌝ }
 {
     if some_non_element_part(h, images, count as usize) {
         return 11;
@@ -94,7 +95,7 @@ pub fn responses_refusal(
 ) -> u32
     requires { ⌜ (0 < h .modulus) × (h .rows ≤ 8) × (h .columns ≤ 8) × (count ≤ 8) ⌝ }
     ensures { λ r. ⌜ ((entries : List (List ℕ)) → badTeam count ≡ false → lowest (elementRules (instanceWith h entries statement)) ≡ 0
-        → r ≡ lowest (responsesRules (instanceWith h entries statement) count images parts)) ⌝ }
+        → r ≡ numberOf (joining (instanceWith h entries statement) count images parts)) ⌝ }
 {
     if some_non_element_part(h, images, count as usize) {
         return 11;

@@ -1,51 +1,44 @@
 -- Extracting from two accepted rounds of two sheets that load with one K is extracting from their rounds of one side.
 -- Assumes nothing.
-use Prim.Native.Nat.{ℕ, _<_}
-use mathlib.Core.Path.{_≡_, refl, sym, ap, _∙_}
-use mathlib.Core.Logic.{_↔_, _≢_}
-use mathlib.Core.Bool.{Bool, true, false, cond, not, _||_}
+use Prim.Native.Nat.{ℕ}
+use mathlib.Core.Path.{_≡_, sym, ap, _∙_}
+use mathlib.Core.Logic.{_≢_}
+use mathlib.Core.Bool.{false, not, _||_}
 use mathlib.Core.List.{List, []}
-use lib.Dec.{T, eqb}
+use lib.Dec.{eqb}
 use borrow.Author.Tests.{eq-eqb, ne-eqb}
 use Rattle.types.specs.declared.Computed.{Computed}
-use Rattle.types.specs.declared.Round.{Round}
 use Rattle.disjunctions.specs.declared.OrExtracted.{OrExtracted}
 use Rattle.disjunctions.specs.declared.OrRound.{OrRound}
-use Rattle.disjunctions.specs.declared.OrVerdict.the-variants.{OrAccepted}
 use Rattle.lists.specs.Places.{pad8, places}
 use Rattle.lists.proofs.Places.{getD-places}
-use Rattle.rules.specs.Answer.{unlessRefused}
-use Rattle.rules.specs.Rule.{Clear, lowest}
-use Rattle.rules.proofs.Lowest.{lowest-clear, lowest-later}
+use Rattle.rules.specs.Rule.{Clear}
+use Rattle.rules.proofs.Call.{answer-clear}
 use Rattle.formats.specs.Sheet.{instanceOf}
 use Rattle.runs.specs.Calls.{extractWitness}
-use Rattle.runs.specs.OnSheet.{Below}
-use Rattle.runs.specs.Ours.{Accepts}
 use Rattle.runs.proofs.Demand3.{sheet-extraction}
 use Rattle.runs.proofs.Loaded.{extract-loaded}
-use Rattle.sigma.specs.Answer.{eightPlaces}
 use Rattle.sigma.specs.Comparison.{differ}
 use Rattle.sigma.specs.Instance.{Instance}
-use Rattle.sigma.specs.Knowledge.{AcceptedPair, Extraction}
+use Rattle.sigma.specs.Knowledge.{Extraction}
 use Rattle.sigma.specs.Reads.{Agree}
-use Rattle.rules.proofs.Answer.{unlessRefused-zero}
 use Rattle.sigma.proofs.Calculus.{both-fail}
 use Rattle.sigma.proofs.Calls.{extract-given}
 use Rattle.sigma.proofs.Comparison.{differ-false}
 use Rattle.disjunctions.specs.Extractor.{
   extractOr,
-  extractOrAfter,
-  extractOrRules,
   extractedOf,
   extractedOr,
   extractedSide,
+  extractingOr,
   isOrAccepted,
 }
-use Rattle.disjunctions.specs.Judge.{badChallenges, badCommitments, badResponses, judgeOrRules, pairRules, verdictOr}
+use Rattle.disjunctions.specs.Judge.{badChallenges, badCommitments, badResponses, judgingOr, verdictOr}
 use Rattle.disjunctions.specs.Ours.{AcceptedOrPair, AcceptsOr, ExtractsSide, Pair}
 use Rattle.disjunctions.specs.Round.{firstRound, otherChallenge, readOr, secondRound}
 use Rattle.disjunctions.proofs.Challenges.{other-apart}
-use Rattle.disjunctions.proofs.Judged.{accepted-below, accepted-clear, accepted-verdict, or-accepted, pair-clear}
+use Rattle.disjunctions.proofs.Judged.{accepted-below, accepted-clear, accepted-verdict, or-accepted}
+use Rattle.disjunctions.proofs.OnPair.{on-pair-loads}
 use Rattle.disjunctions.proofs.Pairs.{first-loads, second-loads}
 
 -- two accepted rounds, the other way round
@@ -98,8 +91,8 @@ module _ (s s′ : List ℕ) (pair : Pair s s′) (a b : OrRound) (p : AcceptedO
   K = instanceOf s .header .challenges
 
   -- no rule of the extractor applies
-  extract-or-clear : Clear (extractOrRules i j (readOr i j a) (readOr i j b))
-  unfolding extractOrRules judgeOrRules
+  extract-or-clear : Clear (extractingOr i j a b .refusals)
+  unfolding extractingOr judgingOr
   extract-or-clear =
       let x = accepted-clear s s′ pair a (p .first-accepted) in
       let y = accepted-clear s s′ pair b (p .second-accepted) in (
@@ -132,15 +125,8 @@ module _ (s s′ : List ℕ) (pair : Pair s s′) (a b : OrRound) (p : AcceptedO
         side = extractedSide (readOr i j a) (readOr i j b);
         refusal = 0;
       }
-  unfolding extractOr extractOrAfter eightPlaces
-  extract-or-given =
-      let zero = lowest-later (pairRules s s′) (extractOrRules i j (readOr i j a) (readOr i j b)) (pair-clear s s′ pair)
-      ∙ lowest-clear _ extract-or-clear in
-      rw (
-        zero,
-        unlessRefused-zero (pad8 0 (extractedOr i j (readOr i j a) (readOr i j b))) _,
-        unlessRefused-zero (extractedSide (readOr i j a) (readOr i j b)) 0,
-      )
+  unfolding extractOr extractingOr
+  extract-or-given = on-pair-loads s s′ (extractingOr i j a b) pair ∙ answer-clear (extractingOr i j a b) extract-or-clear
 
   -- where the c0 differ, the answer is that of 01's extractor on the rounds of side 0
   first-answer : a .challenge0 ≢ b .challenge0 → Extraction i (extractWitness s) (firstRound a) (firstRound b)

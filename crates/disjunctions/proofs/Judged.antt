@@ -4,34 +4,28 @@ use Prim.Native.Nat.{ℕ, _<_}
 use mathlib.Core.Path.{_≡_, refl, sym, ap, ap₂, _∙_}
 use mathlib.Core.Logic.{_↔_, _≢_, _⊎_, inl, inr}
 use mathlib.Core.Bool.{not}
-use mathlib.Core.List.{List, [], _∷_}
+use mathlib.Core.List.{List, []}
 use native.Mathlib.Omega.{arith}
-use lib.Dec.{T, eqb}
-use borrow.Author.Tests.{eq-eqb}
 use Rattle.types.specs.declared.Verdict.{Verdict}
 use Rattle.types.specs.declared.Verdict.the-variants.{Accepted, Rejected, Refused}
 use Rattle.disjunctions.specs.declared.OrRound.{OrRound}
 use Rattle.disjunctions.specs.declared.OrVerdict.{OrVerdict}
 use Rattle.disjunctions.specs.declared.OrVerdict.the-variants.{OrAccepted, OrRejected, OrRefused}
 use Rattle.lists.specs.Places.{places}
-use Rattle.rules.specs.Either.{eitherRules}
-use Rattle.rules.specs.Rule.{Clear, _when_, allPositive, lowest}
-use Rattle.rules.proofs.Either.{clear-either}
-use Rattle.rules.proofs.Lowest.{clear-append, clear-lowest, lowest-clear, lowest-later}
-use Rattle.formats.specs.Load.{loadRules}
+use Rattle.rules.specs.Rule.{Clear}
+use Rattle.rules.proofs.Call.{answer-clear}
 use Rattle.formats.specs.Sheet.{instanceOf}
 use Rattle.formats.proofs.Loads.{loads-valid}
 use Rattle.runs.specs.Calls.{judgeRound}
 use Rattle.runs.specs.OnSheet.{Below}
 use Rattle.runs.specs.Ours.{Accepts}
-use Rattle.runs.proofs.Loaded.{judge-loaded, sheet-clear}
+use Rattle.runs.proofs.Loaded.{judge-loaded}
 use Rattle.runs.proofs.Protocol.{sheet-accepted}
 use Rattle.sigma.specs.Instance.{Instance}
 use Rattle.sigma.specs.Judge.{judging}
 use Rattle.sigma.specs.Meaning.{Fits}
 use Rattle.sigma.specs.Round.{verdict}
 use Rattle.sigma.specs.Valid.{Valid}
-use Rattle.rules.proofs.Answer.{unlessRefused-zero}
 use Rattle.sigma.proofs.Calculus.{both-fail}
 use Rattle.sigma.proofs.Calls.{judge-clear, judge-given}
 use Rattle.sigma.proofs.Passed.{challenge-passes}
@@ -42,16 +36,15 @@ use Rattle.disjunctions.specs.Judge.{
   badResponses,
   combined,
   judgeOr,
-  judgeOrAfter,
-  judgeOrRules,
-  pairRules,
+  judgingOr,
   verdictOr,
 }
 use Rattle.disjunctions.specs.OneOfTwo.{orNumber, orOutcome}
 use Rattle.disjunctions.specs.Ours.{AcceptsOr, Pair, SideMask}
 use Rattle.disjunctions.specs.Round.{firstRound, otherChallenge, readOr, secondRound}
 use Rattle.disjunctions.proofs.Challenges.{other-less}
-use Rattle.disjunctions.proofs.OrRefusals.{load-numbers, or-number, verdict-or-number}
+use Rattle.disjunctions.proofs.OnPair.{on-pair-clear, on-pair-loads}
+use Rattle.disjunctions.proofs.OrRefusals.{verdict-or-number}
 use Rattle.disjunctions.proofs.Pairs.{first-loads, second-loads}
 
 -- ---- verdicts combined
@@ -156,27 +149,11 @@ module _ (s s′ : List ℕ) (pair : Pair s s′) where
   pub some-challenge : 0 < instanceOf s .header .challenges
   some-challenge = omega (arith, first-valid .table .some-challenges)
 
-  -- no rule of the sheets applies
-  pub pair-clear : Clear (pairRules s s′)
-  unfolding pairRules
-  pair-clear =
-      let count = 26 when not (eqb K (j .header .challenges)) in
-      clear-append (eitherRules (loadRules s) (loadRules s′)) (count ∷ []) .1 (
-        clear-either (loadRules s) (loadRules s′) (load-numbers s s′) .1
-            (sheet-clear s (first-loads pair), sheet-clear s′ (second-loads pair)),
-        (ap not (eq-eqb K (j .header .challenges) (pair .one-count)), tt),
-      )
-
-  -- no rule of a round has the number 0
-  judge-or-positive : (round : OrRound) → T (allPositive (judgeOrRules i j (readOr i j round)))
-  unfolding judgeOrRules
-  judge-or-positive round = tt
-
   module _ (round : OrRound) where
     -- the rules of a round pass exactly where c is below K and both sides fit
-    pub round-clear : Clear (judgeOrRules i j (readOr i j round))
+    pub round-clear : Clear (judgingOr i j round .refusals)
         ↔ (Below s (round .challenge) × Fits i (firstRound round) × Fits j (secondRound K round))
-    unfolding judgeOrRules badCommitments badChallenges badResponses readOr judging firstRound secondRound
+    unfolding judgingOr badCommitments badChallenges badResponses readOr judging firstRound secondRound
     round-clear = (
       λ (a, (b, (c, none))).
           let (t, t′) = both-fail _ _ .0 a in
@@ -194,19 +171,16 @@ module _ (s s′ : List ℕ) (pair : Pair s s′) where
           (both-fail _ _ .1 (t, t′), (below, (both-fail _ _ .1 (r, r′), tt))),
     )
 
-    -- the number of judging is what the rules of the round give
-    judge-or-number : orNumber (judgeOr s s′ round) ≡ lowest (judgeOrRules i j (readOr i j round))
-    unfolding judgeOr judgeOrAfter
-    judge-or-number =
-        or-number _ _ (verdict-or-number i j (readOr i j round))
-        ∙ lowest-later (pairRules s s′) (judgeOrRules i j (readOr i j round)) pair-clear
+    -- a round without the number of a refusal passes the rules
+    number-clear : orNumber (judgeOr s s′ round) ≡ 0 → Clear (judgingOr i j round .refusals)
+    unfolding judgeOr judgingOr orNumber orOutcome
+    number-clear e =
+        on-pair-clear s s′ (judgingOr i j round) orNumber (verdict-or-number i j (readOr i j round)) (λ n. refl) e tt
 
-    -- where no rule applies, the verdict is that on both sides
-    judge-or-clear : Clear (judgeOrRules i j (readOr i j round)) → judgeOr s s′ round ≡ verdictOr i j (readOr i j round)
-    unfolding judgeOr judgeOrAfter
-    judge-or-clear none =
-        let zero = lowest-later (pairRules s s′) (judgeOrRules i j (readOr i j round)) pair-clear ∙ lowest-clear _ none in
-        rw (zero) (unlessRefused-zero (verdictOr i j (readOr i j round)) (OrRefused 0))
+    -- if no rule applies, the verdict is that on both sides
+    judge-or-clear : Clear (judgingOr i j round .refusals) → judgeOr s s′ round ≡ verdictOr i j (readOr i j round)
+    unfolding judgeOr judgingOr
+    judge-or-clear none = on-pair-loads s s′ (judgingOr i j round) pair ∙ answer-clear (judgingOr i j round) none
 
     -- a side that fits has the verdict of 01's judging call
     first-judged : Fits i (firstRound round)
@@ -227,7 +201,7 @@ module _ (s s′ : List ℕ) (pair : Pair s s′) where
         ∙ judge-given j (secondRound K round) _ (verdict-not-refused j _ _ _) .1 (fits, refl)
 
     -- so the verdicts of 01's judging call are combined
-    both-judged : Clear (judgeOrRules i j (readOr i j round))
+    both-judged : Clear (judgingOr i j round .refusals)
         → judgeOr s s′ round ≡ combined (judgeRound s (firstRound round)) (judgeRound s′ (secondRound K round))
     unfolding verdictOr readOr
     both-judged none =
@@ -237,11 +211,11 @@ module _ (s s′ : List ℕ) (pair : Pair s s′) where
     -- a round that is not refused has both verdicts combined
     pub not-refused : orNumber (judgeOr s s′ round) ≡ 0
         → judgeOr s s′ round ≡ combined (judgeRound s (firstRound round)) (judgeRound s′ (secondRound K round))
-    not-refused e = both-judged (clear-lowest _ (judge-or-positive round) (sym judge-or-number ∙ e))
+    not-refused e = both-judged (number-clear e)
 
     -- no rule applies to an accepted round
-    pub accepted-clear : AcceptsOr s s′ round → Clear (judgeOrRules i j (readOr i j round))
-    accepted-clear e = clear-lowest _ (judge-or-positive round) (sym judge-or-number ∙ ap orNumber e ∙ accepted-number)
+    pub accepted-clear : AcceptsOr s s′ round → Clear (judgingOr i j round .refusals)
+    accepted-clear e = number-clear (ap orNumber e ∙ accepted-number)
 
     -- its c0 is below K
     pub accepted-below : AcceptsOr s s′ round → round .challenge0 < K
@@ -277,7 +251,7 @@ module _ (s s′ : List ℕ) (pair : Pair s s′) where
     or-ways e = go (judgeRound s (firstRound round)) (judgeRound s′ (secondRound K round)) refl refl
       where
         fits : Fits i (firstRound round) × Fits j (secondRound K round)
-        fits = let (small, first, second) = round-clear .0 (clear-lowest _ (judge-or-positive round) (sym judge-or-number ∙ e)) in (first, second)
+        fits = let (small, first, second) = round-clear .0 (number-clear e) in (first, second)
 
         first-given : (n : ℕ) → judgeRound s (firstRound round) ≢ Refused n
         first-given n a = verdict-not-refused i _ _ _ n (sym (first-judged (fits .0)) ∙ a)

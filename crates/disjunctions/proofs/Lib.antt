@@ -2,8 +2,9 @@
 pub mod Challenges
 pub mod Tests
 pub mod SessionTests
-pub mod OrRefusals
 pub mod Pairs
+pub mod OnPair
+pub mod OrRefusals
 pub mod Judged
 pub mod SideRows
 pub mod Extracted

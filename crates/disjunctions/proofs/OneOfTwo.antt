@@ -1,11 +1,10 @@
 -- "I know one of the two" (02, card 4): judging, extracting and proving over every two sheets that load with one K.
 -- Assumes nothing.
 use Prim.Native.Nat.{ℕ, zero, suc, _<_}
-use mathlib.Core.Path.{_≡_, refl, sym, ap, ap₂, subst, _∙_}
+use mathlib.Core.Path.{_≡_, refl, sym}
 use mathlib.Core.Logic.{_↔_, Iff·symm, Iff·trans}
 use mathlib.Core.List.{List, map}
 use native.Mathlib.Omega.{arith}
-use Rattle.types.specs.declared.Round.{Round}
 use Rattle.disjunctions.specs.declared.OrRound.{OrRound}
 use Rattle.lists.specs.Member.{Member}
 use Rattle.lists.proofs.Member.{member-map}
@@ -21,8 +20,8 @@ use Rattle.sigma.specs.Listed.{allChoices}
 use Rattle.sigma.specs.Reads.{paddedRound}
 use Rattle.sigma.proofs.Lists.{all-choices-member}
 use Rattle.disjunctions.specs.Corollaries.{allOrChoices, paddedOr, OrCorollaries, PairCorollaries}
-use Rattle.disjunctions.specs.Extractor.{extractOr, extractOrAfter}
-use Rattle.disjunctions.specs.Judge.{judgeOr, judgeOrAfter}
+use Rattle.disjunctions.specs.Extractor.{extractOr, extractingOr}
+use Rattle.disjunctions.specs.Judge.{judgeOr, judgingOr}
 use Rattle.disjunctions.specs.Knowledge.{IsOrChoice, OrChoice}
 use Rattle.disjunctions.specs.OneOfTwo.{OneOfTwo, OrProof, orOutcome, sideRows}
 use Rattle.disjunctions.specs.Ours.{AcceptsOr, Pair, orRound, orCalls}
@@ -130,7 +129,7 @@ one-of-two s s′ pair = record {
 
 -- what follows, of two sheets that load with one K
 pair-corollaries : (s s′ : List ℕ) → Pair s s′ → PairCorollaries orCalls s s′
-unfolding judgeOr judgeOrAfter extractOr extractOrAfter orRound
+unfolding judgeOr judgingOr extractOr extractingOr orRound
 pair-corollaries s s′ pair = record {
   choices = λ side one. (or-choices-member s s′ side, or-choices-once s s′ side);
   prover-list = λ side c one below x w.

@@ -3,11 +3,11 @@
 -- Assumes nothing.
 use Prim.Native.Nat.{ℕ, suc, _<_, _≤_}
 use mathlib.Core.Path.{_≡_, refl, sym, ap, ap₂, subst, _∙_}
-use mathlib.Core.Logic.{_⊎_, inl, inr, ⊎-elim, _↔_}
+use mathlib.Core.Logic.{_⊎_, inl, inr, ⊎-elim}
 use mathlib.Core.Bool.{Bool, true, false, cond, not}
-use mathlib.Core.List.{List, [], _∷_, _++_}
+use mathlib.Core.List.{List, [], _∷_}
 use native.Mathlib.Omega.{arith}
-use lib.Dec.{T, eqb}
+use lib.Dec.{eqb}
 use borrow.Author.Tests.{ne-eqb}
 use lib.ListN.{length}
 use Rattle.types.specs.declared.ProverPhase.{ProverPhase}
@@ -15,60 +15,41 @@ use Rattle.types.specs.declared.ProverPhase.the-variants.{New, Committed, Answe
 use Rattle.disjunctions.specs.declared.OrProver.{OrProver}
 use Rattle.disjunctions.specs.declared.OrStep.{OrStep}
 use Rattle.lists.specs.Places.{pad8, zeros8}
-use Rattle.rules.specs.Answer.{unlessRefused}
-use Rattle.rules.specs.Either.{eitherRules}
-use Rattle.rules.specs.Rule.{Clear, Rule, allPositive, lowest}
-use Rattle.rules.proofs.Lowest.{clear-lowest, lowest-append-zero}
+use Rattle.rules.specs.Call.{numberOf}
+use Rattle.rules.specs.Rule.{Clear}
+use Rattle.rules.proofs.Call.{answer-number, answer-value}
+use Rattle.rules.proofs.Lowest.{clear-lowest}
 use Rattle.rules.proofs.Says.{says-or}
-use Rattle.formats.specs.Load.{loadRules, shapeRules}
 use Rattle.formats.specs.Sheet.{instanceOf}
 use Rattle.runs.specs.OnSheet.{readSlots}
 use Rattle.runs.specs.Run.{Leads}
 use Rattle.runs.proofs.ProverCalls.{ended-apart}
 use Rattle.runs.proofs.Run.{trace-leads}
-use Rattle.sigma.specs.Admission.{elementRules, headerRules}
-use Rattle.sigma.specs.Answer.{eightPlaces}
 use Rattle.sigma.specs.Round.{response}
-use Rattle.rules.proofs.Answer.{unlessRefused-positive}
 use Rattle.sigma.proofs.Calculus.{both-fail, says-passes}
 use Rattle.disjunctions.specs.Calls.{KeepsBoth, OrCall, OrCommit, OrDrop, OrEnded, OrMoves, OrRespond, Wiped, orAnswered}
-use Rattle.disjunctions.specs.Judge.{pairRules}
 use Rattle.disjunctions.specs.OneOfTwo.{OrSessions}
 use Rattle.disjunctions.specs.Ours.{callOr, orAfter, orTrace, orCalls}
 use Rattle.disjunctions.specs.Prover.{
   commitOr,
-  commitOrAfter,
-  commitOrRules,
+  committingOr,
   dropOr,
-  dropOrRules,
+  droppingOr,
   firstCommitment,
   newOrProver,
   orProverIn,
-  orStep,
   own,
   other,
   respondOr,
-  respondOrAfter,
-  respondOrRules,
+  respondingOr,
   secondCommitment,
   unfitOr,
   wipedOr,
 }
 use Rattle.disjunctions.specs.Round.{otherChallenge}
+use Rattle.disjunctions.proofs.OnPair.{on-pair-clear, on-pair-value}
 use Rattle.disjunctions.proofs.OrRefusals.{or-refusals}
 use Rattle.disjunctions.proofs.SessionTests.{says-or-prover}
-
--- the numbers of two sheets' rules are positive
-pub pair-positive : (s s′ : List ℕ) → T (allPositive (pairRules s s′))
-unfolding pairRules eitherRules loadRules shapeRules headerRules elementRules
-pair-positive s s′ = tt
-
--- a step whose number is 0
-pub or-given : (n : ℕ) (before after : OrProver) (xs ys : List ℕ) (c : ℕ) → n ≡ 0
-    → orStep n before after xs ys c
-    ≡ record { session = after; values0 = pad8 0 xs; values1 = pad8 0 ys; challenge0 = c; refusal = 0 }
-unfolding orStep eightPlaces unlessRefused
-or-given n before after xs ys c e = rw e
 
 -- ---- a wiped session
 
@@ -118,6 +99,28 @@ other-instance side s s′ = on (eqb side 0)
     on true = refl
     on false = refl
 
+-- the number that a step has
+abbrev number : OrStep → ℕ
+number step = step .refusal
+
+-- the number of dropping
+pub drop-or-number : (p : OrProver) → dropOr p .refusal ≡ numberOf (droppingOr p)
+unfolding dropOr droppingOr
+drop-or-number p = answer-number (droppingOr p) number refl (λ n. refl)
+
+-- no rule applies to a call that is not refused
+module _ (s s′ : List ℕ) (p : OrProver) where
+  pub commit-or-clear : (side : ℕ) (k : List ℕ) (d : ℕ) (r : List ℕ) → commitOr s s′ p side k d r .refusal ≡ 0
+      → Clear (committingOr (instanceOf s) (instanceOf s′) p side k d r .refusals)
+  unfolding commitOr committingOr
+  commit-or-clear side k d r e =
+      on-pair-clear s s′ (committingOr (instanceOf s) (instanceOf s′) p side k d r) number refl (λ n. refl) e tt
+
+  pub respond-or-clear : (c : ℕ) (x : List ℕ) → respondOr s s′ p c x .refusal ≡ 0
+      → Clear (respondingOr (instanceOf s) (instanceOf s′) p c x .refusals)
+  unfolding respondOr respondingOr
+  respond-or-clear c x e = on-pair-clear s s′ (respondingOr (instanceOf s) (instanceOf s′) p c x) number refl (λ n. refl) e tt
+
 module _ (s s′ : List ℕ) (p : OrProver) where
   -- committing stores what it brings with both commitments, and answers these
   pub commit-or-given : (side : ℕ) (nonce : List ℕ) (d : ℕ) (answer : List ℕ) → commitOr s s′ p side nonce d answer .refusal ≡ 0
@@ -139,9 +142,10 @@ module _ (s s′ : List ℕ) (p : OrProver) where
         challenge0 = 0;
         refusal = 0;
       }
-  unfolding commitOr commitOrAfter orStep
+  unfolding commitOr committingOr
   commit-or-given side nonce d answer e k r a b =
-      rw (a, b, sym (own-instance side s s′), sym (other-instance side s s′)) (or-given _ p _ _ _ 0 e)
+      rw (a, b, sym (own-instance side s s′), sym (other-instance side s s′))
+      (on-pair-value s s′ (committingOr (instanceOf s) (instanceOf s′) p side nonce d answer) number refl (λ n. refl) e)
 
   -- responding answers both responses and c0, and wipes the session
   pub respond-or-given : (c : ℕ) (witness : List ℕ) → respondOr s s′ p c witness .refusal ≡ 0
@@ -159,9 +163,10 @@ module _ (s s′ : List ℕ) (p : OrProver) where
         challenge0 = own (p .side) d (p .challenge);
         refusal = 0;
       }
-  unfolding respondOr respondOrAfter orStep
+  unfolding respondOr respondingOr
   respond-or-given c witness e k x r answer d a b f g h =
-      rw (h, a, b, f, g, sym (own-instance (p .side) s s′), sym (other-instance (p .side) s s′)) (or-given _ p _ _ _ _ e)
+      rw (h, a, b, f, g, sym (own-instance (p .side) s s′), sym (other-instance (p .side) s s′))
+      (on-pair-value s s′ (respondingOr (instanceOf s) (instanceOf s′) p c witness) number refl (λ n. refl) e)
 
 -- dropping wipes the session
 drop-or-given : (p : OrProver) → dropOr p .refusal ≡ 0
@@ -173,31 +178,30 @@ drop-or-given : (p : OrProver) → dropOr p .refusal ≡ 0
       challenge0 = 0;
       refusal = 0;
     }
-unfolding dropOr orStep pad8 zeros8
-drop-or-given p e = or-given _ p _ [] [] 0 e
+unfolding dropOr droppingOr
+drop-or-given p e = answer-value (droppingOr p) (sym (drop-or-number p) ∙ e)
 
 -- ---- one call
 
 module _ (s s′ : List ℕ) (p : OrProver) where
   -- committing that is not refused is in New
   commit-or-phase : (side : ℕ) (k : List ℕ) (d : ℕ) (r : List ℕ) → commitOr s s′ p side k d r .refusal ≡ 0 → p .phase ≡ New
-  unfolding commitOr commitOrAfter orStep commitOrRules
-  commit-or-phase side k d r e =
-      says-passes (says-or-prover New p) .0 (lowest-append-zero (pairRules s s′) _ (pair-positive s s′) tt .0 e .1 .1 .1 .0)
+  unfolding committingOr
+  commit-or-phase side k d r e = says-passes (says-or-prover New p) .0 (commit-or-clear s s′ p side k d r e .1 .1 .0)
 
   -- responding that is not refused is in Committed
   respond-or-phase : (c : ℕ) (x : List ℕ) → respondOr s s′ p c x .refusal ≡ 0 → p .phase ≡ Committed
-  unfolding respondOr respondOrAfter orStep respondOrRules
+  unfolding respondingOr
   respond-or-phase c x e =
-      let rules = lowest-append-zero (pairRules s s′) _ (pair-positive s s′) tt .0 e .1 in
       says-passes (says-or-prover Committed p) .0
-      (both-fail (not (orProverIn Committed p)) (unfitOr (instanceOf s) (instanceOf s′) p) .0 (rules .1 .1 .1 .0) .0)
+      (both-fail (not (orProverIn Committed p)) (unfitOr (instanceOf s) (instanceOf s′) p) .0 (respond-or-clear s s′ p c x e .1 .1 .1 .0) .0)
 
 -- dropping that is not refused is in New or Committed
 drop-or-phase : (p : OrProver) → dropOr p .refusal ≡ 0 → (p .phase ≡ New) ⊎ (p .phase ≡ Committed)
-unfolding dropOr orStep dropOrRules
+unfolding droppingOr numberOf
 drop-or-phase p e =
-    says-passes (says-or (says-or-prover New p) (says-or-prover Committed p)) .0 (clear-lowest (dropOrRules p) tt e .0)
+    says-passes (says-or (says-or-prover New p) (says-or-prover Committed p)) .0
+    (clear-lowest (droppingOr p .refusals) tt (sym (drop-or-number p) ∙ e) .0)
 
 -- a refused call hands back the session
 pub or-kept : (call : OrCall) (p : OrProver) → 0 < callOr call p .refusal → callOr call p .session ≡ p

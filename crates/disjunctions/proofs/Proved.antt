@@ -1,65 +1,53 @@
 -- Peggy's rounds with a witness of either side, over all choices, are exactly the accepted rounds, each from a single choice.
 -- Assumes nothing.
 use Prim.Native.Nat.{ℕ, zero, suc, _<_}
-use mathlib.Core.Path.{_≡_, refl, sym, ap, subst, _∙_}
-use mathlib.Core.Logic.{_↔_}
-use mathlib.Core.Bool.{Bool, true, false, cond, not, _||_}
+use mathlib.Core.Path.{_≡_, refl, sym, ap, _∙_}
+use mathlib.Core.Bool.{false, not, _||_}
 use mathlib.Core.List.{List, []}
 use native.Mathlib.Omega.{arith}
-use lib.Dec.{eqb, ltb}
-use lib.ListN.{length}
+use lib.Dec.{ltb}
 use borrow.Author.Tests.{le-ltb}
 use Rattle.types.specs.declared.ProverPhase.the-variants.{New, Committed}
-use Rattle.types.specs.declared.Round.{Round}
 use Rattle.disjunctions.specs.declared.OrProver.{OrProver}
-use Rattle.disjunctions.specs.declared.OrRound.{OrRound}
 use Rattle.disjunctions.specs.declared.OrStep.{OrStep}
 use Rattle.lists.specs.Places.{pad8, places}
 use Rattle.lists.proofs.Each.{each-at, each-length}
 use Rattle.lists.proofs.Places.{getD-places, places-pad8, places-whole}
-use Rattle.rules.specs.Rule.{Clear, lowest}
-use Rattle.rules.proofs.Lowest.{lowest-clear, lowest-later}
+use Rattle.rules.proofs.Call.{answer-clear}
 use Rattle.formats.specs.Sheet.{instanceOf}
-use Rattle.runs.specs.OnSheet.{Below, readSlots}
-use Rattle.runs.specs.Ours.{honestRound, simulatedRound}
-use Rattle.runs.proofs.Demand3.{honest-is, sheet-honest-rounds, sheet-simulated-rounds, simulated-is}
+use Rattle.runs.specs.OnSheet.{Below}
 use Rattle.runs.proofs.Witness.{image-carried}
 use Rattle.sigma.specs.Comparison.{differ}
 use Rattle.sigma.specs.Image.{image}
-use Rattle.sigma.specs.Instance.{Instance, tableOf}
+use Rattle.sigma.specs.Instance.{Instance}
 use Rattle.sigma.specs.Knowledge.{Choice, Witness}
 use Rattle.sigma.specs.Meaning.{Coordinates}
-use Rattle.sigma.specs.Round.{badChallenge, badCoordinates, badWitness, response}
+use Rattle.sigma.specs.Round.{badChallenge, badCoordinates, response}
 use Rattle.sigma.specs.Simulator.{simulated}
 use Rattle.sigma.specs.Valid.{Valid}
 use Rattle.sigma.proofs.Calculus.{both-fail}
 use Rattle.sigma.proofs.Comparison.{differ-false}
 use Rattle.sigma.proofs.Passed.{challenge-passes, coordinates-pass, witness-passes}
 use Rattle.sigma.proofs.Unread.{coordinates-agree}
-use Rattle.disjunctions.specs.Judge.{pairRules}
 use Rattle.disjunctions.specs.Knowledge.{IsOrChoice, OrChoice}
-use Rattle.disjunctions.specs.Ours.{MakesEachOnce, Pair, orRound}
+use Rattle.disjunctions.specs.Ours.{Pair, orRound}
 use Rattle.disjunctions.specs.Prover.{
   commitOr,
-  commitOrAfter,
-  commitOrRules,
+  committingOr,
   firstCommitment,
   newOrProver,
   orProverIn,
-  orStep,
   other,
   own,
   respondOr,
-  respondOrAfter,
-  respondOrRules,
+  respondingOr,
   secondCommitment,
   unfitOr,
   wipedOr,
 }
-use Rattle.disjunctions.specs.Round.{firstRound, otherChallenge, secondRound}
-use Rattle.disjunctions.proofs.Challenges.{other-less, other-other, other-same}
-use Rattle.disjunctions.proofs.Judged.{first-valid, pair-clear, second-valid, some-challenge}
-use Rattle.disjunctions.proofs.Made.{makes-each-once}
+use Rattle.disjunctions.specs.Round.{otherChallenge}
+use Rattle.disjunctions.proofs.Judged.{first-valid, second-valid}
+use Rattle.disjunctions.proofs.OnPair.{on-pair-loads}
 use Rattle.disjunctions.proofs.OrSessions.{commit-or-given, other-instance, own-instance, respond-or-given}
 use Rattle.disjunctions.proofs.SessionTests.{first-read, says-or-prover, second-read}
 
@@ -144,12 +132,14 @@ module _ (s s′ : List ℕ) (pair : Pair s s′) (side : ℕ) (one : side < 2) 
 
   -- committing is not refused
   pub commit-runs : commitOr s s′ newOrProver side (choice .nonce) (choice .challenge) (choice .response) .refusal ≡ 0
-  unfolding commitOr commitOrAfter orStep commitOrRules newOrProver wipedOr
+  unfolding commitOr committingOr newOrProver wipedOr
   commit-runs =
       let k = places (own side i j .header .columns) (choice .nonce) in
       let r = places (other side i j .header .columns) (choice .response) in
-      lowest-later (pairRules s s′) _ (pair-clear s s′ pair)
-      ∙ lowest-clear _ (
+      let call = committingOr i j newOrProver side (choice .nonce) (choice .challenge) (choice .response) in
+      ap (λ (step : OrStep). step .refusal)
+      (on-pair-loads s s′ call pair
+      ∙ answer-clear call (
         challenge-passes i (choice .challenge) .1 (is .challenge),
         (
           both-fail (badCoordinates (own side i j) k) (badCoordinates (other side i j) r) .1 (
@@ -158,7 +148,7 @@ module _ (s s′ : List ℕ) (pair : Pair s s′) (side : ℕ) (one : side < 2) 
           ),
           (ap not (says-or-prover New newOrProver .complete refl), tt),
         ),
-      )
+      ))
 
   -- it answers both commitments, and the session holds them with what is chosen
   pub committed-given : commitOr s s′ newOrProver side (choice .nonce) (choice .challenge) (choice .response)
@@ -200,13 +190,15 @@ module _ (s s′ : List ℕ) (pair : Pair s s′) (side : ℕ) (one : side < 2) 
     -- responding in that session is not refused
     respond-holding : respondOr s s′ (holding (instanceOf s) (instanceOf s′) side (choice .nonce) (choice .challenge) (choice .response)) c x .refusal
         ≡ 0
-    unfolding respondOr respondOrAfter orStep respondOrRules holding
+    unfolding respondOr respondingOr holding
     respond-holding =
         let p = holding i j side (choice .nonce) (choice .challenge) (choice .response) in
         let mine = own side i j in
         let read : places (mine .header .columns) x ≡ x = choice-read mine x (own-witness .slots) in
-        lowest-later (pairRules s s′) _ (pair-clear s s′ pair)
-        ∙ lowest-clear _ (
+        let call = respondingOr i j p c x in
+        ap (λ (step : OrStep). step .refusal)
+        (on-pair-loads s s′ call pair
+        ∙ answer-clear call (
           challenge-passes i c .1 below,
           (
             coordinates-pass mine _ .1 (choice-slots mine x (own-witness .slots)),
@@ -222,7 +214,7 @@ module _ (s s′ : List ℕ) (pair : Pair s s′) (side : ℕ) (one : side < 2) 
               ),
             ),
           ),
-        )
+        ))
 
     -- nor in the session that committing hands back
     pub respond-runs : respondOr s s′

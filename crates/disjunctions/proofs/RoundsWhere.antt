@@ -2,7 +2,7 @@
 -- the two sides, and accepted rounds.
 -- Assumes nothing.
 use Prim.Native.Nat.{ℕ, _<_}
-use mathlib.Core.Path.{_≡_, sym, ap}
+use mathlib.Core.Path.{_≡_, refl, sym, ap, _∙_}
 use mathlib.Core.Logic.{_↔_, _≢_, inl, inr, ⊎-elim}
 use mathlib.Core.Bool.{not, or-comm}
 use mathlib.Core.List.{List, [], _∷_, _++_}
@@ -10,10 +10,12 @@ use native.Mathlib.Omega.{arith}
 use lib.Dec.{eqb}
 use Rattle.disjunctions.specs.declared.OrExtracted.{OrExtracted}
 use Rattle.disjunctions.specs.declared.OrRound.{OrRound}
+use Rattle.rules.specs.Call.{numberOf}
 use Rattle.rules.specs.Condition.{Condition, _if_}
 use Rattle.rules.specs.Either.{eitherConditions}
 use Rattle.rules.specs.Refuses.{Refuses}
 use Rattle.rules.specs.Rule.{Rule, lowest}
+use Rattle.rules.proofs.Call.{answer-number}
 use Rattle.rules.proofs.Determined.{NoneHold, none-append, none-hold, none-join, none-zero}
 use Rattle.rules.proofs.Says.{says-decides, says-equal, says-iff, says-same}
 use Rattle.formats.specs.Load.{load}
@@ -35,8 +37,8 @@ use Rattle.sigma.specs.Comparison.{differ}
 use Rattle.sigma.specs.Instance.{Instance}
 use Rattle.sigma.specs.Refusals.{judgeConditions}
 use Rattle.sigma.proofs.Comparison.{says-differ}
-use Rattle.disjunctions.specs.Extractor.{extractOr, extractOrAfter, extractOrRules, isOrAccepted}
-use Rattle.disjunctions.specs.Judge.{badChallenges, badCommitments, badResponses, judgeOr, pairRules, verdictOr}
+use Rattle.disjunctions.specs.Extractor.{extractOr, extractingOr, isOrAccepted}
+use Rattle.disjunctions.specs.Judge.{badChallenges, badCommitments, badResponses, judgeOr, onPair, pairRules, verdictOr}
 use Rattle.disjunctions.specs.OneOfTwo.{orNumber}
 use Rattle.disjunctions.specs.Ours.{AcceptedOrPair, Pair, orCalls}
 use Rattle.disjunctions.specs.Refusals.{extractOrConditions, judgeOrConditions, pairConditions}
@@ -181,22 +183,30 @@ equal-swapped : (m n : ℕ) → eqb n m ≡ eqb m n
 equal-swapped m n = says-same (says-iff (says-equal n m) (sym, sym)) (says-equal m n)
 
 -- the rules of two rounds are those of the rounds exchanged
-rules-swapped : (i j : Instance) (a b : OrRound) → extractOrRules i j b a ≡ extractOrRules i j a b
-unfolding extractOrRules
+rules-swapped : (i j : Instance) (a b : OrRound) → extractingOr i j b a .refusals ≡ extractingOr i j a b .refusals
+unfolding extractingOr
 rules-swapped i j a b =
+    let x = readOr i j a in
+    let y = readOr i j b in
     rw (
-      or-comm (badCommitments i j b) (badCommitments i j a),
-      or-comm (badChallenges i b) (badChallenges i a),
-      or-comm (badResponses i j b) (badResponses i j a),
-      differ-swapped (i .header .rows) (a .commitment0) (b .commitment0),
-      differ-swapped (j .header .rows) (a .commitment1) (b .commitment1),
-      equal-swapped (a .challenge) (b .challenge),
-      or-comm (not (isOrAccepted (verdictOr i j b))) (not (isOrAccepted (verdictOr i j a))),
+      or-comm (badCommitments i j y) (badCommitments i j x),
+      or-comm (badChallenges i y) (badChallenges i x),
+      or-comm (badResponses i j y) (badResponses i j x),
+      differ-swapped (i .header .rows) (x .commitment0) (y .commitment0),
+      differ-swapped (j .header .rows) (x .commitment1) (y .commitment1),
+      equal-swapped (x .challenge) (y .challenge),
+      or-comm (not (isOrAccepted (verdictOr i j y))) (not (isOrAccepted (verdictOr i j x))),
     )
 
+-- the number of extracting
+extract-or-number : (s s′ : List ℕ) (a b : OrRound)
+    → extractOr s s′ a b .refusal ≡ numberOf (onPair s s′ (extractingOr (instanceOf s) (instanceOf s′) a b))
+unfolding extractOr extractingOr
+extract-or-number s s′ a b = answer-number _ (λ (answer : OrExtracted). answer .refusal) refl (λ n. refl)
+
 pub swapped : (s s′ : List ℕ) (a b : OrRound) → extractOr s s′ b a .refusal ≡ extractOr s s′ a b .refusal
-unfolding extractOr extractOrAfter
+unfolding numberOf
 swapped s s′ a b =
-    let i = instanceOf s in
-    let j = instanceOf s′ in
-    ap (λ (rules : List Rule). lowest (pairRules s s′ ++ rules)) (rules-swapped i j (readOr i j a) (readOr i j b))
+    extract-or-number s s′ b a
+    ∙ ap (λ (rules : List Rule). lowest (pairRules s s′ ++ rules)) (rules-swapped (instanceOf s) (instanceOf s′) a b)
+    ∙ sym (extract-or-number s s′ a b)

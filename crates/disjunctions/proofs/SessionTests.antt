@@ -30,13 +30,13 @@ use Rattle.sigma.proofs.Refusals.{coordinates-read, image-read, witness-read}
 use Rattle.sigma.proofs.Tests.{says-badChallenge}
 use Rattle.sigma.proofs.Unread.{rowImage-agree}
 use Rattle.disjunctions.specs.Prover.{
-  commitOrRules,
-  dropOrRules,
+  committingOr,
+  droppingOr,
   firstCommitment,
   orProverIn,
   other,
   own,
-  respondOrRules,
+  respondingOr,
   secondCommitment,
   unfitOr,
 }
@@ -85,9 +85,8 @@ module _ {i j : Instance} (v : Valid i) (w : Valid j) (k : List ℕ) (d : ℕ) (
 
 -- committing
 pub commit-or-tests : (i j : Instance) (p : OrProver) (side : ℕ) (k : List ℕ) (d : ℕ) (r : List ℕ)
-    → Tests (commitOrRules i j p side (places (own side i j .header .columns) k) d (places (other side i j .header .columns) r))
-    (commitOrConditions i j p side k d r)
-unfolding commitOrRules
+    → Tests (committingOr i j p side k d r .refusals) (commitOrConditions i j p side k d r)
+unfolding committingOr
 commit-or-tests i j p side k d r = (
   refl,
   says-badChallenge i d,
@@ -128,8 +127,8 @@ module _ {i j : Instance} (v : Valid i) (w : Valid j) where
 
   -- responding
   pub respond-or-tests : (p : OrProver) (c : ℕ) (x : List ℕ)
-      → Tests (respondOrRules i j p c (places (own (p .side) i j .header .columns) x)) (respondOrConditions i j p c x)
-  unfolding respondOrRules
+      → Tests (respondingOr i j p c x .refusals) (respondOrConditions i j p c x)
+  unfolding respondingOr
   respond-or-tests p c x = (
     refl,
     says-badChallenge i c,
@@ -145,8 +144,8 @@ module _ {i j : Instance} (v : Valid i) (w : Valid j) where
   )
 
 -- dropping
-pub drop-or-tests : (p : OrProver) → Tests (dropOrRules p) (dropOrConditions p)
-unfolding dropOrRules
+pub drop-or-tests : (p : OrProver) → Tests (droppingOr p .refusals) (dropOrConditions p)
+unfolding droppingOr
 drop-or-tests p =
     let neither : ¬ ((p .phase ≡ New) ⊎ (p .phase ≡ Committed)) ↔ ((p .phase ≢ New) × (p .phase ≢ Committed)) =
     (λ n. (λ e. n (inl e), λ e. n (inr e)), λ n. ⊎-elim (n .0) (n .1)) in

@@ -1,9 +1,9 @@
 -- What the calls of the OR session answer, in the answers of 01's calls: the side that Peggy knows is answered as her session of 01
 -- answers it, and the other as the simulator does.
 -- Assumes nothing.
-use Prim.Native.Nat.{ℕ, zero, suc}
+use Prim.Native.Nat.{ℕ, suc}
 use mathlib.Core.Path.{_≡_, refl, sym, ap, _∙_}
-use mathlib.Core.Bool.{false, cond, not, _||_}
+use mathlib.Core.Bool.{false, not, _||_}
 use mathlib.Core.List.{List}
 use lib.Dec.{ltb}
 use Rattle.types.specs.declared.Computed.{Computed}
@@ -14,8 +14,6 @@ use Rattle.disjunctions.specs.declared.OrProver.{OrProver}
 use Rattle.disjunctions.specs.declared.OrStep.{OrStep}
 use Rattle.lists.specs.Places.{pad8, places}
 use Rattle.lists.proofs.Places.{getD-places, length-places}
-use Rattle.rules.specs.Rule.{lowest}
-use Rattle.rules.proofs.Lowest.{lowest-append-zero}
 use Rattle.formats.specs.Load.{loadRefusal}
 use Rattle.formats.specs.Sheet.{instanceOf}
 use Rattle.runs.specs.Calls.{simulateCommitment}
@@ -31,7 +29,6 @@ use Rattle.runs.proofs.Witness.{witness-slots}
 use Rattle.sigma.specs.Comparison.{differ}
 use Rattle.sigma.specs.Image.{image}
 use Rattle.sigma.specs.Instance.{Instance, tableOf}
-use Rattle.sigma.specs.Knowledge.{Witness}
 use Rattle.sigma.specs.Meaning.{Coordinates}
 use Rattle.sigma.specs.Reads.{Agree}
 use Rattle.sigma.specs.Round.{badChallenge, badCoordinates, badWitness, response}
@@ -41,20 +38,16 @@ use Rattle.sigma.proofs.Calls.{simulate-given, simulate-runs}
 use Rattle.sigma.proofs.Comparison.{differ-false}
 use Rattle.sigma.proofs.Passed.{challenge-passes, coordinates-pass, witness-passes}
 use Rattle.sigma.proofs.Unread.{coordinates-agree}
-use Rattle.disjunctions.specs.Judge.{pairRules}
 use Rattle.disjunctions.specs.Ours.{Pair}
 use Rattle.disjunctions.specs.Prover.{
   commitOr,
-  commitOrAfter,
-  commitOrRules,
+  committingOr,
   firstCommitment,
   orProverIn,
-  orStep,
   other,
   own,
   respondOr,
-  respondOrAfter,
-  respondOrRules,
+  respondingOr,
   secondCommitment,
   unfitOr,
 }
@@ -62,12 +55,13 @@ use Rattle.disjunctions.specs.Round.{otherChallenge}
 use Rattle.disjunctions.proofs.Challenges.{other-less}
 use Rattle.disjunctions.proofs.Judged.{some-challenge}
 use Rattle.disjunctions.proofs.OrSessions.{
+  commit-or-clear,
   commit-or-given,
   later-other,
   later-own,
   other-instance,
   own-instance,
-  pair-positive,
+  respond-or-clear,
   respond-or-given,
 }
 use Rattle.disjunctions.proofs.Pairs.{first-loads, second-loads}
@@ -106,11 +100,11 @@ module _ (s s′ : List ℕ) (p : OrProver) where
   commit-or-facts : (side : ℕ) (k : List ℕ) (d : ℕ) (r : List ℕ) → commitOr s s′ p side k d r .refusal ≡ 0
       → Below s d × Coordinates (instanceOf (own side s s′)) (readSlots (own side s s′) k)
       × Coordinates (instanceOf (other side s s′)) (readSlots (other side s s′) r)
-  unfolding commitOr commitOrAfter orStep commitOrRules
+  unfolding committingOr
   commit-or-facts side k d r e =
       let mine = own side i j in
       let yours = other side i j in
-      let rules = lowest-append-zero (pairRules s s′) _ (pair-positive s s′) tt .0 e .1 in
+      let rules = commit-or-clear s s′ p side k d r e in
       let slots = both-fail (badCoordinates mine (places (mine .header .columns) k))
       (badCoordinates yours (places (yours .header .columns) r)) .0 (rules .1 .0) in (
         challenge-passes i d .0 (rules .0),
@@ -123,10 +117,10 @@ module _ (s s′ : List ℕ) (p : OrProver) where
       → Coordinates (own (p .side) (instanceOf s) (instanceOf s′)) (places (own (p .side) (instanceOf s) (instanceOf s′) .header .columns) x)
       × (badWitness (own (p .side) (instanceOf s) (instanceOf s′)) (places (own (p .side) (instanceOf s) (instanceOf s′) .header .columns) x) ≡ false)
       × (unfitOr (instanceOf s) (instanceOf s′) p ≡ false)
-  unfolding respondOr respondOrAfter orStep respondOrRules
+  unfolding respondingOr
   respond-or-facts c x e =
       let mine = own (p .side) i j in
-      let rules = lowest-append-zero (pairRules s s′) _ (pair-positive s s′) tt .0 e .1 in (
+      let rules = respond-or-clear s s′ p c x e in (
         coordinates-pass mine _ .0 (rules .1 .0),
         rules .1 .1 .0,
         both-fail (not (orProverIn Committed p)) (unfitOr i j p) .0 (rules .1 .1 .1 .0) .1,

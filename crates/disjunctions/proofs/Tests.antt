@@ -1,22 +1,20 @@
 -- Each list of rules of the OR proof tests its conditions, so that the number it gives is that of the first condition that holds.
 -- Assumes nothing.
-use Prim.Native.Nat.{ℕ, _<_}
-use mathlib.Core.Path.{_≡_, refl, sym, _∙_}
-use mathlib.Core.Bool.{_&&_, _||_, not, or-assoc}
-use mathlib.Core.Logic.{_↔_, _≢_, _⊎_, inl, inr, ⊎-elim, Iff·and, Iff·trans}
-use mathlib.Core.List.{List, [], _∷_, _++_}
+use Prim.Native.Nat.{ℕ}
+use mathlib.Core.Path.{_≡_, refl}
+use mathlib.Core.Bool.{_&&_, _||_}
+use mathlib.Core.Logic.{_≢_, _⊎_}
+use mathlib.Core.List.{List, [], _∷_}
 use lib.Dec.{eqb}
 use Rattle.types.specs.declared.Verdict.{Verdict}
 use Rattle.types.specs.declared.Verdict.the-variants.{Accepted, Rejected, Refused}
 use Rattle.disjunctions.specs.declared.OrRound.{OrRound}
-use Rattle.lists.specs.Places.{places}
-use Rattle.rules.specs.Condition.{Condition, Tests, _if_}
+use Rattle.rules.specs.Condition.{Tests, _if_}
 use Rattle.rules.specs.Either.{eitherConditions, eitherRules}
-use Rattle.rules.specs.Rule.{_when_}
 use Rattle.rules.specs.Says.{Says}
 use Rattle.rules.proofs.Condition.{tests-append}
 use Rattle.rules.proofs.Either.{tests-either}
-use Rattle.rules.proofs.Says.{says-and, says-equal, says-iff, says-not, says-or}
+use Rattle.rules.proofs.Says.{says-and, says-equal, says-not, says-or}
 use Rattle.formats.specs.Load.{loadRules}
 use Rattle.formats.specs.Refusals.{loadConditions}
 use Rattle.formats.specs.Sheet.{instanceOf}
@@ -28,8 +26,8 @@ use Rattle.sigma.specs.Reads.{Differ}
 use Rattle.sigma.specs.Valid.{Valid}
 use Rattle.sigma.proofs.Refusals.{commitment-read, commitments-read, coordinates-read, holds-read}
 use Rattle.sigma.proofs.Tests.{says-badChallenge}
-use Rattle.disjunctions.specs.Extractor.{extractOrRules, isOrAccepted}
-use Rattle.disjunctions.specs.Judge.{badChallenges, badCommitments, badResponses, combined, judgeOrRules, pairRules, verdictOr}
+use Rattle.disjunctions.specs.Extractor.{extractingOr, isOrAccepted}
+use Rattle.disjunctions.specs.Judge.{badChallenges, badCommitments, badResponses, combined, judgingOr, pairRules, verdictOr}
 use Rattle.disjunctions.specs.Refusals.{Or14, Or15, Or16, OrHolds, extractOrConditions, judgeOrConditions, pairConditions}
 use Rattle.disjunctions.specs.Round.{firstRound, readOr, secondRound}
 
@@ -62,8 +60,8 @@ module _ (i j : Instance) (round : OrRound) where
   says-16 = says-or (coordinates-read i _) (coordinates-read j _)
 
   -- judging
-  pub judge-or-tests : Tests (judgeOrRules i j (readOr i j round)) (judgeOrConditions i j round)
-  unfolding judgeOrRules
+  pub judge-or-tests : Tests (judgingOr i j round .refusals) (judgeOrConditions i j round)
+  unfolding judgingOr
   judge-or-tests = (refl, says-14, (refl, says-15, (refl, says-16, tt)))
 
 -- ---- two rounds
@@ -100,8 +98,8 @@ module _ {i j : Instance} (v : Valid i) (w : Valid j) where
       rw (combined-accepted _ _) (says-and (holds-read v (firstRound round)) (holds-read w (secondRound (i .header .challenges) round)))
 
   -- extracting
-  pub extract-or-tests : (a b : OrRound) → Tests (extractOrRules i j (readOr i j a) (readOr i j b)) (extractOrConditions i j a b)
-  unfolding extractOrRules
+  pub extract-or-tests : (a b : OrRound) → Tests (extractingOr i j a b .refusals) (extractOrConditions i j a b)
+  unfolding extractingOr
   extract-or-tests a b = (
     refl,
     says-or (says-14 i j a) (says-14 i j b),

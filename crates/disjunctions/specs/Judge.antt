@@ -9,9 +9,9 @@ use Rattle.types.specs.declared.Verdict.the-variants.{Accepted, Rejected, Refus
 use Rattle.disjunctions.specs.declared.OrRound.{OrRound}
 use Rattle.disjunctions.specs.declared.OrVerdict.{OrVerdict}
 use Rattle.disjunctions.specs.declared.OrVerdict.the-variants.{OrAccepted, OrRejected, OrRefused}
-use Rattle.rules.specs.Answer.{unlessRefused}
+use Rattle.rules.specs.Call.{Call, after, answer}
 use Rattle.rules.specs.Either.{eitherRules}
-use Rattle.rules.specs.Rule.{Rule, _when_, lowest}
+use Rattle.rules.specs.Rule.{Rule, _when_}
 use Rattle.formats.specs.Load.{loadRules}
 use Rattle.formats.specs.Sheet.{instanceOf}
 use Rattle.sigma.specs.Instance.{Instance}
@@ -24,6 +24,10 @@ pairRules s s′ =
     eitherRules (loadRules s) (loadRules s′) ++
     (26 when not (eqb (instanceOf s .header .challenges) (instanceOf s′ .header .challenges))) ∷ []
 
+-- a call on two sheets: the refusals of both sheets are put in front of its own
+abbrev pub onPair : {A : Type 0} → List ℕ → List ℕ → Call A → Call A
+onPair s s′ call = after (pairRules s s′) call
+
 -- some value of one of a round's commitments is no group element of its sheet (14)
 unfoldable pub badCommitments : Instance → Instance → OrRound → Bool
 badCommitments i j round = badCommitment i (round .commitment0) || badCommitment j (round .commitment1)
@@ -35,11 +39,6 @@ badChallenges i round = badChallenge i (round .challenge) || badChallenge i (rou
 -- some slot of one of a round's responses is no domain slot of its sheet (16)
 unfoldable pub badResponses : Instance → Instance → OrRound → Bool
 badResponses i j round = badCoordinates i (round .response0) || badCoordinates j (round .response1)
-
--- the rules of a round as it is read
-unfoldable pub judgeOrRules : Instance → Instance → OrRound → List Rule
-judgeOrRules i j round =
-    (14 when badCommitments i j round) ∷ (15 when badChallenges i round) ∷ (16 when badResponses i j round) ∷ []
 
 -- the verdict on both: accepted where both sides are, else rejected with the rows of both, none for a side that is accepted
 unfoldable pub combined : Verdict → Verdict → OrVerdict
@@ -58,12 +57,17 @@ verdictOr i j round =
     (verdict j (round .commitment1) (otherChallenge (i .header .challenges) (round .challenge) (round .challenge0))
     (round .response1))
 
--- the verdict after the rules of the sheets
-unfoldable pub judgeOrAfter : List Rule → Instance → Instance → OrRound → OrVerdict
-judgeOrAfter before i j round =
-    let number : ℕ = lowest (before ++ judgeOrRules i j (readOr i j round)) in
-    unlessRefused number (verdictOr i j (readOr i j round)) (OrRefused number)
+-- judging a round: 14 to 16 of what is read of it, else the verdict on both sides
+unfoldable pub judgingOr : Instance → Instance → OrRound → Call OrVerdict
+judgingOr i j given =
+    let round : OrRound = readOr i j given in
+    record {
+      refusals =
+          (14 when badCommitments i j round) ∷ (15 when badChallenges i round) ∷ (16 when badResponses i j round) ∷ [];
+      value = verdictOr i j round;
+      refused = OrRefused;
+    }
 
 -- the call that judges a round of two sheets
 unfoldable pub judgeOr : List ℕ → List ℕ → OrRound → OrVerdict
-judgeOr s s′ round = judgeOrAfter (pairRules s s′) (instanceOf s) (instanceOf s′) round
+judgeOr s s′ round = answer (onPair s s′ (judgingOr (instanceOf s) (instanceOf s′) round))

@@ -2,8 +2,8 @@
 -- Assumes nothing.
 use mathlib.Core.Path.{refl}
 use mathlib.Core.List.{flatten}
-use Rattle.disjunctions.specs.Extractor.{extractOr, extractOrAfter, extractOrRules, extractedOf, extractedOr, extractedSide, isOrAccepted}
-use Rattle.disjunctions.specs.Judge.{badChallenges, badCommitments, badResponses, combined, judgeOr, judgeOrAfter, judgeOrRules, pairRules, verdictOr}
+use Rattle.disjunctions.specs.Extractor.{extractOr, extractingOr, extractedOf, extractedOr, extractedSide, isOrAccepted}
+use Rattle.disjunctions.specs.Judge.{badChallenges, badCommitments, badResponses, combined, judgeOr, judgingOr, pairRules, verdictOr}
 use Rattle.disjunctions.specs.Round.{firstRound, otherChallenge, readOr, secondRound}
 use Rattle.encoding.specs.Bytes.{bytesOf, bytesOfEach, numberAt}
 use Rattle.encoding.specs.Text.{ascii}
@@ -28,7 +28,7 @@ use Rattle.patterns.specs.Maker.{asked, askedKind, askedPattern, badAsked, made
 use Rattle.patterns.specs.Pattern.{digit, entryOf, headerFor, madeFor, patternEntries, root}
 use Rattle.patterns.specs.PatternFile.{badDigits, badPatternFile, badSizes, misnamed, patternAt, patternBytes, patternCount, patternEnd, patternFile, patternFrom, patternMark, patternStart, patternVersion}
 use Rattle.patterns.specs.Table.{patterns, shipped, writeShipped}
-use Rattle.products.specs.Team.{badImages, badProduct, badTeam, commitmentsRules, joinAll, joinResponses, multiplyAll, multiplyCommitments, responsesRules, teamRules}
+use Rattle.products.specs.Team.{badImages, badProduct, badTeam, joinAll, joinResponses, joining, multiplyAll, multiplyCommitments, multiplying, teamRules}
 use Rattle.rules.specs.Answer.{unlessRefused}
 use Rattle.rules.specs.Call.{answer, numberOf}
 use Rattle.rules.specs.Either.{eitherRules}
@@ -59,18 +59,19 @@ unfolding any append appendAfter appendRules appended array ascii asked askedKin
     badChallenges badCommitment badCommitments badCoordinates badCount badDigits badEntries badFile badImages badInUse
     badKind badLength badModulus badOrder badPatternFile badProduct badResponses badSize badSizes badStart badStatement
     badTeam bezoutLeft bezoutRight brought bytesOf bytesOfEach challengeWidth challengesOr changed checkAfter combined
-    commitmentBytes commitmentsRules compareSides computed convert convertAfter convertRules converted countAfter
+    commitmentBytes compareSides computed convert convertAfter convertRules converted countAfter
     countField countRounds differ differences digit eight eightByEight eightPlaces eitherRules elementRules emptyFile
-    emptyRules encode encodeRules entriesOf entry entryCount entryOf euclid expectedImage extracting answer numberOf extractOr
-    extractOrAfter extractOrRules extractWitness extracted extractedOf extractedOr extractedSide fetchAfter
-    fetchRound fileIn fileRules fileVersion find firstDifference firstDivisor firstRound formula fourBytes gcd
-    headerBytes headerFor headerOf headerRules honestOr image instanceOf inverse isAccepted isCoordinate isElement
-    isExponent isOrAccepted itemsAt joinAll joinResponses judging judgeOr judgeOrAfter judgeOrRules judgeRound
-    judged load loadEntries loadRefusal loadRules locateAfter locateRound logarithmSheet lowest madeFor
-    madeRules makeFrom makeRules maskBelow misnamed multiplyAll multiplyCommitments narrow narrowThree noBytes noHeader
+    emptyRules encode encodeRules entriesOf entry entryCount entryOf euclid expectedImage extracting answer
+    numberOf extractOr extractWitness extracted extractedOf extractedOr extractedSide fetchAfter fetchRound
+    fileIn fileRules fileVersion find firstDifference firstDivisor firstRound formula fourBytes gcd
+    headerBytes headerFor headerOf headerRules honestOr image instanceOf inverse isAccepted isCoordinate
+    isElement isExponent isOrAccepted itemsAt joinAll joinResponses judging judgeOr judgeRound judged load
+    loadEntries loadRefusal loadRules locateAfter locateRound logarithmSheet lowest madeFor madeRules makeFrom
+    makeRules maskBelow misnamed multiplyAll multiplyCommitments narrow narrowThree noBytes noHeader
+    extractingOr joining judgingOr multiplying
     noRound noRounds numberAt one orWith otherChallenge otherVersion pad8 pairRules partOfRound patternAt patternBytes
     patternCount patternEnd patternEntries patternFile patternFrom patternMark patternStart patternVersion patterns
-    places power product quotient readOr recordBytes recordLength recordStart residue responsesOr responsesRules root
+    places power product quotient readOr recordBytes recordLength recordStart residue responsesOr root
     rootBytes roundAt roundMark roundRules roundWith roundsOf rowImage sameAfter sameCommitment sameRules secondOr
     secondRound sevens shapeRules sheetBytes sheetLength sheetMark sheetOf shipped shippedBytes short simulating
     simulateCommitment simulated slotFormula smallOr smallSheet someNonCoordinate someNonElement

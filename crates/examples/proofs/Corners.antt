@@ -1,10 +1,10 @@
 -- The corners that tell a row, a column, a round, a side, a player or a record from another hold, computed.
 -- Assumes nothing.
 use mathlib.Core.Path.{refl}
-use Rattle.disjunctions.specs.Extractor.{extractOr, extractOrAfter, extractOrRules, extractedOf, extractedOr, extractedSide, isOrAccepted}
-use Rattle.disjunctions.specs.Judge.{badChallenges, badCommitments, badResponses, combined, judgeOr, judgeOrAfter, judgeOrRules, pairRules, verdictOr}
+use Rattle.disjunctions.specs.Extractor.{extractOr, extractingOr as extractingOrCall, extractedOf, extractedOr, extractedSide, isOrAccepted}
+use Rattle.disjunctions.specs.Judge.{badChallenges, badCommitments, badResponses, combined, judgeOr, judgingOr, pairRules, verdictOr}
 use Rattle.disjunctions.specs.OneOfTwo.{orOutcome, sideRows}
-use Rattle.disjunctions.specs.Prover.{commitOr, commitOrAfter, commitOrRules, firstCommitment, newOrProver, orProverIn, orStep, other, own, respondOr, respondOrAfter, respondOrRules, secondCommitment, unfitOr, wipedOr}
+use Rattle.disjunctions.specs.Prover.{commitOr, committingOr as committingOrCall, firstCommitment, newOrProver, orProverIn, other, own, respondOr, respondingOr, secondCommitment, unfitOr, wipedOr}
 use Rattle.disjunctions.specs.Round.{firstRound, otherChallenge, readOr, secondRound}
 use Rattle.encoding.specs.Bytes.{bytesOf, bytesOfEach, numberAt}
 use Rattle.encoding.specs.Text.{ascii, decimal, digits}
@@ -44,7 +44,7 @@ use Rattle.patterns.specs.Maker.{asked, askedKind, askedPattern, badAsked, made
 use Rattle.patterns.specs.Pattern.{digit, entryOf, headerFor, madeFor, patternEntries, root}
 use Rattle.patterns.specs.PatternFile.{badDigits, badPatternFile, badSizes, misnamed, patternAt, patternBytes, patternCount, patternEnd, patternFile, patternFrom, patternMark, patternStart, patternVersion}
 use Rattle.patterns.specs.Table.{patterns, shipped}
-use Rattle.products.specs.Team.{badImages, badProduct, badTeam, commitmentsRules, joinAll, joinResponses, multiplyAll, multiplyCommitments, responsesRules, teamRules}
+use Rattle.products.specs.Team.{badImages, badProduct, badTeam, joinAll, joinResponses, joining as joiningCall, multiplyAll, multiplyCommitments, multiplying as multiplyingCall, teamRules}
 use Rattle.rules.specs.Answer.{unlessRefused}
 use Rattle.rules.specs.Call.{answer, numberOf}
 use Rattle.rules.specs.Either.{eitherRules}
@@ -73,48 +73,48 @@ use Rattle.games.specs.Text.{badGame, gameRefusal, gameRules, namedCommitment}
 use mathlib.Core.List.{flatten}
 
 pub every-disjunct : SheetCorners × PatternCorners × FileCorners × RoundCorners × OrCorners × TeamCorners
-unfolding extractOr extractOrAfter extractOrRules extractedOf extractedOr extractedSide isOrAccepted
-    badChallenges badCommitments badResponses combined judgeOr judgeOrAfter judgeOrRules pairRules verdictOr
-    orOutcome sideRows commitOr commitOrAfter commitOrRules firstCommitment newOrProver orProverIn orStep
-    other own respondOr respondOrAfter respondOrRules secondCommitment unfitOr wipedOr firstRound
-    otherChallenge readOr secondRound bytesOf bytesOfEach numberAt ascii decimal digits askingRoot changed
-    committing converting dropping makingFrom manyChallenges noBytes onesSheet peggy responding rootBytes
-    shippedBytes vic zerosFile alike appendingTo badFiles lastOf oneOfThree partLength readingFile
-    readingRound twice exampleFile narrowFile answeringOr challengesOr cleanOr commitmentsOr committingOr
-    extractingOr highOr holding holdingHonest honestOr knowsRoots knowsTable onOr orWith respondingWith
-    responsesOr secondOr statesOr strangeOr unfitOrPeggy fewerChallenges knowsFirst logarithmSheet orNumbers
-    orPeggy smallOr array repeated run smallRound asF eitherPlace makingProduct makingRoot onlyDigit
-    twoPatterns askingOn clean committingOn extractingBoth hearingOn highChallenge holder onRound
-    otherCommitment otherStatement respondingIn respondingTo simulatingOn strangeRows strangeSlots tellingOn
-    unfitPeggy unfitVic wrongRows badSheets callsOn writing fourBytes schnorrSheet sheetBytes smallSheet
-    bothPlayers commitments images onOther responses withCommitments withImages withResponses brought each
-    joining multiplying pairBytes teamNumbers exponents first narrow raised reworded roots roundWith second
-    spoilt table twoRoots wide append appendAfter appendRules appended badInUse wideChallenge convert
-    convertAfter convertRules converted otherVersion wideRecord encode encodeRules headerBytes sheetOf
-    storedEntries badLength badStart load loadEntries loadRefusal loadRules noHeader shapeRules checkAfter
-    checkRound countAfter countRounds fetchAfter fetchRound fileRules locateAfter locateRound noRound
-    partOfRound roundRules badFile challengeWidth countField fileVersion recordBytes recordLength recordStart
-    roundAt roundMark unknownVersion widthOf fileIn roundsOf commitmentBytes sameAfter sameCommitment
-    sameRules entriesOf entryCount headerOf instanceOf sheetLength sheetMark statementOf versionOf zeros64
-    short written writtenAtStart selected eightByEight itemsAt pad8 places tabulate zeros8 bit maskBelow
-    euclid gcd bezoutLeft bezoutRight power quotient residue inverse product sum any find asked askedKind
-    askedPattern badAsked madeRules makeFrom makeRules digit entryOf headerFor madeFor patternEntries root
-    badDigits badPatternFile badSizes misnamed patternAt patternBytes patternCount patternEnd patternFile
-    patternFrom patternMark patternStart patternVersion patterns shipped badImages badProduct badTeam
-    commitmentsRules joinAll joinResponses multiplyAll multiplyCommitments responsesRules teamRules
-    unlessRefused answer numberOf eitherRules lowest extractWitness judgeRound simulateCommitment honestRound
-    badLevel strongEnough failsAt markRefusal markRules markerText newline refusedWord resultLine roundLine
-    roundLines rowWord verdictLine verdictOn verdictText wordLine commit committingCall droppingCall
-    dropSession newProver proverIn proverState respond respondingCall unfitProver isFull isListed listedAt
-    listing noMemory newVerifier takeChallenge takingChallenge takeCommitment takingCommitment takeResponse
-    takingResponse unfitCommitment verifierIn verifierState badCount badEntries badKind badModulus badOrder
-    badSize badStatement elementRules firstDivisor headerRules computed eightPlaces isAccepted judged outcome
-    rowsOf compareSides differ differences firstDifference isCoordinate isElement someNonCoordinate
-    someNonElement extracting extracted formula slotFormula image rowImage entry isExponent statementAt
-    judging badChallenge badCommitment badCoordinates badWitness expectedImage response responseCoordinate
-    verdict simulating simulated extractLoaded judgeLoaded paddedRound badGame gameRefusal gameRules
-    namedCommitment freshWatch isNamed isWatched namedRound nearest noting openWatch remembering reuses
-    unfitWatch watchAfter watchRound watchRules watchVerdict zeroRound rememberedAt newWatch flatten
+unfolding extractOr extractedOf extractedOr extractedSide isOrAccepted badChallenges badCommitments
+    badResponses combined judgeOr pairRules verdictOr orOutcome sideRows commitOr firstCommitment newOrProver
+    orProverIn other own respondOr secondCommitment unfitOr wipedOr firstRound otherChallenge readOr
+    secondRound bytesOf bytesOfEach numberAt ascii decimal digits askingRoot changed committing converting
+    dropping makingFrom manyChallenges noBytes onesSheet peggy responding rootBytes shippedBytes vic zerosFile
+    alike appendingTo badFiles lastOf oneOfThree partLength readingFile readingRound twice exampleFile
+    narrowFile answeringOr challengesOr cleanOr commitmentsOr committingOr extractingOr highOr holding
+    holdingHonest honestOr knowsRoots knowsTable onOr orWith respondingWith responsesOr secondOr statesOr
+    strangeOr unfitOrPeggy fewerChallenges knowsFirst logarithmSheet orNumbers orPeggy smallOr array repeated
+    run smallRound asF eitherPlace makingProduct makingRoot onlyDigit twoPatterns askingOn clean committingOn
+    extractingBoth hearingOn highChallenge holder onRound otherCommitment otherStatement respondingIn
+    respondingTo simulatingOn strangeRows strangeSlots tellingOn unfitPeggy unfitVic wrongRows badSheets
+    callsOn writing fourBytes schnorrSheet sheetBytes smallSheet bothPlayers commitments images onOther
+    responses withCommitments withImages withResponses brought each joining multiplying pairBytes teamNumbers
+    exponents first narrow raised reworded roots roundWith second spoilt table twoRoots wide append
+    appendAfter appendRules appended badInUse wideChallenge convert convertAfter convertRules converted
+    otherVersion wideRecord encode encodeRules headerBytes sheetOf storedEntries badLength badStart load
+    loadEntries loadRefusal loadRules noHeader shapeRules checkAfter checkRound countAfter countRounds
+    fetchAfter fetchRound fileRules locateAfter locateRound noRound partOfRound roundRules badFile
+    challengeWidth countField fileVersion recordBytes recordLength recordStart roundAt roundMark
+    unknownVersion widthOf fileIn roundsOf commitmentBytes sameAfter sameCommitment sameRules entriesOf
+    entryCount headerOf instanceOf sheetLength sheetMark statementOf versionOf zeros64 short written
+    writtenAtStart selected eightByEight itemsAt pad8 places tabulate zeros8 bit maskBelow euclid gcd
+    bezoutLeft bezoutRight power quotient residue inverse product sum any find asked askedKind askedPattern
+    badAsked madeRules makeFrom makeRules digit entryOf headerFor madeFor patternEntries root badDigits
+    badPatternFile badSizes misnamed patternAt patternBytes patternCount patternEnd patternFile patternFrom
+    patternMark patternStart patternVersion patterns shipped badImages badProduct badTeam joinAll
+    joinResponses multiplyAll multiplyCommitments teamRules unlessRefused answer numberOf eitherRules lowest
+    extractWitness judgeRound simulateCommitment honestRound badLevel strongEnough failsAt markRefusal
+    markRules markerText newline refusedWord resultLine roundLine roundLines rowWord verdictLine verdictOn
+    verdictText wordLine commit committingCall droppingCall dropSession newProver proverIn proverState respond
+    respondingCall unfitProver isFull isListed listedAt listing noMemory newVerifier takeChallenge
+    takingChallenge takeCommitment takingCommitment takeResponse takingResponse unfitCommitment verifierIn
+    verifierState badCount badEntries badKind badModulus badOrder badSize badStatement elementRules
+    firstDivisor headerRules computed eightPlaces isAccepted judged outcome rowsOf compareSides differ
+    differences firstDifference isCoordinate isElement someNonCoordinate someNonElement extracting extracted
+    formula slotFormula image rowImage entry isExponent statementAt judging badChallenge badCommitment
+    badCoordinates badWitness expectedImage response responseCoordinate verdict simulating simulated
+    extractLoaded judgeLoaded paddedRound badGame gameRefusal gameRules namedCommitment freshWatch isNamed
+    isWatched namedRound nearest noting openWatch remembering reuses unfitWatch watchAfter watchRound
+    watchRules watchVerdict zeroRound rememberedAt newWatch flatten extractingOrCall judgingOr
+    committingOrCall respondingOr joiningCall multiplyingCall
 every-disjunct = (
   record {
     passing = refl;

@@ -173,11 +173,10 @@ use Rattle.reasons.specs.Reason.{
 }
 use Rattle.disjunctions.specs.Extractor.{
   isOrAccepted,
-  extractOrRules,
   extractedSide,
   extractedOf,
   extractedOr,
-  extractOrAfter,
+  extractingOr,
   extractOr,
 }
 use Rattle.disjunctions.specs.Judge.{
@@ -185,10 +184,9 @@ use Rattle.disjunctions.specs.Judge.{
   badCommitments,
   badChallenges,
   badResponses,
-  judgeOrRules,
   combined,
   verdictOr,
-  judgeOrAfter,
+  judgingOr as judgingOrCall,
   judgeOr,
 }
 use Rattle.disjunctions.specs.OneOfTwo.{sideRows, orOutcome}
@@ -199,15 +197,12 @@ use Rattle.disjunctions.specs.Prover.{
   orProverIn,
   wipedOr,
   newOrProver,
-  orStep,
   firstCommitment,
   secondCommitment,
-  commitOrRules,
-  commitOrAfter,
+  committingOr,
   unfitOr,
-  respondOrRules,
-  respondOrAfter,
-  dropOrRules,
+  respondingOr,
+  droppingOr,
   commitOr,
   respondOr,
   dropOr,
@@ -314,15 +309,14 @@ unfolding euclid gcd residue quotient power bezoutRight bezoutLeft inverse produ
     recordBytes appended appendAfter append emptyFile noHeader load loadEntries encodeRules encode
     droppingCall dropSession checkRound firstNonElement firstNonCoordinate sheetSpot fileSpot roundSpot spotOf
     firstVerdict spotText rowText lineText reasonLine reasonText repeated reasonOn badLevel strongEnough
-    failsAt markRules markRefusal refusedWord marking lastLine eitherRules isOrAccepted extractOrRules
-    extractedSide extractedOf extractedOr extractOrAfter extractOr pairRules badCommitments badChallenges
-    badResponses judgeOrRules combined verdictOr judgeOrAfter judgeOr orRound sideRows orOutcome own other
-    orProverIn wipedOr newOrProver orStep firstCommitment secondCommitment commitOrRules commitOrAfter unfitOr
-    respondOrRules respondOrAfter dropOrRules commitOr respondOr dropOr otherChallenge firstRound secondRound
-    readOr logarithmSheet smallOr judgingOr orRun bothWaysOr orJudging orExtracting orPeggy knowsFirst
-    orCommitting orResponding orNumbers fewerChallenges unknownVersion emptyRules wideChallenge otherVersion
-    wideRecord converted convertRules convertAfter convert roundsOf fileIn storing starting converting
-    narrowFile eight peggyListed peggyHolds vicHolds orHolds
+    failsAt markRules markRefusal refusedWord marking lastLine eitherRules isOrAccepted extractedSide
+    extractedOf extractedOr extractOr pairRules badCommitments badChallenges badResponses combined verdictOr
+    judgeOr orRound sideRows orOutcome own other orProverIn wipedOr newOrProver firstCommitment
+    secondCommitment unfitOr commitOr respondOr dropOr otherChallenge firstRound secondRound readOr
+    logarithmSheet smallOr judgingOr orRun bothWaysOr orJudging orExtracting orPeggy knowsFirst orCommitting
+    orResponding orNumbers fewerChallenges unknownVersion emptyRules wideChallenge otherVersion wideRecord
+    converted convertRules convertAfter convert roundsOf fileIn storing starting converting narrowFile eight
+    peggyListed peggyHolds vicHolds orHolds extractingOr judgingOrCall committingOr respondingOr droppingOr
 worked-examples = (
   record {
     A = refl;

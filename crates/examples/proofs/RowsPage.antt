@@ -1,7 +1,7 @@
 -- The worked rows that differ hold, computed.
 -- Assumes nothing.
 use mathlib.Core.Path.{refl}
-use Rattle.disjunctions.specs.Judge.{pairRules, badCommitments, badChallenges, badResponses, judgeOrRules, combined, verdictOr, judgeOrAfter, judgeOr}
+use Rattle.disjunctions.specs.Judge.{pairRules, badCommitments, badChallenges, badResponses, combined, verdictOr, judgingOr, judgeOr}
 use Rattle.disjunctions.specs.OneOfTwo.{sideRows, orOutcome}
 use Rattle.disjunctions.specs.Round.{otherChallenge, firstRound, secondRound, readOr}
 use Rattle.encoding.specs.Bytes.{numberAt, bytesOf, bytesOfEach}
@@ -54,9 +54,9 @@ unfolding euclid gcd product find any itemsAt tabulate places pad8 zeros8 eightB
     unfitCommitment takingResponse takeResponse array fourBytes sheetBytes flatten recordBytes checkRound
     firstNonElement firstNonCoordinate sheetSpot fileSpot roundSpot spotOf firstVerdict spotText rowText
     lineText reasonLine reasonText badLevel strongEnough failsAt markRules markRefusal refusedWord eitherRules
-    pairRules badCommitments badChallenges badResponses judgeOrRules combined verdictOr judgeOrAfter judgeOr
-    sideRows orOutcome otherChallenge firstRound secondRound readOr unknownVersion fileIn eightRows withRows
-    threeDiffer pairRound pairBytes
+    pairRules badCommitments badChallenges badResponses combined verdictOr judgeOr sideRows orOutcome
+    otherChallenge firstRound secondRound readOr unknownVersion fileIn eightRows withRows threeDiffer
+    pairRound pairBytes judgingOr
 rows-page = record {
   none = refl;
   three = refl;

@@ -45,8 +45,8 @@ use Rattle.products.specs.Team.{
   badImages,
   badProduct,
   teamRules,
-  commitmentsRules,
-  responsesRules,
+  multiplying as multiplyingCall,
+  joining as joiningCall,
   multiplyCommitments,
   joinResponses,
 }
@@ -106,8 +106,8 @@ unfolding euclid gcd product sum find any itemsAt tabulate places pad8 zeros8 ei
     entriesOf statementOf instanceOf judgeRound proverState proverIn newProver committing unfitProver
     responding commit respond noMemory listedAt isListed isFull listing honestRound array fourBytes sheetBytes
     smallSheet schnorrSheet flatten changed rootBytes multiplyAll joinAll badTeam badImages badProduct
-    teamRules commitmentsRules responsesRules multiplyCommitments joinResponses brought each combining
-    pairBytes teamRun teamNumbers multiplying joining twoRows
+    teamRules multiplyCommitments joinResponses brought each combining pairBytes teamRun teamNumbers
+    multiplying joining twoRows multiplyingCall joiningCall
 team-page = record {
   A = refl;
   E = refl;

@@ -1,19 +1,21 @@
 -- A session that holds a side beyond 1 answers no challenge, and can be dropped like any other.
 -- Assumes nothing.
 use Prim.Native.Nat.{ℕ, _≤_, _<_}
-use mathlib.Core.Path.{_≡_, refl}
+use mathlib.Core.Path.{_≡_, refl, sym, _∙_}
 use mathlib.Core.Logic.{inl, inr}
 use mathlib.Core.List.{List, [], _∷_, _++_}
 use native.Mathlib.Omega.{arith}
+use Rattle.rules.specs.Call.{numberOf}
 use Rattle.rules.specs.Condition.{Applies, Condition, _if_}
 use Rattle.rules.specs.Order.{position, positionIn, refusalOrder}
 use Rattle.rules.proofs.Refuses.{earliest}
 use Rattle.formats.specs.Sheet.{instanceOf}
 use Rattle.disjunctions.specs.Calls.{OrDrop, OrRespond}
 use Rattle.disjunctions.specs.Ours.{callOr}
-use Rattle.disjunctions.specs.Prover.{dropOr, dropOrRules, orProverIn, orStep}
+use Rattle.disjunctions.specs.Prover.{droppingOr, orProverIn}
 use Rattle.disjunctions.specs.Refusals.{pairConditions, respondOrConditions}
 use Rattle.disjunctions.proofs.OrRefusals.{or-refusals}
+use Rattle.disjunctions.proofs.OrSessions.{drop-or-number}
 use Rattle.or_crossing.specs.Calls.{answeredOr}
 use Rattle.or_crossing.specs.Provers.{orAnswer, orProverOf}
 use Rattle.or_crossing.specs.declared.OrSession.{OrSession}
@@ -40,5 +42,6 @@ held-side-refused s s′ given c x beyond =
 -- whether dropping is refused is fixed by the state alone
 pub drop-by-state : (given other : OrSession) → given .phase ≡ other .phase
     → answeredOr OrDrop given .refusal ≡ answeredOr OrDrop other .refusal
-unfolding orAnswer orProverOf callOr dropOr orStep dropOrRules orProverIn
-drop-by-state given other same = rw same
+unfolding orAnswer orProverOf callOr numberOf droppingOr orProverIn
+drop-by-state given other same =
+    drop-or-number (orProverOf given) ∙ rw same (sym (drop-or-number (orProverOf other)))

@@ -8,12 +8,13 @@ use native.Mathlib.Omega.{arith}
 use Rattle.types.specs.declared.Verdict.{Verdict}
 use Rattle.types.specs.declared.Verdict.the-variants.{Accepted, Rejected, Refused}
 use Rattle.rules.specs.Answer.{unlessRefused}
+use Rattle.rules.specs.Call.{answer}
 use Rattle.rules.proofs.Answer.{unlessRefused-zero, unlessRefused-positive}
 use Rattle.sigma.proofs.Verdict.{verdict-not-refused}
 use Rattle.disjunctions.specs.declared.OrRound.{OrRound}
 use Rattle.disjunctions.specs.declared.OrVerdict.{OrVerdict}
 use Rattle.disjunctions.specs.declared.OrVerdict.the-variants.{OrAccepted, OrRejected, OrRefused}
-use Rattle.disjunctions.specs.Judge.{combined, judgeOr, judgeOrAfter, verdictOr}
+use Rattle.disjunctions.specs.Judge.{combined, judgeOr, judgingOr, verdictOr}
 use Rattle.or_crossing.specs.Verdicts.{orJudgement}
 use Rattle.or_crossing.specs.declared.OrJudgement.{OrJudgement}
 
@@ -67,6 +68,6 @@ refusal-not-zero (suc n) v never e =
 
 -- judging does not refuse with 0
 pub judge-or-not-zero : (s s′ : List ℕ) (round : OrRound) → judgeOr s s′ round ≢ OrRefused 0
-unfolding judgeOr judgeOrAfter verdictOr
+unfolding judgeOr judgingOr verdictOr answer
 judge-or-not-zero s s′ round =
     refusal-not-zero _ _ (combined-not-refused _ _ (verdict-not-refused _ _ _ _) (verdict-not-refused _ _ _ _))

@@ -9,6 +9,7 @@ use native.Mathlib.Omega.{arith}
 use lib.Dec.{T, eqb}
 use lib.ListN.{drop}
 use borrow.Author.Tests.{eq-eqb, ne-eqb}
+use Rattle.rules.specs.Call.{numberOf}
 use Rattle.rules.specs.Either.{eitherRules}
 use Rattle.rules.specs.Rule.{Rule, allPositive, lowest}
 use Rattle.rules.proofs.Either.{Rising, SameNumbers, lowerOf, lowest-either}
@@ -18,22 +19,21 @@ use Rattle.sigma.specs.Comparison.{differ}
 use Rattle.sigma.specs.Instance.{Instance}
 use Rattle.sigma.proofs.Calculus.{both-fail}
 use Rattle.disjunctions.specs.declared.OrRound.{OrRound}
-use Rattle.disjunctions.specs.Extractor.{extractOrRules}
-use Rattle.disjunctions.specs.Judge.{badChallenges, judgeOrRules}
+use Rattle.disjunctions.specs.Extractor.{extractingOr}
+use Rattle.disjunctions.specs.Judge.{badChallenges, judgingOr}
 use Rattle.disjunctions.specs.Round.{readOr}
-use Rattle.or_judge.specs.Values.{roundRules}
 use Rattle.or_judge.proofs.RoundTests.{challenges-pass}
 use Rattle.or_extractor.specs.Rounds.{roundsRules}
 
 module _ (i j : Instance) where
   -- the numbers of these rules are the same for all rounds
-  same-numbers : (a b : OrRound) → SameNumbers (roundRules i j a) (roundRules i j b)
-  unfolding judgeOrRules
+  same-numbers : (a b : OrRound) → SameNumbers (judgingOr i j a .refusals) (judgingOr i j b .refusals)
+  unfolding judgingOr
   same-numbers a b = (refl, (refl, (refl, tt)))
 
   -- and rise
-  rising : (round : OrRound) → Rising 13 (roundRules i j round)
-  unfolding judgeOrRules
+  rising : (round : OrRound) → Rising 13 (judgingOr i j round .refusals)
+  unfolding judgingOr
   rising round = (omega arith, (omega arith, (omega arith, tt)))
 
   module _ (a b : OrRound) where
@@ -64,22 +64,23 @@ module _ (i j : Instance) where
 
     -- 14 to 16 are asked of both rounds
     abbrev bothRules : List Rule
-    bothRules = eitherRules (roundRules i j a) (roundRules i j b)
+    bothRules = eitherRules (judgingOr i j a .refusals) (judgingOr i j b .refusals)
 
     -- their number is the lower of both
-    both-number : lowest bothRules ≡ lowerOf (lowest (roundRules i j a)) (lowest (roundRules i j b))
-    both-number = lowest-either 13 (roundRules i j a) (roundRules i j b) (same-numbers a b) (rising a) (rising b)
+    both-number : lowest bothRules ≡ lowerOf (numberOf (judgingOr i j a)) (numberOf (judgingOr i j b))
+    unfolding numberOf
+    both-number = lowest-either 13 (judgingOr i j a .refusals) (judgingOr i j b .refusals) (same-numbers a b) (rising a) (rising b)
 
     -- they come first
     split : lowest (roundsRules i j a b) ≡ lowest (bothRules ++ drop 3 (roundsRules i j a b))
-    unfolding extractOrRules judgeOrRules eitherRules
+    unfolding extractingOr judgingOr eitherRules
     split = refl
 
     both-positive : T (allPositive bothRules)
-    unfolding judgeOrRules eitherRules
+    unfolding judgingOr eitherRules
     both-positive = tt
 
-    module _ {n k l : ℕ} (is-lower : n ≡ lowerOf k l) (is-first : k ≡ lowest (roundRules i j a)) (is-second : l ≡ lowest (roundRules i j b)) where
+    module _ {n k l : ℕ} (is-lower : n ≡ lowerOf k l) (is-first : k ≡ numberOf (judgingOr i j a)) (is-second : l ≡ numberOf (judgingOr i j b)) where
       -- the lower of the two numbers is that of both rounds
       is-both : n ≡ lowest bothRules
       is-both = is-lower ∙ ap₂ lowerOf is-first is-second ∙ sym both-number

@@ -13,15 +13,15 @@ use borrow.Author.Tests.{eq-eqb, ne-eqb}
 use Rattle.types.specs.declared.Computed.{Computed}
 use Rattle.types.specs.declared.Verdict.{Verdict}
 use Rattle.lists.specs.Places.{pad8, places, zeros8}
+use Rattle.rules.specs.Call.{answer, numberOf}
 use Rattle.rules.specs.Rule.{Clear, Rule, _when_, lowest}
-use Rattle.rules.proofs.Call.{number-clear}
+use Rattle.rules.proofs.Call.{number-clear, answer-clear, answer-refused}
 use Rattle.rules.proofs.Lowest.{clear-append, clear-lowest, lowest-clear, lowest-earlier, lowest-later, stop}
-use Rattle.sigma.specs.Answer.{eightPlaces, isAccepted}
+use Rattle.sigma.specs.Answer.{isAccepted}
 use Rattle.sigma.specs.Comparison.{differ}
 use Rattle.sigma.specs.Extractor.{extracting, extractLoaded}
 use Rattle.sigma.specs.Instance.{Instance}
 use Rattle.sigma.specs.Round.{badChallenge, badCommitment, badCoordinates}
-use Rattle.rules.proofs.Answer.{unlessRefused-positive, unlessRefused-zero}
 use Rattle.sigma.proofs.Calculus.{both-fail}
 use Rattle.sigma.proofs.Calls.{extract-given, extract-refusal}
 use Rattle.sigma.proofs.Passed.{challenge-passes}
@@ -29,7 +29,7 @@ use Rattle.disjunctions.specs.declared.OrRound.{OrRound}
 use Rattle.disjunctions.specs.declared.OrVerdict.{OrVerdict}
 use Rattle.disjunctions.specs.declared.OrVerdict.the-variants.{OrAccepted, OrRefused, OrRejected}
 use Rattle.disjunctions.proofs.OrVerdict.{the-type}
-use Rattle.disjunctions.specs.Extractor.{extractOrAfter, extractOrRules, extractedOf, extractedOr, extractedSide, isOrAccepted}
+use Rattle.disjunctions.specs.Extractor.{extractedOf, extractedOr, extractedSide, extractingOr, isOrAccepted}
 use Rattle.disjunctions.specs.Judge.{badChallenges, badCommitments, badResponses, combined, verdictOr}
 use Rattle.disjunctions.specs.Round.{firstRound, otherChallenge, readOr, secondRound}
 use Rattle.disjunctions.proofs.Challenges.{other-apart, other-less}
@@ -57,21 +57,20 @@ module _ (i j : Instance) (a b : OrRound) where
   verdictRules = (20 when (not (isOrAccepted (verdictOr i j (readOr i j a))) || not (isOrAccepted (verdictOr i j (readOr i j b))))) ∷ []
 
   -- the number is that of the rules before judging, or 20
-  split : lowest (extractOrRules i j (readOr i j a) (readOr i j b)) ≡ lowest (roundsRules i j a b ++ verdictRules)
-  unfolding extractOrRules
+  split : numberOf (extractingOr i j a b) ≡ lowest (roundsRules i j a b ++ verdictRules)
+  unfolding extractingOr numberOf
   split = refl
 
   -- a number above 0 is the whole answer
-  refused-with : {n : ℕ} → n ≢ 0 → lowest (extractOrRules i j (readOr i j a) (readOr i j b)) ≡ n
-      → record { values = zeros8; side = 0; refusal = n } ≡ extractOrAfter [] i j a b
-  unfolding extractOrAfter eightPlaces
-  refused-with {n} other given =
-      let some : 0 < n = omega arith in
-      rw (given, unlessRefused-positive _ zeros8 n some, unlessRefused-positive {A = ℕ} _ 0 n some)
+  refused-with : {n : ℕ} → n ≢ 0 → numberOf (extractingOr i j a b) ≡ n
+      → record { values = zeros8; side = 0; refusal = n } ≡ answer (extractingOr i j a b)
+  unfolding extractingOr
+  refused-with other given =
+      ap (extractingOr i j a b .refused) (sym given) ∙ sym (answer-refused (extractingOr i j a b) (omega (arith, given)))
 
   -- a rule before judging gives the answer
   pub rounds-refused : {n : ℕ} → n ≡ lowest (roundsRules i j a b) → n ≢ 0
-      → record { values = zeros8; side = 0; refusal = n } ≡ extractOrAfter [] i j a b
+      → record { values = zeros8; side = 0; refusal = n } ≡ answer (extractingOr i j a b)
   rounds-refused {n} is-lowest other =
       let some : 0 < n = omega arith in
       refused-with other (split ∙ lowest-earlier (roundsRules i j a b) _ (rw (sym is-lowest) some) ∙ sym is-lowest)
@@ -79,36 +78,36 @@ module _ (i j : Instance) (a b : OrRound) where
   module _ (none : 0 ≡ lowest (roundsRules i j a b)) where
     -- no rule before judging applies
     rounds-clear : Clear (roundsRules i j a b)
-    unfolding extractOrRules
+    unfolding extractingOr
     rounds-clear = clear-lowest (roundsRules i j a b) tt (sym none)
 
     -- so both c0 are below K
     pub tested-below : (a .challenge0 < i .header .challenges) × (b .challenge0 < i .header .challenges)
-    unfolding extractOrRules
+    unfolding extractingOr
     tested-below = let below = both-below i j a b (rounds-clear .1 .0) in (below .0 .1, below .1 .1)
 
     -- behind them 20 is left
-    verdicts-left : lowest (extractOrRules i j (readOr i j a) (readOr i j b)) ≡ lowest verdictRules
+    verdicts-left : numberOf (extractingOr i j a b) ≡ lowest verdictRules
     verdicts-left = split ∙ lowest-later (roundsRules i j a b) _ rounds-clear
 
     -- a first round that is not accepted is 20
-    pub first-rejected : {answer : OrVerdict} → answer ≡ verdictOr i j (readOr i j a) → answer ≢ OrAccepted
-        → record { values = zeros8; side = 0; refusal = 20 } ≡ extractOrAfter [] i j a b
-    first-rejected {answer} is-answer other =
-        refused-with (λ (e : 20 ≡ 0). omega arith) (verdicts-left ∙ stop 20 [] (rw (sym is-answer, is-not-accepted answer other)))
+    pub first-rejected : {v : OrVerdict} → v ≡ verdictOr i j (readOr i j a) → v ≢ OrAccepted
+        → record { values = zeros8; side = 0; refusal = 20 } ≡ answer (extractingOr i j a b)
+    first-rejected {v} is-verdict other =
+        refused-with (λ (e : 20 ≡ 0). omega arith) (verdicts-left ∙ stop 20 [] (rw (sym is-verdict, is-not-accepted v other)))
 
     -- so is a second one
-    pub second-rejected : {answer : OrVerdict} → answer ≡ verdictOr i j (readOr i j b) → answer ≢ OrAccepted
-        → record { values = zeros8; side = 0; refusal = 20 } ≡ extractOrAfter [] i j a b
-    second-rejected {answer} is-answer other =
-        refused-with (λ (e : 20 ≡ 0). omega arith) (verdicts-left ∙ stop 20 [] (rw (sym is-answer, is-not-accepted answer other, or-true)))
+    pub second-rejected : {v : OrVerdict} → v ≡ verdictOr i j (readOr i j b) → v ≢ OrAccepted
+        → record { values = zeros8; side = 0; refusal = 20 } ≡ answer (extractingOr i j a b)
+    second-rejected {v} is-verdict other =
+        refused-with (λ (e : 20 ≡ 0). omega arith) (verdicts-left ∙ stop 20 [] (rw (sym is-verdict, is-not-accepted v other, or-true)))
 
     -- two accepted rounds are not refused
-    pub both-accepted : {answer answer′ : OrVerdict} → answer ≡ verdictOr i j (readOr i j a) → answer ≡ OrAccepted
-        → answer′ ≡ verdictOr i j (readOr i j b) → answer′ ≡ OrAccepted → NotRefused i j a b
-    unfolding extractOrRules isOrAccepted
-    both-accepted is-answer accepted is-answer′ accepted′ =
-        clear-append (roundsRules i j a b) verdictRules .1 (rounds-clear, (rw (sym is-answer ∙ accepted, sym is-answer′ ∙ accepted′), tt))
+    pub both-accepted : {v w : OrVerdict} → v ≡ verdictOr i j (readOr i j a) → v ≡ OrAccepted
+        → w ≡ verdictOr i j (readOr i j b) → w ≡ OrAccepted → NotRefused i j a b
+    unfolding extractingOr isOrAccepted
+    both-accepted is-first accepted is-second accepted′ =
+        clear-append (roundsRules i j a b) verdictRules .1 (rounds-clear, (rw (sym is-first ∙ accepted, sym is-second ∙ accepted′), tt))
 
 -- ---- not refused
 
@@ -133,7 +132,7 @@ module _ {i j : Instance} (fit : FitTogether i j) (a b : OrRound) (none : NotRef
 
   -- and both c0 are below it
   pub named-below : (a .challenge0 < i .header .challenges) × (b .challenge0 < i .header .challenges)
-  unfolding extractOrRules
+  unfolding extractingOr
   named-below = let below = both-below i j a b (none .1 .0) in (below .0 .1, below .1 .1)
 
   -- what is left of a challenge is one of the second sheet
@@ -141,24 +140,19 @@ module _ {i j : Instance} (fit : FitTogether i j) (a b : OrRound) (none : NotRef
   left-passes round = challenge-passes j _ .1 (rw (sym (fit .one-count)) (other-less (i .header .challenges) _ _ some-challenge))
 
   -- the rounds give the witness of the side that they name
-  given : extractOrAfter [] i j a b
+  given : answer (extractingOr i j a b)
       ≡ record {
         values = pad8 0 (extractedOr i j (readOr i j a) (readOr i j b));
         side = extractedSide (readOr i j a) (readOr i j b);
         refusal = 0;
       }
-  unfolding extractOrAfter eightPlaces
-  given =
-      rw (
-        lowest-clear _ none,
-        unlessRefused-zero (pad8 0 (extractedOr i j (readOr i j a) (readOr i j b))) _,
-        unlessRefused-zero (extractedSide (readOr i j a) (readOr i j b)) 0,
-      )
+  unfolding extractingOr
+  given = answer-clear (extractingOr i j a b) none
 
   -- no rule of 01's extractor applies to the rounds of side 0 where the c0 differ
   first-clear : a .challenge0 ≢ b .challenge0
       → Clear (extracting i (firstRound a) (firstRound b) .refusals)
-  unfolding extractOrRules extracting firstRound badCommitments badChallenges badResponses verdictOr readOr
+  unfolding extractingOr extracting firstRound badCommitments badChallenges badResponses verdictOr readOr
   first-clear apart =
       let (elements, (challenges, (slots, (same, (other, (accepted, end)))))) = none in
       let both = both-fail (not (isOrAccepted (verdictOr i j (readOr i j a)))) _ .0 accepted in (
@@ -178,7 +172,7 @@ module _ {i j : Instance} (fit : FitTogether i j) (a b : OrRound) (none : NotRef
   -- nor to those of side 1 where they are the same: then what is left of different c is different
   second-clear : a .challenge0 ≡ b .challenge0
       → Clear (extracting j (secondRound (i .header .challenges) a) (secondRound (i .header .challenges) b) .refusals)
-  unfolding extractOrRules extracting secondRound badCommitments badResponses verdictOr readOr
+  unfolding extractingOr extracting secondRound badCommitments badResponses verdictOr readOr
   second-clear one =
       let K = i .header .challenges in
       let (elements, (challenges, (slots, (same, (other, (accepted, end)))))) = none in
@@ -203,25 +197,25 @@ module _ {i j : Instance} (fit : FitTogether i j) (a b : OrRound) (none : NotRef
         ),
       )
 
-  module _ {answer : Computed} where
+  module _ {witness : Computed} where
     -- so where the c0 differ, the witness of side 0 is the answer
-    pub first-side : a .challenge0 ≢ b .challenge0 → answer ≡ extractLoaded i (firstRound a) (firstRound b)
-        → record { values = answer .values; side = 0; refusal = 0 } ≡ extractOrAfter [] i j a b
+    pub first-side : a .challenge0 ≢ b .challenge0 → witness ≡ extractLoaded i (firstRound a) (firstRound b)
+        → record { values = witness .values; side = 0; refusal = 0 } ≡ answer (extractingOr i j a b)
     unfolding firstRound extractedOr extractedSide extractedOf readOr
-    first-side apart is-answer =
+    first-side apart is-witness =
         let runs = extract-refusal i (firstRound a) (firstRound b) ∙ number-clear _ (first-clear apart) in
-        let whole = is-answer ∙ extract-given i (firstRound a) (firstRound b) runs in
-        let values = ap (λ (answer : Computed). answer .values) whole in
+        let whole = is-witness ∙ extract-given i (firstRound a) (firstRound b) runs in
+        let values = ap (λ (given : Computed). given .values) whole in
         sym (given ∙ rw (ne-eqb (a .challenge0) (b .challenge0) apart, values))
 
     -- else that of side 1
     pub second-side : a .challenge0 ≡ b .challenge0
-        → answer ≡ extractLoaded j (secondRound (i .header .challenges) a) (secondRound (i .header .challenges) b)
-        → record { values = answer .values; side = 1; refusal = 0 } ≡ extractOrAfter [] i j a b
+        → witness ≡ extractLoaded j (secondRound (i .header .challenges) a) (secondRound (i .header .challenges) b)
+        → record { values = witness .values; side = 1; refusal = 0 } ≡ answer (extractingOr i j a b)
     unfolding secondRound extractedOr extractedSide extractedOf readOr
-    second-side same is-answer =
+    second-side same is-witness =
         let K = i .header .challenges in
         let runs = extract-refusal j (secondRound K a) (secondRound K b) ∙ number-clear _ (second-clear same) in
-        let whole = is-answer ∙ extract-given j (secondRound K a) (secondRound K b) runs in
-        let values = ap (λ (answer : Computed). answer .values) whole in
+        let whole = is-witness ∙ extract-given j (secondRound K a) (secondRound K b) runs in
+        let values = ap (λ (given : Computed). given .values) whole in
         sym (given ∙ rw (eq-eqb (a .challenge0) (b .challenge0) same, values))

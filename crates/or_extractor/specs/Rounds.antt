@@ -5,13 +5,12 @@ use lib.ListN.{take}
 use Rattle.rules.specs.Rule.{Clear, Rule}
 use Rattle.sigma.specs.Instance.{Instance}
 use Rattle.disjunctions.specs.declared.OrRound.{OrRound}
-use Rattle.disjunctions.specs.Extractor.{extractOrRules}
-use Rattle.disjunctions.specs.Round.{readOr}
+use Rattle.disjunctions.specs.Extractor.{extractingOr}
 
 -- the rules of two rounds but for the last, 20
 abbrev pub roundsRules : Instance → Instance → OrRound → OrRound → List Rule
-roundsRules i j a b = take 5 (extractOrRules i j (readOr i j a) (readOr i j b))
+roundsRules i j a b = take 5 (extractingOr i j a b .refusals)
 
 -- no rule of two rounds applies
 abbrev pub NotRefused : Instance → Instance → OrRound → OrRound → Type 0
-NotRefused i j a b = Clear (extractOrRules i j (readOr i j a) (readOr i j b))
+NotRefused i j a b = Clear (extractingOr i j a b .refusals)

@@ -9,10 +9,10 @@ use pairs::other_challenge;
 use types::Loaded;
 use types::Round;
 ghost use mathlib.Core.Path.{_≡_};
-ghost use mathlib.Core.List.{[]};
 ghost use Prim.Native.Nat.{_≤_, _<_};
 ghost use Rattle.lists.specs.Places.{zeros8};
-ghost use Rattle.disjunctions.specs.Extractor.{extractOrAfter};
+ghost use Rattle.rules.specs.Call.{answer};
+ghost use Rattle.disjunctions.specs.Extractor.{extractingOr};
 ghost use Rattle.disjunctions.specs.Round.{firstRound, secondRound};
 ghost use Rattle.or_judge.specs.Values.{FitTogether, instanceFrom};
 ghost use Rattle.or_extractor.specs.Rounds.{NotRefused};
@@ -67,7 +67,7 @@ fn named_witness(
 ) -> OrExtracted
     requires sheets { ⌜ FitTogether (instanceFrom first entries0) (instanceFrom second entries1) ⌝ }
     requires rounds { ⌜ NotRefused (instanceFrom first entries0) (instanceFrom second entries1) a b ⌝ }
-    ensures { λ answer. ⌜ answer ≡ extractOrAfter [] (instanceFrom first entries0) (instanceFrom second entries1) a b ⌝ }
+    ensures { λ r. ⌜ r ≡ answer (extractingOr (instanceFrom first entries0) (instanceFrom second entries1) a b) ⌝ }
 {
     if a.challenge0 != b.challenge0 {
         let h = first.header;
@@ -105,7 +105,7 @@ pub fn extract_or_loaded(
     b: OrRound,
 ) -> OrExtracted
     requires { ⌜ FitTogether (instanceFrom first entries0) (instanceFrom second entries1) ⌝ }
-    ensures { λ answer. ⌜ answer ≡ extractOrAfter [] (instanceFrom first entries0) (instanceFrom second entries1) a b ⌝ }
+    ensures { λ r. ⌜ r ≡ answer (extractingOr (instanceFrom first entries0) (instanceFrom second entries1) a b) ⌝ }
 {
     let refusal = rounds_refusal(first, second, a, b);
     if refusal != 0 {

@@ -8,9 +8,10 @@ ghost use mathlib.Core.Path.{_≡_};
 ghost use mathlib.Core.Bool.{_||_};
 ghost use mathlib.Core.List.{List};
 ghost use Prim.Native.Nat.{ℕ};
-ghost use Rattle.rules.specs.Rule.{lowest};
+ghost use Rattle.rules.specs.Call.{numberOf};
 ghost use Rattle.sigma.specs.Element.{someNonCoordinate, someNonElement};
-ghost use Rattle.or_judge.specs.Values.{FewPlaces, instanceFrom, roundRules};
+ghost use Rattle.disjunctions.specs.Judge.{judgingOr};
+ghost use Rattle.or_judge.specs.Values.{FewPlaces, instanceFrom};
 
 // Whether some value of one of a round's commitments is no group element of its sheet.
 fn bad_commitments(first: Header, second: Header, round: OrRound) -> bool
@@ -44,7 +45,7 @@ fn bad_responses(first: Header, second: Header, round: OrRound) -> bool
 pub fn round_refusal(first: Loaded, second: Loaded, round: OrRound) -> u32
     requires { ⌜ FewPlaces (first .header) × FewPlaces (second .header) ⌝ }
     ensures { λ r. ⌜ ((entries entries′ : List (List ℕ))
-        → r ≡ lowest (roundRules (instanceFrom first entries) (instanceFrom second entries′) round)) ⌝ }
+        → r ≡ numberOf (judgingOr (instanceFrom first entries) (instanceFrom second entries′) round)) ⌝ }
 {
     let left = first.header;
     let right = second.header;

@@ -1,4 +1,3 @@
 -- Laws that the proofs of the functions cite, by topic.
 pub mod Tested
 pub mod Given
-pub mod AfterPair

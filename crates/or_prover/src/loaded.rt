@@ -15,13 +15,12 @@ use or_session::wiped;
 use pairs::other_challenge;
 use types::Loaded;
 use types::ProverPhase;
-ghost use mathlib.Core.List.{List, []};
+ghost use mathlib.Core.List.{List};
 ghost use mathlib.Core.Path.{_≡_};
 ghost use Prim.Native.Nat.{ℕ};
-ghost use Rattle.rules.specs.Rule.{lowest};
-ghost use Rattle.disjunctions.specs.Prover.{commitOrAfter, respondOrAfter};
+ghost use Rattle.rules.specs.Call.{answer, numberOf};
+ghost use Rattle.disjunctions.specs.Prover.{committingOr, respondingOr};
 ghost use Rattle.or_judge.specs.Values.{FewPlaces, FitTogether, instanceFrom};
-ghost use Rattle.or_prover.specs.Brought.{commitRules, respondRules};
 
 // The number that committing is refused with: 15 for a simulated challenge of K or more, 16 for a slot of the nonce or of the
 // simulated response that is no domain slot of its sheet, 21 in any state but New, or 0.
@@ -36,7 +35,7 @@ fn commit_refusal(
 ) -> u32
     requires { ⌜ FewPlaces (first .header) × FewPlaces (second .header) ⌝ }
     ensures { λ r. ⌜ ((entries entries′ : List (List ℕ))
-        → r ≡ lowest (commitRules (instanceFrom first entries) (instanceFrom second entries′) session side nonce challenge
+        → r ≡ numberOf (committingOr (instanceFrom first entries) (instanceFrom second entries′) session side nonce challenge
         response)) ⌝ }
 {
     if challenge >= first.header.challenges {
@@ -66,8 +65,8 @@ pub fn commit_loaded(
     response: [u32; 8],
 ) -> OrStep
     requires { ⌜ FitTogether (instanceFrom first entries0) (instanceFrom second entries1) ⌝ }
-    ensures { λ r. ⌜ r ≡ commitOrAfter [] (instanceFrom first entries0) (instanceFrom second entries1) session side nonce
-        challenge response ⌝ }
+    ensures { λ r. ⌜ r ≡ answer (committingOr (instanceFrom first entries0) (instanceFrom second entries1) session side nonce
+        challenge response) ⌝ }
 {
     let refusal = commit_refusal(first, second, session, side, nonce, challenge, response);
     if refusal != 0 {
@@ -106,7 +105,7 @@ fn respond_refusal(
     witness: [u32; 8],
 ) -> u32
     requires { ⌜ FitTogether (instanceFrom first entries0) (instanceFrom second entries1) ⌝ }
-    ensures { λ r. ⌜ r ≡ lowest (respondRules (instanceFrom first entries0) (instanceFrom second entries1) session challenge witness) ⌝ }
+    ensures { λ r. ⌜ r ≡ numberOf (respondingOr (instanceFrom first entries0) (instanceFrom second entries1) session challenge witness) ⌝ }
 {
     if challenge >= first.header.challenges {
         return 15;
@@ -138,7 +137,7 @@ pub fn respond_loaded(
     witness: [u32; 8],
 ) -> OrStep
     requires { ⌜ FitTogether (instanceFrom first entries0) (instanceFrom second entries1) ⌝ }
-    ensures { λ r. ⌜ r ≡ respondOrAfter [] (instanceFrom first entries0) (instanceFrom second entries1) session challenge witness ⌝ }
+    ensures { λ r. ⌜ r ≡ answer (respondingOr (instanceFrom first entries0) (instanceFrom second entries1) session challenge witness) ⌝ }
 {
     let refusal = respond_refusal(
         first,

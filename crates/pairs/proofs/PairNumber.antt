@@ -18,7 +18,7 @@ use Rattle.formats.specs.Load.{load, loadRefusal, loadRules, shapeRules}
 use Rattle.formats.specs.Sheet.{instanceOf}
 use Rattle.formats.proofs.Loads.{load-clear, load-given, loads}
 use Rattle.disjunctions.specs.Judge.{pairRules}
-use Rattle.disjunctions.proofs.OrRefusals.{load-numbers}
+use Rattle.disjunctions.proofs.OnPair.{load-numbers}
 
 -- the numbers of a sheet's rules rise
 load-rising : (s : List ℕ) → Rising 1 (loadRules s)

@@ -1,19 +1,19 @@
 -- Each call of the combiner is not refused exactly when TeamRuns says so.
 -- Assumes nothing.
 use Prim.Native.Nat.{ℕ, _<_}
-use mathlib.Core.Path.{_≡_, sym, ap}
+use mathlib.Core.Path.{_≡_, sym, ap, _∙_}
 use mathlib.Core.Logic.{_↔_, _⊎_, inl, inr}
 use mathlib.Core.List.{List}
 use native.Mathlib.Omega.{arith}
 use Rattle.types.specs.declared.Computed.{Computed}
 use Rattle.numbers.proofs.Search.{any-false}
+use Rattle.rules.specs.Call.{numberOf}
 use Rattle.rules.specs.Rule.{Clear}
 use Rattle.rules.proofs.Says.{says-equal, says-false}
 use Rattle.formats.specs.Load.{load, loadRefusal}
 use Rattle.formats.specs.Ours.{fileCalls}
 use Rattle.formats.specs.Sheet.{instanceOf}
 use Rattle.runs.proofs.OnlyRounds.{are-elements}
-use Rattle.sigma.specs.Answer.{computed}
 use Rattle.sigma.specs.Instance.{statementAt}
 use Rattle.sigma.specs.Meaning.{Coordinates, Elements}
 use Rattle.sigma.proofs.Calculus.{says-stable}
@@ -23,14 +23,14 @@ use Rattle.products.specs.Players.{IsTeam}
 use Rattle.products.specs.Refusals.{Refusal28}
 use Rattle.products.specs.RunsWhere.{TeamRuns}
 use Rattle.products.specs.Team.{
-  commitmentsRules,
   joinResponses,
+  joining,
   multiplyCommitments,
+  multiplying,
   part,
-  responsesRules,
   teamRules,
 }
-use Rattle.products.proofs.TeamAnswers.{answered-clear, join-runs, multiply-runs}
+use Rattle.products.proofs.TeamAnswers.{answered-clear, join-number, join-runs, multiply-number, multiply-runs}
 use Rattle.products.proofs.TeamRefusals.{says-badImages, says-badProduct, says-badTeam}
 
 module _ (sheet : List ℕ) (count : ℕ) (images : List (List ℕ)) where
@@ -55,11 +55,12 @@ module _ (sheet : List ℕ) (count : ℕ) (images : List (List ℕ)) where
   multiply-where : (commitments : List (List ℕ))
       → (multiplyCommitments sheet count images commitments .refusal ≡ 0) ↔ ((loadRefusal sheet ≡ 0)
       × IsTeam sheet count images × ((p : ℕ) → p < count → Elements (instanceOf sheet) (part commitments p)))
-  unfolding multiplyCommitments commitmentsRules computed
+  unfolding multiplying numberOf
   multiply-where commitments =
       let inst = instanceOf sheet in (
         λ e.
-            let (loaded, team, (own, (product, none))) = answered-clear sheet count images _ tt e in (
+            let (loaded, team, (own, (product, none))) =
+            answered-clear sheet count images _ tt (sym (multiply-number sheet count images commitments) ∙ e) in (
               loaded,
               is-team team (says-false (says-badProduct inst count images) .0 product),
               λ p b. commitment-passes inst (part commitments p) .0 (any-false count _ .0 own p b),
@@ -72,11 +73,12 @@ module _ (sheet : List ℕ) (count : ℕ) (images : List (List ℕ)) where
   join-where : (responses : List (List ℕ))
       → (joinResponses sheet count images responses .refusal ≡ 0) ↔ ((loadRefusal sheet ≡ 0)
       × IsTeam sheet count images × ((p : ℕ) → p < count → Coordinates (instanceOf sheet) (part responses p)))
-  unfolding joinResponses responsesRules computed
+  unfolding joining numberOf
   join-where responses =
       let inst = instanceOf sheet in (
         λ e.
-            let (loaded, team, (own, (product, none))) = answered-clear sheet count images _ tt e in (
+            let (loaded, team, (own, (product, none))) =
+            answered-clear sheet count images _ tt (sym (join-number sheet count images responses) ∙ e) in (
               loaded,
               is-team team (says-false (says-badProduct inst count images) .0 product),
               λ p b. coordinates-pass inst (part responses p) .0 (any-false count _ .0 own p b),

@@ -1,7 +1,7 @@
 -- What the combiner's calls answer: when they are not refused, what they then give, and that only the places that are read count.
 -- Assumes nothing.
 use Prim.Native.Nat.{ℕ, _%_, _<_, _≤_}
-use mathlib.Core.Path.{_≡_, sym, ap, ap₂, _∙_}
+use mathlib.Core.Path.{_≡_, refl, sym, ap, ap₂, _∙_}
 use mathlib.Core.Logic.{_⊎_, inl, ⊎-elim}
 use mathlib.Core.Bool.{Bool, cond, false, not}
 use mathlib.Core.List.{List, [], _∷_, _++_}
@@ -15,15 +15,16 @@ use Rattle.lists.proofs.Places.{getD-pad8, tabulate-agree}
 use Rattle.numbers.specs.Search.{any}
 use Rattle.numbers.proofs.Product.{product-agree, sum-agree}
 use Rattle.numbers.proofs.Search.{any-agree, any-false}
+use Rattle.rules.specs.Call.{after, numberOf}
 use Rattle.rules.specs.Rule.{Clear, Rule, _when_, allPositive, lowest}
-use Rattle.rules.proofs.Lowest.{clear-append, clear-lowest, lowest-clear}
+use Rattle.rules.proofs.Call.{answer-clear, answer-number, answer-value}
+use Rattle.rules.proofs.Lowest.{clear-append, clear-lowest}
 use Rattle.rules.proofs.Says.{says-false}
 use Rattle.formats.specs.Load.{loadRefusal, loadRules, shapeRules}
 use Rattle.formats.specs.Sheet.{instanceOf}
 use Rattle.formats.proofs.ByteLayout.{length-padded}
 use Rattle.formats.proofs.Loads.{load-clear, loads, loads-valid}
 use Rattle.formats.proofs.Unread.{someNonElement-agree}
-use Rattle.sigma.specs.Answer.{computed}
 use Rattle.sigma.specs.Admission.{elementRules, headerRules}
 use Rattle.sigma.specs.Element.{isCoordinate, someNonCoordinate, someNonElement}
 use Rattle.sigma.specs.Instance.{Instance, isExponent, statementAt}
@@ -32,7 +33,6 @@ use Rattle.sigma.specs.Reads.{Agree}
 use Rattle.sigma.specs.Refusals.{Refusal11, SomeNonElement}
 use Rattle.sigma.specs.Round.{badCommitment, badCoordinates}
 use Rattle.sigma.specs.Valid.{Valid}
-use Rattle.sigma.proofs.Answer.{computed-given, computed-zero}
 use Rattle.sigma.proofs.ByKind.{by-kind}
 use Rattle.sigma.proofs.Passed.{commitment-passes, coordinates-pass}
 use Rattle.sigma.proofs.Tests.{says-badStatement}
@@ -43,13 +43,13 @@ use Rattle.products.specs.Players.{AgreeParts, IsTeam, Joined, ZeroBeyon
 use Rattle.products.specs.Team.{
   badImages,
   badProduct,
-  commitmentsRules,
   joinAll,
   joinResponses,
+  joining,
   multiplyAll,
   multiplyCommitments,
+  multiplying,
   part,
-  responsesRules,
   teamRules,
 }
 use Rattle.products.specs.TeamWorks.{TeamAnswers}
@@ -98,35 +98,33 @@ module _ (sheet : List ℕ) (count : ℕ) (images : List (List ℕ)) where
     unfolding statementAt
     product-passes = says-false (says-badProduct (instanceOf sheet) count images) .1 (λ (i, b, other). other (sym (team .whole i b)))
 
-    -- behind them a call's own rule and 28 give 0 where that rule does not apply
+    -- nor does a call's own rule, and 28 after it, if that rule does not
     none-applies : (n : ℕ) (bad : Bool) → bad ≡ false
-        → lowest
-        (shapeRules sheet ++
+        → Clear (shapeRules sheet ++
         (teamRules (instanceOf sheet) count images ++ (n when bad) ∷ (28 when badProduct (instanceOf sheet) count images) ∷ []))
-        ≡ 0
     none-applies n bad passes =
         let inst = instanceOf sheet in
         let rules = (n when bad) ∷ (28 when badProduct inst count images) ∷ [] in
         let own = clear-append (teamRules inst count images) rules .1 (team-clear, (passes, (product-passes, tt))) in
-        lowest-clear _ (clear-append (shapeRules sheet) (teamRules inst count images ++ rules) .1 (shape-clear .0, own))
+        clear-append (shapeRules sheet) (teamRules inst count images ++ rules) .1 (shape-clear .0, own)
 
     -- commitments of group elements are multiplied
     pub multiply-runs : (commitments : List (List ℕ)) → ((p : ℕ) → p < count → Elements (instanceOf sheet) (part commitments p))
         → multiplyCommitments sheet count images commitments
         ≡ record { refusal = 0; values = pad8 0 (multiplyAll (instanceOf sheet .header) count commitments) }
-    unfolding multiplyCommitments commitmentsRules
+    unfolding multiplyCommitments multiplying
     multiply-runs commitments elements =
         let passes = any-false count _ .1 (λ p b. commitment-passes (instanceOf sheet) (part commitments p) .1 (elements p b)) in
-        rw (none-applies 14 _ passes) (computed-zero _)
+        answer-clear (after (shapeRules sheet) (multiplying (instanceOf sheet) count images commitments)) (none-applies 14 _ passes)
 
     -- responses of domain slots are joined
     pub join-runs : (responses : List (List ℕ)) → ((p : ℕ) → p < count → Coordinates (instanceOf sheet) (part responses p))
         → joinResponses sheet count images responses
         ≡ record { refusal = 0; values = pad8 0 (joinAll (instanceOf sheet .header) count responses) }
-    unfolding joinResponses responsesRules
+    unfolding joinResponses joining
     join-runs responses slots =
         let passes = any-false count _ .1 (λ p b. coordinates-pass (instanceOf sheet) (part responses p) .1 (slots p b)) in
-        rw (none-applies 16 _ passes) (computed-zero _)
+        answer-clear (after (shapeRules sheet) (joining (instanceOf sheet) count images responses)) (none-applies 16 _ passes)
 
 -- ---- joined slots
 
@@ -172,26 +170,39 @@ padded-beyond : (n : ℕ) (xs : List ℕ) → n ≤ 8 → length xs ≡ n → Ze
 padded-beyond n xs few size =
     (length-padded 0 xs (omega arith), λ j b. getD-pad8 0 xs j ∙ List·getD-eq-default xs 0 (omega arith))
 
--- the values of an answer that is not refused
-given-values : (answer : Computed) (xs : List ℕ) → answer ≡ record { refusal = 0; values = pad8 0 xs } → answer .values ≡ pad8 0 xs
-given-values answer xs e = ap (λ (c : Computed). c .values) e
-
 module _ (sheet : List ℕ) (count : ℕ) (images parts : List (List ℕ)) where
+  -- the number of each call
+  pub multiply-number : multiplyCommitments sheet count images parts .refusal
+      ≡ numberOf (after (shapeRules sheet) (multiplying (instanceOf sheet) count images parts))
+  unfolding multiplyCommitments multiplying
+  multiply-number = answer-number _ (λ (c : Computed). c .refusal) refl (λ n. refl)
+
+  pub join-number : joinResponses sheet count images parts .refusal
+      ≡ numberOf (after (shapeRules sheet) (joining (instanceOf sheet) count images parts))
+  unfolding joinResponses joining
+  join-number = answer-number _ (λ (c : Computed). c .refusal) refl (λ n. refl)
+
   -- the call that multiplies
   multiplied-given : multiplyCommitments sheet count images parts .refusal ≡ 0
       → Valid (instanceOf sheet)
       × (multiplyCommitments sheet count images parts .values ≡ pad8 0 (multiplyAll (instanceOf sheet .header) count parts))
-  unfolding multiplyCommitments commitmentsRules computed
+  unfolding multiplyCommitments multiplying numberOf
   multiplied-given none =
-      (loads-valid sheet (answered-clear sheet count images _ tt none .0), given-values _ _ (computed-given _ _ none))
+      let zero = sym multiply-number ∙ none in (
+        loads-valid sheet (answered-clear sheet count images _ tt zero .0),
+        ap (λ (c : Computed). c .values) (answer-value (after (shapeRules sheet) (multiplying (instanceOf sheet) count images parts)) zero),
+      )
 
   -- the call that joins
   joined-given : joinResponses sheet count images parts .refusal ≡ 0
       → Valid (instanceOf sheet)
       × (joinResponses sheet count images parts .values ≡ pad8 0 (joinAll (instanceOf sheet .header) count parts))
-  unfolding joinResponses responsesRules computed
+  unfolding joinResponses joining numberOf
   joined-given none =
-      (loads-valid sheet (answered-clear sheet count images _ tt none .0), given-values _ _ (computed-given _ _ none))
+      let zero = sym join-number ∙ none in (
+        loads-valid sheet (answered-clear sheet count images _ tt zero .0),
+        ap (λ (c : Computed). c .values) (answer-value (after (shapeRules sheet) (joining (instanceOf sheet) count images parts)) zero),
+      )
 
 -- ---- what is read
 
@@ -225,7 +236,7 @@ module _ (sheet : List ℕ) (count : ℕ) (images images′ parts parts′ : Lis
   -- the call that multiplies
   multiply-read : AgreeParts count (instanceOf sheet .header .rows) parts parts′
       → multiplyCommitments sheet count images parts ≡ multiplyCommitments sheet count images′ parts′
-  unfolding multiplyCommitments commitmentsRules teamRules badImages badProduct badCommitment
+  unfolding multiplyCommitments multiplying teamRules badImages badProduct badCommitment
   multiply-read own =
       let h = instanceOf sheet .header in
       rw (
@@ -238,7 +249,7 @@ module _ (sheet : List ℕ) (count : ℕ) (images images′ parts parts′ : Lis
   -- the call that joins
   join-read : AgreeParts count (instanceOf sheet .header .columns) parts parts′
       → joinResponses sheet count images parts ≡ joinResponses sheet count images′ parts′
-  unfolding joinResponses responsesRules teamRules badImages badProduct badCoordinates
+  unfolding joinResponses joining teamRules badImages badProduct badCoordinates
   join-read own =
       let h = instanceOf sheet .header in
       rw (

@@ -1,26 +1,26 @@
 -- The combiner's refusals: the number is that of the first condition that holds, and a refused call gives zeros.
 -- Assumes nothing.
 use Prim.Native.Nat.{ℕ, _<_}
-use mathlib.Core.Path.{refl, sym, _∙_}
+use mathlib.Core.Path.{_≡_, refl, sym, _∙_}
 use mathlib.Core.Logic.{_⊎_}
 use mathlib.Core.List.{List, _++_}
+use Rattle.types.specs.declared.Computed.{Computed}
 use Rattle.lists.specs.Places.{zeros8}
+use Rattle.rules.specs.Call.{after}
 use Rattle.rules.specs.Condition.{Condition, Tests}
 use Rattle.rules.specs.Order.{isSublist, refusalOrder}
 use Rattle.rules.specs.Refuses.{conditionNumbers}
 use Rattle.rules.specs.Rule.{Rule}
 use Rattle.rules.specs.Says.{Says}
 use Rattle.rules.proofs.Condition.{tests-append}
-use Rattle.rules.proofs.Refuses.{refuses-tested}
+use Rattle.rules.proofs.Refuses.{refuses-call}
 use Rattle.rules.proofs.Says.{says-iff, says-less, says-or}
 use Rattle.formats.specs.Load.{shapeRules}
 use Rattle.formats.specs.Refusals.{shapeConditions}
 use Rattle.formats.specs.Sheet.{instanceOf}
 use Rattle.formats.proofs.Refusals.{shape-tests}
-use Rattle.sigma.specs.Answer.{computed, eightPlaces}
 use Rattle.sigma.specs.Instance.{Instance, statementAt}
 use Rattle.sigma.specs.Refusals.{Refusal11, SomeNonElement}
-use Rattle.rules.proofs.Answer.{unlessRefused-positive}
 use Rattle.sigma.proofs.Calculus.{says-any}
 use Rattle.sigma.proofs.Comparison.{says-differ}
 use Rattle.sigma.proofs.Tests.{
@@ -36,11 +36,11 @@ use Rattle.products.specs.Team.{
   badImages,
   badProduct,
   badTeam,
-  commitmentsRules,
   joinResponses,
+  joining,
   multiplyCommitments,
+  multiplying,
   part,
-  responsesRules,
   teamRules,
 }
 use Rattle.products.specs.TeamWorks.{TeamRefusals}
@@ -79,9 +79,9 @@ module _ (sheet : List ℕ) (count : ℕ) (images : List (List ℕ)) where
 
   -- the rules of the commitments test their conditions
   multiply-tests : (commitments : List (List ℕ))
-      → Tests (shapeRules sheet ++ commitmentsRules (instanceOf sheet) count images commitments)
+      → Tests (shapeRules sheet ++ multiplying (instanceOf sheet) count images commitments .refusals)
       (multiplyConditions sheet count images commitments)
-  unfolding commitmentsRules
+  unfolding multiplying
   multiply-tests commitments =
       let inst = instanceOf sheet in
       behind-team _ _
@@ -89,9 +89,9 @@ module _ (sheet : List ℕ) (count : ℕ) (images : List (List ℕ)) where
 
   -- the rules of the responses test theirs
   join-tests : (responses : List (List ℕ))
-      → Tests (shapeRules sheet ++ responsesRules (instanceOf sheet) count images responses)
+      → Tests (shapeRules sheet ++ joining (instanceOf sheet) count images responses .refusals)
       (joinConditions sheet count images responses)
-  unfolding responsesRules
+  unfolding joining
   join-tests responses =
       let inst = instanceOf sheet in
       behind-team _ _
@@ -100,13 +100,13 @@ module _ (sheet : List ℕ) (count : ℕ) (images : List (List ℕ)) where
 -- ---- both calls
 
 pub team-refusals : TeamRefusals teamCalls
-unfolding conditionNumbers isSublist refusalOrder multiplyCommitments joinResponses computed eightPlaces
+unfolding conditionNumbers isSublist refusalOrder multiplyCommitments multiplying joinResponses joining
 team-refusals = record {
   multiplying = λ sheet count images commitments.
-      refuses-tested _ _ refl refl _ (multiply-tests sheet count images commitments)
-      (unlessRefused-positive _ zeros8 _);
+      refuses-call _ _ (after (shapeRules sheet) (multiplying (instanceOf sheet) count images commitments)) (λ (c : Computed). c .refusal)
+      (λ c. c .values ≡ zeros8) refl refl (multiply-tests sheet count images commitments) refl (λ n. refl) (λ n some. refl);
   joining = λ sheet count images responses.
-      refuses-tested _ _ refl refl _ (join-tests sheet count images responses)
-      (unlessRefused-positive _ zeros8 _);
+      refuses-call _ _ (after (shapeRules sheet) (joining (instanceOf sheet) count images responses)) (λ (c : Computed). c .refusal)
+      (λ c. c .values ≡ zeros8) refl refl (join-tests sheet count images responses) refl (λ n. refl) (λ n some. refl);
   inserted = refl;
 }

@@ -8,14 +8,14 @@ use lib.Dec.{ltb}
 use lib.ListN.{getD}
 use Rattle.types.specs.declared.Computed.{Computed}
 use Rattle.types.specs.declared.Header.{Header}
-use Rattle.lists.specs.Places.{tabulate}
+use Rattle.lists.specs.Places.{pad8, tabulate, zeros8}
 use Rattle.numbers.specs.Product.{product, sum}
 use Rattle.numbers.specs.Search.{any}
-use Rattle.rules.specs.Rule.{Rule, _when_, lowest}
+use Rattle.rules.specs.Call.{Call, after, answer}
+use Rattle.rules.specs.Rule.{Rule, _when_}
 use Rattle.formats.specs.Load.{shapeRules}
 use Rattle.formats.specs.Sheet.{instanceOf}
 use Rattle.sigma.specs.Admission.{badEntries, badStatement}
-use Rattle.sigma.specs.Answer.{computed}
 use Rattle.sigma.specs.Comparison.{differ}
 use Rattle.sigma.specs.Element.{someNonElement}
 use Rattle.sigma.specs.Instance.{Instance, isExponent}
@@ -49,30 +49,38 @@ badImages inst count images =
 unfoldable pub badProduct : Instance → ℕ → List (List ℕ) → Bool
 badProduct inst count images = differ (inst .header .rows) (multiplyAll (inst .header) count images) (inst .statement)
 
--- the rules of the team and of what both calls take, behind those of the sheet's shape
+-- the rules of the team and of what both calls take, after those of the sheet's shape
 unfoldable pub teamRules : Instance → ℕ → List (List ℕ) → List Rule
 teamRules inst count images = (27 when badTeam count) ∷ (10 when badEntries inst) ∷ (11 when badImages inst count images) ∷ []
 
--- the rules of the commitments, then 28
-unfoldable pub commitmentsRules : Instance → ℕ → List (List ℕ) → List (List ℕ) → List Rule
-commitmentsRules inst count images commitments =
-    teamRules inst count images ++ (14 when any count (λ p. badCommitment inst (part commitments p))) ∷
-    (28 when badProduct inst count images) ∷ []
+-- multiplying the players' commitments: 27, 10 and 11, 14 for any player's commitment, 28, else a value for each row
+unfoldable pub multiplying : Instance → ℕ → List (List ℕ) → List (List ℕ) → Call Computed
+multiplying inst count images commitments =
+    record {
+      refusals =
+          teamRules inst count images ++ (14 when any count (λ p. badCommitment inst (part commitments p))) ∷
+          (28 when badProduct inst count images) ∷ [];
+      value = record { refusal = 0; values = pad8 0 (multiplyAll (inst .header) count commitments) };
+      refused = λ n. record { refusal = n; values = zeros8 };
+    }
 
--- the rules of the responses, then 28
-unfoldable pub responsesRules : Instance → ℕ → List (List ℕ) → List (List ℕ) → List Rule
-responsesRules inst count images responses =
-    teamRules inst count images ++ (16 when any count (λ p. badCoordinates inst (part responses p))) ∷
-    (28 when badProduct inst count images) ∷ []
+-- joining the players' responses: 27, 10 and 11, 16 for any player's response, 28, else a slot for each column
+unfoldable pub joining : Instance → ℕ → List (List ℕ) → List (List ℕ) → Call Computed
+joining inst count images responses =
+    record {
+      refusals =
+          teamRules inst count images ++ (16 when any count (λ p. badCoordinates inst (part responses p))) ∷
+          (28 when badProduct inst count images) ∷ [];
+      value = record { refusal = 0; values = pad8 0 (joinAll (inst .header) count responses) };
+      refused = λ n. record { refusal = n; values = zeros8 };
+    }
 
 -- the call that multiplies the players' commitments
 unfoldable pub multiplyCommitments : List ℕ → ℕ → List (List ℕ) → List (List ℕ) → Computed
 multiplyCommitments sheet count images commitments =
-    computed (lowest (shapeRules sheet ++ commitmentsRules (instanceOf sheet) count images commitments))
-    (multiplyAll (instanceOf sheet .header) count commitments)
+    answer (after (shapeRules sheet) (multiplying (instanceOf sheet) count images commitments))
 
 -- the call that joins the players' responses
 unfoldable pub joinResponses : List ℕ → ℕ → List (List ℕ) → List (List ℕ) → Computed
 joinResponses sheet count images responses =
-    computed (lowest (shapeRules sheet ++ responsesRules (instanceOf sheet) count images responses))
-    (joinAll (instanceOf sheet .header) count responses)
+    answer (after (shapeRules sheet) (joining (instanceOf sheet) count images responses))

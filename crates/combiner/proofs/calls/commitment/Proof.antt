@@ -1,13 +1,13 @@
 -- `combiner::calls::commitment` meets its contract: the number of the sheet and the team's size is the answer, else the call is that on
 -- the sheet's values.
 -- Assumes nothing.
-use mathlib.Core.Path.{_≡_, refl, _∙_}
+use mathlib.Core.Path.{refl, _∙_}
 use native.Mathlib.Omega.{arith}
-use Rattle.formats.specs.Load.{loadRefusal}
-use Rattle.formats.specs.Sheet.{entriesOf}
+use Rattle.rules.specs.Call.{after, numberOf}
+use Rattle.formats.specs.Load.{shapeRules}
 use Rattle.sigma.proofs.Valid.{valid-modulus}
 use Rattle.instance.proofs.Answers.{answer-instance, answer-number, answer-valid}
-use Rattle.products.specs.Team.{commitmentsRules, multiplyAll, multiplyCommitments}
+use Rattle.products.specs.Team.{multiplyCommitments, multiplying}
 use Rattle.combiner.proofs.SheetNumber.{sized-call, sized-loads, sized-number, sized-passes}
 use Rattle.combiner.proofs.TeamNumber.{few-players, number-answer}
 use Rattle.combiner.proofs.calls.commitment.Statement.{statement}
@@ -23,11 +23,13 @@ refused-requires : tie.Need-refused-requires
 refused-requires c κs = omega arith
 
 returns : tie.Need-returns
-unfolding multiplyCommitments commitmentsRules
+unfolding multiplyCommitments multiplying numberOf
 returns c =
     let tested = c .before .before in
     let number = tested .sheet-refusal .ensures _ (answer-number _ _ (tested .before .load .ensures)) in
-    c .refused .ensures ∙ number-answer (sized-number _ _ number _ _ (c .before .if1 .taken)) _ (c .before .if1 .taken)
+    let args = tested .before .before .before .args in
+    number-answer (after (shapeRules _) (multiplying _ (args .count) (args .images) (args .parts))) (sized-number _ _ number _ _ (c .before .if1 .taken)) (c .before .if1 .taken)
+    (c .refused .ensures)
 
 multiply-loaded-requires : tie.Need-multiply-loaded-requires
 multiply-loaded-requires c κs =
@@ -51,8 +53,8 @@ returns-2 c =
     let (shape, (team, elements)) = sized-passes _ _ number (passed .if1 .left) in
     let loads = answer-number _ _ loaded ∙ sized-loads _ _ number (passed .if1 .left) in
     let same = answer-instance _ _ loaded loads refl in
-    sized-call _ _ number (passed .if1 .left) (λ inst. commitmentsRules inst (args .count) (args .images) (args .parts))
-    (λ h. multiplyAll h (args .count) (args .parts)) same (c .multiply-loaded .ensures _ team (rw same elements))
+    sized-call _ _ number (passed .if1 .left) (λ inst. multiplying inst (args .count) (args .images) (args .parts))
+    same (c .multiply-loaded .ensures _ team (rw same elements))
 
 pub commitment-spec : {M : Type 1} → statement M
 commitment-spec =

@@ -2,9 +2,10 @@
 -- Assumes nothing.
 use mathlib.Core.Path.{sym, _∙_}
 use native.Mathlib.Omega.{arith}
+use Rattle.rules.specs.Call.{numberOf}
 use Rattle.sigma.specs.Round.{badCommitment}
 use Rattle.combiner.specs.Parts.{nonElementPart}
-use Rattle.products.specs.Team.{commitmentsRules}
+use Rattle.products.specs.Team.{multiplying}
 use Rattle.combiner.proofs.TeamNumber.{all-right, image-bad, images-right, parts-bad, product-bad, team-first}
 use Rattle.combiner.proofs.testing.commitments_refusal.Statement.{statement}
 use Rattle.combiner.proofs.testing.commitments_refusal.Tie as tie
@@ -13,7 +14,7 @@ some-non-element-part-requires : tie.Need-some-non-element-part-requires
 some-non-element-part-requires c κs = omega arith
 
 returns : tie.Need-returns
-unfolding commitmentsRules
+unfolding multiplying numberOf
 returns c = λ entries team elements.
     let bad = image-bad _ _ _ team elements (sym (c .before .some-non-element-part .ensures) ∙ c .if1 .taken) in
     team-first _ _ _ 14 _ _ bad (omega arith)
@@ -22,7 +23,7 @@ some-non-element-part-requires-2 : tie.Need-some-non-element-part-requires-2
 some-non-element-part-requires-2 c κs = omega arith
 
 returns-2 : tie.Need-returns-2
-unfolding commitmentsRules badCommitment nonElementPart
+unfolding multiplying numberOf badCommitment nonElementPart
 returns-2 c = λ entries team elements.
     let good = c .before .before in
     let right = images-right _ _ _ team elements (sym (good .before .some-non-element-part .ensures) ∙ good .if1 .left) in
@@ -32,7 +33,7 @@ bad-product-requires : tie.Need-bad-product-requires
 bad-product-requires c κs = omega arith
 
 returns-3 : tie.Need-returns-3
-unfolding commitmentsRules badCommitment nonElementPart
+unfolding multiplying numberOf badCommitment nonElementPart
 returns-3 c = λ entries team elements.
     let tested = c .before .before in
     let good = tested .before .before in
@@ -41,7 +42,7 @@ returns-3 c = λ entries team elements.
     (sym (c .before .bad-product .ensures _) ∙ c .if3 .taken)
 
 returns-4 : tie.Need-returns-4
-unfolding commitmentsRules badCommitment nonElementPart
+unfolding multiplying numberOf badCommitment nonElementPart
 returns-4 c = λ entries team elements.
     let tested = c .before .before in
     let good = tested .before .before in

@@ -3,7 +3,7 @@
 use mathlib.Core.Path.{sym, _∙_}
 use native.Mathlib.Omega.{arith}
 use Rattle.rules.proofs.Lowest.{pass, stop, lowest-clear}
-use Rattle.disjunctions.specs.Extractor.{extractOrRules}
+use Rattle.disjunctions.specs.Extractor.{extractingOr}
 use Rattle.or_extractor.proofs.RoundsTests.{challenges-apart, challenges-same, differences-read, rounds-left, rounds-lower}
 use Rattle.or_extractor.proofs.rounds.rounds_refusal.Statement.{statement}
 use Rattle.or_extractor.proofs.rounds.rounds_refusal.Tie as tie
@@ -28,7 +28,7 @@ commitments-differ-requires : tie.Need-commitments-differ-requires
 commitments-differ-requires c κs = c .before .before .before .before .before .before .pre
 
 returns-2 : tie.Need-returns-2
-unfolding extractOrRules
+unfolding extractingOr
 returns-2 c = λ entries entries′.
     let zero = c .before .before .before .before in
     let second = zero .before .before in
@@ -37,7 +37,7 @@ returns-2 c = λ entries entries′.
     ∙ stop 18 _ (differences-read _ _ _ _ ∙ sym (c .before .commitments-differ .ensures) ∙ c .if2 .taken))
 
 returns-3 : tie.Need-returns-3
-unfolding extractOrRules
+unfolding extractingOr
 returns-3 c = λ entries entries′.
     let same = c .before .before .before in
     let zero = same .before .before .before .before in
@@ -48,7 +48,7 @@ returns-3 c = λ entries entries′.
     ∙ stop 19 _ (challenges-same _ _ _ _ (c .if3 .taken)))
 
 returns-4 : tie.Need-returns-4
-unfolding extractOrRules
+unfolding extractingOr
 returns-4 c = λ entries entries′.
     let same = c .before .before .before in
     let zero = same .before .before .before .before in

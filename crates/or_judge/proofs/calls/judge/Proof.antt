@@ -1,11 +1,10 @@
 -- `or_judge::calls::judge` meets its contract: a refused pair's number is the answer, else a refused round's, else the verdict on
 -- the loaded values.
 -- Assumes nothing.
-use mathlib.Core.Path.{refl, sym}
+use mathlib.Core.Path.{refl}
 use native.Mathlib.Omega.{arith}
-use Rattle.disjunctions.specs.Judge.{judgeOr}
+use Rattle.disjunctions.specs.Judge.{judgeOr, judgingOr}
 use Rattle.pairs.proofs.PairAnswers.{first-header, first-valid, pair-call, pair-count, pair-refused, second-header, second-valid}
-use Rattle.or_judge.proofs.AfterPair.{judgeOrAfter-clear, judgeOrAfter-refused}
 use Rattle.or_judge.proofs.Verdicts.{or-below, or-number, or-verdict, valid-few}
 use Rattle.or_judge.proofs.calls.judge.Statement.{statement}
 use Rattle.or_judge.proofs.calls.judge.Tie as tie
@@ -14,10 +13,8 @@ load-pair-requires : tie.Need-load-pair-requires
 load-pair-requires c κs = omega arith
 
 returns : tie.Need-returns
-unfolding judgeOr
-returns c =
-    let (number, some) = pair-refused _ _ _ (c .before .load-pair .ensures) (c .if1 .taken) in
-    rw number (sym (judgeOrAfter-refused _ _ _ some _))
+unfolding judgeOr judgingOr
+returns c = pair-refused _ _ _ (c .before .load-pair .ensures) (c .if1 .taken) (judgingOr _ _ _)
 
 round-refusal-requires : tie.Need-round-refusal-requires
 round-refusal-requires c κs =
@@ -32,8 +29,7 @@ returns-2 c =
     let passed = tested .before .before .before in
     let round = passed .before .before .before .before .args .round in
     pair-call _ _ _ (passed .before .load-pair .ensures) (passed .if1 .left)
-    (λ before i j none. judgeOrAfter-clear before i j none round)
-    refl refl (or-number _ _ round (tested .round-refusal .ensures _ _) (c .if2 .taken))
+    (λ i j. judgingOr i j round) refl refl (or-number _ _ round (tested .round-refusal .ensures _ _) (c .if2 .taken))
 
 loaded-entries-requires : tie.Need-loaded-entries-requires
 loaded-entries-requires c κs =
@@ -66,8 +62,7 @@ returns-3 c =
     let passed = none .before .before .before .before in
     let round = passed .before .before .before .before .args .round in
     pair-call _ _ _ (passed .before .load-pair .ensures) (passed .if1 .left)
-    (λ before i j none. judgeOrAfter-clear before i j none round)
-    (entries .before .loaded-entries .ensures) (entries .loaded-entries2 .ensures)
+    (λ i j. judgingOr i j round) (entries .before .loaded-entries .ensures) (entries .loaded-entries2 .ensures)
     (or-verdict _ _ round (none .before .round-refusal .ensures _ _) (none .if2 .left) (c .verdict-or .ensures))
 
 pub judge-spec : {M : Type 1} → statement M

@@ -1,10 +1,9 @@
 -- `or_prover::calls::commit` meets its contract: a refused pair's number is the answer, else the values of both sheets are loaded.
 -- Assumes nothing.
-use mathlib.Core.Path.{sym}
+use mathlib.Core.Path.{_∙_}
 use native.Mathlib.Omega.{arith}
-use Rattle.disjunctions.specs.Prover.{commitOr}
+use Rattle.disjunctions.specs.Prover.{commitOr, committingOr}
 use Rattle.pairs.proofs.PairAnswers.{first-header, first-valid, pair-call, pair-count, pair-refused, second-header, second-valid}
-use Rattle.or_prover.proofs.AfterPair.{commitOrAfter-clear, commitOrAfter-refused}
 use Rattle.or_prover.proofs.calls.commit.Statement.{statement}
 use Rattle.or_prover.proofs.calls.commit.Tie as tie
 
@@ -15,10 +14,9 @@ refused-requires : tie.Need-refused-requires
 refused-requires c κs = omega arith
 
 returns : tie.Need-returns
-unfolding commitOr
+unfolding commitOr committingOr
 returns c =
-    let (number, some) = pair-refused _ _ _ (c .before .before .load-pair .ensures) (c .before .if1 .taken) in
-    rw (c .refused .ensures, number) (sym (commitOrAfter-refused _ _ _ some _ _ _ _ _))
+    c .refused .ensures ∙ pair-refused _ _ _ (c .before .before .load-pair .ensures) (c .before .if1 .taken) (committingOr _ _ _ _ _ _ _)
 
 loaded-entries-requires : tie.Need-loaded-entries-requires
 loaded-entries-requires c κs =
@@ -47,8 +45,7 @@ returns-2 c =
     let passed = entries .before .before .before .before in
     let args = passed .before .before .before .before .args in
     pair-call _ _ _ (passed .before .load-pair .ensures) (passed .if1 .left)
-    (λ before i j none. commitOrAfter-clear before i j none (args .session) (args .side) (args .nonce) (args .challenge) (args .response))
-    (entries .before .loaded-entries .ensures) (entries .loaded-entries2 .ensures) (c .commit-loaded .ensures)
+    (λ i j. committingOr i j (args .session) (args .side) (args .nonce) (args .challenge) (args .response)) (entries .before .loaded-entries .ensures) (entries .loaded-entries2 .ensures) (c .commit-loaded .ensures)
 
 pub commit-spec : {M : Type 1} → statement M
 commit-spec =

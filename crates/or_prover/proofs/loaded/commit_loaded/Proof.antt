@@ -1,7 +1,7 @@
 -- `or_prover::loaded::commit_loaded` meets its contract: the rules' number decides, and what is stored is what is read by each side.
 -- Assumes nothing.
 use native.Mathlib.Omega.{arith}
-use Rattle.disjunctions.specs.Prover.{commitOrAfter}
+use Rattle.disjunctions.specs.Prover.{committingOr}
 use Rattle.or_judge.proofs.Verdicts.{valid-few}
 use Rattle.or_session.proofs.SideTests.{few-own}
 use Rattle.or_prover.proofs.Given.{commit-given}
@@ -19,9 +19,9 @@ refused-requires : tie.Need-refused-requires
 refused-requires c κs = omega arith
 
 returns : tie.Need-returns
-unfolding commitOrAfter
+unfolding committingOr
 returns c =
-    step-refused _ _ _ _ _ (c .before .before .commit-refusal .ensures _ _) (c .before .if1 .taken) (c .refused .ensures)
+    step-refused (committingOr _ _ _ _ _ _ _) (c .before .before .commit-refusal .ensures _ _) (c .before .if1 .taken) (c .refused .ensures)
 
 own-header-requires : tie.Need-own-header-requires
 own-header-requires c κs = omega arith

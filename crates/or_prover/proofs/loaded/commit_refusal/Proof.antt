@@ -3,11 +3,12 @@
 use mathlib.Core.Path.{sym, _∙_}
 use borrow.Author.Needs.{needs}
 use Rattle.types.specs.declared.ProverPhase.the-variants.{New}
+use Rattle.rules.specs.Call.{numberOf}
 use Rattle.rules.proofs.Lowest.{pass, stop, lowest-clear}
 use Rattle.sigma.proofs.Calculus.{says-passes}
 use Rattle.sigma.proofs.Passed.{challenge-passes}
 use Rattle.sigma.proofs.Tests.{says-badChallenge}
-use Rattle.disjunctions.specs.Prover.{commitOrRules}
+use Rattle.disjunctions.specs.Prover.{committingOr}
 use Rattle.disjunctions.proofs.SessionTests.{says-or-prover}
 use Rattle.or_session.specs.Sides.{badSlots}
 use Rattle.or_session.proofs.States.{not-new}
@@ -15,14 +16,14 @@ use Rattle.or_prover.proofs.loaded.commit_refusal.Statement.{statement}
 use Rattle.or_prover.proofs.loaded.commit_refusal.Tie as tie
 
 returns : tie.Need-returns
-unfolding commitOrRules
+unfolding committingOr numberOf
 returns c = λ entries entries′. sym (stop 15 _ (says-badChallenge _ _ .complete (c .if1 .taken)))
 
 bad-slots-requires : tie.Need-bad-slots-requires
 bad-slots-requires c κs = c .before .before .pre
 
 returns-2 : tie.Need-returns-2
-unfolding commitOrRules badSlots
+unfolding committingOr numberOf badSlots
 returns-2 c = λ entries entries′.
     sym (pass 15 _ (challenge-passes _ _ .1 (c .before .before .if1 .left))
     ∙ stop 16 _ (sym (c .before .bad-slots .ensures _ _ _ _) ∙ c .if2 .taken))
@@ -31,7 +32,7 @@ enum-told : tie.Need-enum-told
 enum-told c = search needs
 
 returns-3 : tie.Need-returns-3
-unfolding commitOrRules badSlots
+unfolding committingOr numberOf badSlots
 returns-3 c = λ entries entries′.
     let slots = c .before in
     sym (pass 15 _ (challenge-passes _ _ .1 (slots .before .before .if1 .left))
@@ -39,7 +40,7 @@ returns-3 c = λ entries entries′.
     ∙ stop 21 _ (not-new _ (c .match .keys2)))
 
 returns-4 : tie.Need-returns-4
-unfolding commitOrRules badSlots
+unfolding committingOr numberOf badSlots
 returns-4 c = λ entries entries′.
     let slots = c .before .before in
     sym (lowest-clear _ (

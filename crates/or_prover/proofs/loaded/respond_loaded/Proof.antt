@@ -3,7 +3,7 @@
 use native.Mathlib.Nat.{le-of-lt}
 use native.Mathlib.Omega.{arith}
 use Rattle.sigma.proofs.Valid.{valid-modulus, valid-order}
-use Rattle.disjunctions.specs.Prover.{respondOrAfter}
+use Rattle.disjunctions.specs.Prover.{respondingOr}
 use Rattle.or_prover.proofs.Given.{respond-given}
 use Rattle.or_session.proofs.Steps.{step-refused}
 use Rattle.or_prover.proofs.Tested.{respond-below}
@@ -17,8 +17,9 @@ refused-requires : tie.Need-refused-requires
 refused-requires c κs = omega arith
 
 returns : tie.Need-returns
-unfolding respondOrAfter
-returns c = step-refused _ _ _ _ _ (c .before .before .respond-refusal .ensures) (c .before .if1 .taken) (c .refused .ensures)
+unfolding respondingOr
+returns c =
+    step-refused (respondingOr _ _ _ _ _) (c .before .before .respond-refusal .ensures) (c .before .if1 .taken) (c .refused .ensures)
 
 other-challenge-requires : tie.Need-other-challenge-requires
 other-challenge-requires c κs =

@@ -6,10 +6,11 @@ use mathlib.Core.Bool.{not, or-eq-true-iff}
 use mathlib.Core.Logic.{Or·inl, Or·inr}
 use borrow.Author.Needs.{needs}
 use Rattle.types.specs.declared.ProverPhase.the-variants.{Committed}
+use Rattle.rules.specs.Call.{numberOf}
 use Rattle.rules.proofs.Lowest.{stop, lowest-clear}
 use Rattle.sigma.proofs.Calculus.{says-passes, both-fail}
 use Rattle.sigma.proofs.Tests.{says-badChallenge}
-use Rattle.disjunctions.specs.Prover.{orProverIn, respondOrRules}
+use Rattle.disjunctions.specs.Prover.{orProverIn, respondingOr}
 use Rattle.disjunctions.proofs.SessionTests.{says-or-prover}
 use Rattle.or_session.proofs.States.{not-committed}
 use Rattle.or_prover.proofs.Tested.{session-left, witness-stops}
@@ -17,7 +18,7 @@ use Rattle.or_prover.proofs.loaded.respond_refusal.Statement.{statement
 use Rattle.or_prover.proofs.loaded.respond_refusal.Tie as tie
 
 returns : tie.Need-returns
-unfolding respondOrRules
+unfolding respondingOr numberOf
 returns c = sym (stop 15 _ (says-badChallenge _ _ .complete (c .if1 .taken)))
 
 own-witness-refusal-requires : tie.Need-own-witness-refusal-requires
