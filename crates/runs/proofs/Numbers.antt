@@ -66,33 +66,36 @@ module _ (sheet : List ℕ) where
 
   -- ---- calls on rounds
 
-  -- judging
+  -- judging: the number is the lowest of the sheet's refusals and its own
   pub judge-lowest : (round : Round)
       → outcome (judgeRound sheet round) .number ≡ lowest (loadRules sheet ++ judging (instanceOf sheet) round .refusals)
   unfolding judgeRound judging answer numberOf judged
   judge-lowest round = judged-number _ _ (judge-not-refused (instanceOf sheet) round)
 
+  -- and that of the first condition that holds
   pub judge-number : (round : Round)
       → Given (loadConditions sheet ++ judgeConditions (instanceOf sheet) round) (outcome (judgeRound sheet round) .number)
   judge-number round = rw (judge-lowest round) (behind-sheet sheet _ _ (λ valid. judge-tests (instanceOf sheet) round))
 
-  -- simulating
+  -- simulating: the number is the lowest of the sheet's refusals and its own
   pub simulate-lowest : (c : ℕ) (r : List ℕ)
       → simulateCommitment sheet c r .refusal ≡ lowest (loadRules sheet ++ simulating (instanceOf sheet) c r .refusals)
   unfolding simulateCommitment simulating numberOf
   simulate-lowest c r = answer-number (onSheet sheet (simulating (instanceOf sheet) c r)) (λ a. a .refusal) refl (λ n. refl)
 
+  -- and that of the first condition that holds
   pub simulate-number : (c : ℕ) (r : List ℕ)
       → Given (loadConditions sheet ++ simulateConditions (instanceOf sheet) c r) (simulateCommitment sheet c r .refusal)
   simulate-number c r = rw (simulate-lowest c r) (behind-sheet sheet _ _ (λ valid. simulate-tests (instanceOf sheet) c r))
 
-  -- extracting
+  -- extracting: the number is the lowest of the sheet's refusals and its own
   pub extract-lowest : (first second : Round)
       → extractWitness sheet first second .refusal ≡ lowest (loadRules sheet ++ extracting (instanceOf sheet) first second .refusals)
   unfolding extractWitness extracting numberOf
   extract-lowest first second =
       answer-number (onSheet sheet (extracting (instanceOf sheet) first second)) (λ a. a .refusal) refl (λ n. refl)
 
+  -- and that of the first condition that holds
   pub extract-number : (first second : Round)
       → Given (loadConditions sheet ++ extractConditions (instanceOf sheet) first second) (extractWitness sheet first second .refusal)
   extract-number first second = rw (extract-lowest first second) (behind-sheet sheet _ _ (λ valid. extract-tests valid first second))

@@ -64,11 +64,6 @@ pub computed-positive : (n : ℕ) (xs : List ℕ) → 0 < n → computed n xs �
 unfolding computed eightPlaces
 computed-positive n xs h = rw (unlessRefused-positive (pad8 0 xs) zeros8 n h)
 
--- the number of the refusal
-pub computed-refusal : (n : ℕ) (xs : List ℕ) → computed n xs .refusal ≡ n
-unfolding computed
-computed-refusal n xs = refl
-
 -- where the number is 0, the values are given
 pub computed-given : (n : ℕ) (xs : List ℕ) → computed n xs .refusal ≡ 0 → computed n xs ≡ record { refusal = 0; values = pad8 0 xs }
 unfolding computed
