@@ -2,14 +2,14 @@
 -- count in a comparison.
 -- Assumes nothing.
 use mathlib.Core.Path.{_≡_, refl, sym, ap, ap₂, _∙_}
-use mathlib.Core.Bool.{cond, not}
+use mathlib.Core.Bool.{Bool, true, false, cond, not, _&&_, _||_}
 use mathlib.Core.List.{List}
 use mathlib.Core.Logic.{_≢_}
 use Prim.Native.Nat.{ℕ, _+_, _*_, _%_, _^_, _≤_, _<_}
 use native.Mathlib.Omega.{arith}
-use lib.Dec.{eqb}
+use lib.Dec.{eqb, ltb}
 use lib.ListN.{getD}
-use borrow.Author.Tests.{eq-eqb, ne-eqb}
+use borrow.Author.Tests.{eq-eqb, ne-eqb, ltb-false}
 use Rattle.types.specs.declared.Header.{Header}
 use Rattle.types.specs.declared.Verdict.{Verdict}
 use Rattle.types.specs.declared.Verdict.the-variants.{Accepted, Rejected}
@@ -24,6 +24,14 @@ use Rattle.sigma.specs.Round.{responseCoordinate, response, expectedImage, verd
 use Rattle.sigma.specs.Valid.{Valid, ValidTable}
 use Rattle.sigma.proofs.Unread.{rowImage-agree}
 use Rattle.comparison.proofs.Masks.{Marked, compare-mask, marked-all, marked-none, marked-on}
+
+-- rows that are not side by side are three at most
+pub few-beside : (n m : ℕ) {several : Bool} → several ≡ (ltb 3 n || (ltb 1 n && ltb 65535 m)) → several ≡ false → n ≤ 3
+few-beside n m is-several none = ltb-false 3 n (first (ltb 3 n) _ (sym is-several ∙ none))
+  where
+    first : (a b : Bool) → a || b ≡ false → a ≡ false
+    first true b fails = fails
+    first false b fails = refl
 
 -- zeros behind two lists do not change whether a place differs
 differs-pad8 : (xs ys : List ℕ) (i : ℕ)

@@ -104,8 +104,9 @@ pub fn expected_image(h: Header, statement: [u32; 8], t: [u32; 8], c: u32) -> [u
 }
 
 // The verdict on a commitment t, a challenge c and a response r: accepted where the two sides agree in every row, else rejected
-// with all rows in which they differ. Sides that are not computed side by side are compared row by row, as numbers, which need
-// not wait for a copy. A row that is alone makes no mask, so that what reads the verdict need not wait for the two numbers.
+// with all rows in which they differ. What computes rows side by side is handed copies. Else there are three rows at most, each
+// taken at its own index and compared as a number, so that neither entries nor h are copied. A row that is alone makes no mask,
+// so that what reads the verdict need not wait for the two numbers.
 pub fn verdict(
     h: Header,
     entries: [[u32; 8]; 8],
@@ -118,32 +119,36 @@ pub fn verdict(
     ensures { λ answer. ⌜ answer ≡ verdict (instanceWith h entries statement) (places (h .rows) t) c (places (h .columns) r) ⌝ }
 {
     let rows = h.rows as usize;
+    if side_by_side(rows, h.modulus) {
+        let copy = h;
+        let response = r;
+        return compare(
+            image(copy, entries, response),
+            expected_image(copy, statement, t, c),
+            rows,
+        );
+    }
+    let row = entries[0];
+    let left = row_product(h, row, r, 0);
+    let right = mul_mod(t[0], pow_mod(statement[0], c, h.modulus), h.modulus);
     if rows == 1 {
-        let row = entries[0];
-        let left = row_product(h, row, r, 0);
-        let right = mul_mod(t[0], pow_mod(statement[0], c, h.modulus), h.modulus);
         if left != right {
             return Verdict::Rejected(1);
         }
         return Verdict::Accepted;
     }
-    if side_by_side(rows, h.modulus) {
-        return compare(
-            image(h, entries, r),
-            expected_image(h, statement, t, c),
-            rows,
-        );
+    let first = marked(0, 1, left, right);
+    let row = entries[1];
+    let left = row_product(h, row, r, 1);
+    let right = mul_mod(t[1], pow_mod(statement[1], c, h.modulus), h.modulus);
+    let second = marked(first, 2, left, right);
+    if rows == 2 {
+        return verdict_of(second);
     }
-    let mut mask = 0u32;
-    let mut bit = 1u32;
-    for i in 0..rows {
-        let row = entries[i];
-        let left = row_product(h, row, r, i);
-        let right = mul_mod(t[i], pow_mod(statement[i], c, h.modulus), h.modulus);
-        mask = marked(mask, bit, left, right);
-        bit = 2 * bit;
-    }
-    verdict_of(mask)
+    let row = entries[2];
+    let left = row_product(h, row, r, 2);
+    let right = mul_mod(t[2], pow_mod(statement[2], c, h.modulus), h.modulus);
+    verdict_of(marked(second, 4, left, right))
 }
 
 // A slot of the response to c, of the nonce's slot k and the witness's slot x: k + c x mod q in kind 1, k x^c mod m in kind 2.

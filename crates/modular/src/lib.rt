@@ -36,7 +36,8 @@ pub fn sub_mod(a: u32, b: u32, m: u32) -> u32
     a + (m - b)
 }
 
-// The power of base by exponent modulo m, by squaring and multiplying, the exponent's low bit first.
+// The power of base by exponent modulo m, by squaring and multiplying, the exponent's low bit first. The highest bit's square is
+// the last one that is made.
 pub fn pow_mod(base: u32, exponent: u32, m: u32) -> u32
     requires { ⌜ 0 < m ⌝ }
     ensures value { λ r. ⌜ r ≡ base ^ exponent % m ⌝ }
@@ -45,12 +46,15 @@ pub fn pow_mod(base: u32, exponent: u32, m: u32) -> u32
     let mut square = base;
     let mut left = exponent;
     let mut power = 1 % m;
-    while left > 0 {
+    while left > 1 {
         if left % 2 == 1 {
             power = mul_mod(power, square, m);
         }
         square = mul_mod(square, square, m);
         left = left / 2;
+    }
+    if left == 1 {
+        return mul_mod(power, square, m);
     }
     power
 }
@@ -123,14 +127,16 @@ fn is_coordinate(h: Header, x: u32) -> bool
     is_element(h, x)
 }
 
-// The first index below n at which values holds no group element, or n where there is none.
+// The first index below n at which values holds no group element, or n where there is none. What tests several is handed a copy
+// of h, so that a few are tested on h as it comes and need not wait for a copy.
 pub fn first_non_element(h: Header, values: [u32; 8], n: usize) -> usize
     requires { ⌜ (0 < h .modulus) × (n ≤ 8) ⌝ }
     ensures value { λ r. ⌜ r ≡ firstFailing (isElement h) n values ⌝ }
     ensures within { λ r. ⌜ r ≤ n ⌝ }
 {
     if side_by_side(n, h.modulus) {
-        return first_of_several(h, values, n);
+        let copy = h;
+        return first_of_several(copy, values, n);
     }
     let mut i: usize = 0;
     while i < n {

@@ -1,5 +1,5 @@
 -- `modular::pow_mod` meets its contract. The invariant: the answer so far is below m, and times the square by what is left
--- of the exponent it is the power modulo m. The measure: what is left of the exponent. Assumes nothing.
+-- of the exponent it is the power modulo m. An exponent of 1 that is left is a last turn without its square. The measure: what is left of the exponent. Assumes nothing.
 use mathlib.Core.Path.{refl, _∙_}
 use mathlib.Core.Logic.{⊎-elim}
 use Prim.Native.Nat.{_%_, _^_}
@@ -38,8 +38,19 @@ loop-again c =
     (λ w. kept-even kept (w .0 .left) (w .1) squared)
     (c .before .if1 .came)
 
+mul-mod-requires-3 : tie.Need-mul-mod-requires-3 Inv-loop μ-loop
+mul-mod-requires-3 c κs = omega arith
+
 returns : tie.Need-returns Inv-loop μ-loop
-returns c = let kept = c .before .loop .inv in (kept-end kept (c .loop-test .left), kept .below)
+returns c =
+    let kept = c .before .before .before .loop .inv in
+    let last = kept-odd kept (omega (arith, c .before .if2 .taken)) (c .mul-mod3 .ensures .0) refl in
+    (kept-end last (omega (arith, c .before .if2 .taken)), c .mul-mod3 .ensures .1)
+
+returns-2 : tie.Need-returns-2 Inv-loop μ-loop
+returns-2 c =
+    let kept = c .before .before .loop .inv in
+    (kept-end kept (omega (arith, c .if2 .left, c .before .loop-test .left)), kept .below)
 
 pub pow-mod-spec : {M : Type 1} → statement M
 pow-mod-spec =
@@ -53,4 +64,6 @@ pow-mod-spec =
     mul-mod-requires-2
     loop-less
     loop-again
-    returns)
+    mul-mod-requires-3
+    returns
+    returns-2)
