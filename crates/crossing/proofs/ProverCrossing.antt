@@ -2,29 +2,30 @@
 -- Assumes nothing.
 use Prim.Native.Nat.{ℕ, _≤_, _<_}
 use mathlib.Core.Path.{_≡_, refl, sym, ap, _∙_}
-use mathlib.Core.List.{List, [], _∷_}
-use mathlib.Core.Logic.{_↔_, _⊎_, inl, inr, ⊎-elim}
+use mathlib.Core.List.{List}
+use mathlib.Core.Logic.{_↔_, inl, inr, ⊎-elim}
 use native.Mathlib.Omega.{arith}
 use lib.ListN.{length}
 use Rattle.types.specs.declared.Prover.{Prover}
 use Rattle.types.specs.declared.ProverPhase.{ProverPhase}
 use Rattle.types.specs.declared.ProverPhase.the-variants.{New, Committed, Answered, Dropped}
-use Rattle.types.specs.declared.ProverStep.{ProverStep}
 use Rattle.lists.specs.Places.{zeros8}
 use Rattle.rules.proofs.Answer.{unlessRefused-positive}
 use Rattle.runs.specs.Ours.{callProver, proverAfter, proverTrace}
 use Rattle.runs.specs.Prover.{proverState}
-use Rattle.runs.specs.ProverCalls.{ProverCall, Commit, Respond, Drop, Save, Return, answered, Ended, NoneReturns}
-use Rattle.runs.specs.Run.{sessionAfter}
+use Rattle.runs.specs.ProverCalls.{ProverCall, challengesOf, Ended, NoneReturns}
+use Rattle.runs.specs.Run.{answered, sessionAfter}
 use Rattle.runs.specs.Saving.{proverPhase}
 use Rattle.runs.proofs.OneAnswer.{one-answer, prover-once}
-use Rattle.runs.proofs.ProverCalls.{Steps, prover-kept, ended-refuses}
+use Rattle.runs.proofs.ProverCalls.{Steps, ended-unmoved, peggy}
+use Rattle.runs.proofs.Run.{refused-unmoved}
 use Rattle.runs.proofs.SavedStates.{phase-beyond, phase-of-state}
 use Rattle.crossing.specs.Calls.{answeredProver, answeredTrace, proverRead, readAnswers}
 use Rattle.crossing.specs.OfFour.{ofFour}
 use Rattle.crossing.specs.Provers.{proverOf, proverSession, proverAnswer}
+use Rattle.crossing.specs.declared.ProverAnswer.{ProverAnswer}
 use Rattle.crossing.specs.declared.ProverSession.{ProverSession}
-use Rattle.crossing.proofs.HandedBack.{handed-back, handed-on-after, handed-out, handed-out-after, trace-across}
+use Rattle.crossing.proofs.HandedBack.{Crossing, answered-across, back-refused, handed, out-across, session-across, trace-across}
 use Rattle.crossing.proofs.Phases.{ofFour-number}
 
 -- ---- the session
@@ -45,11 +46,11 @@ unfolding proverOf proverSession
 in-and-out s few = rw (state-of-phase (s .phase) few)
 
 -- Answered and Dropped are the states numbered from 2 on
-pub state-ended : (p : ProverPhase) → (2 ≤ proverState p) ↔ ((p ≡ Answered) ⊎ (p ≡ Dropped))
+pub state-ended : (p : ProverPhase) → (2 ≤ proverState p) ↔ Ended p
 unfolding proverState
 state-ended p = (late p, ⊎-elim (λ (e : p ≡ Answered). omega (arith, ap proverState e)) (λ (e : p ≡ Dropped). omega (arith, ap proverState e)))
   where
-    late : (p : ProverPhase) → 2 ≤ proverState p → (p ≡ Answered) ⊎ (p ≡ Dropped)
+    late : (p : ProverPhase) → 2 ≤ proverState p → Ended p
     late New few = absurd (omega arith)
     late Committed few = absurd (omega arith)
     late Answered few = inl refl
@@ -57,11 +58,25 @@ state-ended p = (late p, ⊎-elim (λ (e : p ≡ Answered). omega (arith, ap pro
 
 -- ---- the calls
 
+-- Peggy's session as it crosses
+unfoldable peggyCrossing : Crossing peggy ProverSession ProverAnswer
+unfolding proverAnswer
+peggyCrossing = record {
+  answer = answeredProver;
+  form = λ answer. answer .session;
+  number = λ answer. answer .refusal;
+  into = proverOf;
+  out = proverSession;
+  again = out-and-in;
+  number-is = λ call s. refl;
+  form-is = λ call s. refl;
+}
+
 module _ (call : ProverCall) (s : ProverSession) where
   -- a refused call hands the session back as it was handed in
   pub refused-kept : 0 < answeredProver call s .refusal → answeredProver call s .session ≡ s
-  unfolding proverAnswer
-  refused-kept refused = unlessRefused-positive _ s _ refused
+  unfolding peggyCrossing
+  refused-kept = back-refused peggyCrossing call s
 
   -- the number, and the commitment or the response, are the call's
   pub values-kept : (answeredProver call s .refusal ≡ callProver call (proverOf s) .refusal)
@@ -71,10 +86,8 @@ module _ (call : ProverCall) (s : ProverSession) where
 
   -- the session handed back is the one after the call
   pub handed-on : proverOf (answeredProver call s .session) ≡ callProver call (proverOf s) .session
-  unfolding proverAnswer
-  handed-on =
-      handed-back proverOf proverSession out-and-in _ s _
-      (λ refused. ap (λ (step : ProverStep). step .session) (prover-kept call (proverOf s) refused))
+  unfolding peggyCrossing
+  handed-on = handed peggyCrossing call s
 
   -- so an answer reads as what the call answers
   pub told-across : proverRead (answeredProver call s) ≡ callProver call (proverOf s)
@@ -86,48 +99,38 @@ module _ (call : ProverCall) (s : ProverSession) where
   unfolding proverAnswer proverOf
   unknown-refused steps unknown =
       let last : proverOf s .phase ≡ Dropped = phase-beyond (s .phase) (omega arith) in
-      let refused : 0 < answeredProver call s .refusal = ended-refuses call (proverOf s) steps (inr last) in
+      let refused : 0 < answeredProver call s .refusal =
+      refused-unmoved peggy call (proverOf s) (ended-unmoved (proverOf s) call _ steps (inr last)) in
       (refused, refused-kept refused)
 
 -- after any calls, each given the session that the last one handed back, the session is the one after the calls
 pub handed-on-all : (calls : List ProverCall) (s : ProverSession)
     → proverOf (sessionAfter answeredProver (λ answer. answer .session) calls s) ≡ proverAfter calls (proverOf s)
-unfolding proverAfter callProver
-handed-on-all =
-    handed-on-after answeredProver (λ answer. answer .session) callProver (λ step. step .session) proverOf handed-on
+unfolding proverAfter callProver peggyCrossing
+handed-on-all = session-across peggyCrossing
 
 -- so is the form that is handed back, if the one that was given has a state's number
 pub handed-out-all : (calls : List ProverCall) (s : ProverSession) → s .phase < 4
     → sessionAfter answeredProver (λ answer. answer .session) calls s ≡ proverSession (proverAfter calls (proverOf s))
-unfolding proverAfter callProver proverAnswer
-handed-out-all calls s few =
-    handed-out-after answeredProver (λ answer. answer .session) callProver (λ step. step .session) proverOf proverSession out-and-in
-    (λ call s back. handed-out proverOf proverSession _ s _
-    (λ refused. ap (λ (step : ProverStep). step .session) (prover-kept call (proverOf s) refused)) back)
-    calls s (in-and-out s few)
+unfolding proverAfter callProver peggyCrossing
+handed-out-all calls s few = out-across peggyCrossing calls s (in-and-out s few)
 
 -- so are the calls that are carried out, with what they answer
 pub prover-trace-across : (calls : List ProverCall) (s : ProverSession)
     → readAnswers proverRead (answeredTrace calls s) ≡ proverTrace calls (proverOf s)
-unfolding answeredTrace proverTrace callProver
-prover-trace-across =
-    trace-across answeredProver (λ answer. answer .session) (λ answer. answer .refusal) callProver (λ step. step .session)
-    (λ step. step .refusal) proverOf proverRead told-across (λ a. refl) (λ a. refl)
+unfolding answeredTrace proverTrace callProver peggyCrossing
+prover-trace-across = trace-across peggyCrossing proverRead told-across
 
--- the challenges that were answered are fixed by the calls alone
-pub answered-read : {A B : Type 0} (read : A → B) (answers : List (ProverCall × A)) → answered (readAnswers read answers) ≡ answered answers
-unfolding answered readAnswers
-answered-read read [] = refl
-answered-read read ((Commit sheet nonce, a) ∷ later) = answered-read read later
-answered-read read ((Respond sheet c witness, a) ∷ later) = ap (λ (cs : List ℕ). c ∷ cs) (answered-read read later)
-answered-read read ((Drop, a) ∷ later) = answered-read read later
-answered-read read ((Save name, a) ∷ later) = answered-read read later
-answered-read read ((Return name, a) ∷ later) = answered-read read later
+-- and the challenges that they answer
+pub prover-answered-across : (calls : List ProverCall) (s : ProverSession)
+    → answered challengesOf (answeredTrace calls s) ≡ answered challengesOf (proverTrace calls (proverOf s))
+unfolding answeredTrace proverTrace callProver peggyCrossing
+prover-answered-across = answered-across peggyCrossing proverRead told-across challengesOf
 
 -- so over any calls of which none returns, each given the session that the last one handed back, at most one challenge is answered
-pub one-answer-across : (calls : List ProverCall) (s : ProverSession) → NoneReturns calls → length (answered (answeredTrace calls s)) ≤ 1
-one-answer-across calls s none =
-    rw (sym (answered-read proverRead (answeredTrace calls s)), prover-trace-across calls s) (one-answer calls (proverOf s) none)
+pub one-answer-across : (calls : List ProverCall) (s : ProverSession) → NoneReturns calls
+    → length (answered challengesOf (answeredTrace calls s)) ≤ 1
+one-answer-across calls s none = rw (prover-answered-across calls s) (one-answer calls (proverOf s) none)
 
 -- a session that such calls have led from New or Committed to Answered or Dropped has a nonce of zeros
 pub wiped-across : (calls : List ProverCall) (s s′ : ProverSession) → NoneReturns calls → s .phase < 2
@@ -136,6 +139,6 @@ unfolding proverSession proverOf proverAfter
 wiped-across calls s s′ none early after late =
     let out = sym after ∙ handed-out-all calls s (omega arith) in
     let number = state-of-phase (s .phase) (omega arith) in
-    let started : ¬ Ended (proverOf s) = λ ended. let z = state-ended (proverOf s .phase) .1 ended in omega arith in
-    let ended : Ended (proverAfter calls (proverOf s)) = state-ended _ .0 (rw out at late) in
+    let started : ¬ Ended (proverOf s .phase) = λ ended. let z = state-ended (proverOf s .phase) .1 ended in omega arith in
+    let ended : Ended (proverAfter calls (proverOf s) .phase) = state-ended _ .0 (rw out at late) in
     rw out (prover-once .wiped calls (proverOf s) none started ended)

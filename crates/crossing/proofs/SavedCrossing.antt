@@ -14,16 +14,16 @@ use Rattle.rules.specs.Answer.{unlessRefused}
 use Rattle.runs.specs.Memory.{listedAt, savedAt}
 use Rattle.runs.specs.Ours.{callProver, proverAfter, proverTrace}
 use Rattle.runs.specs.Prover.{newProver, proverState}
-use Rattle.runs.specs.ProverCalls.{ProverCall, Save, Return, answered, answeredOn, Ended, NoneReturns, NoneSaves, Shaped}
-use Rattle.runs.specs.Run.{sessionAfter}
+use Rattle.runs.specs.ProverCalls.{ProverCall, Save, Return, answeredOn, challengesOf, Ended, NoneReturns, Shaped}
+use Rattle.runs.specs.Run.{answered, sessionAfter}
 use Rattle.runs.specs.Saving.{proverPhase, returnTo, save}
 use Rattle.runs.proofs.OneAnswer.{prover-once}
 use Rattle.runs.proofs.SavedStates.{phase-beyond, saved-states}
 use Rattle.crossing.specs.Calls.{answeredProver, answeredTrace, proverRead, readAnswers}
 use Rattle.crossing.specs.Provers.{proverOf, proverSession, proverAnswer}
 use Rattle.crossing.specs.declared.ProverSession.{ProverSession}
-use Rattle.crossing.proofs.ProverCrossing.{answered-read, handed-on, handed-on-all, handed-out-all, out-and-in}
-use Rattle.crossing.proofs.ProverCrossing.{prover-trace-across, state-ended}
+use Rattle.crossing.proofs.ProverCrossing.{handed-on, handed-on-all, handed-out-all, out-and-in}
+use Rattle.crossing.proofs.ProverCrossing.{prover-answered-across, prover-trace-across, state-ended}
 
 -- the session after calls
 abbrev after : List ProverCall → ProverSession → ProverSession
@@ -47,14 +47,14 @@ listed-before-across calls s i shaped few =
 -- ---- saved states
 
 -- what is saved under a name stays as it is, until the name is saved under again
-pub saved-stays-across : (calls : List ProverCall) (s : ProverSession) (name : ℕ) → NoneSaves name calls
+pub saved-stays-across : (calls : List ProverCall) (s : ProverSession) (name : ℕ) → ¬ Member (Save name) calls
     → savedAt (after calls s .memory) name ≡ savedAt (s .memory) name
 unfolding proverOf proverAfter
 saved-stays-across calls s name none =
     ap (λ (p : Prover). savedAt (p .memory) name) (handed-on-all calls s) ∙ saved-states .saved-stays calls (proverOf s) name none
 
 -- and a return then brings it back: the state, under its number, the nonce and the commitment
-pub comes-back-across : (calls : List ProverCall) (s : ProverSession) (name : ℕ) → Shaped (proverOf s) → name < 8 → NoneSaves name calls
+pub comes-back-across : (calls : List ProverCall) (s : ProverSession) (name : ℕ) → Shaped (proverOf s) → name < 8 → ¬ Member (Save name) calls
     → answeredProver (Return name) (after calls (answeredProver (Save name) s .session))
     ≡ record {
       session =
@@ -99,7 +99,7 @@ wiped-new-across calls s at-end late =
     rw out (saved-states .wiped-new calls (state-ended (proverAfter calls newProver .phase) .0 (rw out at late)))
 
 -- a number from 2 on is that of Answered or is taken as Dropped
-late-ended : (s : ProverSession) → 2 ≤ s .phase → Ended (proverOf s)
+late-ended : (s : ProverSession) → 2 ≤ s .phase → Ended (proverOf s .phase)
 unfolding proverOf proverPhase
 late-ended s late = elim (decLt 2 (s .phase)) [
   | yes beyond ↦ inr (phase-beyond (s .phase) beyond)
@@ -108,14 +108,14 @@ late-ended s late = elim (decLt 2 (s .phase)) [
 
 -- such a session keeps its state, nonce and commitment in calls of which none returns, and answers no challenge
 pub ended-across : (calls : List ProverCall) (s : ProverSession) → NoneReturns calls → 2 ≤ s .phase
-    → (answered (answeredTrace calls s) ≡ [])
+    → (answered challengesOf (answeredTrace calls s) ≡ [])
     × (proverPhase (after calls s .phase) ≡ proverPhase (s .phase))
     × (after calls s .nonce ≡ s .nonce) × (after calls s .commitment ≡ s .commitment)
 unfolding proverOf proverAfter proverTrace
 ended-across calls s none late =
     let (no-answer, stays) = prover-once .ended calls (proverOf s) none (late-ended s late) in
     let on = handed-on-all calls s in (
-      sym (answered-read proverRead (answeredTrace calls s)) ∙ ap answered (prover-trace-across calls s) ∙ no-answer,
+      prover-answered-across calls s ∙ no-answer,
       ap (λ (p : Prover). p .phase) on ∙ stays .0,
       ap (λ (p : Prover). p .nonce) on ∙ stays .1,
       ap (λ (p : Prover). p .commitment) on ∙ stays .2,

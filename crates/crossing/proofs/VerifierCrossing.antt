@@ -16,13 +16,15 @@ use Rattle.runs.specs.Run.{sessionAfter}
 use Rattle.runs.specs.Verifier.{verifierState}
 use Rattle.runs.specs.VerifierCalls.{VerifierCall, Commitment, Challenge, Response}
 use Rattle.runs.proofs.OrderOfSteps.{verifier-ordered}
-use Rattle.runs.proofs.VerifierCalls.{verifier-kept, judged-refuses}
+use Rattle.runs.proofs.VerifierCalls.{judged-unmoved, vic}
+use Rattle.runs.proofs.Run.{refused-unmoved}
 use Rattle.crossing.specs.Calls.{answeredVerifier, answeredVerifierTrace, readAnswers, verifierRead}
 use Rattle.crossing.specs.OfFour.{ofFour}
 use Rattle.crossing.specs.Verifiers.{verifierPhase, verifierOf, verifierSession, verifierAnswer, verifierJudgement}
+use Rattle.crossing.specs.declared.VerifierAnswer.{VerifierAnswer}
 use Rattle.crossing.specs.declared.VerifierSession.{VerifierSession}
 use Rattle.crossing.proofs.Judgements.{judgement-number}
-use Rattle.crossing.proofs.HandedBack.{handed-back, handed-on-after, handed-out, handed-out-after, trace-across}
+use Rattle.crossing.proofs.HandedBack.{Crossing, back-refused, handed, out-across, session-across, trace-across}
 use Rattle.crossing.proofs.Phases.{ofFour-beyond, ofFour-number}
 
 -- ---- the session
@@ -68,16 +70,27 @@ answered-session (Commitment sheet t) s = refl
 answered-session (Challenge sheet c) s = refl
 answered-session (Response sheet r) s = refl
 
+-- Vic's session as it crosses
+abbrev vicCrossing : Crossing vic VerifierSession VerifierAnswer
+vicCrossing = record {
+  answer = answeredVerifier;
+  form = λ answer. answer .session;
+  number = λ answer. answer .refusal;
+  into = verifierOf;
+  out = verifierSession;
+  again = out-and-in;
+  number-is = answered-refusal;
+  form-is = answered-session;
+}
+
 module _ (call : VerifierCall) (s : VerifierSession) where
   -- a refused call hands the session back as it was handed in
   pub refused-kept : 0 < answeredVerifier call s .refusal → answeredVerifier call s .session ≡ s
-  refused-kept refused = rw (answered-session call s) (unlessRefused-positive _ s _ (rw answered-refusal at refused))
+  refused-kept = back-refused vicCrossing call s
 
   -- the session handed back is the one after the call
   pub handed-on : verifierOf (answeredVerifier call s .session) ≡ callVerifier call (verifierOf s) .session
-  handed-on =
-      rw (answered-session call s)
-      (handed-back verifierOf verifierSession out-and-in _ s _ (verifier-kept call (verifierOf s)))
+  handed-on = handed vicCrossing call s
 
   -- so an answer reads as what the call answers
   pub told-across : verifierRead (answeredVerifier call s) ≡ callVerifier call (verifierOf s)
@@ -88,34 +101,27 @@ module _ (call : VerifierCall) (s : VerifierSession) where
   unfolding verifierOf verifierPhase
   unknown-refused unknown =
       let last : verifierOf s .phase ≡ Judged = ofFour-beyond Waiting Holding Asked Judged (omega arith) in
-      let refused : 0 < answeredVerifier call s .refusal = rw answered-refusal (judged-refuses call (verifierOf s) last) in
+      let refused : 0 < answeredVerifier call s .refusal =
+      rw answered-refusal (refused-unmoved vic call (verifierOf s) (judged-unmoved (verifierOf s) call _ last)) in
       (refused, refused-kept refused)
 
 -- after any calls, each given the session that the last one handed back, the session is the one after the calls
 pub handed-on-all : (calls : List VerifierCall) (s : VerifierSession)
     → verifierOf (sessionAfter answeredVerifier (λ answer. answer .session) calls s) ≡ verifierAfter calls (verifierOf s)
 unfolding verifierAfter callVerifier
-handed-on-all =
-    handed-on-after answeredVerifier (λ answer. answer .session) callVerifier (λ step. step .session) verifierOf handed-on
+handed-on-all = session-across vicCrossing
 
 -- so is the form that is handed back, if the one that was given has a state's number
 pub handed-out-all : (calls : List VerifierCall) (s : VerifierSession) → s .phase < 4
     → sessionAfter answeredVerifier (λ answer. answer .session) calls s ≡ verifierSession (verifierAfter calls (verifierOf s))
 unfolding verifierAfter callVerifier
-handed-out-all calls s few =
-    handed-out-after answeredVerifier (λ answer. answer .session) callVerifier (λ step. step .session) verifierOf verifierSession
-    out-and-in
-    (λ call s back. answered-session call s
-    ∙ handed-out verifierOf verifierSession _ s _ (verifier-kept call (verifierOf s)) back)
-    calls s (in-and-out s few)
+handed-out-all calls s few = out-across vicCrossing calls s (in-and-out s few)
 
 -- so are the calls that are carried out, with what they answer
 pub verifier-trace-across : (calls : List VerifierCall) (s : VerifierSession)
     → readAnswers verifierRead (answeredVerifierTrace calls s) ≡ verifierTrace calls (verifierOf s)
 unfolding answeredVerifierTrace verifierTrace callVerifier
-verifier-trace-across =
-    trace-across answeredVerifier (λ answer. answer .session) (λ answer. answer .refusal) callVerifier (λ step. step .session)
-    (λ step. step .refusal) verifierOf verifierRead told-across (λ a. refl) (λ a. refl)
+verifier-trace-across = trace-across vicCrossing verifierRead told-across
 
 -- each call that is carried out leads one state on: there is at most one commitment, one challenge and one verdict
 pub next-across : (calls : List VerifierCall) (s : VerifierSession) → s .phase < 4

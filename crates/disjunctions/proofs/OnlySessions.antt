@@ -1,7 +1,7 @@
 -- The calls on Peggy's session are determined: by their refusals, by the steps of the session, and by what 01's calls answer.
 -- Assumes nothing.
 use Prim.Native.Nat.{ℕ, zero, suc, _<_}
-use mathlib.Core.Path.{_≡_, refl, sym, ap, subst, _∙_}
+use mathlib.Core.Path.{_≡_, refl, sym, ap, _∙_}
 use mathlib.Core.List.{List, [], _∷_}
 use mathlib.Core.Logic.{inl, inr}
 use native.Mathlib.Omega.{arith}
@@ -17,9 +17,8 @@ use Rattle.rules.proofs.Determined.{none-append, refused-or-not, same-number}
 use Rattle.formats.specs.FileCalls.{FileCalls}
 use Rattle.formats.specs.Sheet.{instanceOf}
 use Rattle.runs.specs.OnSheet.{readSlots}
-use Rattle.runs.specs.Run.{Leads, sessionAfter, trace}
 use Rattle.runs.specs.RunCalls.{RunCalls}
-use Rattle.runs.proofs.Run.{trace-given}
+use Rattle.runs.proofs.Run.{moves-first}
 use Rattle.runs.specs.Same.{SameRuns}
 use Rattle.disjunctions.specs.Calls.{KeepsBoth, OrCall, OrCommit, OrDrop, OrMoves, OrRespond, Wiped, callOr}
 use Rattle.disjunctions.specs.OneOfTwo.{OrSessions, OrUnmoved}
@@ -31,11 +30,7 @@ use Rattle.disjunctions.proofs.OnlyRounds.{EitherDemands, NonePair, non
 -- a call that is carried out moves the session
 or-moves : (either : OrCalls) → OrSessions either → (call : OrCall) (p : OrProver) → callOr either call p .refusal ≡ 0
     → OrMoves p call (callOr either call p)
-unfolding trace sessionAfter
-or-moves either sessions call p e =
-    subst (λ (steps : List (OrCall × OrStep)). Leads (λ step. step .session) OrMoves p steps (callOr either call p .session))
-    (trace-given (callOr either) (λ step. step .session) (λ step. step .refusal) call [] p e)
-    (sessions .in-order (call ∷ []) p) .0
+or-moves either sessions call p e = moves-first (callOr either) _ _ OrMoves call p _ e (sessions .in-order (call ∷ []) p)
 
 -- steps with equal parts are equal
 step-same : (a b : OrStep) → a .refusal ≡ b .refusal → a .session ≡ b .session → a .values0 ≡ b .values0 → a .values1 ≡ b .values1

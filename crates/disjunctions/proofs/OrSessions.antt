@@ -1,11 +1,11 @@
 -- Peggy's steps in the OR proof over any list of calls, from any session, with any sheets and arguments: one session answers one
 -- challenge at most, and holds zeros but for the commitments once it has answered or dropped.
 -- Assumes nothing.
-use Prim.Native.Nat.{ℕ, suc, _<_, _≤_}
+use Prim.Native.Nat.{ℕ, suc, _+_, _<_, _≤_}
 use mathlib.Core.Path.{_≡_, refl, sym, ap, ap₂, subst, _∙_}
-use mathlib.Core.Logic.{_⊎_, inl, inr, ⊎-elim}
+use mathlib.Core.Logic.{_⊎_, inl, inr}
 use mathlib.Core.Bool.{Bool, true, false, cond, not}
-use mathlib.Core.List.{List, [], _∷_}
+use mathlib.Core.List.{List, []}
 use native.Mathlib.Omega.{arith}
 use lib.Dec.{eqb}
 use borrow.Author.Tests.{ne-eqb}
@@ -22,12 +22,14 @@ use Rattle.rules.proofs.Lowest.{clear-lowest}
 use Rattle.rules.proofs.Says.{says-or}
 use Rattle.formats.specs.Sheet.{instanceOf}
 use Rattle.runs.specs.OnSheet.{readSlots}
-use Rattle.runs.specs.Run.{Leads}
-use Rattle.runs.proofs.ProverCalls.{ended-apart}
-use Rattle.runs.proofs.Run.{trace-leads}
+use Rattle.runs.specs.Run.{answered}
+use Rattle.runs.proofs.ProverCalls.{ended-apart, left}
+use Rattle.runs.proofs.Run.{Machine, leads, paid, stays, unmoved}
 use Rattle.sigma.specs.Round.{response}
 use Rattle.sigma.proofs.Calculus.{both-fail, says-passes}
-use Rattle.disjunctions.specs.Calls.{KeepsBoth, OrCall, OrCommit, OrDrop, OrEnded, OrMoves, OrRespond, Wiped, orAnswered}
+use Rattle.disjunctions.specs.Calls.{KeepsBoth, OrCall, OrCommit, OrDrop, OrMoves, OrRespond, Wiped, orChallengesOf}
+use Rattle.runs.specs.Prover.{proverState}
+use Rattle.runs.specs.ProverCalls.{Ended}
 use Rattle.disjunctions.specs.OneOfTwo.{OrSessions}
 use Rattle.disjunctions.specs.Ours.{callOr, orAfter, orTrace, orCalls}
 use Rattle.disjunctions.specs.Prover.{
@@ -211,7 +213,7 @@ or-kept (OrRespond s s′ c x) p some = or-refusals .responding s s′ p c x .le
 or-kept OrDrop p some = or-refusals .dropping p .left some .0
 
 -- any other call moves it
-or-moves : (call : OrCall) (p : OrProver) → callOr call p .refusal ≡ 0 → OrMoves p call (callOr call p)
+pub or-moves : (call : OrCall) (p : OrProver) → callOr call p .refusal ≡ 0 → OrMoves p call (callOr call p)
 unfolding callOr
 or-moves (OrCommit s s′ side k d r) p e =
     let given = commit-or-given s s′ p side k d r e _ _ refl refl in (
@@ -249,46 +251,49 @@ or-moves OrDrop p e =
       ),
     )
 
--- ---- steps that lead from one session to another
+-- the calls on the session, and how they move it
+abbrev pub orPeggy : Machine OrCall OrProver OrStep
+orPeggy = record {
+  answer = callOr;
+  session = λ step. step .session;
+  refusal = λ step. step .refusal;
+  Moves = OrMoves;
+  kept = or-kept;
+  moves = or-moves;
+}
 
--- the steps lead from p to q
-abbrev To : OrProver → List (OrCall × OrStep) → OrProver → Type 0
-To p steps q = Leads (λ step. step .session) OrMoves p steps q
+-- ---- each call
 
--- none leads from a session that is Answered or Dropped
-ended-last : (p q : OrProver) (steps : List (OrCall × OrStep)) → OrEnded p → To p steps q → (steps ≡ []) × (q ≡ p)
-ended-last p q [] ended leads = (refl, leads)
-ended-last p q ((OrCommit s s′ side k d r, step) ∷ later) ended leads = absurd (ended-apart (p .phase) ended (inl (leads .0 .0)))
-ended-last p q ((OrRespond s s′ c x, step) ∷ later) ended leads = absurd (ended-apart (p .phase) ended (inr (leads .0 .0)))
-ended-last p q ((OrDrop, step) ∷ later) ended leads = absurd (ended-apart (p .phase) ended (leads .0 .0))
+-- none moves a session that is Answered or Dropped
+pub or-unmoved : (p : OrProver) (call : OrCall) (step : OrStep) → Ended (p .phase) → ¬ OrMoves p call step
+or-unmoved p (OrCommit s s′ side k d r) step ended moved = ended-apart (p .phase) ended (inl (moved .0))
+or-unmoved p (OrRespond s s′ c x) step ended moved = ended-apart (p .phase) ended (inr (moved .0))
+or-unmoved p OrDrop step ended moved = ended-apart (p .phase) ended (moved .0)
 
--- at most one answers a challenge
-answered-once : (steps : List (OrCall × OrStep)) (p q : OrProver) → To p steps q → length (orAnswered steps) ≤ 1
-unfolding orAnswered
-answered-once [] p q leads = omega arith
-answered-once ((OrCommit s s′ side k d r, step) ∷ later) p q leads = answered-once later (step .session) q (leads .1)
-answered-once ((OrRespond s s′ c x, step) ∷ later) p q leads =
-    let none = ended-last (step .session) q later (inl (leads .0 .1)) (leads .1) .0 in
-    subst (λ (rest : List (OrCall × OrStep)). length (c ∷ orAnswered rest) ≤ 1) (sym none) (omega arith)
-answered-once ((OrDrop, step) ∷ later) p q leads = answered-once later (step .session) q (leads .1)
+-- it answers what is left to answer
+or-pays : (call : OrCall) (p : OrProver) (step : OrStep) → OrMoves p call step
+    → length (orChallengesOf call) + left (step .session .phase) ≤ left (p .phase)
+unfolding left proverState
+or-pays (OrCommit s s′ side k d r) p step (from, to, none) = rw (ap (λ (q : OrProver). q .phase) to, from) (omega arith)
+or-pays (OrRespond s s′ c x) p step (from, to, wiped, kept) = rw (to, from) (omega arith)
+or-pays OrDrop p step (from, to, wiped, kept, empty) = rw to (omega arith)
 
--- where they lead to Answered or Dropped, they lead from it or to a session that is wiped
-wiped-last : (steps : List (OrCall × OrStep)) (p q : OrProver) → To p steps q → OrEnded q → OrEnded p ⊎ Wiped q
-wiped-last [] p q leads ended = inl (subst OrEnded leads ended)
-wiped-last ((OrCommit s s′ side k d r, step) ∷ later) p q leads ended =
-    ⊎-elim (λ (e : OrEnded (step .session)). absurd (ended-apart _ e (inr (ap (λ (r : OrProver). r .phase) (leads .0 .1))))) inr
-    (wiped-last later (step .session) q (leads .1) ended)
-wiped-last ((OrRespond s s′ c x, step) ∷ later) p q leads ended =
-    inr (subst Wiped (sym (ended-last (step .session) q later (inl (leads .0 .1)) (leads .1) .1)) (leads .0 .2))
-wiped-last ((OrDrop, step) ∷ later) p q leads ended =
-    inr (subst Wiped (sym (ended-last (step .session) q later (inr (leads .0 .1)) (leads .1) .1)) (leads .0 .2))
+-- it leads to no state that has ended but wiped
+or-wipes : (call : OrCall) (p : OrProver) (step : OrStep) → OrMoves p call step
+    → (Ended (p .phase) → Wiped p) → Ended (step .session .phase) → Wiped (step .session)
+or-wipes (OrCommit s s′ side k d r) p step (from, to, none) zeros ended =
+    absurd (ended-apart _ ended (inr (ap (λ (q : OrProver). q .phase) to)))
+or-wipes (OrRespond s s′ c x) p step (from, to, wiped, kept) zeros ended = wiped
+or-wipes OrDrop p step (from, to, wiped, kept, empty) zeros ended = wiped
 
 -- ---- any list of calls
 
--- the calls that are carried out lead from the session to the one at the end
-or-leads : (calls : List OrCall) (p : OrProver) → Leads (λ step. step .session) OrMoves p (orTrace calls p) (orAfter calls p)
-unfolding orTrace orAfter callOr
-or-leads = trace-leads callOr (λ step. step .session) (λ step. step .refusal) OrMoves or-kept or-moves
+-- at most one challenge is answered
+or-once : (calls : List OrCall) (p : OrProver) → length (answered orChallengesOf (orTrace calls p)) ≤ 1
+unfolding answered orTrace callOr left
+or-once calls p =
+    let all = paid orPeggy (λ step. orChallengesOf (step .0)) (λ q. left (q .phase)) calls (λ call member. or-pays call) p in
+    omega (arith, all)
 
 -- the session's steps
 pub or-sessions : OrSessions orCalls
@@ -296,9 +301,9 @@ unfolding newOrProver wipedOr zeros8 own other callOr orTrace orAfter
 or-sessions = record {
   sides = λ n first second. (refl, later-own n first second, refl, later-other n first second);
   new = refl;
-  in-order = or-leads;
-  once = λ calls p. answered-once (orTrace calls p) p (orAfter calls p) (or-leads calls p);
+  in-order = leads orPeggy;
+  once = or-once;
   wiped = λ calls p started ended.
-      ⊎-elim (λ e. absurd (started e)) (λ z. z) (wiped-last (orTrace calls p) p (orAfter calls p) (or-leads calls p) ended);
-  ended = λ calls p ended. ended-last p (orAfter calls p) (orTrace calls p) ended (or-leads calls p);
+      stays orPeggy (λ q. Ended (q .phase) → Wiped q) calls (λ call member. or-wipes call) p (λ e. absurd (started e)) ended;
+  ended = λ calls p ended. unmoved orPeggy calls p (λ call member step. or-unmoved p call step ended);
 }

@@ -44,10 +44,6 @@ pub record Wiped (p : OrProver) : Type 0 where
   pub challenge : p .challenge ≡ 0
   pub side : p .side ≡ 0
 
--- the session is Answered or Dropped
-abbrev pub OrEnded : OrProver → Type 0
-OrEnded p = (p .phase ≡ Answered) ⊎ (p .phase ≡ Dropped)
-
 -- both commitments are those of the session before
 abbrev pub KeepsBoth : OrProver → OrProver → Type 0
 KeepsBoth p q = (q .commitment0 ≡ p .commitment0) × (q .commitment1 ≡ p .commitment1)
@@ -77,9 +73,8 @@ OrMoves p OrDrop step =
     ((p .phase ≡ New) ⊎ (p .phase ≡ Committed)) × (step .session .phase ≡ Dropped) × Wiped (step .session) ×
     KeepsBoth p (step .session) × Empty step
 
--- the challenges that the calls of a trace answered
-unfoldable pub orAnswered : {Outcome : Type 0} → List (OrCall × Outcome) → List ℕ
-orAnswered [] = []
-orAnswered ((OrCommit s s′ side k d r, outcome) ∷ later) = orAnswered later
-orAnswered ((OrRespond s s′ c x, outcome) ∷ later) = c ∷ orAnswered later
-orAnswered ((OrDrop, outcome) ∷ later) = orAnswered later
+-- the challenges that a call brings: one if it is responding, else none
+abbrev pub orChallengesOf : OrCall → List ℕ
+orChallengesOf (OrCommit s s′ side k d r) = []
+orChallengesOf (OrRespond s s′ c x) = c ∷ []
+orChallengesOf OrDrop = []

@@ -22,13 +22,14 @@ use Rattle.formats.specs.FileCalls.{FileCalls}
 use Rattle.formats.specs.Sheet.{instanceOf}
 use Rattle.runs.specs.Knowledge.{Accepts}
 use Rattle.runs.specs.OnSheet.{Below, readSlots}
-use Rattle.runs.specs.Run.{Leads}
+use Rattle.runs.specs.ProverCalls.{Ended}
+use Rattle.runs.specs.Run.{Leads, answered}
 use Rattle.runs.specs.RunCalls.{RunCalls}
 use Rattle.sigma.specs.Answer.{Outcome, rowsOf}
 use Rattle.sigma.specs.Knowledge.{Witness}
 use Rattle.sigma.specs.Meaning.{FailsFirst}
 use Rattle.sigma.specs.Reads.{roundOf}
-use Rattle.disjunctions.specs.Calls.{OrCall, OrEnded, OrMoves, Wiped, orAfter, orAnswered, orTrace}
+use Rattle.disjunctions.specs.Calls.{OrCall, OrMoves, Wiped, orAfter, orChallengesOf, orTrace}
 use Rattle.disjunctions.specs.Knowledge.{
   AcceptedOrPair,
   AcceptsOr,
@@ -126,11 +127,12 @@ module _ (either : OrCalls) where
     -- the calls that are carried out lead from the session to the one at the end; a refused call changes nothing
     pub in-order : (calls : List OrCall) (p : OrProver) → Leads (λ step. step .session) OrMoves p (orTrace either calls p) (orAfter either calls p)
     -- at most one challenge is answered
-    pub once : (calls : List OrCall) (p : OrProver) → length (orAnswered (orTrace either calls p)) ≤ 1
+    pub once : (calls : List OrCall) (p : OrProver) → length (answered orChallengesOf (orTrace either calls p)) ≤ 1
     -- a session that the calls have led to Answered or Dropped holds zeros but for the commitments
-    pub wiped : (calls : List OrCall) (p : OrProver) → ¬ OrEnded p → OrEnded (orAfter either calls p) → Wiped (orAfter either calls p)
+    pub wiped : (calls : List OrCall) (p : OrProver) → ¬ Ended (p .phase) → Ended (orAfter either calls p .phase)
+        → Wiped (orAfter either calls p)
     -- one that is Answered or Dropped carries out no call and stays as it is
-    pub ended : (calls : List OrCall) (p : OrProver) → OrEnded p → (orTrace either calls p ≡ []) × (orAfter either calls p ≡ p)
+    pub ended : (calls : List OrCall) (p : OrProver) → Ended (p .phase) → (orTrace either calls p ≡ []) × (orAfter either calls p ≡ p)
 
 module _ (code : RunCalls) where
   open RunCalls code using (judgeRound)

@@ -20,8 +20,8 @@ use Rattle.rules.specs.Rule.{lowest}
 use Rattle.runs.specs.Memory.{isFull, isListed, listedAt, listing, neverSaved, noMemory, savedAt}
 use Rattle.runs.specs.Ours.{proverTrace}
 use Rattle.runs.specs.Prover.{commit, committing, dropSession, dropping, newProver, proverIn, proverState, respond, responding, unfitProver}
-use Rattle.runs.specs.ProverCalls.{answered, answeredBy, answeredOn}
-use Rattle.runs.specs.Run.{trace}
+use Rattle.runs.specs.ProverCalls.{answeredOn}
+use Rattle.runs.specs.Run.{trace, answered}
 use Rattle.runs.specs.Saving.{broughtBack, keeping, proverPhase, returnTo, returning, save, savedState, saving}
 use Rattle.sigma.specs.Admission.{badCount, badEntries, badKind, badModulus, badOrder, badSize, badStatement, elementRules, firstDivisor, headerRules}
 use Rattle.sigma.specs.Comparison.{differ, firstDifference}
@@ -31,7 +31,7 @@ use Rattle.sigma.specs.Instance.{entry, isExponent, statementAt}
 use Rattle.sigma.specs.Round.{badChallenge, badCoordinates, badWitness, response, responseCoordinate}
 
 pub saved-page : SavedPage
-unfolding numberAt ascii array answered answeredBy answeredOn proverTrace trace flatMap both copy given inARow peggyKeeps refused fourBytes schnorrSheet sheetBytes smallSheet eight badLength badStart
+unfolding numberAt ascii array answered answeredOn proverTrace trace flatMap both copy given inARow peggyKeeps refused fourBytes schnorrSheet sheetBytes smallSheet eight badLength badStart
     loadRules shapeRules entriesOf entryCount headerOf instanceOf sheetLength sheetMark statementOf versionOf zeros64
     eightByEight itemsAt pad8 places tabulate zeros8 euclid gcd product any find unlessRefused answer numberOf lowest isFull isListed
     listedAt listing neverSaved noMemory savedAt commit committing dropping dropSession newProver proverIn

@@ -13,7 +13,8 @@ use Rattle.types.specs.declared.ProverStep.{ProverStep}
 use Rattle.types.specs.declared.Saved.{Saved}
 use Rattle.runs.specs.Ours.{proverTrace}
 use Rattle.runs.specs.Prover.{commit, dropSession, newProver, respond}
-use Rattle.runs.specs.ProverCalls.{ProverCall, Commit, Respond, Return, answered, answeredOn}
+use Rattle.runs.specs.ProverCalls.{ProverCall, Commit, Respond, Return, answeredOn, challengesOf}
+use Rattle.runs.specs.Run.{answered}
 use Rattle.runs.specs.Saving.{returnTo, save}
 use Rattle.examples.specs.Pages.{array}
 use Rattle.examples.specs.Sheets.{schnorrSheet}
@@ -88,7 +89,7 @@ pub record SavedPage : Type 0 where
   pub saved-dropped : save (peggyKeeps both (9 ∷ []) Dropped 0 9) 2
       ≡ given (peggyKeeps (copy 0 0 0 ∷ copy 1 5 9 ∷ copy 3 0 9 ∷ []) (9 ∷ []) Dropped 0 9) 0
   -- over calls in a row, of which two return, two challenges are answered, for two commitments
-  pub challenges : answered inARow ≡ 3 ∷ 1 ∷ []
+  pub challenges : answered challengesOf inARow ≡ 3 ∷ 1 ∷ []
   pub commitments : answeredOn inARow ≡ eight (9 ∷ []) ∷ eight (18 ∷ []) ∷ []
   -- a name outside 0 to 7, and one that was never saved
   pub save-refused : save (peggyKeeps both [] Committed 5 9) 8 ≡ refused (peggyKeeps both [] Committed 5 9) 34

@@ -17,7 +17,6 @@ pub mod ProverSteps
 pub mod VerifierSteps
 pub mod Numbers
 pub mod ProverCalls
-pub mod Keys
 pub mod PerCommitment
 pub mod SavedStates
 pub mod OneAnswer

@@ -1,7 +1,7 @@
 -- The demands determine the calls on Peggy's and Vic's sessions, with every field of the session.
 -- Assumes nothing.
 use Prim.Native.Nat.{ℕ}
-use mathlib.Core.Path.{_≡_, sym, ap, subst, _∙_}
+use mathlib.Core.Path.{_≡_, sym, ap, _∙_}
 use mathlib.Core.List.{List, [], _∷_}
 use mathlib.Core.Logic.{⊎-elim}
 use lib.Seq.{ext-getD}
@@ -20,33 +20,24 @@ use Rattle.sigma.specs.Reads.{roundOf}
 use Rattle.runs.specs.OnSheet.{readSlots}
 use Rattle.runs.specs.ProverCalls.{Commit, Drop, ProverCall, ProverMoves, Respond, Return, Save, callProver}
 use Rattle.runs.specs.Refusals.{commitConditions, respondConditions, takeResponseConditions}
-use Rattle.runs.specs.Run.{Leads, sessionAfter, trace}
 use Rattle.runs.specs.RunCalls.{RunCalls}
 use Rattle.runs.specs.Sessions.{Sessions}
 use Rattle.runs.specs.VerifierCalls.{Challenge, Commitment, Response, VerifierCall, VerifierMoves, callVerifier}
 use Rattle.formats.proofs.FileRefusals.{none-loads}
 use Rattle.formats.proofs.Refusals.{sheet-valid}
 use Rattle.runs.proofs.OnlyRounds.{judge-only}
-use Rattle.runs.proofs.Run.{trace-given}
+use Rattle.runs.proofs.Run.{moves-first}
 use Rattle.runs.proofs.RunDemands.{RunDemands}
 
 -- ---- a call that is carried out moves the session, whatever calls take their steps in order
 
 module _ {code : RunCalls} (d : Sessions code) where
   pub prover-moves : (call : ProverCall) (p : Prover) → callProver code call p .refusal ≡ 0 → ProverMoves p call (callProver code call p)
-  unfolding trace sessionAfter
-  prover-moves call p e =
-      subst (λ (steps : List (ProverCall × ProverStep)). Leads (λ step. step .session) ProverMoves p steps (callProver code call p .session))
-      (trace-given (callProver code) (λ step. step .session) (λ step. step .refusal) call [] p e)
-      (d .prover .in-order (call ∷ []) p) .0
+  prover-moves call p e = moves-first (callProver code) _ _ ProverMoves call p _ e (d .prover .in-order (call ∷ []) p)
 
   pub verifier-moves : (call : VerifierCall) (v : Verifier) → callVerifier code call v .refusal ≡ 0
       → VerifierMoves v call (callVerifier code call v)
-  unfolding trace sessionAfter
-  verifier-moves call v e =
-      subst (λ (steps : List (VerifierCall × VerifierStep)). Leads (λ step. step .session) VerifierMoves v steps (callVerifier code call v .session))
-      (trace-given (callVerifier code) (λ step. step .session) (λ step. step .refusal) call [] v e)
-      (d .verifier .in-order (call ∷ []) v) .0
+  verifier-moves call v e = moves-first (callVerifier code) _ _ VerifierMoves call v _ e (d .verifier .in-order (call ∷ []) v)
 
 -- ---- two codes
 

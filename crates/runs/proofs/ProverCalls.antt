@@ -1,12 +1,12 @@
 -- One call on Peggy's session, whatever it brings: a refused call leaves the session, and each other call moves it as 01 says.
 -- Assumes nothing.
-use Prim.Native.Nat.{ℕ, _<_}
+use Prim.Native.Nat.{ℕ, _<_, _-_, min}
 use mathlib.Core.Path.{_≡_, refl, sym, ap, _∙_}
 use mathlib.Core.Logic.{_⊎_, inl, inr}
 use native.Mathlib.Omega.{arith}
 use Rattle.types.specs.declared.Prover.{Prover}
 use Rattle.types.specs.declared.ProverPhase.{ProverPhase}
-use Rattle.types.specs.declared.ProverPhase.the-variants.{New, Committed, Answered, Dropped}
+use Rattle.types.specs.declared.ProverPhase.the-variants.{New, Committed}
 use Rattle.types.specs.declared.ProverStep.{ProverStep}
 use Rattle.lists.specs.Places.{zeros8}
 use Rattle.rules.specs.Call.{Call, answer, numberOf}
@@ -15,10 +15,11 @@ use Rattle.formats.specs.Load.{onSheet}
 use Rattle.formats.specs.Sheet.{instanceOf}
 use Rattle.runs.specs.Ours.{callProver}
 use Rattle.runs.specs.Memory.{listing}
-use Rattle.runs.specs.Prover.{commit, committing, dropSession, dropping, handedBack, respond, responding}
+use Rattle.runs.specs.Prover.{commit, committing, dropSession, dropping, handedBack, respond, responding, proverState}
 use Rattle.runs.specs.ProverCalls.{ProverCall, Commit, Respond, Drop, Save, Return, ProverMoves, Ended}
 use Rattle.runs.specs.Saving.{broughtBack, keeping, returnTo, returning, save, savedState, saving}
 use Rattle.runs.proofs.ProverSteps.{commit-runs, drop-runs, respond-runs, return-runs, save-runs}
+use Rattle.runs.proofs.Run.{Machine}
 
 -- ---- the calls as records
 
@@ -82,14 +83,29 @@ prover-moves (Return name) p e =
     let given = prover-value (Return name) p e in
     (return-runs p name .0 e, ap (λ (step : ProverStep). step .session) given, ap (λ (step : ProverStep). step .values) given)
 
+-- the calls on Peggy's session, and how they move it
+abbrev pub peggy : Machine ProverCall Prover ProverStep
+peggy = record {
+  answer = callProver;
+  session = λ step. step .session;
+  refusal = λ step. step .refusal;
+  Moves = ProverMoves;
+  kept = λ call p refused. ap (λ (step : ProverStep). step .session) (prover-kept call p refused);
+  moves = prover-moves;
+}
+
 -- ---- a session that is Answered or Dropped
 
 -- an Answered or Dropped session is neither New nor Committed
-pub ended-apart : (s : ProverPhase) → (s ≡ Answered) ⊎ (s ≡ Dropped) → (s ≡ New) ⊎ (s ≡ Committed) → ⊥
-ended-apart s (inl a) (inl b) = let z : _≡_ {A = ℕ} 0 1 = cc in omega arith
-ended-apart s (inl a) (inr b) = let z : _≡_ {A = ℕ} 0 1 = cc in omega arith
-ended-apart s (inr a) (inl b) = let z : _≡_ {A = ℕ} 0 1 = cc in omega arith
-ended-apart s (inr a) (inr b) = let z : _≡_ {A = ℕ} 0 1 = cc in omega arith
+pub ended-apart : (phase : ProverPhase) → Ended phase → (phase ≡ New) ⊎ (phase ≡ Committed) → ⊥
+ended-apart phase (inl a) (inl b) = let z : _≡_ {A = ℕ} 0 1 = cc in omega arith
+ended-apart phase (inl a) (inr b) = let z : _≡_ {A = ℕ} 0 1 = cc in omega arith
+ended-apart phase (inr a) (inl b) = let z : _≡_ {A = ℕ} 0 1 = cc in omega arith
+ended-apart phase (inr a) (inr b) = let z : _≡_ {A = ℕ} 0 1 = cc in omega arith
+
+-- how many challenges a session in a state can still answer, if no call returns: one in New and Committed, else none
+unfoldable pub left : ProverPhase → ℕ
+left phase = min 1 (2 - proverState phase)
 
 -- a call that neither saves nor returns
 abbrev pub Steps : ProverCall → Type 0
@@ -99,16 +115,10 @@ Steps Drop = Unit {0}
 Steps (Save name) = ⊥
 Steps (Return name) = ⊥
 
--- no such call moves it
-pub ended-unmoved : (p : Prover) (call : ProverCall) (step : ProverStep) → Steps call → Ended p → ProverMoves p call step → ⊥
+-- no such call moves a session that has ended
+pub ended-unmoved : (p : Prover) (call : ProverCall) (step : ProverStep) → Steps call → Ended (p .phase) → ProverMoves p call step → ⊥
 ended-unmoved p (Commit sheet nonce) step steps ended moves = ended-apart (p .phase) ended (inl (moves .0))
 ended-unmoved p (Respond sheet c witness) step steps ended moves = ended-apart (p .phase) ended (inr (moves .0))
 ended-unmoved p Drop step steps ended moves = ended-apart (p .phase) ended (moves .0)
 ended-unmoved p (Save name) step steps ended moves = steps
 ended-unmoved p (Return name) step steps ended moves = steps
-
--- so each is refused
-pub ended-refuses : (call : ProverCall) (p : Prover) → Steps call → Ended p → 0 < callProver call p .refusal
-ended-refuses call p steps ended =
-    let never : ¬ (callProver call p .refusal ≡ 0) = λ e. ended-unmoved p call _ steps ended (prover-moves call p e) in
-    omega arith

@@ -2,34 +2,33 @@
 -- and comes back; from a new session no nonce but zeros is held once it is Answered or Dropped, and the record keeps its shape.
 -- Assumes nothing.
 use Prim.Native.Nat.{ℕ, _<_, _≤_}
-use mathlib.Core.Path.{_≡_, refl, sym, ap, _∙_}
-use mathlib.Core.Logic.{_≢_, _⊎_, inl, inr}
-use mathlib.Core.List.{List, [], _∷_}
+use mathlib.Core.Path.{_≡_, refl, sym, ap, subst, _∙_}
+use mathlib.Core.Logic.{_≢_, inl, inr}
+use mathlib.Core.List.{List}
 use native.Mathlib.Decide.{decLt}
 use native.Mathlib.Omega.{arith}
 use borrow.Author.Tests.{ne-eqb}
 use lib.ListN.{length, getD-replicate, List·getD-eq-default, List·getD-map}
 use lib.Seq.{getD-set-same, getD-set-other, set-out}
 use Rattle.types.specs.declared.Listed.{Listed}
-use Rattle.types.specs.declared.Memory.{Memory}
 use Rattle.types.specs.declared.Prover.{Prover}
 use Rattle.types.specs.declared.ProverPhase.{ProverPhase}
 use Rattle.types.specs.declared.ProverPhase.the-variants.{New, Committed, Answered, Dropped}
 use Rattle.types.specs.declared.ProverStep.{ProverStep}
 use Rattle.types.specs.declared.Saved.{Saved}
+use Rattle.lists.specs.Member.{Member}
 use Rattle.lists.specs.Places.{zeros8}
 use Rattle.rules.proofs.Says.{says-decides, says-equal}
 use Rattle.runs.specs.Memory.{noMemory, listedAt, savedAt}
 use Rattle.runs.specs.Ours.{callProver, proverAfter, proverTrace, runCalls}
 use Rattle.runs.specs.Prover.{newProver, proverState}
-use Rattle.runs.specs.ProverCalls.{ProverCall, Commit, Respond, Drop, Save, Return}
-use Rattle.runs.specs.ProverCalls.{Ended, NoneSaves, Shaped}
-use Rattle.runs.specs.Run.{sessionAfter}
+use Rattle.runs.specs.ProverCalls.{ProverCall, Commit, Respond, Drop, Save, Return, ProverMoves, Ended, Shaped}
 use Rattle.runs.specs.SavedStates.{SavedStates}
 use Rattle.runs.specs.Saving.{broughtBack, keeping, proverPhase, returnTo, returning, save, savedState, saving}
-use Rattle.runs.proofs.PerCommitment.{call-shaped, listed-before, per-commitment}
-use Rattle.runs.proofs.ProverCalls.{ended-apart, prover-value, prover-kept, prover-moves}
+use Rattle.runs.proofs.PerCommitment.{listed-before, per-commitment, shape-kept}
+use Rattle.runs.proofs.ProverCalls.{ended-apart, prover-value, peggy}
 use Rattle.runs.proofs.ProverSteps.{return-runs, save-runs}
+use Rattle.runs.proofs.Run.{stays}
 
 -- ---- states and their numbers
 
@@ -53,41 +52,25 @@ saving-leaves : (p : Prover) (other name : ℕ) → other ≢ name → savedAt (
 unfolding keeping savedAt
 saving-leaves p other name apart = getD-set-other (p .memory .saved) other name _ _ (λ e. apart (sym e))
 
--- a call that does not save under the name leaves it
-call-leaves : (call : ProverCall) (p : Prover) (name : ℕ) → NoneSaves name (call ∷ [])
-    → savedAt (callProver call p .session .memory) name ≡ savedAt (p .memory) name
+-- so does every call of a list of which none saves under it
+name-kept : (calls : List ProverCall) (name : ℕ) → ¬ Member (Save name) calls → (s : Saved) (call : ProverCall) → Member call calls
+    → (p : Prover) (step : ProverStep) → ProverMoves p call step → savedAt (p .memory) name ≡ s
+    → savedAt (step .session .memory) name ≡ s
 unfolding keeping savedState savedAt
-call-leaves call p name none = elim (decLt 0 (callProver call p .refusal)) [
-  | yes some ↦ ap (λ (step : ProverStep). savedAt (step .session .memory) name) (prover-kept call p some)
-  | no zero-case ↦ given call none (omega arith)
-]
-  where
-    given : (call : ProverCall) → NoneSaves name (call ∷ []) → callProver call p .refusal ≡ 0
-        → savedAt (callProver call p .session .memory) name ≡ savedAt (p .memory) name
-    given (Commit sheet nonce) none e = ap (λ (r : Prover). savedAt (r .memory) name) (prover-moves (Commit sheet nonce) p e .1)
-    given (Respond sheet c x) none e = ap (λ (r : Prover). savedAt (r .memory) name) (prover-moves (Respond sheet c x) p e .1)
-    given Drop none e = ap (λ (r : Prover). savedAt (r .memory) name) (prover-moves Drop p e .1)
-    given (Save other) none e =
-        ap (λ (r : Prover). savedAt (r .memory) name) (prover-moves (Save other) p e .1) ∙ saving-leaves p other name (none .0)
-    given (Return other) none e = ap (λ (r : Prover). savedAt (r .memory) name) (prover-moves (Return other) p e .1)
-
--- the first call of a list, and the others
-none-saves-first : (call : ProverCall) (calls : List ProverCall) (name : ℕ) → NoneSaves name (call ∷ calls)
-    → NoneSaves name (call ∷ []) × NoneSaves name calls
-none-saves-first (Commit sheet nonce) calls name none = (tt, none)
-none-saves-first (Respond sheet c x) calls name none = (tt, none)
-none-saves-first Drop calls name none = (tt, none)
-none-saves-first (Save other) calls name none = ((none .0, tt), none .1)
-none-saves-first (Return other) calls name none = (tt, none)
+name-kept calls name none s (Commit sheet nonce) member p step moved same = rw (moved .1) same
+name-kept calls name none s (Respond sheet c x) member p step moved same = rw (moved .1) same
+name-kept calls name none s Drop member p step moved same = rw (moved .1) same
+name-kept calls name none s (Save other) member p step moved same =
+    let apart : other ≢ name = λ e. none (subst (λ (n : ℕ). Member (Save n) calls) e member) in
+    rw (moved .1) (saving-leaves p other name apart ∙ same)
+name-kept calls name none s (Return other) member p step moved same = rw (moved .1) same
 
 -- over any calls
-saved-stays : (calls : List ProverCall) (p : Prover) (name : ℕ) → NoneSaves name calls
+saved-stays : (calls : List ProverCall) (p : Prover) (name : ℕ) → ¬ Member (Save name) calls
     → savedAt (proverAfter calls p .memory) name ≡ savedAt (p .memory) name
-unfolding proverAfter sessionAfter callProver
-saved-stays [] p name none = refl
-saved-stays (call ∷ calls) p name none =
-    let (first, rest) = none-saves-first call calls name none in
-    saved-stays calls (callProver call p .session) name rest ∙ call-leaves call p name first
+unfolding proverAfter callProver
+saved-stays calls p name none =
+    stays peggy (λ q. savedAt (q .memory) name ≡ savedAt (p .memory) name) calls (name-kept calls name none _) p refl
 
 -- ---- and comes back
 
@@ -98,7 +81,7 @@ saved-here p name shaped less =
     ap (λ (step : ProverStep). savedAt (step .session .memory) name) (prover-value (Save name) p (save-runs p name .1 less))
     ∙ getD-set-same (p .memory .saved) name _ _ (omega arith)
 
-comes-back : (calls : List ProverCall) (p : Prover) (name : ℕ) → Shaped p → name < 8 → NoneSaves name calls
+comes-back : (calls : List ProverCall) (p : Prover) (name : ℕ) → Shaped p → name < 8 → ¬ Member (Save name) calls
     → returnTo (proverAfter calls (save p name .session)) name
     ≡ record {
       refusal = 0;
@@ -122,14 +105,10 @@ comes-back calls p name shaped less none =
 
 -- ---- nonces of zeros
 
--- a state that has ended
-abbrev Over : ProverPhase → Type 0
-Over phase = (phase ≡ Answered) ⊎ (phase ≡ Dropped)
-
 -- a session that has ended has a nonce of zeros, and so has each saved state that has
 record Clean (p : Prover) : Type 0 where
-  held : Ended p → p .nonce ≡ zeros8
-  saved : (name : ℕ) → Over (proverPhase (savedAt (p .memory) name .phase)) → savedAt (p .memory) name .nonce ≡ zeros8
+  held : Ended (p .phase) → p .nonce ≡ zeros8
+  saved : (name : ℕ) → Ended (proverPhase (savedAt (p .memory) name .phase)) → savedAt (p .memory) name .nonce ≡ zeros8
 
 -- what is saved in a new session, and beyond its names, is New
 unsaved : (name : ℕ) → proverPhase (savedAt noMemory name .phase) ≡ New
@@ -158,7 +137,7 @@ saved-out p name outside = rw (set-out (p .memory .saved) name _ outside)
 
 -- what is saved of a clean session is clean
 saving-clean : (p : Prover) (other : ℕ) → Clean p → (name : ℕ)
-    → Over (proverPhase (savedAt (keeping other p) name .phase)) → savedAt (keeping other p) name .nonce ≡ zeros8
+    → Ended (proverPhase (savedAt (keeping other p) name .phase)) → savedAt (keeping other p) name .nonce ≡ zeros8
 unfolding savedState
 saving-clean p other clean name over = elim (says-decides (says-equal other name)) [
   | inl same ↦ rw same (here name (rw same at over))
@@ -167,7 +146,7 @@ saving-clean p other clean name over = elim (says-decides (says-equal other name
       rw left (clean .saved name (rw left at over))
 ]
   where
-    here : (name : ℕ) → Over (proverPhase (savedAt (keeping name p) name .phase)) → savedAt (keeping name p) name .nonce ≡ zeros8
+    here : (name : ℕ) → Ended (proverPhase (savedAt (keeping name p) name .phase)) → savedAt (keeping name p) name .nonce ≡ zeros8
     here name over = elim (decLt name (length (p .memory .saved))) [
       | yes inside ↦
           let there = saved-there p name inside in
@@ -178,39 +157,20 @@ saving-clean p other clean name over = elim (says-decides (says-equal other name
     ]
 
 -- every call keeps it so
-call-clean : (call : ProverCall) (p : Prover) → Clean p → Clean (callProver call p .session)
+clean-kept : (call : ProverCall) (p : Prover) (step : ProverStep) → ProverMoves p call step → Clean p → Clean (step .session)
 unfolding keeping savedState savedAt
-call-clean call p clean = elim (decLt 0 (callProver call p .refusal)) [
-  | yes some ↦ rw (prover-kept call p some) clean
-  | no zero-case ↦ given call (omega arith)
-]
-  where
-    given : (call : ProverCall) → callProver call p .refusal ≡ 0 → Clean (callProver call p .session)
-    given (Commit sheet nonce) e =
-        rw (prover-moves (Commit sheet nonce) p e .1)
-        (record { held = λ ended. absurd (ended-apart Committed ended (inr refl)); saved = clean .saved })
-    given (Respond sheet c x) e = rw (prover-moves (Respond sheet c x) p e .1) (record { held = λ ended. refl; saved = clean .saved })
-    given Drop e = rw (prover-moves Drop p e .1) (record { held = λ ended. refl; saved = clean .saved })
-    given (Save other) e = rw (prover-moves (Save other) p e .1) (record { held = clean .held; saved = saving-clean p other clean })
-    given (Return other) e = rw (prover-moves (Return other) p e .1) (record { held = clean .saved other; saved = clean .saved })
-
--- over any calls
-after-clean : (calls : List ProverCall) (p : Prover) → Clean p → Clean (proverAfter calls p)
-unfolding proverAfter sessionAfter callProver
-after-clean [] p clean = clean
-after-clean (call ∷ calls) p clean = after-clean calls (callProver call p .session) (call-clean call p clean)
+clean-kept (Commit sheet nonce) p step moved clean =
+    rw (moved .1) (record { held = λ ended. absurd (ended-apart Committed ended (inr refl)); saved = clean .saved })
+clean-kept (Respond sheet c x) p step moved clean = rw (moved .1) (record { held = λ ended. refl; saved = clean .saved })
+clean-kept Drop p step moved clean = rw (moved .1) (record { held = λ ended. refl; saved = clean .saved })
+clean-kept (Save other) p step moved clean = rw (moved .1) (record { held = clean .held; saved = saving-clean p other clean })
+clean-kept (Return other) p step moved clean = rw (moved .1) (record { held = clean .saved other; saved = clean .saved })
 
 -- ---- eight names and 64 places
 
 new-shaped : Shaped newProver
 unfolding newProver noMemory
 new-shaped = (refl, refl)
-
--- over any calls
-after-shaped : (calls : List ProverCall) (p : Prover) → Shaped p → Shaped (proverAfter calls p)
-unfolding proverAfter sessionAfter callProver
-after-shaped [] p shaped = shaped
-after-shaped (call ∷ calls) p shaped = after-shaped calls (callProver call p .session) (call-shaped call p shaped)
 
 -- ---- the card
 
@@ -221,8 +181,8 @@ saved-states = record {
   listed-before = listed-before;
   saved-stays = saved-stays;
   comes-back = comes-back;
-  wiped-new = λ calls. after-clean calls newProver new-clean .held;
-  shaped = λ calls. after-shaped calls newProver new-shaped;
+  wiped-new = λ calls. stays peggy Clean calls (λ call member. clean-kept call) newProver new-clean .held;
+  shaped = λ calls. stays peggy Shaped calls (λ call member. shape-kept call) newProver new-shaped;
   under-name = λ m name. refl;
   in-list = λ m i. sym (List·getD-map (λ (l : Listed). l .commitment) (m .answered) i _);
   numbers = (refl, refl, refl, refl);

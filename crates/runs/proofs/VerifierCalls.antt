@@ -11,9 +11,8 @@ use Rattle.runs.specs.Ours.{callVerifier}
 use Rattle.runs.specs.Verifier.{verifierState, takingCommitment, takingChallenge, takingResponse}
 use Rattle.runs.specs.VerifierCalls.{VerifierCall, Commitment, Challenge, Response}
 use Rattle.runs.specs.VerifierCalls.{VerifierMoves}
-use Rattle.runs.proofs.VerifierSteps.{takeCommitment-kept, takeCommitment-runs, takeCommitment-value}
-use Rattle.runs.proofs.VerifierSteps.{takeChallenge-kept, takeChallenge-runs, takeChallenge-value}
-use Rattle.runs.proofs.VerifierSteps.{takeResponse-kept, takeResponse-runs, takeResponse-value}
+use Rattle.runs.proofs.VerifierSteps.{takeCommitment-kept, takeCommitment-runs, takeCommitment-value, takeChallenge-kept, takeChallenge-runs, takeChallenge-value, takeResponse-kept, takeResponse-runs, takeResponse-value}
+use Rattle.runs.proofs.Run.{Machine}
 
 -- ---- a refused call
 
@@ -42,6 +41,17 @@ verifier-moves (Response sheet r) v e = (
   ap (λ (told : VerifierVerdict). told .session) (takeResponse-value sheet v r e),
 )
 
+-- the calls on Vic's session, and how they move it
+abbrev pub vic : Machine VerifierCall Verifier VerifierStep
+vic = record {
+  answer = callVerifier;
+  session = λ step. step .session;
+  refusal = λ step. step .refusal;
+  Moves = VerifierMoves;
+  kept = verifier-kept;
+  moves = verifier-moves;
+}
+
 -- ---- the state
 
 -- the number of a session's state
@@ -56,10 +66,7 @@ next-state v (Commitment sheet t) step m = omega (arith, ap verifierState (m .0)
 next-state v (Challenge sheet c) step m = omega (arith, ap verifierState (m .0), ap stateOf (m .1))
 next-state v (Response sheet r) step m = omega (arith, ap verifierState (m .0), ap stateOf (m .1))
 
--- so every call on a Judged session is refused
-pub judged-refuses : (call : VerifierCall) (v : Verifier) → v .phase ≡ Judged → 0 < callVerifier call v .refusal
+-- so no call moves a Judged session
+pub judged-unmoved : (v : Verifier) (call : VerifierCall) (step : VerifierStep) → v .phase ≡ Judged → ¬ VerifierMoves v call step
 unfolding verifierState
-judged-refuses call v e =
-    let never : ¬ (callVerifier call v .refusal ≡ 0) =
-    λ z. omega (arith, ap verifierState e, next-state v call _ (verifier-moves call v z)) in
-    omega arith
+judged-unmoved v call step judged moved = omega (arith, ap verifierState judged, next-state v call step moved)

@@ -3,11 +3,13 @@
 use Prim.Native.Nat.{ℕ, suc, _<_}
 use mathlib.Core.Path.{_≡_}
 use mathlib.Core.Logic.{_⊎_, _≢_}
-use mathlib.Core.List.{List, [], _∷_, flatMap}
+use mathlib.Core.List.{List, [], _∷_, flatMap, map}
 use lib.ListN.{length, set}
 use Rattle.types.specs.declared.Prover.{Prover}
+use Rattle.types.specs.declared.ProverPhase.{ProverPhase}
 use Rattle.types.specs.declared.ProverPhase.the-variants.{New, Committed, Answered, Dropped}
 use Rattle.types.specs.declared.ProverStep.{ProverStep}
+use Rattle.lists.specs.Member.{Member}
 use Rattle.lists.specs.Places.{pad8, places, zeros8}
 use Rattle.runs.specs.Memory.{savedAt}
 use Rattle.runs.specs.OnSheet.{readSlots}
@@ -98,52 +100,29 @@ ProverMoves p (Return name) step =
     }) ×
     (step .values ≡ zeros8)
 
--- the challenges that the calls of a trace answered
-unfoldable pub answered : {Outcome : Type 0} → List (ProverCall × Outcome) → List ℕ
-answered [] = []
-answered ((Commit sheet nonce, outcome) ∷ later) = answered later
-answered ((Respond sheet c witness, outcome) ∷ later) = c ∷ answered later
-answered ((Drop, outcome) ∷ later) = answered later
-answered ((Save name, outcome) ∷ later) = answered later
-answered ((Return name, outcome) ∷ later) = answered later
+-- the challenges that a call brings: one if it is responding, else none
+abbrev pub challengesOf : ProverCall → List ℕ
+challengesOf (Commit sheet nonce) = []
+challengesOf (Respond sheet c witness) = c ∷ []
+challengesOf Drop = []
+challengesOf (Save name) = []
+challengesOf (Return name) = []
 
--- the commitment that a call which is carried out answers, in all eight places: the session handed back holds it
-unfoldable pub answeredBy : ProverCall × ProverStep → List (List ℕ)
-answeredBy (Commit sheet nonce, step) = []
-answeredBy (Respond sheet c witness, step) = places 8 (step .session .commitment) ∷ []
-answeredBy (Drop, step) = []
-answeredBy (Save name, step) = []
-answeredBy (Return name, step) = []
-
--- the commitments that the calls of a trace answered
+-- the commitments that the calls of a trace answered, in all eight places: the session that responding hands back holds it
 unfoldable pub answeredOn : List (ProverCall × ProverStep) → List (List ℕ)
-answeredOn steps = flatMap answeredBy steps
+answeredOn steps = flatMap (λ step. map (λ c. places 8 (step .1 .session .commitment)) (challengesOf (step .0))) steps
 
 -- no call of a list returns
 abbrev pub NoneReturns : List ProverCall → Type 0
-NoneReturns [] = Unit {0}
-NoneReturns ((Commit sheet nonce) ∷ calls) = NoneReturns calls
-NoneReturns ((Respond sheet c witness) ∷ calls) = NoneReturns calls
-NoneReturns (Drop ∷ calls) = NoneReturns calls
-NoneReturns ((Save name) ∷ calls) = NoneReturns calls
-NoneReturns ((Return name) ∷ calls) = ⊥
-
--- no call of a list saves under a name
-abbrev pub NoneSaves : ℕ → List ProverCall → Type 0
-NoneSaves name [] = Unit {0}
-NoneSaves name ((Commit sheet nonce) ∷ calls) = NoneSaves name calls
-NoneSaves name ((Respond sheet c witness) ∷ calls) = NoneSaves name calls
-NoneSaves name (Drop ∷ calls) = NoneSaves name calls
-NoneSaves name ((Save other) ∷ calls) = (other ≢ name) × NoneSaves name calls
-NoneSaves name ((Return other) ∷ calls) = NoneSaves name calls
+NoneReturns calls = (name : ℕ) → ¬ Member (Return name) calls
 
 -- there are eight names and 64 places in the list, as in every session: its arrays have this length
 abbrev pub Shaped : Prover → Type 0
 Shaped p = (length (p .memory .saved) ≡ 8) × (length (p .memory .answered) ≡ 64)
 
--- the session is Answered or Dropped
-abbrev pub Ended : Prover → Type 0
-Ended p = (p .phase ≡ Answered) ⊎ (p .phase ≡ Dropped)
+-- the state is Answered or Dropped
+abbrev pub Ended : ProverPhase → Type 0
+Ended phase = (phase ≡ Answered) ⊎ (phase ≡ Dropped)
 
 -- two sessions have the same state, nonce and commitment
 abbrev pub SameState : Prover → Prover → Type 0

@@ -2,7 +2,7 @@
 -- Assumes nothing.
 use Prim.Native.Nat.{ℕ}
 use mathlib.Core.Path.{_≡_}
-use mathlib.Core.List.{List, [], _∷_, _++_}
+use mathlib.Core.List.{List, [], _∷_, _++_, flatMap}
 use Rattle.rules.specs.Answer.{unlessRefused}
 
 module _ {Call Session Outcome : Type 0} (answer : Call → Session → Outcome) (session : Outcome → Session) where
@@ -23,3 +23,7 @@ module _ {Call Session Outcome : Type 0} (session : Outcome → Session) where
   abbrev pub Leads : (Session → Call → Outcome → Type 0) → Session → List (Call × Outcome) → Session → Type 0
   Leads Moves s [] t = t ≡ s
   Leads Moves s ((call, outcome) ∷ later) t = Moves s call outcome × Leads Moves (session outcome) later t
+
+-- the challenges that the calls of a trace answered, by those that each call brings
+unfoldable pub answered : {Call Outcome : Type 0} → (Call → List ℕ) → List (Call × Outcome) → List ℕ
+answered brings steps = flatMap (λ step. brings (step .0)) steps

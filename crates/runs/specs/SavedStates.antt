@@ -13,8 +13,7 @@ use Rattle.lists.specs.Member.{EachOnce, Member}
 use Rattle.lists.specs.Places.{places, zeros8}
 use Rattle.runs.specs.Memory.{listedAt, savedAt}
 use Rattle.runs.specs.Prover.{proverState}
-use Rattle.runs.specs.ProverCalls.{ProverCall, proverAfter, proverTrace, answeredOn}
-use Rattle.runs.specs.ProverCalls.{Ended, NoneSaves, Shaped}
+use Rattle.runs.specs.ProverCalls.{ProverCall, Save, proverAfter, proverTrace, answeredOn, Ended, Shaped}
 use Rattle.runs.specs.RunCalls.{RunCalls}
 use Rattle.runs.specs.Saving.{proverPhase}
 
@@ -28,11 +27,11 @@ module _ (code : RunCalls) where
     pub listed-before : (calls : List ProverCall) (p : Prover) (i : ℕ) → Shaped p → i < min 64 (p .memory .count)
         → ¬ Member (places 8 (listedAt (p .memory) i)) (answeredOn (proverTrace code calls p))
     -- what is saved under a name stays as it is, its nonce too, until the name is saved under again
-    pub saved-stays : (calls : List ProverCall) (p : Prover) (name : ℕ) → NoneSaves name calls
+    pub saved-stays : (calls : List ProverCall) (p : Prover) (name : ℕ) → ¬ Member (Save name) calls
         → savedAt (proverAfter code calls p .memory) name ≡ savedAt (p .memory) name
     -- and a return then brings back the state, nonce and commitment that were saved, whatever the name held before, and changes nothing
     -- else
-    pub comes-back : (calls : List ProverCall) (p : Prover) (name : ℕ) → Shaped p → name < 8 → NoneSaves name calls
+    pub comes-back : (calls : List ProverCall) (p : Prover) (name : ℕ) → Shaped p → name < 8 → ¬ Member (Save name) calls
         → returnTo (proverAfter code calls (save p name .session)) name
         ≡ record {
           refusal = 0;
@@ -46,7 +45,7 @@ module _ (code : RunCalls) where
           values = zeros8;
         }
     -- from a new session any calls, returns too, lead to Answered or Dropped with a nonce of zeros only
-    pub wiped-new : (calls : List ProverCall) → Ended (proverAfter code calls newProver) → proverAfter code calls newProver .nonce ≡ zeros8
+    pub wiped-new : (calls : List ProverCall) → Ended (proverAfter code calls newProver .phase) → proverAfter code calls newProver .nonce ≡ zeros8
     -- a new session has eight names and 64 places in its list, and so has every one that calls make of it
     pub shaped : (calls : List ProverCall) → Shaped (proverAfter code calls newProver)
     -- what stands under a name, and the i-th commitment of the list: those of the record's arrays, and nothing beyond their ends

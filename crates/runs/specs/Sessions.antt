@@ -10,9 +10,9 @@ use Rattle.types.specs.declared.ProverPhase.the-variants.{New}
 use Rattle.types.specs.declared.Verifier.{Verifier}
 use Rattle.types.specs.declared.VerifierPhase.the-variants.{Waiting, Judged}
 use Rattle.lists.specs.Places.{zeros8}
-use Rattle.runs.specs.ProverCalls.{ProverCall, ProverMoves, proverAfter, proverTrace, answered}
+use Rattle.runs.specs.ProverCalls.{ProverCall, ProverMoves, challengesOf, proverAfter, proverTrace}
 use Rattle.runs.specs.ProverCalls.{Ended, NoneReturns, SameState}
-use Rattle.runs.specs.Run.{Leads}
+use Rattle.runs.specs.Run.{Leads, answered}
 use Rattle.runs.specs.RunCalls.{RunCalls}
 use Rattle.runs.specs.Verifier.{verifierState}
 use Rattle.runs.specs.VerifierCalls.{VerifierCall, VerifierMoves, verifierAfter, verifierTrace}
@@ -40,13 +40,14 @@ module _ (code : RunCalls) where
     pub in-order : (calls : List ProverCall) (p : Prover)
         → Leads (λ step. step .session) ProverMoves p (proverTrace code calls p) (proverAfter code calls p)
     -- where no call returns, at most one challenge is answered
-    pub once : (calls : List ProverCall) (p : Prover) → NoneReturns calls → length (answered (proverTrace code calls p)) ≤ 1
+    pub once : (calls : List ProverCall) (p : Prover) → NoneReturns calls
+        → length (answered challengesOf (proverTrace code calls p)) ≤ 1
     -- a session that such calls have led to Answered or Dropped has a nonce of zeros
-    pub wiped : (calls : List ProverCall) (p : Prover) → NoneReturns calls → ¬ Ended p → Ended (proverAfter code calls p)
-        → proverAfter code calls p .nonce ≡ zeros8
+    pub wiped : (calls : List ProverCall) (p : Prover) → NoneReturns calls → ¬ Ended (p .phase)
+        → Ended (proverAfter code calls p .phase) → proverAfter code calls p .nonce ≡ zeros8
     -- one that is Answered or Dropped keeps its state, nonce and commitment in them, and answers no challenge
-    pub ended : (calls : List ProverCall) (p : Prover) → NoneReturns calls → Ended p
-        → (answered (proverTrace code calls p) ≡ []) × SameState p (proverAfter code calls p)
+    pub ended : (calls : List ProverCall) (p : Prover) → NoneReturns calls → Ended (p .phase)
+        → (answered challengesOf (proverTrace code calls p) ≡ []) × SameState p (proverAfter code calls p)
 
   -- Vic's steps
   pub record StepsInOrder : Type 0 where
