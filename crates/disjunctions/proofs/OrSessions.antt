@@ -264,13 +264,13 @@ orPeggy = record {
 
 -- ---- each call
 
--- none moves a session that is Answered or Dropped
+-- none moves a session that has ended
 pub or-unmoved : (p : OrProver) (call : OrCall) (step : OrStep) → Ended (p .phase) → ¬ OrMoves p call step
 or-unmoved p (OrCommit s s′ side k d r) step ended moved = ended-apart (p .phase) ended (inl (moved .0))
 or-unmoved p (OrRespond s s′ c x) step ended moved = ended-apart (p .phase) ended (inr (moved .0))
 or-unmoved p OrDrop step ended moved = ended-apart (p .phase) ended (moved .0)
 
--- it answers what is left to answer
+-- it answers no more than is left to answer
 or-pays : (call : OrCall) (p : OrProver) (step : OrStep) → OrMoves p call step
     → length (orChallengesOf call) + left (step .session .phase) ≤ left (p .phase)
 unfolding left proverState
@@ -278,7 +278,7 @@ or-pays (OrCommit s s′ side k d r) p step (from, to, none) = rw (ap (λ (q : O
 or-pays (OrRespond s s′ c x) p step (from, to, wiped, kept) = rw (to, from) (omega arith)
 or-pays OrDrop p step (from, to, wiped, kept, empty) = rw to (omega arith)
 
--- it leads to no state that has ended but wiped
+-- it leads to no state that has ended, unless all but the commitments is zeros
 or-wipes : (call : OrCall) (p : OrProver) (step : OrStep) → OrMoves p call step
     → (Ended (p .phase) → Wiped p) → Ended (step .session .phase) → Wiped (step .session)
 or-wipes (OrCommit s s′ side k d r) p step (from, to, none) zeros ended =

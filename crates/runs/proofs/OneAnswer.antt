@@ -43,7 +43,7 @@ no-length (x ∷ xs) few = absurd (omega arith)
 -- ---- each call of a list of which none returns
 
 module _ (calls : List ProverCall) (none : NoneReturns calls) where
-  -- it answers what is left to answer
+  -- it answers no more than is left to answer
   pays : (call : ProverCall) → Member call calls → (p : Prover) (step : ProverStep) → ProverMoves p call step
       → length (challengesOf call) + left (step .session .phase) ≤ left (p .phase)
   unfolding left proverState
@@ -53,7 +53,7 @@ module _ (calls : List ProverCall) (none : NoneReturns calls) where
   pays (Save name) member p step (from, to, empty) = rw (phaseIs to) (omega arith)
   pays (Return name) member p step moved = absurd (none name member)
 
-  -- it leads to no state that has ended but with a nonce of zeros
+  -- it leads to no state that has ended, unless the nonce is zeros
   wipes : (call : ProverCall) → Member call calls → (p : Prover) (step : ProverStep) → ProverMoves p call step
       → (Ended (p .phase) → p .nonce ≡ zeros8) → Ended (step .session .phase) → step .session .nonce ≡ zeros8
   wipes (Commit sheet nonce) member p step (from, to) zeros ended = absurd (ended-apart _ ended (inr (phaseIs to)))
@@ -81,7 +81,7 @@ pub prover-leads : (calls : List ProverCall) (p : Prover)
 unfolding proverTrace proverAfter callProver
 prover-leads = leads peggy
 
--- if none returns, they answer what is left to answer
+-- if none returns, they answer no more than is left to answer
 answers-left : (calls : List ProverCall) (p : Prover) → NoneReturns calls
     → length (answered challengesOf (proverTrace calls p)) ≤ left (p .phase)
 unfolding answered proverTrace callProver
