@@ -1,20 +1,24 @@
 -- `text::write_word` meets its contract. The invariant: the first i bytes of the word are stored, and no other byte differs.
 -- The measure: how many bytes are left.
 -- Assumes nothing.
-use Prim.Native.Nat.{_≤_, _-_}
+use Prim.Native.Nat.{_≤_, _<_, _-_}
 use mathlib.Core.Path.{_≡_, refl}
 use native.Mathlib.Omega.{arith}
 use lib.ListN.{length, length-set, take}
 use lib.Seq.{sets}
-use Rattle.text.proofs.Laws.{byte-stored, word-placed}
+use Rattle.encoding.proofs.Fitted.{fitted-first}
+use Rattle.text.proofs.Laws.{byte-stored}
 use Rattle.text.proofs.write_word.Statement.{statement}
 use Rattle.text.proofs.write_word.Tie as tie
 
 abbrev Inv-loop : tie.InvT-loop
-Inv-loop s₀ at word i₀ i-end s i = (s ≡ sets s₀ at (take i word)) × (i ≤ length word) × (length s ≡ length s₀)
+Inv-loop s₀ at word count i₀ s i = (s ≡ sets s₀ at (take i word)) × (i ≤ count) × (length s ≡ length s₀)
 
 abbrev μ-loop : tie.MeasureT-loop
-μ-loop s₀ at word i₀ i-end s i = length word - i
+μ-loop s₀ at word count i₀ s i = count - i
+
+fitting-requires : tie.Need-fitting-requires Inv-loop μ-loop
+fitting-requires c κs = omega arith
 
 loop-holds : tie.Need-loop-holds Inv-loop μ-loop
 loop-holds c = (refl, omega arith, refl)
@@ -37,7 +41,8 @@ loop-less c = omega arith
 loop-again : tie.Need-loop-again Inv-loop μ-loop
 loop-again c =
     let at-loop = c .before .before in
-    (rw (at-loop .loop .inv .0) (byte-stored _ _ _ _ (c .before .loop-test .taken)), omega arith, simp length-set (omega arith))
+    let inside : at-loop .loop .i < length (at-loop .before .before .before .before .args .word .now) = omega arith in
+    (rw (at-loop .loop .inv .0) (byte-stored _ _ _ _ inside), omega arith, simp length-set (omega arith))
 
 add-result : tie.Need-add-result Inv-loop μ-loop
 add-result c = omega arith
@@ -46,7 +51,9 @@ same-length : tie.Need-same-length Inv-loop μ-loop
 same-length c = omega arith
 
 returns : tie.Need-returns Inv-loop μ-loop
-returns c = word-placed (c .before .loop .inv .0) (c .loop-test .left)
+returns c =
+    let at-loop = c .before in
+    fitted-first (at-loop .before .before .before .before .args .word .now) (at-loop .loop .i) (at-loop .loop .inv .0) (omega arith) (omega arith)
 
 pub write-word-spec : {M : Type 1} → statement M
 write-word-spec =
@@ -54,6 +61,7 @@ write-word-spec =
     (tie.spec
     Inv-loop
     μ-loop
+    fitting-requires
     loop-holds
     shared-slice-read-s
     add-s
