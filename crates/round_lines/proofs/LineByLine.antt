@@ -3,7 +3,7 @@
 use Prim.Native.Nat.{ℕ, suc, _+_}
 use mathlib.Core.Path.{_≡_, refl, ap, _∙_}
 use mathlib.Core.Bool.{Bool, false, not, _||_}
-use mathlib.Core.List.{List, [], _∷_, _++_, append-nil, flatten}
+use mathlib.Core.List.{List, [], _∷_, _++_, append-assoc, append-nil, flatten}
 use native.Mathlib.Numerals.{add-one}
 use lib.Dec.{T}
 use Rattle.types.specs.declared.Verdict.{Verdict}
@@ -16,8 +16,14 @@ use Rattle.encoding.specs.Placed.{Fitted}
 use Rattle.encoding.proofs.Fitted.{fitted-none, fitted-then}
 use Rattle.sigma.specs.Answer.{isAccepted}
 use Rattle.sigma.specs.Instance.{Instance}
-use Rattle.runs.specs.Marker.{verdictLine}
+use Rattle.encoding.specs.Text.{ascii, decimal}
+use Rattle.runs.specs.Marker.{newline, verdictLine, verdictText}
 use Rattle.round_lines.specs.Lines.{failsIn, linesIn, verdictIn}
+
+-- a round's line by what is stored at once
+pub line-parts : (k : ℕ) (v : Verdict) → verdictLine k v ≡ decimal k ++ (ascii " " ++ verdictText v) ++ newline
+unfolding verdictLine
+line-parts k v = ap (λ (front : List ℕ). front ++ newline) (append-assoc (decimal k) (ascii " ") (verdictText v))
 
 module _ (i : Instance) (f : List ℕ) where
   -- ---- one line more

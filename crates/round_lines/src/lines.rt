@@ -5,7 +5,9 @@ use text::write_decimal;
 use text::write_numbered;
 use text::write_word;
 use types::Verdict;
+ghost use mathlib.Core.List.{_++_};
 ghost use Rattle.encoding.specs.Placed.{Fitted};
+ghost use Rattle.encoding.specs.Text.{ascii};
 ghost use Rattle.runs.specs.Marker.{resultLine, verdictLine, verdictText, wordLine};
 
 // Stores a line of a word and a number at the start.
@@ -16,17 +18,17 @@ pub fn write_line(text: &mut [u8], word: &[u8], number: u32) -> usize
     write_word(text, next, b"\n")
 }
 
-// Stores what a verdict's line says after the round's number.
+// Stores what a verdict's line says after the round's number, with a space before it.
 fn write_verdict(text: &mut [u8], at: usize, verdict: Verdict) -> usize
-    ensures { λ r. ⌜ Fitted (now (text .entry)) at (verdictText verdict) (now (text .exit)) r ⌝ }
+    ensures { λ r. ⌜ Fitted (now (text .entry)) at (ascii " " ++ verdictText verdict) (now (text .exit)) r ⌝ }
 {
     match verdict {
-        Verdict::Accepted => write_word(text, at, b"accepted"),
+        Verdict::Accepted => write_word(text, at, b" accepted"),
         Verdict::Rejected(rows) => {
-            let next = write_word(text, at, b"rejected");
+            let next = write_word(text, at, b" rejected");
             write_rows(text, next, rows)
         }
-        Verdict::Refused(number) => write_numbered(text, at, b"refused", number as u64),
+        Verdict::Refused(number) => write_numbered(text, at, b" refused", number as u64),
     }
 }
 
@@ -34,8 +36,7 @@ fn write_verdict(text: &mut [u8], at: usize, verdict: Verdict) -> usize
 pub fn write_round(text: &mut [u8], at: usize, number: u32, verdict: Verdict) -> usize
     ensures { λ r. ⌜ Fitted (now (text .entry)) at (verdictLine number verdict) (now (text .exit)) r ⌝ }
 {
-    let space = write_decimal(text, at, number as u64);
-    let word = write_word(text, space, b" ");
+    let word = write_decimal(text, at, number as u64);
     let end = write_verdict(text, word, verdict);
     write_word(text, end, b"\n")
 }

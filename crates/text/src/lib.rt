@@ -1,33 +1,45 @@
 // Text in a slice of bytes: words and decimal numbers. Each function stores the bytes that have room from an index on, leaves out
 // the others, changes no other byte and answers the index after what it stored.
-ghost use Prim.Native.Nat.{_+_, _-_, _<_, min};
+ghost use Prim.Native.Nat.{_+_, _≤_, _<_};
 ghost use mathlib.Core.List.{[], _∷_, _++_};
-ghost use mathlib.Core.Path.{_≡_};
+ghost use lib.ListN.{length};
 ghost use Rattle.encoding.specs.Text.{ascii, decimal};
-ghost use Rattle.encoding.specs.Placed.{Fitted};
+ghost use Rattle.encoding.specs.Placed.{Fitted, Placed};
 
-// How many of count bytes have room from an index on in a slice of size bytes.
-fn fitting(size: usize, at: usize, count: usize) -> usize
-    ensures { λ r. ⌜ r ≡ min (size - at) count ⌝ }
+// Stores a word that has room.
+fn store_word(s: &mut [u8], at: usize, word: &[u8]) -> usize
+    requires room { ⌜ at + length (now word) ≤ length (now s) ⌝ }
+    ensures { λ r. ⌜ Placed (now (s .entry)) at (now (word .entry)) (now (s .exit)) r ⌝ }
 {
-    if size <= at {
-        return 0;
+    for i in 0..word.len() {
+        s[at + i] = word[i];
     }
-    if size - at < count {
-        return size - at;
+    at + word.len()
+}
+
+// Stores the part that has room of a word that has not.
+fn write_part(s: &mut [u8], at: usize, word: &[u8]) -> usize
+    requires long { ⌜ length (now s) < at + length (now word) ⌝ }
+    ensures { λ r. ⌜ Fitted (now (s .entry)) at (now (word .entry)) (now (s .exit)) r ⌝ }
+{
+    if s.len() <= at {
+        return at;
     }
-    count
+    let room = s.len() - at;
+    store_word(s, at, &word[..room])
 }
 
 // Stores a word.
 pub fn write_word(s: &mut [u8], at: usize, word: &[u8]) -> usize
     ensures { λ r. ⌜ Fitted (now (s .entry)) at (now (word .entry)) (now (s .exit)) r ⌝ }
 {
-    let count = fitting(s.len(), at, word.len());
-    for i in 0..count {
-        s[at + i] = word[i];
+    if s.len() < word.len() {
+        return write_part(s, at, word);
     }
-    at + count
+    if s.len() - word.len() < at {
+        return write_part(s, at, word);
+    }
+    store_word(s, at, word)
 }
 
 // Stores the one digit of a number below 10.
