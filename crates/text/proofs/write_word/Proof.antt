@@ -37,4 +37,16 @@ returns-3 : tie.Need-returns-3
 returns-3 c = word-fitted (omega arith) (c .before .before .store-word .ensures)
 
 pub write-word-spec : {M : Type 1} → statement M
-write-word-spec = tie.close (tie.spec write-part-requires same-length returns sub-if2 write-part-requires-2 same-length-2 returns-2 store-word-requires same-length-3 returns-3)
+write-word-spec =
+    tie.close
+    (tie.spec
+    write-part-requires
+    same-length
+    returns
+    sub-if2
+    write-part-requires-2
+    same-length-2
+    returns-2
+    store-word-requires
+    same-length-3
+    returns-3)
