@@ -1,3 +1,2 @@
--- Laws that the proofs of the functions cite: a text that grows word by word, and the lines challenge by challenge.
-pub mod Growing
+-- Laws that the proofs of the functions cite: the lines challenge by challenge.
 pub mod LineByLine

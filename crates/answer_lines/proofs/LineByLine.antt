@@ -1,19 +1,21 @@
 -- The game's lines, challenge by challenge, and the slots of a response, one by one.
 -- Assumes nothing.
-use Prim.Native.Nat.{ℕ, suc, _+_, _<_, _≤_}
+use Prim.Native.Nat.{ℕ, suc, _+_, _-_, _<_, _≤_, min}
 use mathlib.Core.Path.{_≡_, refl, sym, ap, subst, _∙_}
 use mathlib.Core.Logic.{_≢_}
 use mathlib.Core.List.{List, [], _∷_, _++_, append-nil, flatten, map, map-append}
+use native.Mathlib.Decide.{decLt}
+use native.Mathlib.Numerals.{add-one}
 use native.Mathlib.Omega.{arith}
-use lib.ListN.{getD, length, length-append}
+use lib.ListN.{getD, length, length-append, length-take}
 use borrow.Author.Tests.{le-ltb, lt-ltb}
 use Rattle.types.specs.declared.Header.{Header}
 use Rattle.lists.specs.Places.{itemsAt, pad8, places, tabulate}
 use Rattle.lists.proofs.Places.{places-pad8, places-suc, places-whole}
 use Rattle.lists.proofs.Rows.{flatten-append}
 use Rattle.lists.proofs.Words.{words-suc, words-zero}
-use Rattle.encoding.specs.Placed.{Placed}
-use Rattle.encoding.proofs.Placed.{placed-behind}
+use Rattle.encoding.specs.Placed.{Fitted}
+use Rattle.encoding.proofs.Fitted.{fitted-as, fitted-none, fitted-out, fitted-then}
 use Rattle.encoding.specs.Text.{ascii, decimal}
 use Rattle.runs.specs.Marker.{newline, rowWord}
 use Rattle.sigma.specs.Instance.{Instance}
@@ -22,7 +24,6 @@ use Rattle.games.specs.Text.{answerLine, answerLines, answered, candidate, cand
 use Rattle.games.proofs.Slots.{length-slots}
 use Rattle.solver.specs.Small.{Small}
 use Rattle.answer_lines.specs.Lines.{lineAt, linesBelow}
-use Rattle.answer_lines.proofs.Growing.{word-fits, word-placed}
 
 -- a list of no items is empty
 length-zero : (xs : List ℕ) → length xs ≡ 0 → xs ≡ []
@@ -32,9 +33,9 @@ length-zero (x ∷ xs) e = absurd (omega arith)
 -- ---- the slots of a response
 
 -- no slots
-pub no-slots : (l : List ℕ) (at : ℕ) (values : List ℕ) → Placed l at (flatten (map rowWord (places 0 values))) l at
+pub no-slots : (l : List ℕ) (at : ℕ) (values : List ℕ) → Fitted l at (flatten (map rowWord (places 0 values))) l at
 unfolding places tabulate itemsAt flatten
-no-slots l at values = record { stored = refl; behind = omega arith }
+no-slots l at values = fitted-none l at
 
 -- one slot more
 slots-suc : (values : List ℕ) (n : ℕ)
@@ -47,19 +48,10 @@ slots-suc values n =
     ∙ flatten-append (map rowWord (places n values)) (map rowWord last)
     ∙ ap (λ (xs : List ℕ). flatten (map rowWord (places n values)) ++ xs) (append-nil (rowWord (getD values n 0)))
 
-module _ (values : List ℕ) {l m : List ℕ} {at x : ℕ} (j : ℕ)
-    (placed : Placed l at (flatten (map rowWord (places j values))) m x) where
-  -- slot j behind those before it
-  pub slot-placed : {p : List ℕ} {y : ℕ} → Placed m x (rowWord (getD values j 0)) p y
-      → Placed l at (flatten (map rowWord (places (j + 1) values))) p y
-  slot-placed =
-      word-placed (λ n. flatten (map rowWord (places n values))) (λ n. rowWord (getD values n 0)) (slots-suc values) j placed
-
-  -- which has room where all slots have
-  pub slot-fits : (n size : ℕ) → j < n → at + length (flatten (map rowWord (places n values))) ≤ size
-      → x + length (rowWord (getD values j 0)) ≤ size
-  slot-fits =
-      word-fits (λ n. flatten (map rowWord (places n values))) (λ n. rowWord (getD values n 0)) (slots-suc values) j placed
+-- slot j after those before it
+pub slot-fitted : (values : List ℕ) {l m p : List ℕ} {at x y : ℕ} (j : ℕ) → Fitted l at (flatten (map rowWord (places j values))) m x
+    → Fitted m x (rowWord (getD values j 0)) p y → Fitted l at (flatten (map rowWord (places (j + 1) values))) p y
+slot-fitted values j slots slot = rw (add-one j, slots-suc values j) (fitted-then slots slot)
 
 -- ---- the line of a challenge
 
@@ -86,44 +78,29 @@ module _ (h : Header) (c k : ℕ) where
       ap (places n) is-response ∙ places-pad8 n (candidate h k) ∙ places-whole n (candidate h k) (length-candidate small) in
       rw (slots, lt-ltb k (candidates h) found)
 
-  -- and its length, part by part
-  pub answer-length : k < candidates h → Small h → {response : List ℕ} → response ≡ pad8 0 (candidate h k)
-      → length (lineAt h c k) ≡ length (decimal c) + length (flatten (map rowWord (places (h .columns) response))) + 1
-  unfolding newline
-  answer-length found small {response} is-response =
-      let slots = flatten (map rowWord (places (h .columns) response)) in
-      rw (answer-line found small is-response)
-      (omega (arith, length-append (decimal c ++ slots) newline, length-append (decimal c) slots))
-
 module _ (inst : Instance) (t : List ℕ) where
   -- ---- the lines of the first challenges
 
   -- no lines
-  pub no-lines : (l : List ℕ) → Placed l 0 (linesBelow inst t 0) l 0
+  pub no-lines : (l : List ℕ) → Fitted l 0 (linesBelow inst t 0) l 0
   unfolding linesBelow
-  no-lines l = rw (words-zero (answerLine inst t) (isAnswered inst t)) (record { stored = refl; behind = omega arith })
+  no-lines l = rw (words-zero (answerLine inst t) (isAnswered inst t)) (fitted-none l 0)
 
   -- the lines of one challenge more
   lines-suc : (n : ℕ) → linesBelow inst t (suc n) ≡ linesBelow inst t n ++ lineAt (inst .header) n (firstAnswer inst t n)
   unfolding linesBelow lineAt isAnswered answerLine
   lines-suc n = words-suc (answerLine inst t) n (isAnswered inst t)
 
-  module _ {l m : List ℕ} {x : ℕ} (c : ℕ) (placed : Placed l 0 (linesBelow inst t c) m x) {k : ℕ}
-      (is-first : k ≡ firstAnswer inst t c) where
-    -- the line of challenge c behind those before it
-    pub line-placed : {p : List ℕ} {y : ℕ} → Placed m x (lineAt (inst .header) c k) p y → Placed l 0 (linesBelow inst t (c + 1)) p y
-    line-placed =
-        rw is-first
-        (word-placed (linesBelow inst t) (λ n. lineAt (inst .header) n (firstAnswer inst t n)) lines-suc c placed)
-
-    -- which has room where all lines have
-    pub line-fits : (n size : ℕ) → c < n → length (linesBelow inst t n) ≤ size → x + length (lineAt (inst .header) c k) ≤ size
-    line-fits n size less room =
-        rw is-first
-        (word-fits (linesBelow inst t) (λ n. lineAt (inst .header) n (firstAnswer inst t n)) lines-suc c placed n size less
-        (omega arith))
+  -- the line of challenge c after those before it
+  pub line-fitted : {l m p : List ℕ} {x y : ℕ} (c : ℕ) → Fitted l 0 (linesBelow inst t c) m x
+      → {k : ℕ} → k ≡ firstAnswer inst t c → Fitted m x (lineAt (inst .header) c k) p y → Fitted l 0 (linesBelow inst t (c + 1)) p y
+  line-fitted c lines is-first line = rw (add-one c, lines-suc c, ← is-first) (fitted-then lines line)
 
   -- ---- all lines, or `none`
+
+  -- the lines of all challenges
+  abbrev all-lines : List ℕ
+  all-lines = linesBelow inst t (inst .header .challenges)
 
   -- a line has some byte
   line-some : (c : ℕ) → 0 < length (answerLine inst t c)
@@ -144,53 +121,39 @@ module _ (inst : Instance) (t : List ℕ) where
   some-listed [] some = absurd (omega arith)
   some-listed (c ∷ cs) some = refl
 
-  -- the text is no shorter than the lines
-  listed-fit : (cs : List ℕ) → length (flatten (map (answerLine inst t) cs)) ≤ length (linesOf inst t cs)
-  unfolding flatten linesOf
-  listed-fit [] = omega arith
-  listed-fit (c ∷ cs) = omega arith
-
-  -- so the text is `none` where no line has a byte
-  none-text : length (linesBelow inst t (inst .header .challenges)) ≡ 0 → answerLines inst t ≡ ascii "none" ++ newline
+  -- so the text is `none` if no line has a byte
+  none-text : length all-lines ≡ 0 → answerLines inst t ≡ ascii "none" ++ newline
   unfolding linesBelow answerLines answered
   none-text e = none-listed (answered inst t) e
 
   -- else it is the lines
-  lines-text : 0 < length (linesBelow inst t (inst .header .challenges))
-      → answerLines inst t ≡ linesBelow inst t (inst .header .challenges)
+  lines-text : 0 < length all-lines → answerLines inst t ≡ all-lines
   unfolding linesBelow answerLines answered
   lines-text some = some-listed (answered inst t) some
 
-  -- and its room holds them
-  pub lines-fit : length (linesBelow inst t (inst .header .challenges)) ≤ length (answerLines inst t)
-  unfolding linesBelow answerLines answered
-  lines-fit = listed-fit (answered inst t)
+  module _ {l m : List ℕ} {c x : ℕ} (fitted : Fitted l 0 (linesBelow inst t c) m x) (whole : c ≡ inst .header .challenges) where
+    -- the lines of all challenges are stored
+    all-fitted : Fitted l 0 all-lines m x
+    all-fitted = subst (λ (n : ℕ). Fitted l 0 (linesBelow inst t n) m x) whole fitted
 
-  module _ {l m : List ℕ} {c x : ℕ} (placed : Placed l 0 (linesBelow inst t c) m x) (whole : c ≡ inst .header .challenges) where
-    -- all lines are placed
-    all-placed : Placed l 0 (linesBelow inst t (inst .header .challenges)) m x
-    all-placed = subst (λ (n : ℕ). Placed l 0 (linesBelow inst t n) m x) whole placed
+    -- the index after them is the number of bytes that have room
+    all-behind : x ≡ min (length l) (length all-lines)
+    all-behind = omega (arith, all-fitted .placed .behind, length-take (length l - 0) all-lines)
 
-    -- which is the text if some byte was stored
-    pub lines-placed : x ≢ 0 → Placed l 0 (answerLines inst t) m x
-    lines-placed some = rw (lines-text (omega (arith, all-placed .behind))) all-placed
+    -- they are the text if some byte was stored
+    pub lines-fitted : x ≢ 0 → Fitted l 0 (answerLines inst t) m x
+    lines-fitted some = fitted-as all-fitted (lines-text (omega (arith, all-behind)))
 
-    module _ (none : x ≡ 0) where
-      -- if none was, the lines have no byte
-      no-bytes : length (linesBelow inst t (inst .header .challenges)) ≡ 0
-      no-bytes = omega (arith, all-placed .behind)
-
-      -- the text has five
-      pub none-length : length (answerLines inst t) ≡ 5
-      unfolding ascii newline
-      none-length = ap length (none-text no-bytes)
-
-      -- and `none` at the start is the text
-      pub none-placed : {p : List ℕ} {y : ℕ} → Placed m 0 (ascii "none" ++ newline) p y → Placed l 0 (answerLines inst t) p y
-      none-placed {p} {y} word =
-          let behind : Placed m x (ascii "none" ++ newline) p y =
-          subst (λ (i : ℕ). Placed m i (ascii "none" ++ newline) p y) (sym none) word in
-          let empty = length-zero (linesBelow inst t (inst .header .challenges)) no-bytes in
-          let alone : linesBelow inst t (inst .header .challenges) ++ (ascii "none" ++ newline) ≡ ascii "none" ++ newline =
-          ap (λ (lines : List ℕ). lines ++ (ascii "none" ++ newline)) empty in
-          subst (λ (bytes : List ℕ). Placed l 0 bytes p y) (alone ∙ sym (none-text no-bytes)) (placed-behind all-placed behind)
+    -- if none was, the text is `none`, or there is no room
+    pub none-fitted : x ≡ 0 → {p : List ℕ} {y : ℕ} → Fitted m 0 (ascii "none" ++ newline) p y → Fitted l 0 (answerLines inst t) p y
+    none-fitted none {p} {y} word =
+        let after : Fitted m x (ascii "none" ++ newline) p y =
+        subst (λ (i : ℕ). Fitted m i (ascii "none" ++ newline) p y) (sym none) word in
+        let both = fitted-then all-fitted after in
+        elim (decLt 0 (length l)) [
+          | yes room ↦
+              let no-bytes : length all-lines ≡ 0 = omega (arith, all-behind) in
+              let alone = ap (λ (lines : List ℕ). lines ++ (ascii "none" ++ newline)) (length-zero all-lines no-bytes) in
+              fitted-as both (none-text no-bytes ∙ sym alone)
+          | no room ↦ fitted-out both (omega arith) (answerLines inst t)
+        ]

@@ -1,5 +1,5 @@
-// The lines of the game (02, card 12) on loaded values. Each function asks that its bytes have room, stores them, changes no other
-// byte and answers the index behind them.
+// The lines of the game (02, card 12) on loaded values. Each function stores the bytes that have room, leaves out the others, changes
+// no other byte and answers the index after what it stored.
 use solver::count_of;
 use solver::first_answer;
 use solver::response_at;
@@ -8,13 +8,12 @@ use text::write_decimal;
 use text::write_numbered;
 use text::write_word;
 use types::Header;
-ghost use Prim.Native.Nat.{_+_, _≤_};
+ghost use Prim.Native.Nat.{_≤_};
 ghost use mathlib.Core.Bool.{false};
 ghost use mathlib.Core.List.{flatten, map};
 ghost use mathlib.Core.Path.{_≡_};
-ghost use lib.ListN.{length};
 ghost use Rattle.lists.specs.Places.{places};
-ghost use Rattle.encoding.specs.Placed.{Placed};
+ghost use Rattle.encoding.specs.Placed.{Fitted};
 ghost use Rattle.runs.specs.Marker.{rowWord};
 ghost use Rattle.sigma.specs.Instance.{instanceWith};
 ghost use Rattle.sigma.specs.Round.{badCommitment};
@@ -25,8 +24,7 @@ ghost use Rattle.answer_lines.specs.Lines.{lineAt};
 
 // Stores a number with a space before it.
 fn write_slot(text: &mut [u8], at: usize, value: u32) -> usize
-    requires room { ⌜ at + length (rowWord value) ≤ length (now text) ⌝ }
-    ensures { λ r. ⌜ Placed (now (text .entry)) at (rowWord value) (now (text .exit)) r ⌝ }
+    ensures { λ r. ⌜ Fitted (now (text .entry)) at (rowWord value) (now (text .exit)) r ⌝ }
 {
     write_numbered(text, at, b"", value as u64)
 }
@@ -34,8 +32,7 @@ fn write_slot(text: &mut [u8], at: usize, value: u32) -> usize
 // Stores the first n of eight numbers, each with a space before it.
 fn write_slots(text: &mut [u8], at: usize, values: [u32; 8], n: usize) -> usize
     requires count { ⌜ n ≤ 8 ⌝ }
-    requires room { ⌜ at + length (flatten (map rowWord (places n values))) ≤ length (now text) ⌝ }
-    ensures { λ r. ⌜ Placed (now (text .entry)) at (flatten (map rowWord (places n values))) (now (text .exit)) r ⌝ }
+    ensures { λ r. ⌜ Fitted (now (text .entry)) at (flatten (map rowWord (places n values))) (now (text .exit)) r ⌝ }
 {
     let mut next = at;
     for j in 0..n {
@@ -48,8 +45,7 @@ fn write_slots(text: &mut [u8], at: usize, values: [u32; 8], n: usize) -> usize
 // the candidates.
 fn write_answer(text: &mut [u8], at: usize, h: Header, c: u32, k: u32) -> usize
     requires small { ⌜ Small h ⌝ }
-    requires room { ⌜ at + length (lineAt h c k) ≤ length (now text) ⌝ }
-    ensures { λ r. ⌜ Placed (now (text .entry)) at (lineAt h c k) (now (text .exit)) r ⌝ }
+    ensures { λ r. ⌜ Fitted (now (text .entry)) at (lineAt h c k) (now (text .exit)) r ⌝ }
 {
     if k >= count_of(h) {
         return at;
@@ -73,8 +69,7 @@ pub fn write_answers(
     requires valid { ⌜ Valid (instanceWith h entries statement) ⌝ }
     requires small { ⌜ Small h ⌝ }
     requires elements { ⌜ badCommitment (instanceWith h entries statement) t ≡ false ⌝ }
-    requires room { ⌜ length (answerLines (instanceWith h entries statement) t) ≤ length (now text) ⌝ }
-    ensures { λ r. ⌜ Placed (now (text .entry)) 0 (answerLines (instanceWith h entries statement) t) (now (text .exit)) r ⌝ }
+    ensures { λ r. ⌜ Fitted (now (text .entry)) 0 (answerLines (instanceWith h entries statement) t) (now (text .exit)) r ⌝ }
 {
     let mut table = [0u32; 32768];
     table_of(h, entries, &mut table);

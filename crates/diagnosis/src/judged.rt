@@ -12,9 +12,7 @@ use text::write_word;
 use types::Header;
 use types::Round;
 use types::Verdict;
-ghost use Prim.Native.Nat.{_≤_, _<_};
-ghost use lib.ListN.{length};
-ghost use Rattle.encoding.specs.Placed.{Placed};
+ghost use Prim.Native.Nat.{_<_};
 ghost use Rattle.formats.specs.Meaning.{IsRoundFile};
 ghost use Rattle.formats.specs.RoundFile.{countField};
 ghost use Rattle.sigma.specs.Image.{image};
@@ -22,6 +20,7 @@ ghost use Rattle.sigma.specs.Instance.{instanceWith, tableWith};
 ghost use Rattle.sigma.specs.Round.{expectedImage};
 ghost use Rattle.sigma.specs.Valid.{Valid};
 ghost use Rattle.reasons.specs.Lines.{rejectedLine};
+ghost use Rattle.reason_lines.specs.Short.{ShortLine};
 ghost use Rattle.diagnosis.specs.Judged.{judgedLine};
 
 // Stores the line of a round that is rejected with the rows of a mask, at the start: each row, its value of [r] and its value of
@@ -35,12 +34,10 @@ fn write_sides(
     mask: u32,
 ) -> usize
     requires valid { ⌜ Valid (instanceWith h entries statement) ⌝ }
-    requires room { ⌜ 201 ≤ length (now text) ⌝ }
-    ensures placed { λ r. ⌜ Placed (now (text .entry)) 0
+    ensures { λ r. ⌜ ShortLine (now (text .entry))
         (rejectedLine mask (image (tableWith h entries) (round .response))
         (expectedImage (instanceWith h entries statement) (round .commitment) (round .challenge)))
         (now (text .exit)) r ⌝ }
-    ensures short { λ r. ⌜ r ≤ 201 ⌝ }
 {
     let response = round.response;
     let commitment = round.commitment;
@@ -61,10 +58,8 @@ pub fn write_judged(
     requires valid { ⌜ Valid (instanceWith h entries statement) ⌝ }
     requires file { ⌜ IsRoundFile h (now file) ⌝ }
     requires some { ⌜ 0 < countField (now file) ⌝ }
-    requires room { ⌜ 201 ≤ length (now text) ⌝ }
-    ensures placed { λ r. ⌜ Placed (now (text .entry)) 0 (judgedLine (instanceWith h entries statement) (now (file .entry)))
+    ensures { λ r. ⌜ ShortLine (now (text .entry)) (judgedLine (instanceWith h entries statement) (now (file .entry)))
         (now (text .exit)) r ⌝ }
-    ensures short { λ r. ⌜ r ≤ 201 ⌝ }
 {
     let width = file_width(file);
     match verdict_at(h, entries, statement, file, width, 0) {

@@ -4,4 +4,5 @@ pub mod Words
 pub mod Bounds
 pub mod Replaced
 pub mod Placed
+pub mod Fitted
 pub mod Text

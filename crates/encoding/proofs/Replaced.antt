@@ -1,13 +1,14 @@
 -- Bytes replaced: `sets l i vs` is the list l with vs stored from index i on, and every other element as it was.
 -- Assumes nothing.
-use Prim.Native.Nat.{ℕ, zero, suc, _+_, _≤_, _<_}
+use Prim.Native.Nat.{ℕ, zero, suc, _+_, _-_, _≤_, _<_}
 use mathlib.Core.Path.{_≡_, refl, sym, ap, ap₂, _∙_}
 use mathlib.Core.List.{List, [], _∷_, _++_, append-assoc}
+use native.Mathlib.Decide.{decLt}
 use native.Mathlib.Nat.{add-zero, add-suc}
 use native.Mathlib.Omega.{arith}
 use lib.ListN.{length, getD, take, drop, set, take-append-drop, length-set, length-append}
 use lib.Seq.{sets, sets-eq, getD-set-same, getD-set-other, take-set-le, take-set-lt, drop-set-lt, drop-set-add}
-use lib.Seq.{length-take-le, drop-at, take-append-seam}
+use lib.Seq.{length-take-le, drop-at, set-out, take-append-seam, take-nil}
 
 module _ {ℓ} {A : Type ℓ} where
   -- ---- one run after another
@@ -18,6 +19,25 @@ module _ {ℓ} {A : Type ℓ} where
   sets-sets l i (x ∷ xs) ys =
       let e : i + suc (length xs) ≡ suc i + length xs = omega arith in
       ap (λ (k : ℕ). sets (sets (set l i x) (suc i) xs) k ys) e ∙ sets-sets (set l i x) (suc i) xs ys
+
+  -- ---- a run that has no room
+
+  -- a run beyond the end changes nothing
+  pub sets-out : (l : List A) (i : ℕ) (vs : List A) → length l ≤ i → sets l i vs ≡ l
+  sets-out l i [] h = refl
+  sets-out l i (v ∷ vs) h = sets-out (set l i v) (suc i) vs (omega (arith, length-set l i v)) ∙ set-out l i v h
+
+  -- what has no room changes nothing
+  pub sets-fitting : (l : List A) (i : ℕ) (vs : List A) → sets l i (take (length l - i) vs) ≡ sets l i vs
+  sets-fitting l i [] = ap (sets l i) (take-nil (length l - i))
+  sets-fitting l i (v ∷ vs) = elim (decLt i (length l)) [
+    | yes less ↦
+        let some : length l - i ≡ suc (length (set l i v) - suc i) = omega (arith, length-set l i v) in
+        ap (λ (k : ℕ). sets l i (take k (v ∷ vs))) some ∙ sets-fitting (set l i v) (suc i) vs
+    | no past ↦
+        let none : length l - i ≡ 0 = omega arith in
+        ap (λ (k : ℕ). sets l i (take k (v ∷ vs))) none ∙ sym (sets-out l i (v ∷ vs) (omega arith))
+  ]
 
   -- ---- reading
 

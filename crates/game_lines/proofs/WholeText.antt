@@ -7,10 +7,11 @@ use mathlib.Core.Bool.{false}
 use mathlib.Core.List.{List, [], _∷_}
 use native.Mathlib.Omega.{arith}
 use lib.ListN.{length}
-use lib.Seq.{length-sets, sets}
+use lib.Seq.{sets}
 use Rattle.types.specs.declared.Fetched.{Fetched}
 use Rattle.types.specs.declared.Loaded.{Loaded}
-use Rattle.encoding.specs.Placed.{Placed}
+use Rattle.encoding.specs.Placed.{Fitted}
+use Rattle.encoding.proofs.Fitted.{fitted-as, fitted-start}
 use Rattle.encoding.specs.Text.{ascii}
 use Rattle.rules.specs.Rule.{Clear, _when_, lowest}
 use Rattle.rules.proofs.Lowest.{clear-lowest}
@@ -29,13 +30,10 @@ use Rattle.games.proofs.Length.{text-short}
 use Rattle.games.proofs.Number.{number-checked, number-own}
 use Rattle.games.proofs.Playing.{refused-line}
 
--- the game's text placed at the start of 720,896 bytes is what the contract asks for
-pub text-placed : (s f : List ℕ) {l bytes m : List ℕ} {r : ℕ} → 720896 ≤ length l → gameText s f ≡ bytes → Placed l 0 bytes m r
+-- the game's text in 720,896 bytes, as far as it has room, is what the contract asks for
+pub text-stored : (s f : List ℕ) {l bytes m : List ℕ} {r : ℕ} → 720896 ≤ length l → gameText s f ≡ bytes → Fitted l 0 bytes m r
     → (r ≤ length m) × ((r ≡ length (gameText s f)) × (m ≡ sets l 0 (gameText s f)))
-text-placed s f {l} {bytes} {m} {r} room e placed =
-    let size : r ≡ length (gameText s f) = rw e (omega (arith, placed .behind)) in
-    let kept : length m ≡ length l = rw (placed .stored) (length-sets l 0 bytes) in
-    (omega (arith, text-short s f), (size, rw e (placed .stored)))
+text-stored s f room same fitted = fitted-start (fitted-as fitted same) (omega (arith, text-short s f))
 
 module _ (s f : List ℕ) where
   -- a number above 0 gives the one line `refused N`
@@ -50,7 +48,7 @@ module _ (s f : List ℕ) where
       let same = checkAfter-refused (loadRules s) (headerOf s) some f 0 in
       number-checked s f (rw same some) ∙ same
 
-  -- where nothing is refused the text is that of the answers
+  -- if nothing is refused the text is that of the answers
   answers-given : gameRefusal s f ≡ 0 → gameText s f ≡ answerLines (instanceOf s) (namedCommitment s f)
   unfolding gameText textOf
   answers-given e = ap (λ (number : ℕ). textOf number (instanceOf s) (namedCommitment s f)) e
@@ -123,8 +121,3 @@ module _ (s f : List ℕ) {loaded : Loaded} (is-load : loaded ≡ load s) where
           answers-text =
               rw (answer-instance s loaded is-load passed is-entries, ap (λ (a : Fetched). a .round .commitment) fetches)
               (answers-given s f (game-number ∙ none))
-
-          -- which has room
-          pub answers-fit : length (answerLines (instanceWith (loaded .header) entries (loaded .statement)) (fetched .round .commitment))
-              ≤ 720896
-          answers-fit = omega (arith, text-short s f, ap length answers-text)

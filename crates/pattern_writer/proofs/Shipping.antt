@@ -8,8 +8,9 @@ use lib.ListN.{length, take}
 use lib.Seq.{sets}
 use borrow.Author.Tests.{lt-ltb, le-ltb}
 use Rattle.encoding.specs.Bytes.{bytesOf}
-use Rattle.encoding.specs.Placed.{Placed}
+use Rattle.encoding.specs.Placed.{Fitted, Placed}
 use Rattle.encoding.specs.Text.{ascii}
+use Rattle.encoding.proofs.Fitted.{fitted-none, fitted-then, fitted-whole}
 use Rattle.encoding.proofs.Placed.{placed-behind, placed-number}
 use Rattle.lists.specs.Places.{itemsAt, tabulate}
 use Rattle.rules.specs.Answer.{unlessRefused}
@@ -22,14 +23,14 @@ use Rattle.patterns.proofs.Shipped.{length-shipped}
 use Rattle.pattern_writer.specs.declared.Pattern.{Pattern}
 use Rattle.pattern_writer.specs.Stored.{storedPattern, storedPatterns, table, tableAt}
 
--- the sizes and the digits of a pattern, one behind the other, are the pattern
-pub pattern-placed : {l m n : List ℕ} {at i j : ℕ} (p : Pattern) (count : ℕ) → count ≡ p .rows * p .columns
-    → Placed l at (p .rows ∷ p .columns ∷ p .values ∷ []) m i → Placed m i (take (count - 0) (p .digits)) n j
-    → Placed l at (storedPattern p) n j
+-- the sizes and the digits of a pattern, one after the other, are the pattern
+pub pattern-fitted : {l m n : List ℕ} {at i j : ℕ} (p : Pattern) (count : ℕ) → count ≡ p .rows * p .columns
+    → Fitted l at (p .rows ∷ p .columns ∷ p .values ∷ []) m i → Fitted m i (take (count - 0) (p .digits)) n j
+    → Fitted l at (storedPattern p) n j
 unfolding storedPattern
-pattern-placed p count whole sizes digits =
+pattern-fitted p count whole sizes digits =
     let all : count - 0 ≡ p .rows * p .columns = omega arith in
-    placed-behind sizes (rw all at digits)
+    fitted-then sizes (rw all at digits)
 
 -- ---- the table
 
@@ -42,14 +43,10 @@ by-place P a b c d e (suc (suc (suc zero))) h = d
 by-place P a b c d e (suc (suc (suc (suc zero)))) h = e
 by-place P a b c d e (suc (suc (suc (suc (suc k))))) h = absurd (omega arith)
 
--- a pattern of the table holds its digits, and ends within 34 bytes
-at-place : (k : ℕ) → k < 5
-    → (tableAt k .rows * tableAt k .columns ≤ length (tableAt k .digits))
-    × (6 + length (storedPatterns k) + 3 + tableAt k .rows * tableAt k .columns ≤ 34)
-unfolding storedPatterns storedPattern table tableAt itemsAt tabulate flatten
-at-place =
-    by-place _ (omega arith, omega arith) (omega arith, omega arith) (omega arith, omega arith) (omega arith, omega arith)
-    (omega arith, omega arith)
+-- a pattern of the table has at most six digits, in six places
+holds-digits : (k : ℕ) → k < 5 → (tableAt k .rows * tableAt k .columns ≤ 6) × (length (tableAt k .digits) ≡ 6)
+unfolding table tableAt
+holds-digits = by-place _ (omega arith, refl) (omega arith, refl) (omega arith, refl) (omega arith, refl) (omega arith, refl)
 
 -- one pattern more
 patterns-next : (k : ℕ) → k < 5 → storedPatterns k ++ storedPattern (tableAt k) ≡ storedPatterns (k + 1)
@@ -58,22 +55,18 @@ patterns-next = by-place _ refl refl refl refl refl
 
 module _ {p : Pattern} (k : ℕ) (inside : k < 5) (found : p ≡ tableAt k) where
   -- a pattern that was found in the table holds its digits
-  pub found-digits : p .rows * p .columns ≤ length (p .digits)
-  found-digits = rw found (at-place k inside .0)
+  pub found-digits : (p .rows * p .columns ≤ 6) × (length (p .digits) ≡ 6)
+  found-digits = rw found (holds-digits k inside)
 
-  -- behind those before it, it ends within 34 bytes
-  pub found-room : {l m : List ℕ} {at : ℕ} → Placed l 6 (storedPatterns k) m at → at + 3 + p .rows * p .columns ≤ 34
-  found-room placed = rw found (omega (arith, at-place k inside .1, placed .behind))
-
-  -- stored there, it is one more
-  pub found-placed : {l m n : List ℕ} {at next : ℕ} → Placed l 6 (storedPatterns k) m at → Placed m at (storedPattern p) n next
-      → Placed l 6 (storedPatterns (k + 1)) n next
-  found-placed before stored = rw (← patterns-next k inside, ← found) (placed-behind before stored)
+  -- stored after those before it, it is one more
+  pub found-fitted : {l m n : List ℕ} {at next : ℕ} → Fitted l 6 (storedPatterns k) m at → Fitted m at (storedPattern p) n next
+      → Fitted l 6 (storedPatterns (k + 1)) n next
+  found-fitted before stored = rw (← patterns-next k inside, ← found) (fitted-then before stored)
 
 -- none is stored before the first
-pub none-placed : {l : List ℕ} → Placed l 6 (storedPatterns 0) l 6
+pub none-fitted : (l : List ℕ) → Fitted l 6 (storedPatterns 0) l 6
 unfolding storedPatterns tabulate itemsAt flatten
-none-placed = record { stored = refl; behind = refl }
+none-fitted l = fitted-none l 6
 
 -- ---- the file
 
@@ -82,6 +75,11 @@ file-whole : patternMark ++ bytesOf 2 1 ++ bytesOf 1 5 ++ storedPatterns 5 ≡ s
 unfolding storedPatterns storedPattern table tableAt bytesOf itemsAt tabulate flatten patternMark ascii shipped
     patternFile patternBytes patterns
 file-whole = refl
+
+-- the patterns have 28 bytes
+length-patterns : length (storedPatterns 5) ≡ 28
+unfolding storedPatterns storedPattern table tableAt itemsAt tabulate flatten
+length-patterns = refl
 
 module _ (buffer : List ℕ) where
   -- the buffer is too short
@@ -94,12 +92,13 @@ module _ (buffer : List ℕ) where
   -- in any other the file is stored
   pub shipped-made : {marked versioned counted after : List ℕ} {used : ℕ} → 34 ≤ length buffer → marked ≡ sets buffer 0 patternMark
       → versioned ≡ sets marked 3 (bytesOf 2 1) → counted ≡ sets versioned 5 (bytesOf 1 5)
-      → Placed counted 6 (storedPatterns 5) after used
+      → length counted ≡ length buffer → Fitted counted 6 (storedPatterns 5) after used
       → Leaves (record { refusal = 0; length = used }) after (writeShipped buffer)
   unfolding writeShipped writtenAtStart written short lowest unlessRefused patternMark ascii
-  shipped-made {marked} {used = used} room mark version count stored =
+  shipped-made {marked} {used = used} room mark version count size fitted =
       let start : Placed buffer 0 patternMark marked 3 = record { stored = mark; behind = refl } in
+      let stored = fitted-whole fitted (omega (arith, length-patterns)) in
       let placed = rw file-whole at (placed-behind (placed-number (placed-number start 2 1 version) 1 5 count) stored) in
       let enough = le-ltb (length buffer) (length shipped) (omega (arith, length-shipped)) in
-      let size : used ≡ length shipped = omega (arith, placed .behind) in
-      (rw (enough, size), rw (enough, placed .stored))
+      let end : used ≡ length shipped = omega (arith, placed .behind) in
+      (rw (enough, end), rw (enough, placed .stored))

@@ -6,10 +6,10 @@ use pattern_file::MARK;
 use pattern_file::START;
 use text::write_word;
 use types::Written;
-ghost use Prim.Native.Nat.{_+_, _*_, _≤_, _<_};
+ghost use Prim.Native.Nat.{_*_, _≤_, _<_};
 ghost use mathlib.Core.Path.{_≡_};
 ghost use lib.ListN.{length};
-ghost use Rattle.encoding.specs.Placed.{Placed};
+ghost use Rattle.encoding.specs.Placed.{Fitted};
 ghost use Rattle.patterns.specs.Table.{writeShipped};
 ghost use Rattle.pattern_writer.specs.Stored.{storedPattern, tableAt};
 
@@ -66,11 +66,11 @@ fn pattern_at(k: usize) -> Pattern
     PATTERNS[k]
 }
 
-// Stores the bytes of a pattern of the table from index at on, changes no other byte and answers the index behind them.
+// Stores the bytes of a pattern of the table that have room from index at on, changes no other byte and answers the index after what
+// it stored.
 fn write_pattern(buffer: &mut [u8], at: usize, p: Pattern) -> usize
-    requires held { ⌜ p .rows * p .columns ≤ length (p .digits) ⌝ }
-    requires room { ⌜ at + 3 + p .rows * p .columns ≤ length (now buffer) ⌝ }
-    ensures { λ r. ⌜ Placed (now (buffer .entry)) at (storedPattern p) (now (buffer .exit)) r ⌝ }
+    requires held { ⌜ (p .rows * p .columns ≤ 6) × (length (p .digits) ≡ 6) ⌝ }
+    ensures { λ r. ⌜ Fitted (now (buffer .entry)) at (storedPattern p) (now (buffer .exit)) r ⌝ }
 {
     let sizes = [p.rows, p.columns, p.values];
     let digits = p.digits;

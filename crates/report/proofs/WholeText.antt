@@ -1,13 +1,13 @@
 -- The whole text (01, "The marker's lines"; 02, card 3) by what loading the sheet, counting the file and testing the level answer.
 -- Assumes nothing.
-use Prim.Native.Nat.{ℕ, _+_, _≤_, _<_}
-use mathlib.Core.Path.{_≡_, refl, sym, ap, _∙_}
+use Prim.Native.Nat.{ℕ, _≤_, _<_}
+use mathlib.Core.Path.{_≡_, sym, ap, _∙_}
 use mathlib.Core.Logic.{_≢_}
 use mathlib.Core.Bool.{Bool, false, not, _||_}
 use mathlib.Core.List.{List, [], _∷_, _++_, flatten}
 use native.Mathlib.Omega.{arith}
-use lib.ListN.{length, length-append}
-use lib.Seq.{length-sets, sets}
+use lib.ListN.{length}
+use lib.Seq.{sets}
 use Rattle.types.specs.declared.Counted.{Counted}
 use Rattle.types.specs.declared.Loaded.{Loaded}
 use Rattle.types.specs.declared.Verdict.{Verdict}
@@ -15,7 +15,8 @@ use Rattle.numbers.specs.Search.{any}
 use Rattle.numbers.proofs.Search.{any-agree}
 use Rattle.lists.specs.Places.{tabulate}
 use Rattle.lists.proofs.Places.{tabulate-agree}
-use Rattle.encoding.specs.Placed.{Placed}
+use Rattle.encoding.specs.Placed.{Fitted}
+use Rattle.encoding.proofs.Fitted.{fitted-as, fitted-start}
 use Rattle.encoding.specs.Text.{ascii}
 use Rattle.rules.specs.Rule.{_when_, lowest}
 use Rattle.sigma.specs.Answer.{isAccepted}
@@ -29,21 +30,18 @@ use Rattle.formats.proofs.Files.{count-given, count-runs}
 use Rattle.runs.specs.Level.{badLevel, levelOf, strongEnough}
 use Rattle.runs.specs.Marker.{failsAt, markerText, resultLine, roundLine, roundLines, verdictLine, verdictOn, wordLine}
 use Rattle.runs.proofs.Marker.{round-lines, verdict-on-record}
-use Rattle.runs.proofs.MarkerLength.{length-resultLine, text-short}
+use Rattle.runs.proofs.MarkerLength.{text-short}
 use Rattle.runs.proofs.MarkerRefusal.{file-line, file-refusal, level-line, sheet-line}
 use Rattle.instance.proofs.Answers.{answer-number, answer-header, answer-instance, answer-header-call}
 use Rattle.sigma.specs.Instance.{instanceWith}
 use Rattle.round_lines.specs.Lines.{failsIn, linesIn, verdictIn}
 use Rattle.report.proofs.AtLevel.{level-bad, level-good}
 
--- the marker's text placed at the start of 14,864 bytes is what the contract asks for
-pub text-placed : (s f level : List ℕ) {l bytes m : List ℕ} {r : ℕ} → 14864 ≤ length l → markerText s f level ≡ bytes
-    → Placed l 0 bytes m r
+-- the marker's text in 14,864 bytes, as far as it has room, is what the contract asks for
+pub text-stored : (s f level : List ℕ) {l bytes m : List ℕ} {r : ℕ} → 14864 ≤ length l → markerText s f level ≡ bytes
+    → Fitted l 0 bytes m r
     → (r ≤ length m) × ((r ≡ length (markerText s f level)) × (m ≡ sets l 0 (markerText s f level)))
-text-placed s f level {l} {bytes} {m} {r} room e placed =
-    let size : r ≡ length (markerText s f level) = rw e (omega (arith, placed .behind)) in
-    let kept : length m ≡ length l = rw (placed .stored) (length-sets l 0 bytes) in
-    (omega (arith, text-short s f level), (size, rw e (placed .stored)))
+text-stored s f level room same fitted = fitted-start (fitted-as fitted same) (omega (arith, text-short s f level))
 
 -- ---- the rounds of a sheet that loads and a file that reads
 
@@ -134,22 +132,3 @@ module _ (s f : List ℕ) {loaded : Loaded} (is-load : loaded ≡ load s) where
                 file-reads .1,
               )
               (rounds-same s f counted-zero level (level-good level is-number given))
-
-          -- which has room
-          pub rounds-fit : length (wordLine (ascii "rounds") (counted .count))
-              + length (linesIn (instanceWith (loaded .header) entries (loaded .statement)) f (counted .count)) + 5
-              ≤ 14864
-          rounds-fit =
-              let line = wordLine (ascii "rounds") (counted .count) in
-              let rounds = linesIn (instanceWith (loaded .header) entries (loaded .statement)) f (counted .count) in
-              let failed =
-              failsIn (instanceWith (loaded .header) entries (loaded .statement)) f (counted .count)
-              || not (strongEnough (loaded .header .challenges) (counted .count) (levelOf level)) in
-              omega (
-                arith,
-                text-short s f level,
-                ap length (rounds-text refl refl),
-                length-append (line ++ rounds) (resultLine failed),
-                length-append line rounds,
-                length-resultLine failed,
-              )

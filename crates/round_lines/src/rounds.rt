@@ -7,11 +7,10 @@ use round_layout::file_width;
 use round_layout::record_start;
 use types::Header;
 use types::Verdict;
-ghost use Prim.Native.Nat.{_+_, _≤_, _<_};
+ghost use Prim.Native.Nat.{_<_};
 ghost use mathlib.Core.Bool.{not, _||_};
 ghost use mathlib.Core.Path.{_≡_};
-ghost use lib.ListN.{length};
-ghost use Rattle.encoding.specs.Placed.{Placed};
+ghost use Rattle.encoding.specs.Placed.{Fitted};
 ghost use Rattle.formats.specs.Meaning.{IsRoundFile};
 ghost use Rattle.formats.specs.RoundFile.{challengeWidth, countField};
 ghost use Rattle.round_layout.specs.Width.{IsWidth};
@@ -20,7 +19,7 @@ ghost use Rattle.sigma.specs.Answer.{isAccepted};
 ghost use Rattle.sigma.specs.Valid.{Valid};
 ghost use Rattle.round_lines.specs.Lines.{failsIn, linesIn, verdictIn};
 
-// What the lines of a file's rounds leave: the index behind them, and whether a round failed.
+// What the lines of a file's rounds leave: the index after them, and whether a round failed.
 pub struct Written {
     pub next: usize,
     pub failed: bool,
@@ -64,8 +63,8 @@ fn fails(before: bool, verdict: Verdict) -> bool
     }
 }
 
-// Stores a line for each of the count rounds of a file from an index on; no other byte is changed. Answers the index behind
-// them, and whether some round is not accepted.
+// Stores a line for each of the count rounds of a file from an index on, as far as there is room; no other byte is changed. Answers
+// the index after what it stored, and whether some round is not accepted.
 pub fn write_rounds(
     text: &mut [u8],
     at: usize,
@@ -78,8 +77,7 @@ pub fn write_rounds(
     requires valid { ⌜ Valid (instanceWith h entries statement) ⌝ }
     requires file { ⌜ IsRoundFile h (now file) ⌝ }
     requires count { ⌜ count ≡ countField (now file) ⌝ }
-    requires room { ⌜ at + length (linesIn (instanceWith h entries statement) (now file) count) ≤ length (now text) ⌝ }
-    ensures lines { λ r. ⌜ Placed (now (text .entry)) at (linesIn (instanceWith h entries statement) (now (file .entry)) count)
+    ensures lines { λ r. ⌜ Fitted (now (text .entry)) at (linesIn (instanceWith h entries statement) (now (file .entry)) count)
         (now (text .exit)) (r .next) ⌝ }
     ensures failed { λ r. ⌜ r .failed ≡ failsIn (instanceWith h entries statement) (now (file .entry)) count ⌝ }
 {

@@ -1,15 +1,15 @@
--- Text placed in a slice: a word byte by byte, and a number digit by digit.
+-- Text in a slice: a word byte by byte, and a number digit by digit.
 -- Assumes nothing.
-use Prim.Native.Nat.{ℕ, _+_, _/_, _%_, _≤_, _<_}
+use Prim.Native.Nat.{ℕ, _+_, _-_, _/_, _%_, _≤_, _<_}
 use mathlib.Core.Path.{_≡_, refl, ap, _∙_}
 use mathlib.Core.List.{List, [], _∷_}
 use native.Mathlib.Numerals.{add-one}
 use native.Mathlib.Omega.{arith}
-use lib.ListN.{length, getD, take, set, length-append}
+use lib.ListN.{length, getD, take, set}
 use lib.Seq.{sets, take-all, take-suc, length-take-le}
-use Rattle.encoding.specs.Placed.{Placed}
+use Rattle.encoding.specs.Placed.{Fitted, Placed}
 use Rattle.encoding.specs.Text.{decimal}
-use Rattle.encoding.proofs.Placed.{placed-behind}
+use Rattle.encoding.proofs.Fitted.{fitted-as, fitted-then}
 use Rattle.encoding.proofs.Replaced.{sets-sets}
 use Rattle.encoding.proofs.Text.{decimal-small, decimal-large}
 
@@ -28,15 +28,15 @@ pub word-placed : {l word m : List ℕ} {at i : ℕ} → m ≡ sets l at (take i
     → Placed l at word m (at + length word)
 word-placed {word = word} {i = i} stored whole = record { stored = rw (take-all i word whole) at stored; behind = refl }
 
--- the digit of a number below 10 is the number placed
-pub digit-placed : {l m : List ℕ} {at j n : ℕ} → n < 10 → Placed l at ((48 + n) ∷ []) m j → Placed l at (decimal n) m j
-digit-placed {n = n} small placed = rw (decimal-small n small) placed
+-- a word that has room
+pub word-fitted : {l word m : List ℕ} {at r : ℕ} → at + length word ≤ length l → Placed l at word m r → Fitted l at word m r
+word-fitted {l} {word} {at = at} room placed = record { placed = rw (take-all (length l - at) word (omega arith)) placed }
 
--- a number from 10 on has one digit more than its tenth
-pub tenth-shorter : (n : ℕ) → 10 ≤ n → length (decimal n) ≡ length (decimal (n / 10)) + 1
-tenth-shorter n large = ap length (decimal-large n large) ∙ length-append (decimal (n / 10)) ((48 + n % 10) ∷ [])
+-- the digit of a number below 10 is the number
+pub digit-fitted : {l m : List ℕ} {at j n : ℕ} → n < 10 → Fitted l at ((48 + n) ∷ []) m j → Fitted l at (decimal n) m j
+digit-fitted {n = n} small digit = fitted-as digit (decimal-small n small)
 
--- the last digit placed behind the tenth of a number is the number placed
-pub tenth-placed : {l m k : List ℕ} {at i j n : ℕ} → 10 ≤ n → Placed l at (decimal (n / 10)) m i
-    → Placed m i ((48 + n % 10) ∷ []) k j → Placed l at (decimal n) k j
-tenth-placed {n = n} large first second = rw (decimal-large n large) (placed-behind first second)
+-- the last digit after the tenth of a number is the number
+pub tenth-fitted : {l m k : List ℕ} {at i j n : ℕ} → 10 ≤ n → Fitted l at (decimal (n / 10)) m i
+    → Fitted m i ((48 + n % 10) ∷ []) k j → Fitted l at (decimal n) k j
+tenth-fitted {n = n} large tenth digit = fitted-as (fitted-then tenth digit) (decimal-large n large)

@@ -1,4 +1,4 @@
--- `answer_lines::write_answers` meets its contract. The invariant: the lines of the challenges before this one are placed, for
+-- `answer_lines::write_answers` meets its contract. The invariant: the lines of the challenges before this one are stored, for
 -- the entries that the table was made of. The measure: how many challenges are left.
 -- Assumes nothing.
 use Prim.Native.Nat.{ℕ, _<_, _≤_, _-_}
@@ -8,7 +8,7 @@ use mathlib.Core.List.{List}
 use native.Mathlib.Omega.{arith}
 use borrow.Author.Needs.{needs}
 use lib.ListN.{length}
-use Rattle.encoding.specs.Placed.{Placed}
+use Rattle.encoding.specs.Placed.{Fitted}
 use Rattle.encoding.specs.Text.{ascii}
 use Rattle.runs.specs.Marker.{newline}
 use Rattle.sigma.specs.Instance.{instanceWith}
@@ -16,7 +16,7 @@ use Rattle.sigma.specs.Round.{badCommitment}
 use Rattle.sigma.specs.Valid.{Valid}
 use Rattle.solver.specs.Prepared.{Prepared}
 use Rattle.answer_lines.specs.Lines.{linesBelow}
-use Rattle.answer_lines.proofs.LineByLine.{line-fits, line-placed, lines-fit, lines-placed, no-lines, none-length, none-placed}
+use Rattle.answer_lines.proofs.LineByLine.{line-fitted, lines-fitted, no-lines, none-fitted}
 use Rattle.answer_lines.proofs.write_answers.Statement.{statement}
 use Rattle.answer_lines.proofs.write_answers.Tie as tie
 
@@ -24,7 +24,7 @@ abbrev Inv-loop : tie.InvT-loop
 Inv-loop text₀ h statement t table last next₀ c₀ t11 text next c =
     ((entries : List (List ℕ)) → Valid (instanceWith h entries statement)
     → badCommitment (instanceWith h entries statement) t ≡ false → Prepared h entries table
-    → Placed text₀ 0 (linesBelow (instanceWith h entries statement) t c) text next)
+    → Fitted text₀ 0 (linesBelow (instanceWith h entries statement) t c) text next)
     × (c ≤ h .challenges)
     × (length text ≡ length text₀)
 
@@ -45,20 +45,8 @@ first-answer-requires c κs = c .before .before .before .before .before .before 
 
 write-answer-requires : tie.Need-write-answer-requires Inv-loop μ-loop
 write-answer-requires c κs =
-    let found = c .before in
-    let turn = found .before .before in
-    let made = turn .before .before .before in
-    let start = made .before .before .before in
-    let (valid, (small, (elements, room))) = start .pre in
-    let inst = instanceWith (start .args .h) (start .args .entries) (start .args .statement) in
-    let (lines, few, size) = turn .before .loop .inv in
-    let prepared = made .table-of .ensures in
-    let below : turn .before .loop .c < start .args .h .challenges = omega (arith, valid .table .some-challenges) in
-    let first = found .first-answer .ensures (start .args .entries) valid elements below prepared in (
-      small,
-      line-fits inst (start .args .t) _ (lines (start .args .entries) valid elements prepared) first (start .args .h .challenges) _ below
-          (omega (arith, lines-fit inst (start .args .t))),
-    )
+    let start = c .before .before .before .before .before .before .before .before .before in
+    start .pre .1 .0
 
 add-c : tie.Need-add-c Inv-loop μ-loop
 add-c c =
@@ -80,7 +68,7 @@ loop-again c =
     let below : turn .before .loop .c < start .args .h .challenges = omega arith in
     let (lines, few, size) = turn .before .loop .inv in (
       λ entries valid elements prepared.
-          line-placed _ _ _ (lines entries valid elements prepared)
+          line-fitted _ _ _ (lines entries valid elements prepared)
           (found .first-answer .ensures entries valid elements below prepared) (written .write-answer .ensures),
       omega arith,
       omega arith,
@@ -90,15 +78,7 @@ slice-aggregate-write-word : tie.Need-slice-aggregate-write-word Inv-loop μ-loo
 slice-aggregate-write-word c = search needs
 
 write-word-requires : tie.Need-write-word-requires Inv-loop μ-loop
-write-word-requires c κs =
-    let chosen = c .before .before in
-    let at-loop = chosen .before .before in
-    let made = at-loop .before .before in
-    let start = made .before .before .before in
-    let (valid, (small, (elements, room))) = start .pre in
-    let lines = at-loop .loop .inv .0 (start .args .entries) valid elements (made .table-of .ensures) in
-    let whole : at-loop .loop .c ≡ start .args .h .challenges = omega arith in
-    omega (arith, none-length _ _ lines whole (chosen .if1 .taken))
+write-word-requires c κs = search needs
 
 same-length : tie.Need-same-length Inv-loop μ-loop
 same-length c = omega arith
@@ -111,10 +91,10 @@ returns c =
     let at-loop = chosen .before .before in
     let made = at-loop .before .before in
     let start = made .before .before .before in
-    let (valid, (small, (elements, room))) = start .pre in
+    let (valid, (small, elements)) = start .pre in
     let lines = at-loop .loop .inv .0 (start .args .entries) valid elements (made .table-of .ensures) in
     let whole : at-loop .loop .c ≡ start .args .h .challenges = omega arith in
-    none-placed _ _ lines whole (chosen .if1 .taken) (word .write-word .ensures)
+    none-fitted _ _ lines whole (chosen .if1 .taken) (word .write-word .ensures)
 
 same-length-2 : tie.Need-same-length-2 Inv-loop μ-loop
 same-length-2 c = omega arith
@@ -124,10 +104,10 @@ returns-2 c =
     let at-loop = c .before .before in
     let made = at-loop .before .before in
     let start = made .before .before .before in
-    let (valid, (small, (elements, room))) = start .pre in
+    let (valid, (small, elements)) = start .pre in
     let lines = at-loop .loop .inv .0 (start .args .entries) valid elements (made .table-of .ensures) in
     let whole : at-loop .loop .c ≡ start .args .h .challenges = omega arith in
-    lines-placed _ _ lines whole (c .if1 .left)
+    lines-fitted _ _ lines whole (c .if1 .left)
 
 pub write-answers-spec : {M : Type 1} → statement M
 write-answers-spec =

@@ -1,6 +1,5 @@
 -- `answer_lines::write_slot` meets its contract: a word of no bytes, the space and the number.
 -- Assumes nothing.
-use native.Mathlib.Omega.{arith}
 use borrow.Author.Needs.{needs}
 use Rattle.encoding.specs.Text.{ascii}
 use Rattle.runs.specs.Marker.{rowWord}
@@ -11,11 +10,10 @@ slice-aggregate-write-numbered : tie.Need-slice-aggregate-write-numbered
 slice-aggregate-write-numbered c = search needs
 
 write-numbered-requires : tie.Need-write-numbered-requires
-unfolding rowWord ascii
-write-numbered-requires c κs = omega arith
+write-numbered-requires c κs = search needs
 
 same-length : tie.Need-same-length
-same-length c = omega arith
+same-length c = search needs
 
 returns : tie.Need-returns
 unfolding rowWord ascii

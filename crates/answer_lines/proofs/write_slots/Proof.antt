@@ -1,4 +1,4 @@
--- `answer_lines::write_slots` meets its contract. The invariant: the slots before this one are placed. The measure: how many
+-- `answer_lines::write_slots` meets its contract. The invariant: the slots before this one are stored. The measure: how many
 -- slots are left.
 -- Assumes nothing.
 use Prim.Native.Nat.{_≤_, _-_}
@@ -7,15 +7,15 @@ use mathlib.Core.List.{flatten, map}
 use native.Mathlib.Omega.{arith}
 use lib.ListN.{length}
 use Rattle.lists.specs.Places.{places}
-use Rattle.encoding.specs.Placed.{Placed}
+use Rattle.encoding.specs.Placed.{Fitted}
 use Rattle.runs.specs.Marker.{rowWord}
-use Rattle.answer_lines.proofs.LineByLine.{no-slots, slot-fits, slot-placed}
+use Rattle.answer_lines.proofs.LineByLine.{no-slots, slot-fitted}
 use Rattle.answer_lines.proofs.write_slots.Statement.{statement}
 use Rattle.answer_lines.proofs.write_slots.Tie as tie
 
 abbrev Inv-loop : tie.InvT-loop
 Inv-loop text₀ at n values next₀ j₀ text next j =
-    Placed text₀ at (flatten (map rowWord (places j values))) text next × (j ≤ n) × (length text ≡ length text₀)
+    Fitted text₀ at (flatten (map rowWord (places j values))) text next × (j ≤ n) × (length text ≡ length text₀)
 
 abbrev μ-loop : tie.MeasureT-loop
 μ-loop text₀ at n values next₀ j₀ text next j = n - j
@@ -30,11 +30,7 @@ array-read-write-slot : tie.Need-array-read-write-slot Inv-loop μ-loop
 array-read-write-slot c = omega arith
 
 write-slot-requires : tie.Need-write-slot-requires Inv-loop μ-loop
-write-slot-requires c κs =
-    let at-loop = c .before .before in
-    let start = at-loop .before .before in
-    let (placed, few, size) = at-loop .loop .inv in
-    slot-fits _ _ placed (start .args .n) _ (c .before .loop-test .taken) (omega arith)
+write-slot-requires c κs = omega arith
 
 add-j : tie.Need-add-j Inv-loop μ-loop
 add-j c = omega arith
@@ -46,8 +42,8 @@ loop-again : tie.Need-loop-again Inv-loop μ-loop
 loop-again c =
     let written = c .before .before in
     let at-loop = written .before .before .before in
-    let (placed, few, size) = at-loop .loop .inv in
-    (slot-placed _ _ placed (written .write-slot .ensures), omega arith, omega arith)
+    let (slots, few, size) = at-loop .loop .inv in
+    (slot-fitted _ _ slots (written .write-slot .ensures), omega arith, omega arith)
 
 same-length : tie.Need-same-length Inv-loop μ-loop
 same-length c = omega arith

@@ -4,7 +4,7 @@ use mathlib.Core.Path.{sym, ap, _∙_}
 use native.Mathlib.Omega.{arith}
 use Rattle.instance.proofs.Answers.{answer-few, answer-header, answer-number, answer-valid}
 use Rattle.reasons.specs.Lines.{refusedLine}
-use Rattle.diagnosis.proofs.Pieces.{line-inside, placed-as}
+use Rattle.diagnosis.proofs.Pieces.{line-inside, line-placed}
 use Rattle.diagnosis.proofs.WholeLine.{file-line, file-read, judged-line, sheet-line}
 use Rattle.diagnosis.proofs.write_reason.Statement.{statement}
 use Rattle.diagnosis.proofs.write_reason.Tie as tie
@@ -22,12 +22,12 @@ returns : tie.Need-returns
 returns c =
     let spot = c .before .before in
     let refused = spot .before in
-    let (placed, short) = c .write-refused .ensures in (
-      line-inside (omega arith) (omega arith) placed,
+    let told = c .write-refused .ensures in (
+      line-inside (omega arith) told,
       λ same.
-          placed-as
+          line-placed (omega arith) told
           (sheet-line _ _ (refused .before .load .ensures) (refused .if1 .taken) _ _
-          ∙ ap (refusedLine _) (sym (spot .sheet-spot .ensures))) placed,
+          ∙ ap (refusedLine _) (sym (spot .sheet-spot .ensures))),
     )
 
 check-in-requires : tie.Need-check-in-requires
@@ -45,13 +45,13 @@ returns-2 c =
     let refused = spot .before in
     let checked = refused .before in
     let loaded = checked .before .before in
-    let (placed, short) = c .write-refused2 .ensures in
+    let told = c .write-refused2 .ensures in
     let is-load = loaded .before .load .ensures in (
-      line-inside (omega arith) (omega arith) placed,
+      line-inside (omega arith) told,
       λ same.
-          placed-as
+          line-placed (omega arith) told
           (file-line _ _ is-load (loaded .if1 .left) (checked .check-in .ensures) (refused .if2 .taken) _ _
-          ∙ ap (refusedLine _) (sym (spot .file-spot .ensures same))) placed,
+          ∙ ap (refusedLine _) (sym (spot .file-spot .ensures same))),
     )
 
 loaded-entries-requires : tie.Need-loaded-entries-requires
@@ -67,20 +67,20 @@ write-judged-requires c κs =
     let is-load = loaded .before .load .ensures in
     let passed = loaded .if1 .left in
     let (file, some) = file-read _ _ is-load passed (checked .check-in .ensures) (entered .before .if2 .left) in
-    (answer-valid _ _ is-load passed (entered .loaded-entries .ensures), (file, (some, omega arith)))
+    (answer-valid _ _ is-load passed (entered .loaded-entries .ensures), (file, some))
 
 returns-3 : tie.Need-returns-3
 returns-3 c =
     let entered = c .before .before .before in
     let checked = entered .before .before in
     let loaded = checked .before .before in
-    let (placed, short) = c .write-judged .ensures in
+    let told = c .write-judged .ensures in
     let is-load = loaded .before .load .ensures in (
-      line-inside (omega arith) short placed,
+      line-inside (omega arith) told,
       λ same.
-          placed-as
+          line-placed (omega arith) told
           (judged-line _ _ is-load (loaded .if1 .left) (checked .check-in .ensures) (entered .before .if2 .left)
-          (entered .loaded-entries .ensures) _ _) placed,
+          (entered .loaded-entries .ensures) _ _),
     )
 
 pub write-reason-spec : {M : Type 1} → statement M

@@ -1,5 +1,5 @@
 -- `game_lines::game` meets its contract: each branch stores the text that the numbers of the sheet, of round 0 and of the game lead
--- to, which always has room.
+-- to, which has room in 720,896 bytes.
 -- Assumes nothing.
 use native.Mathlib.Omega.{arith}
 use borrow.Author.Needs.{needs}
@@ -7,7 +7,6 @@ use Rattle.encoding.specs.Text.{ascii}
 use Rattle.instance.proofs.Answers.{answer-few, answer-header, answer-valid}
 use Rattle.solver.proofs.Sizes.{small-header}
 use Rattle.game_lines.proofs.WholeText.{
-  answers-fit,
   answers-text,
   file-text,
   game-elements,
@@ -15,7 +14,7 @@ use Rattle.game_lines.proofs.WholeText.{
   game-small,
   header-fits,
   sheet-text,
-  text-placed,
+  text-stored,
 }
 use Rattle.game_lines.proofs.game.Statement.{statement}
 use Rattle.game_lines.proofs.game.Tie as tie
@@ -33,7 +32,7 @@ returns : tie.Need-returns
 unfolding ascii
 returns c =
     let refused = c .before .before .before in
-    text-placed _ _ (omega arith) (sheet-text _ _ (refused .before .load .ensures) (refused .if1 .taken)) (c .write-line .ensures)
+    text-stored _ _ (omega arith) (sheet-text _ _ (refused .before .load .ensures) (refused .if1 .taken)) (c .write-line .ensures)
 
 read-in-requires : tie.Need-read-in-requires
 read-in-requires c κs = answer-few _ _ (c .before .before .load .ensures) (c .before .if1 .left)
@@ -52,7 +51,7 @@ returns-2 c =
     let loaded = fetched .before .before in
     let text =
     file-text _ _ (loaded .before .load .ensures) (loaded .if1 .left) (fetched .read-in .ensures) (refused .if2 .taken) in
-    text-placed _ _ (omega arith) text (c .write-line2 .ensures)
+    text-stored _ _ (omega arith) text (c .write-line2 .ensures)
 
 game-refusal-requires : tie.Need-game-refusal-requires
 game-refusal-requires c κs =
@@ -76,7 +75,7 @@ returns-3 c =
     let text =
     game-line _ _ (loaded .before .load .ensures) (loaded .if1 .left) (fetched .read-in .ensures) (reads .if2 .left)
     (tested .game-refusal .ensures) (refused .if3 .taken) in
-    text-placed _ _ (omega (arith, c .before .before .write-line-arg5)) text (c .write-line3 .ensures)
+    text-stored _ _ (omega (arith, c .before .before .write-line-arg5)) text (c .write-line3 .ensures)
 
 loaded-entries-requires : tie.Need-loaded-entries-requires
 loaded-entries-requires c κs =
@@ -98,8 +97,7 @@ write-answers-requires c κs =
     let valid = answer-valid _ _ is-load (loaded .if1 .left) is-entries in
     let small = game-small _ _ is-load (loaded .if1 .left) is-fetched (reads .if2 .left) is-number (passed .if3 .left) in
     let elements = game-elements _ _ is-load (loaded .if1 .left) is-fetched (reads .if2 .left) is-number (passed .if3 .left) is-entries in
-    let room = answers-fit _ _ is-load (loaded .if1 .left) is-fetched (reads .if2 .left) is-number (passed .if3 .left) is-entries in
-    (valid, (small-header (valid .table) small, (elements, omega (arith, room))))
+    (valid, (small-header (valid .table) small, elements))
 
 returns-4 : tie.Need-returns-4
 returns-4 c =
@@ -112,7 +110,7 @@ returns-4 c =
     let text =
     answers-text _ _ (loaded .before .load .ensures) (loaded .if1 .left) (fetched .read-in .ensures) (reads .if2 .left)
     (tested .game-refusal .ensures) (passed .if3 .left) (entered .loaded-entries .ensures) in
-    text-placed _ _ (omega (arith, c .before .write-answers-arg)) text (c .write-answers .ensures)
+    text-stored _ _ (omega (arith, c .before .write-answers-arg)) text (c .write-answers .ensures)
 
 pub game-spec : {M : Type 1} → statement M
 game-spec =

@@ -1,9 +1,9 @@
--- `pattern_writer::write_pattern` meets its contract: the sizes and the digits are placed one behind the other.
+-- `pattern_writer::write_pattern` meets its contract: the sizes and the digits stand one after the other.
 -- Assumes nothing.
 use native.Mathlib.Omega.{arith}
 use borrow.Author.Needs.{needs}
 use mathlib.Core.Path.{refl}
-use Rattle.pattern_writer.proofs.Shipping.{pattern-placed}
+use Rattle.pattern_writer.proofs.Shipping.{pattern-fitted}
 use Rattle.pattern_writer.proofs.write_pattern.Statement.{statement}
 use Rattle.pattern_writer.proofs.write_pattern.Tie as tie
 
@@ -41,7 +41,7 @@ returns : tie.Need-returns
 returns c =
     let second = c .before .before in
     let first = second .before .before .before .before .before .before in
-    pattern-placed _ _ refl (first .write-word .ensures) (second .write-word2 .ensures)
+    pattern-fitted _ _ refl (first .write-word .ensures) (second .write-word2 .ensures)
 
 pub write-pattern-spec : {M : Type 1} → statement M
 write-pattern-spec =

@@ -5,16 +5,16 @@ use Prim.Native.Nat.{_-_, _≤_}
 use mathlib.Core.Path.{_≡_, refl}
 use native.Mathlib.Omega.{arith}
 use lib.ListN.{length}
-use Rattle.encoding.specs.Placed.{Placed}
+use Rattle.encoding.specs.Placed.{Fitted}
 use Rattle.encoding.specs.Text.{ascii}
 use Rattle.patterns.specs.PatternFile.{patternMark}
 use Rattle.pattern_writer.specs.Stored.{storedPatterns}
-use Rattle.pattern_writer.proofs.Shipping.{found-digits, found-placed, found-room, none-placed, shipped-made, shipped-none}
+use Rattle.pattern_writer.proofs.Shipping.{found-digits, found-fitted, none-fitted, shipped-made, shipped-none}
 use Rattle.pattern_writer.proofs.write_shipped.Statement.{statement}
 use Rattle.pattern_writer.proofs.write_shipped.Tie as tie
 
 abbrev Inv-loop : tie.InvT-loop
-Inv-loop buffer₀ at₀ k₀ buffer at k = Placed buffer₀ 6 (storedPatterns k) buffer at × (k ≤ 5) × (length buffer ≡ length buffer₀)
+Inv-loop buffer₀ at₀ k₀ buffer at k = Fitted buffer₀ 6 (storedPatterns k) buffer at × (k ≤ 5) × (length buffer ≡ length buffer₀)
 
 abbrev μ-loop : tie.MeasureT-loop
 μ-loop buffer₀ at₀ k₀ buffer at k = 5 - k
@@ -32,7 +32,7 @@ write-u8-requires : tie.Need-write-u8-requires Inv-loop μ-loop
 write-u8-requires c κs = omega arith
 
 loop-holds : tie.Need-loop-holds Inv-loop μ-loop
-loop-holds c = (none-placed, omega arith, refl)
+loop-holds c = (none-fitted _, omega arith, refl)
 
 pattern-at-requires : tie.Need-pattern-at-requires Inv-loop μ-loop
 pattern-at-requires c κs = omega arith
@@ -40,9 +40,7 @@ pattern-at-requires c κs = omega arith
 write-pattern-requires : tie.Need-write-pattern-requires Inv-loop μ-loop
 write-pattern-requires c κs =
     let turn = c .before .before in
-    let inside = turn .loop-test .taken in
-    let found = c .pattern-at .ensures in
-    (found-digits _ inside found, omega (arith, found-room _ inside found (turn .before .loop .inv .0)))
+    found-digits _ (turn .loop-test .taken) (c .pattern-at .ensures)
 
 add-k : tie.Need-add-k Inv-loop μ-loop
 add-k c = omega arith
@@ -55,7 +53,7 @@ loop-again c =
     let stored = c .before .before in
     let found = stored .before in
     let turn = found .before .before in (
-      found-placed _ (turn .loop-test .taken) (found .pattern-at .ensures) (turn .before .loop .inv .0) (stored .write-pattern .ensures),
+      found-fitted _ (turn .loop-test .taken) (found .pattern-at .ensures) (turn .before .loop .inv .0) (stored .write-pattern .ensures),
       omega arith,
       omega arith,
     )
@@ -72,7 +70,7 @@ returns-2 c =
     let mark = version .before .before .before .before in
     let whole : at-loop .loop .k ≡ 5 = omega arith in
     shipped-made _ (mark .before .before .if1 .left) (mark .write-mark .ensures) (version .write-u16 .ensures)
-    (count .write-u8 .ensures) (rw whole at (at-loop .loop .inv .0))
+    (count .write-u8 .ensures) (omega arith) (rw whole at (at-loop .loop .inv .0))
 
 pub write-shipped-spec : {M : Type 1} → statement M
 write-shipped-spec =

@@ -1,14 +1,14 @@
 -- `reason_lines::write_row` meets its contract: the bit decides between nothing and the row with its two sides.
 -- Assumes nothing.
-use mathlib.Core.Path.{refl}
 use native.Mathlib.Omega.{arith}
 use borrow.Author.Tests.{eq-eqb, ne-eqb}
+use Rattle.encoding.proofs.Fitted.{fitted-none}
 use Rattle.reasons.specs.Reason.{rowText}
 use Rattle.reason_lines.proofs.write_row.Statement.{statement}
 use Rattle.reason_lines.proofs.write_row.Tie as tie
 
 returns : tie.Need-returns
-returns c = (rw (ne-eqb _ _ (c .if1 .taken)) (record { stored = refl; behind = omega arith }), omega arith)
+returns c = rw (ne-eqb _ _ (c .if1 .taken)) (fitted-none _ _)
 
 cast-write-sides : tie.Need-cast-write-sides
 cast-write-sides c = omega arith
@@ -35,8 +35,7 @@ returns-2 : tie.Need-returns-2
 unfolding rowText
 returns-2 c =
     let written = c .before .before in
-    let (placed, short) = written .write-sides .ensures in
-    (rw (eq-eqb _ _ (written .before .before .if1 .left)) placed, short)
+    rw (eq-eqb _ _ (written .before .before .if1 .left)) (written .write-sides .ensures)
 
 pub write-row-spec : {M : Type 1} → statement M
 write-row-spec =

@@ -1,7 +1,7 @@
--- `reason_lines::write_rows` meets its contract. The invariant: the texts of the rows before this one are placed, each of at most 24
--- bytes, and the rest of the mask has its bit lowest. The measure: how many rows are left.
+-- `reason_lines::write_rows` meets its contract. The invariant: the texts of the rows before this one are stored, and the rest of
+-- the mask has its bit lowest. The measure: how many rows are left.
 -- Assumes nothing.
-use Prim.Native.Nat.{_+_, _-_, _*_, _≤_}
+use Prim.Native.Nat.{_-_}
 use mathlib.Core.Path.{_≡_, refl}
 use native.Mathlib.Omega.{arith}
 use lib.ListN.{length}
@@ -12,13 +12,13 @@ use Rattle.reason_lines.proofs.write_rows.Tie as tie
 
 abbrev Inv-loop : tie.InvT-loop
 Inv-loop text₀ at mask left right next₀ rest₀ row₀ text next rest row =
-    Told (rowText left right) mask text₀ at text next rest row × (length text ≡ length text₀) × (next ≤ at + 24 * row)
+    Told (rowText left right) mask text₀ at text next rest row × (length text ≡ length text₀)
 
 abbrev μ-loop : tie.MeasureT-loop
 μ-loop text₀ at mask left right next₀ rest₀ row₀ text next rest row = 8 - row
 
 loop-holds : tie.Need-loop-holds Inv-loop μ-loop
-loop-holds c = (told-none _ _ _ _, refl, omega arith)
+loop-holds c = (told-none _ _ _ _, refl)
 
 write-row-requires : tie.Need-write-row-requires Inv-loop μ-loop
 write-row-requires c κs = omega arith
@@ -33,16 +33,14 @@ loop-again : tie.Need-loop-again Inv-loop μ-loop
 loop-again c =
     let written = c .before .before in
     let turn = written .before .before in
-    let (told, size, short) = turn .before .loop .inv in
-    (told-on _ _ told (omega arith) (written .write-row .ensures .0), omega arith, omega arith)
+    let (told, size) = turn .before .loop .inv in
+    (told-on _ _ told (omega arith) (written .write-row .ensures), omega arith)
 
 same-length : tie.Need-same-length Inv-loop μ-loop
 same-length c = omega arith
 
 returns : tie.Need-returns Inv-loop μ-loop
-returns c =
-    let (told, size, short) = c .before .loop .inv in
-    (told-all _ _ told (omega arith), omega (arith, told .2))
+returns c = told-all _ _ (c .before .loop .inv .0) (omega arith)
 
 pub write-rows-spec : {M : Type 1} → statement M
 write-rows-spec =

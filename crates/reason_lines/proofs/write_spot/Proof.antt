@@ -2,6 +2,7 @@
 -- Assumes nothing.
 use native.Mathlib.Omega.{arith}
 use borrow.Author.Needs.{needs}
+use lib.ListN.{length-append}
 use Rattle.encoding.specs.Text.{ascii}
 use Rattle.encoding.proofs.Text.{decimal-length}
 use Rattle.reasons.specs.Reason.{spotText}
@@ -12,7 +13,7 @@ enum-known-spot : tie.Need-enum-known-spot
 enum-known-spot c = search needs
 
 write-decimal-requires : tie.Need-write-decimal-requires
-write-decimal-requires c κs = omega (arith, decimal-length 19 (c .before .before .spot .given .0 .0) (omega arith))
+write-decimal-requires c κs = search needs
 
 enum-known-spot-2 : tie.Need-enum-known-spot-2
 enum-known-spot-2 c = search needs
@@ -21,31 +22,29 @@ slice-aggregate-write-numbered : tie.Need-slice-aggregate-write-numbered
 slice-aggregate-write-numbered c = search needs
 
 write-numbered-requires : tie.Need-write-numbered-requires
-write-numbered-requires c κs = omega (arith, decimal-length 19 (c .before .before .before .spot2 .given .0 .0) (omega arith))
+write-numbered-requires c κs = search needs
 
 same-length : tie.Need-same-length
-same-length c = omega arith
+same-length c = search needs
 
 returns : tie.Need-returns
 unfolding spotText
 returns c =
     let written = c .before .before in
-    let told = written .before .before .before .spot .given in (
-      rw (told .1) (written .write-decimal .ensures),
-      omega (arith, written .write-decimal .ensures .behind, decimal-length 19 (told .0 .0) (omega arith)),
-    )
+    let told = written .before .before .before .spot .given in
+    let digits = decimal-length 19 (told .0 .0) (omega arith) in
+    rw (told .1) (written .write-decimal .ensures, omega arith)
 
 same-length-2 : tie.Need-same-length-2
-same-length-2 c = omega arith
+same-length-2 c = search needs
 
 returns-2 : tie.Need-returns-2
 unfolding spotText ascii
 returns-2 c =
     let written = c .before .before in
-    let told = written .before .before .before .before .spot2 .given in (
-      rw (told .1) (written .write-numbered .ensures),
-      omega (arith, written .write-numbered .ensures .behind, decimal-length 19 (told .0 .0) (omega arith)),
-    )
+    let told = written .before .before .before .before .spot2 .given in
+    let digits = decimal-length 19 (told .0 .0) (omega arith) in
+    rw (told .1) (written .write-numbered .ensures, simp length-append (omega arith))
 
 pub write-spot-spec : {M : Type 1} → statement M
 write-spot-spec =

@@ -1,12 +1,12 @@
--- `report::mark` meets its contract: each return stores the text that loading, counting and the level lead to, which always has room.
+-- `report::mark` meets its contract: each return stores the text that loading, counting and the level lead to, which has room in 14,864 bytes.
 -- Assumes nothing.
 use native.Mathlib.Omega.{arith}
 use borrow.Author.Needs.{needs}
-use Rattle.encoding.proofs.Placed.{placed-behind}
+use Rattle.encoding.proofs.Fitted.{fitted-then}
 use Rattle.encoding.specs.Text.{ascii}
 use Rattle.instance.proofs.Answers.{answer-header, answer-few, answer-valid}
 use Rattle.report.proofs.AtLevel.{level-good}
-use Rattle.report.proofs.WholeText.{file-reads, file-text, level-text, rounds-fit, rounds-text, sheet-text, text-placed}
+use Rattle.report.proofs.WholeText.{file-reads, file-text, level-text, rounds-text, sheet-text, text-stored}
 use Rattle.report.proofs.mark.Statement.{statement}
 use Rattle.report.proofs.mark.Tie as tie
 
@@ -23,7 +23,7 @@ returns : tie.Need-returns
 unfolding ascii
 returns c =
     let refused = c .before .before .before in
-    text-placed _ _ _ (omega arith) (sheet-text _ _ (refused .before .load .ensures) _ (refused .if1 .taken)) (c .write-line .ensures)
+    text-stored _ _ _ (omega arith) (sheet-text _ _ (refused .before .load .ensures) _ (refused .if1 .taken)) (c .write-line .ensures)
 
 count-in-requires : tie.Need-count-in-requires
 count-in-requires c κs = answer-few _ _ (c .before .before .load .ensures) (c .before .if1 .left)
@@ -42,7 +42,7 @@ returns-2 c =
     let loaded = counted .before .before in
     let text =
     file-text _ _ (loaded .before .load .ensures) (loaded .if1 .left) (counted .count-in .ensures) _ (refused .if2 .taken) in
-    text-placed _ _ _ (omega arith) text (c .write-line2 .ensures)
+    text-stored _ _ _ (omega arith) text (c .write-line2 .ensures)
 
 level-refusal-requires : tie.Need-level-refusal-requires
 level-refusal-requires c κs = omega arith
@@ -63,7 +63,7 @@ returns-3 c =
     let text =
     level-text _ _ (loaded .before .load .ensures) (loaded .if1 .left) (counted .count-in .ensures) (tested .before .if2 .left) _
     (tested .level-refusal .ensures) (refused .if3 .taken) in
-    text-placed _ _ _ (omega arith) text (c .write-line3 .ensures)
+    text-stored _ _ _ (omega arith) text (c .write-line3 .ensures)
 
 loaded-entries-requires : tie.Need-loaded-entries-requires
 loaded-entries-requires c κs =
@@ -77,7 +77,6 @@ write-line-requires-4 : tie.Need-write-line-requires-4
 write-line-requires-4 c κs = omega arith
 
 write-rounds-requires : tie.Need-write-rounds-requires
-unfolding ascii
 write-rounds-requires c κs =
     let entered = c .before .before .before .before .before in
     let tested = entered .before .before in
@@ -89,8 +88,7 @@ write-rounds-requires c κs =
     let passed = loaded .if1 .left in
     let reads = tested .before .if2 .left in
     let (file, count) = file-reads _ _ is-load passed is-count reads in
-    let room = rounds-fit _ _ is-load passed is-count reads _ (tested .level-refusal .ensures) (entered .before .if3 .left) is-entries in
-    (answer-valid _ _ is-load passed is-entries, (file, (count, omega arith)))
+    (answer-valid _ _ is-load passed is-entries, (file, count))
 
 fails-at-requires : tie.Need-fails-at-requires
 fails-at-requires c κs =
@@ -98,18 +96,7 @@ fails-at-requires c κs =
     level-good _ (passed .before .level-refusal .ensures) (passed .if3 .left)
 
 write-result-requires : tie.Need-write-result-requires
-unfolding ascii
-write-result-requires c κs =
-    let written = c .before .before in
-    let line = written .before .before in
-    let entered = line .before .before .before .before in
-    let tested = entered .before .before in
-    let counted = tested .before .before in
-    let loaded = counted .before .before in
-    let room =
-    rounds-fit _ _ (loaded .before .load .ensures) (loaded .if1 .left) (counted .count-in .ensures) (tested .before .if2 .left) _
-    (tested .level-refusal .ensures) (entered .before .if3 .left) (entered .loaded-entries .ensures) in
-    omega (arith, line .write-line4 .ensures .behind, written .write-rounds .ensures .0 .behind)
+write-result-requires c κs = omega arith
 
 returns-4 : tie.Need-returns-4
 unfolding ascii
@@ -125,8 +112,8 @@ returns-4 c =
     rounds-text _ _ (loaded .before .load .ensures) (loaded .if1 .left) (counted .count-in .ensures) (tested .before .if2 .left) _
     (tested .level-refusal .ensures) (entered .before .if3 .left) (entered .loaded-entries .ensures) (written .write-rounds .ensures .1)
     (failed .fails-at .ensures) in
-    let lines = placed-behind (line .write-line4 .ensures) (written .write-rounds .ensures .0) in
-    text-placed _ _ _ (omega (arith, line .before .before .write-line-arg7)) text (placed-behind lines (c .write-result .ensures))
+    let lines = fitted-then (line .write-line4 .ensures) (written .write-rounds .ensures .0) in
+    text-stored _ _ _ (omega (arith, line .before .before .write-line-arg7)) text (fitted-then lines (c .write-result .ensures))
 
 pub mark-spec : {M : Type 1} → statement M
 mark-spec =

@@ -1,28 +1,24 @@
 -- `row_words::write_row` meets its contract: the bit decides between the row's word and nothing.
 -- Assumes nothing.
-use mathlib.Core.Path.{refl}
-use native.Mathlib.Omega.{arith}
 use borrow.Author.Needs.{needs}
 use borrow.Author.Tests.{eq-eqb, ne-eqb}
 use Rattle.encoding.specs.Text.{ascii}
+use Rattle.encoding.proofs.Fitted.{fitted-none}
 use Rattle.runs.specs.Marker.{rowWord}
 use Rattle.row_words.proofs.write_row.Statement.{statement}
 use Rattle.row_words.proofs.write_row.Tie as tie
 
 returns : tie.Need-returns
-returns c = rw (ne-eqb _ _ (c .if1 .taken)) (record { stored = refl; behind = omega arith })
+returns c = rw (ne-eqb _ _ (c .if1 .taken)) (fitted-none _ _)
 
 slice-aggregate-write-numbered : tie.Need-slice-aggregate-write-numbered
 slice-aggregate-write-numbered c = search needs
 
 write-numbered-requires : tie.Need-write-numbered-requires
-unfolding rowWord ascii
-write-numbered-requires c κs =
-    let taken = c .before .before in
-    omega (arith, rw (eq-eqb _ _ (taken .if1 .left)) at (taken .before .before .pre))
+write-numbered-requires c κs = search needs
 
 same-length : tie.Need-same-length
-same-length c = omega arith
+same-length c = search needs
 
 returns-2 : tie.Need-returns-2
 unfolding rowWord ascii

@@ -1,4 +1,4 @@
--- `row_words::write_rows` meets its contract. The invariant: the words of the rows before this one are placed, and the rest of the
+-- `row_words::write_rows` meets its contract. The invariant: the words of the rows before this one are stored, and the rest of the
 -- mask has its bit lowest. The measure: how many rows are left.
 -- Assumes nothing.
 use Prim.Native.Nat.{_-_}
@@ -6,7 +6,7 @@ use mathlib.Core.Path.{_≡_, refl}
 use native.Mathlib.Omega.{arith}
 use lib.ListN.{length}
 use Rattle.runs.specs.Marker.{rowWord}
-use Rattle.row_words.proofs.RowByRow.{Told, told-all, told-none, told-on, told-room}
+use Rattle.row_words.proofs.RowByRow.{Told, told-all, told-none, told-on}
 use Rattle.row_words.proofs.write_rows.Statement.{statement}
 use Rattle.row_words.proofs.write_rows.Tie as tie
 
@@ -20,9 +20,7 @@ loop-holds : tie.Need-loop-holds Inv-loop μ-loop
 loop-holds c = (told-none _ _ _ _, refl)
 
 write-row-requires : tie.Need-write-row-requires Inv-loop μ-loop
-write-row-requires c κs =
-    let (told, size) = c .before .before .loop .inv in
-    told-room _ _ told _ (omega arith) (omega arith)
+write-row-requires c κs = omega arith
 
 add-row : tie.Need-add-row Inv-loop μ-loop
 add-row c = omega arith

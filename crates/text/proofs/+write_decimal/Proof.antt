@@ -1,13 +1,10 @@
 -- `text::write_decimal` meets its contract. The measure: the number, which is larger than its tenth.
 -- Assumes nothing.
 use Prim.Native.Nat.{ℕ, _<_}
-use mathlib.Core.Path.{ap}
 use native.Mathlib.Omega.{arith}
-use lib.ListN.{length}
 use borrow.Fn.Kinds.{In}
 use borrow.Fn.PlainCycle.{Measures, is, falls, and}
-use Rattle.encoding.proofs.Text.{decimal-small}
-use Rattle.text.proofs.Laws.{digit-placed, tenth-shorter, tenth-placed}
+use Rattle.text.proofs.Laws.{digit-fitted, tenth-fitted}
 use Rattle.text.proofs.write_decimal.Reads as own
 use Rattle.text.proofs.write_decimal.Kinds as kinds
 use Rattle.text.proofs.+write_decimal.Lts-write_decimal as lts
@@ -27,9 +24,7 @@ asked-below t = and 1 kinds.ps (falls 1 kinds.ps _<_ μ t) own.Pre
 
 module _ (t : ℕ) where
   write-digit-requires : lts.Need-write-digit-requires (digit.Asked, digit.Learnt, asked-below t, own.Post) (given-at t) own.Post
-  write-digit-requires c κs =
-      let small = c .before .if1 .taken in
-      (small, omega (arith, ap length (decimal-small _ small)))
+  write-digit-requires c κs = omega arith
 
   same-length : lts.Need-same-length (digit.Asked, digit.Learnt, asked-below t, own.Post) (given-at t) own.Post
   same-length c = omega arith
@@ -37,15 +32,13 @@ module _ (t : ℕ) where
   returns : lts.Need-returns (digit.Asked, digit.Learnt, asked-below t, own.Post) (given-at t) own.Post
   returns c =
       let written = c .before .before in
-      digit-placed (written .before .before .if1 .taken) (written .write-digit .ensures)
+      digit-fitted (written .before .before .if1 .taken) (written .write-digit .ensures)
 
   write-decimal-requires : lts.Need-write-decimal-requires (digit.Asked, digit.Learnt, asked-below t, own.Post) (given-at t) own.Post
-  write-decimal-requires c κs = (omega arith, omega (arith, tenth-shorter _ (c .before .if1 .left)))
+  write-decimal-requires c κs = omega arith
 
   write-digit-requires-2 : lts.Need-write-digit-requires-2 (digit.Asked, digit.Learnt, asked-below t, own.Post) (given-at t) own.Post
-  write-digit-requires-2 c κs =
-      let large = c .before .before .before .before .before .if1 .left in
-      (omega arith, omega (arith, tenth-shorter _ large))
+  write-digit-requires-2 c κs = omega arith
 
   same-length-2 : lts.Need-same-length-2 (digit.Asked, digit.Learnt, asked-below t, own.Post) (given-at t) own.Post
   same-length-2 c = omega arith
@@ -54,7 +47,7 @@ module _ (t : ℕ) where
   returns-2 c =
       let second = c .before .before in
       let first = second .before .before .before .before in
-      tenth-placed (first .before .before .if1 .left) (first .write-decimal .ensures) (second .write-digit2 .ensures)
+      tenth-fitted (first .before .before .if1 .left) (first .write-decimal .ensures) (second .write-digit2 .ensures)
 
 pub +write-decimal-spec : {M : Type 1} → statement M
 +write-decimal-spec =

@@ -1,66 +1,52 @@
--- `text::write_word` meets its contract. The invariant: the first i bytes of the word are stored, and no other byte differs.
--- The measure: how many bytes are left.
+-- `text::write_word` meets its contract: a word that has room is stored whole, and of any other the part that has room.
 -- Assumes nothing.
-use Prim.Native.Nat.{_≤_, _-_}
-use mathlib.Core.Path.{_≡_, refl}
 use native.Mathlib.Omega.{arith}
-use lib.ListN.{length, length-set, take}
-use lib.Seq.{sets}
-use Rattle.text.proofs.Laws.{byte-stored, word-placed}
+use borrow.Author.Needs.{needs}
+use Rattle.text.proofs.Laws.{word-fitted}
 use Rattle.text.proofs.write_word.Statement.{statement}
 use Rattle.text.proofs.write_word.Tie as tie
 
-abbrev Inv-loop : tie.InvT-loop
-Inv-loop s₀ at word i₀ i-end s i = (s ≡ sets s₀ at (take i word)) × (i ≤ length word) × (length s ≡ length s₀)
+write-part-requires : tie.Need-write-part-requires
+write-part-requires c κs = search needs
 
-abbrev μ-loop : tie.MeasureT-loop
-μ-loop s₀ at word i₀ i-end s i = length word - i
+same-length : tie.Need-same-length
+same-length c = search needs
 
-loop-holds : tie.Need-loop-holds Inv-loop μ-loop
-loop-holds c = (refl, omega arith, refl)
+returns : tie.Need-returns
+returns c = c .before .before .write-part .ensures
 
-shared-slice-read-s : tie.Need-shared-slice-read-s Inv-loop μ-loop
-shared-slice-read-s c = omega arith
+sub-if2 : tie.Need-sub-if2
+sub-if2 c = search needs
 
-add-s : tie.Need-add-s Inv-loop μ-loop
-add-s c = omega arith
+write-part-requires-2 : tie.Need-write-part-requires-2
+write-part-requires-2 c κs = search needs
 
-slice-write-s : tie.Need-slice-write-s Inv-loop μ-loop
-slice-write-s c = omega arith
+same-length-2 : tie.Need-same-length-2
+same-length-2 c = search needs
 
-add-i : tie.Need-add-i Inv-loop μ-loop
-add-i c = omega arith
+returns-2 : tie.Need-returns-2
+returns-2 c = c .before .before .write-part2 .ensures
 
-loop-less : tie.Need-loop-less Inv-loop μ-loop
-loop-less c = omega arith
+store-word-requires : tie.Need-store-word-requires
+store-word-requires c κs = search needs
 
-loop-again : tie.Need-loop-again Inv-loop μ-loop
-loop-again c =
-    let at-loop = c .before .before in
-    (rw (at-loop .loop .inv .0) (byte-stored _ _ _ _ (c .before .loop-test .taken)), omega arith, simp length-set (omega arith))
+same-length-3 : tie.Need-same-length-3
+same-length-3 c = search needs
 
-add-result : tie.Need-add-result Inv-loop μ-loop
-add-result c = omega arith
-
-same-length : tie.Need-same-length Inv-loop μ-loop
-same-length c = omega arith
-
-returns : tie.Need-returns Inv-loop μ-loop
-returns c = word-placed (c .before .loop .inv .0) (c .loop-test .left)
+returns-3 : tie.Need-returns-3
+returns-3 c = word-fitted (omega arith) (c .before .before .store-word .ensures)
 
 pub write-word-spec : {M : Type 1} → statement M
 write-word-spec =
     tie.close
     (tie.spec
-    Inv-loop
-    μ-loop
-    loop-holds
-    shared-slice-read-s
-    add-s
-    slice-write-s
-    add-i
-    loop-less
-    loop-again
-    add-result
+    write-part-requires
     same-length
-    returns)
+    returns
+    sub-if2
+    write-part-requires-2
+    same-length-2
+    returns-2
+    store-word-requires
+    same-length-3
+    returns-3)

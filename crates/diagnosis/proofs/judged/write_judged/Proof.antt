@@ -13,7 +13,7 @@ file-width-requires c κs = omega (arith, file-long (c .before .before .pre .1 .
 
 verdict-at-requires : tie.Need-verdict-at-requires
 verdict-at-requires c κs =
-    let (valid, (file, (some, room))) = c .before .before .before .pre in
+    let (valid, (file, some)) = c .before .before .before .pre in
     let (width, (small, known)) = c .file-width .ensures in
     (valid, (file, (width, (known, some))))
 
@@ -31,19 +31,19 @@ enum-known-mask c = search needs
 
 round-at-requires : tie.Need-round-at-requires
 round-at-requires c κs =
-    let (valid, (file, (some, room))) = c .before .before .before .before .before .before .before .pre in
+    let (valid, (file, some)) = c .before .before .before .before .before .before .before .pre in
     let (width, (small, known)) = c .before .before .before .before .file-width .ensures in
     (valid .table .few-rows, (valid .table .few-columns, (known, rw width (first-inside file some))))
 
 write-sides-requires : tie.Need-write-sides-requires
-write-sides-requires c κs = (c .before .before .before .before .before .before .before .before .before .pre .0, omega arith)
+write-sides-requires c κs = c .before .before .before .before .before .before .before .before .before .pre .0
 
 enum-known-number : tie.Need-enum-known-number
 enum-known-number c = search needs
 
 round-spot-requires : tie.Need-round-spot-requires
 round-spot-requires c κs =
-    let (valid, (file, (some, room))) = c .before .before .before .before .before .before .before .before .pre in
+    let (valid, (file, some)) = c .before .before .before .before .before .before .before .before .pre in
     (omega arith, (valid .table .few-rows, (valid .table .few-columns, first-inside file some)))
 
 write-refused-requires : tie.Need-write-refused-requires
@@ -59,7 +59,7 @@ returns c =
     let told = written .before .before .before in
     let judged = told .before .before in
     let line = accepted-told _ _ (judged .verdict-at .ensures) (told .enum-told .given .1) in
-    (rw line (written .write-word .ensures), omega (arith, written .write-word .ensures .behind))
+    rw line (record { fitted = written .write-word .ensures; short = omega arith })
 
 same-length-2 : tie.Need-same-length-2
 same-length-2 c = omega arith
@@ -72,7 +72,7 @@ returns-2 c =
     let judged = mask .before .before in
     let round = rw (judged .before .file-width .ensures .0) at (read .round-at .ensures) in
     let line = rejected-told _ _ (judged .verdict-at .ensures) round _ (mask .mask .given .1) in
-    (rw line (written .write-sides .ensures .0), written .write-sides .ensures .1)
+    rw line (written .write-sides .ensures)
 
 same-length-3 : tie.Need-same-length-3
 same-length-3 c = omega arith
@@ -84,7 +84,7 @@ returns-3 c =
     let number = spot .before .before .before in
     let judged = number .before .before in
     let line = refused-told _ _ (judged .verdict-at .ensures) _ (number .number .given .1) in
-    (rw (line, ← spot .round-spot .ensures) (written .write-refused .ensures .0), omega (arith, written .write-refused .ensures .1))
+    rw (line, ← spot .round-spot .ensures) (written .write-refused .ensures)
 
 pub write-judged-spec : {M : Type 1} → statement M
 write-judged-spec =

@@ -1,7 +1,7 @@
 -- `diagnosis::judged::write_sides` meets its contract: the two sides stand in the first places of their arrays.
 -- Assumes nothing.
 use native.Mathlib.Omega.{arith}
-use Rattle.diagnosis.proofs.Pieces.{sides-placed}
+use Rattle.diagnosis.proofs.Pieces.{sides-told}
 use Rattle.diagnosis.proofs.judged.write_sides.Statement.{statement}
 use Rattle.diagnosis.proofs.judged.write_sides.Tie as tie
 
@@ -20,10 +20,8 @@ same-length c = omega arith
 returns : tie.Need-returns
 returns c =
     let written = c .before .before in
-    let sides = written .before .before in (
-      sides-placed _ _ _ (sides .before .image .ensures) (sides .expected-image .ensures _) (written .write-rejected .ensures .0),
-      written .write-rejected .ensures .1,
-    )
+    let sides = written .before .before in
+    sides-told _ _ _ (sides .before .image .ensures) (sides .expected-image .ensures _) (written .write-rejected .ensures)
 
 pub write-sides-spec : {M : Type 1} → statement M
 write-sides-spec =

@@ -1,12 +1,8 @@
 -- `round_lines::lines::write_verdict` meets its contract: each arm stores the words of its verdict.
 -- Assumes nothing.
-use mathlib.Core.Path.{ap}
-use native.Mathlib.Omega.{arith}
-use lib.ListN.{length}
 use borrow.Author.Needs.{needs}
-use Rattle.types.specs.declared.Verdict.{Verdict}
 use Rattle.encoding.specs.Text.{ascii}
-use Rattle.encoding.proofs.Placed.{placed-behind}
+use Rattle.encoding.proofs.Fitted.{fitted-then}
 use Rattle.runs.specs.Marker.{verdictText}
 use Rattle.round_lines.proofs.lines.write_verdict.Statement.{statement}
 use Rattle.round_lines.proofs.lines.write_verdict.Tie as tie
@@ -18,8 +14,7 @@ slice-aggregate-write-word : tie.Need-slice-aggregate-write-word
 slice-aggregate-write-word c = search needs
 
 write-word-requires : tie.Need-write-word-requires
-unfolding verdictText ascii
-write-word-requires c κs = omega (arith, ap (λ (v : Verdict). length (verdictText v)) (c .before .before .enum-told .given .1))
+write-word-requires c κs = search needs
 
 enum-known-verdict : tie.Need-enum-known-verdict
 enum-known-verdict c = search needs
@@ -28,15 +23,10 @@ slice-aggregate-write-word-2 : tie.Need-slice-aggregate-write-word-2
 slice-aggregate-write-word-2 c = search needs
 
 write-word-requires-2 : tie.Need-write-word-requires-2
-unfolding verdictText ascii
-write-word-requires-2 c κs = omega (arith, ap (λ (v : Verdict). length (verdictText v)) (c .before .before .before .verdict .given .1))
+write-word-requires-2 c κs = search needs
 
 write-rows-requires : tie.Need-write-rows-requires
-unfolding verdictText ascii
-write-rows-requires c κs =
-    let word = c .before .before .before in
-    let told = word .before .before .before .before .verdict .given in
-    omega (arith, ap (λ (v : Verdict). length (verdictText v)) (told .1), word .write-word2 .ensures .behind)
+write-rows-requires c κs = search needs
 
 enum-known-verdict-2 : tie.Need-enum-known-verdict-2
 enum-known-verdict-2 c = search needs
@@ -45,14 +35,13 @@ slice-aggregate-write-numbered : tie.Need-slice-aggregate-write-numbered
 slice-aggregate-write-numbered c = search needs
 
 cast-write-numbered : tie.Need-cast-write-numbered
-cast-write-numbered c = omega arith
+cast-write-numbered c = search needs
 
 write-numbered-requires : tie.Need-write-numbered-requires
-unfolding verdictText ascii
-write-numbered-requires c κs = omega (arith, ap (λ (v : Verdict). length (verdictText v)) (c .before .before .before .verdict2 .given .1))
+write-numbered-requires c κs = search needs
 
 same-length : tie.Need-same-length
-same-length c = omega arith
+same-length c = search needs
 
 returns : tie.Need-returns
 unfolding verdictText ascii
@@ -61,17 +50,17 @@ returns c =
     rw (written .before .before .before .enum-told .given .1) (written .write-word .ensures)
 
 same-length-2 : tie.Need-same-length-2
-same-length-2 c = omega arith
+same-length-2 c = search needs
 
 returns-2 : tie.Need-returns-2
 unfolding verdictText ascii
 returns-2 c =
     let written = c .before .before in
     let word = written .before .before .before .before in
-    rw (word .before .before .before .before .verdict .given .1) (placed-behind (word .write-word2 .ensures) (written .write-rows .ensures))
+    rw (word .before .before .before .before .verdict .given .1) (fitted-then (word .write-word2 .ensures) (written .write-rows .ensures))
 
 same-length-3 : tie.Need-same-length-3
-same-length-3 c = omega arith
+same-length-3 c = search needs
 
 returns-3 : tie.Need-returns-3
 unfolding verdictText ascii

@@ -1,21 +1,21 @@
--- `round_lines::rounds::write_rounds` meets its contract. The invariant: the lines of the first k rounds are placed, and the flag
+-- `round_lines::rounds::write_rounds` meets its contract. The invariant: the lines of the first k rounds are stored, and the flag
 -- says whether one of them fails. The measure: how many rounds are left.
 -- Assumes nothing.
 use Prim.Native.Nat.{_≤_, _-_}
 use mathlib.Core.Path.{_≡_, refl}
 use native.Mathlib.Omega.{arith}
 use lib.ListN.{length}
-use Rattle.encoding.specs.Placed.{Placed}
+use Rattle.encoding.specs.Placed.{Fitted}
 use Rattle.formats.proofs.Growing.{file-long}
 use Rattle.sigma.specs.Instance.{instanceWith}
 use Rattle.round_lines.specs.Lines.{failsIn, linesIn}
-use Rattle.round_lines.proofs.LineByLine.{none-placed, none-fails, line-placed, fails-next, line-fits}
+use Rattle.round_lines.proofs.LineByLine.{none-fitted, none-fails, line-fitted, fails-next}
 use Rattle.round_lines.proofs.rounds.write_rounds.Statement.{statement}
 use Rattle.round_lines.proofs.rounds.write_rounds.Tie as tie
 
 abbrev Inv-loop : tie.InvT-loop
 Inv-loop text₀ at h entries statement file count width next₀ failed₀ k₀ text next failed k =
-    Placed text₀ at (linesIn (instanceWith h entries statement) file k) text next
+    Fitted text₀ at (linesIn (instanceWith h entries statement) file k) text next
     × (failed ≡ failsIn (instanceWith h entries statement) file k)
     × (k ≤ count)
     × (length text ≡ length text₀)
@@ -27,22 +27,17 @@ file-width-requires : tie.Need-file-width-requires Inv-loop μ-loop
 file-width-requires c κs = omega (arith, file-long (c .before .before .pre .1 .0))
 
 loop-holds : tie.Need-loop-holds Inv-loop μ-loop
-loop-holds c = (none-placed _ _ _ _, none-fails _ _ _ tt, omega arith, refl)
+loop-holds c = (none-fitted _ _ _ _, none-fails _ _ _ tt, omega arith, refl)
 
 verdict-at-requires : tie.Need-verdict-at-requires Inv-loop μ-loop
 verdict-at-requires c κs =
     let measured = c .before .before in
-    let (valid, (file, (count, room))) = measured .before .before .before .pre in
+    let (valid, (file, count)) = measured .before .before .before .pre in
     let (width, (small, known)) = measured .file-width .ensures in
     (valid, (file, (width, (known, omega arith))))
 
 write-round-requires : tie.Need-write-round-requires Inv-loop μ-loop
-write-round-requires c κs =
-    let judged = c .before in
-    let at-loop = judged .before .before in
-    let start = at-loop .before .before .before .before in
-    let (lines, failed, few, size) = at-loop .loop .inv in
-    line-fits _ _ _ lines (start .args .count) _ (judged .verdict-at .ensures) (judged .before .loop-test .taken) (omega arith)
+write-round-requires c κs = omega arith
 
 fails-requires : tie.Need-fails-requires Inv-loop μ-loop
 fails-requires c κs = omega arith
@@ -59,7 +54,7 @@ loop-again c =
     let judged = written .before .before in
     let at-loop = judged .before .before in
     let (lines, failed, few, size) = at-loop .loop .inv in (
-      line-placed _ _ _ lines (judged .verdict-at .ensures) (written .write-round .ensures),
+      line-fitted _ _ _ lines (judged .verdict-at .ensures) (written .write-round .ensures),
       fails-next _ _ _ failed (judged .verdict-at .ensures) (c .fails .ensures),
       omega arith,
       omega arith,

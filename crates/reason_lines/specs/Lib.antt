@@ -1,0 +1,2 @@
+-- Definitions of the reason's line in a slice.
+pub mod Short
