@@ -14,6 +14,7 @@ use Rattle.numbers.specs.Search.{find, any}
 use Rattle.lists.specs.Choices.{selected}
 use Rattle.lists.specs.Places.{eightByEight, itemsAt, tabulate, places, pad8, zeros8}
 use Rattle.rules.specs.Answer.{unlessRefused}
+use Rattle.rules.specs.Call.{answer, numberOf}
 use Rattle.rules.specs.Either.{eitherRules}
 use Rattle.rules.specs.Rule.{lowest}
 use Rattle.rules.proofs.Lowest.{pass, stop}
@@ -55,17 +56,15 @@ use Rattle.sigma.specs.Round.{
   badWitness,
 }
 use Rattle.sigma.specs.Simulator.{simulated, simulateRules, simulateAfter}
-use Rattle.formats.specs.Append.{emptyRules, emptyFile, badInUse, wideChallenge, appendRules, appended, appendAfter, append}
-use Rattle.formats.specs.Convert.{otherVersion, wideRecord, converted, convertRules, convertAfter, convert}
-use Rattle.formats.specs.Encode.{headerBytes, storedEntries, sheetOf, encodeRules, encode}
+use Rattle.formats.specs.Append.{starting as startingCall, emptyFile, badInUse, wideChallenge, appended, appending as appendingCall, append}
+use Rattle.formats.specs.Convert.{otherVersion, wideRecord, converted, converting as convertingCall, convert}
+use Rattle.formats.specs.Encode.{headerBytes, storedEntries, sheetOf, encoding, encode}
 use Rattle.formats.specs.Load.{badStart, badLength, shapeRules, loadRules, loadRefusal, noHeader, load, loadEntries}
 use Rattle.formats.specs.RoundCalls.{
-  fileRules,
-  roundRules,
   noRound,
-  countAfter,
-  checkAfter,
-  fetchAfter,
+  counting as countingCall,
+  checking,
+  fetching,
   countRounds,
   checkRound,
   fetchRound,
@@ -96,7 +95,7 @@ use Rattle.formats.specs.Sheet.{
   statementOf,
   instanceOf,
 }
-use Rattle.formats.specs.Write.{short, written, writtenAtStart}
+use Rattle.formats.specs.Write.{short}
 use Rattle.formats.proofs.Writing.{written-refusal}
 use Rattle.patterns.specs.Maker.{askedKind, askedPattern, asked, badAsked, madeRules, makeRules, makeFrom}
 use Rattle.patterns.specs.Pattern.{digit, entryOf, patternEntries, headerFor, madeFor, root}
@@ -292,7 +291,7 @@ use Rattle.examples.specs.Sheets.{
 
 -- a number above the shipped file's count is refused with 1
 above-count : (number values statement : ℕ) → 5 < number → making number values statement ≡ 1
-unfolding making makingFrom shippedBytes makeFrom makeRules writtenAtStart patternCount numberAt
+unfolding making makingFrom shippedBytes makeFrom makeRules patternCount numberAt
 above-count number values statement high =
     written-refusal _ _ _ _ ∙ pass 23 _ (ap badPatternFile (sym shipped-bytes) ∙ shipped-passes .0)
     ∙ pass 24 _ (ap badDigits (sym shipped-bytes) ∙ shipped-passes .1)
@@ -310,10 +309,10 @@ unfolding euclid gcd residue quotient power bezoutRight bezoutLeft inverse produ
     badStart badLength shapeRules loadRules loadRefusal askedKind askedPattern asked badAsked madeRules makeRules
     makeFrom digit entryOf patternEntries headerFor madeFor root patternMark patternVersion patternCount patternEnd
     patternStart patternFrom patternAt badSizes badPatternFile misnamed badDigits patternBytes patternFile patterns
-    shipped writeShipped shippedBytes onePattern manyPatterns makingFrom askingRoot fileRules roundRules noRound
-    countAfter checkAfter fetchAfter countRounds fetchRound roundMark fileVersion countField widthOf challengeWidth
+    shipped writeShipped shippedBytes onePattern manyPatterns makingFrom askingRoot noRound
+    countingCall checking fetching countRounds fetchRound roundMark fileVersion countField widthOf challengeWidth
     recordLength recordStart roundAt badFile sheetMark versionOf headerOf entryCount sheetLength zeros64 entriesOf
-    statementOf instanceOf short written writtenAtStart judgeRound simulateCommitment extractWitness newline wordLine
+    statementOf instanceOf short judgeRound simulateCommitment extractWitness newline wordLine
     rowWord verdictText verdictLine resultLine verdictOn roundLine roundLines markerText proverState proverIn newProver
     proverStep commitRules commitAfter unfitProver respondRules respondAfter commit respond noMemory listedAt isListed isFull listing verifierState verifierIn
     newVerifier verifierStep unfitCommitment takeCommitmentRules takeCommitmentAfter takeChallengeRules
@@ -321,8 +320,8 @@ unfolding euclid gcd residue quotient power bezoutRight bezoutLeft inverse produ
     exampleFile exampleText array smallRound run bothWays judging fourBytes sheetBytes smallSheet schnorrSheet madeSheet
     okamotoSheet diffieHellmanSheet productSheet rootSheet flatten onesSheet manyChallenges changed rootBytes making
     writingIn zerosFile noBytes counting appending extracting simulating peggy committing responding dropping vic
-    hearing asking telling noRounds badInUse appendRules recordBytes appended appendAfter append emptyFile noHeader load
-    loadEntries encodeRules encode dropRules dropSession checkRound firstNonElement firstNonCoordinate sheetSpot
+    hearing asking telling noRounds badInUse recordBytes appended appendingCall append emptyFile noHeader load
+    loadEntries encoding encode dropRules dropSession checkRound firstNonElement firstNonCoordinate sheetSpot
     fileSpot roundSpot spotOf firstVerdict spotText rowText lineText reasonLine reasonText repeated reasonOn badLevel
     strongEnough failsAt markRules markRefusal refusedWord marking lastLine eitherRules isOrAccepted extractOrRules
     extractedSide extractedOf extractedOr extractOrAfter extractOr pairRules badCommitments badChallenges badResponses
@@ -330,8 +329,9 @@ unfolding euclid gcd residue quotient power bezoutRight bezoutLeft inverse produ
     newOrProver orStep firstCommitment secondCommitment commitOrRules commitOrAfter unfitOr respondOrRules
     respondOrAfter dropOrRules commitOr respondOr dropOr otherChallenge firstRound secondRound readOr logarithmSheet
     smallOr judgingOr orRun bothWaysOr orJudging orExtracting orPeggy knowsFirst orCommitting orResponding orNumbers
-    fewerChallenges unknownVersion emptyRules wideChallenge otherVersion wideRecord converted convertRules convertAfter
+    fewerChallenges unknownVersion startingCall wideChallenge otherVersion wideRecord converted convertingCall
     convert roundsOf fileIn storing starting converting narrowFile eight peggyListed peggyHolds vicHolds orHolds
+    answer numberOf
 worked-examples = (
   record {
     A = refl;

@@ -11,7 +11,7 @@ use Rattle.examples.specs.RowsPage.{eightRows, withRows, threeDiffer, pa
 use Rattle.examples.specs.Sheets.{fourBytes, sheetBytes}
 use Rattle.examples.specs.TeamPage.{pairBytes}
 use Rattle.formats.specs.Load.{badStart, badLength, shapeRules, loadRules, loadRefusal}
-use Rattle.formats.specs.RoundCalls.{fileRules, roundRules, noRound, countAfter, checkAfter, fetchAfter, countRounds, fetchRound, checkRound}
+use Rattle.formats.specs.RoundCalls.{noRound, counting, checking, fetching, countRounds, fetchRound, checkRound}
 use Rattle.formats.specs.RoundFile.{roundMark, fileVersion, countField, widthOf, challengeWidth, recordLength, recordStart, roundAt, badFile, recordBytes, unknownVersion}
 use Rattle.formats.specs.Rounds.{fileIn}
 use Rattle.formats.specs.Sheet.{sheetMark, versionOf, headerOf, entryCount, sheetLength, zeros64, entriesOf, statementOf, instanceOf}
@@ -23,6 +23,7 @@ use Rattle.numbers.specs.Product.{product, sum}
 use Rattle.numbers.specs.Search.{find, any}
 use Rattle.reasons.specs.Reason.{firstNonElement, firstNonCoordinate, sheetSpot, fileSpot, roundSpot, spotOf, firstVerdict, spotText, rowText, lineText, reasonLine, reasonText}
 use Rattle.rules.specs.Answer.{unlessRefused}
+use Rattle.rules.specs.Call.{answer, numberOf}
 use Rattle.rules.specs.Either.{eitherRules}
 use Rattle.rules.specs.Rule.{lowest}
 use Rattle.runs.specs.Calls.{judgeRound}
@@ -45,7 +46,7 @@ unfolding euclid gcd product find any itemsAt tabulate places pad8 zeros8 eightB
     badStatement headerRules elementRules outcome isAccepted judged firstDifference differ differences compareSides
     rowsOf selected bit maskBelow sum isElement someNonElement isCoordinate someNonCoordinate rowImage image isExponent
     entry statementAt judgeRules judgeAfter expectedImage verdict badCommitment badChallenge badCoordinates badStart
-    badLength shapeRules loadRules loadRefusal fileRules roundRules noRound countAfter checkAfter fetchAfter countRounds
+    badLength shapeRules loadRules loadRefusal noRound counting checking fetching countRounds
     fetchRound roundMark fileVersion countField widthOf challengeWidth recordLength recordStart roundAt badFile
     sheetMark versionOf headerOf entryCount sheetLength zeros64 entriesOf statementOf instanceOf judgeRound newline
     wordLine rowWord verdictText verdictLine resultLine verdictOn roundLine roundLines markerText verifierState
@@ -54,7 +55,7 @@ unfolding euclid gcd product find any itemsAt tabulate places pad8 zeros8 eightB
     spotText rowText lineText reasonLine reasonText badLevel strongEnough failsAt markRules markRefusal refusedWord
     eitherRules pairRules badCommitments badChallenges badResponses judgeOrRules combined verdictOr judgeOrAfter judgeOr
     sideRows orOutcome otherChallenge firstRound secondRound readOr unknownVersion fileIn eightRows withRows threeDiffer
-    pairRound pairBytes
+    pairRound pairBytes answer numberOf
 rows-page = record {
   none = refl;
   three = refl;

@@ -1,15 +1,18 @@
 -- A number that conditions give is 0 or one of theirs, and so one of the order's, and of those that apply it is the earliest there.
+-- A call whose refusals test the conditions answers with such a number.
 -- Assumes nothing.
-use mathlib.Core.Path.{_≡_, subst}
+use mathlib.Core.Path.{_≡_, sym, subst}
 use mathlib.Core.Bool.{true}
 use mathlib.Core.List.{List, [], _∷_}
 use mathlib.Core.Logic.{_⊎_, inl, inr, ⊎-elim}
 use Prim.Native.Nat.{ℕ, _≤_, _<_}
 use Rattle.lists.specs.Member.{Member}
+use Rattle.rules.specs.Call.{Call, answer, numberOf}
 use Rattle.rules.specs.Refuses.{conditionNumbers, Refuses}
 use Rattle.rules.specs.Condition.{Condition, _if_, Given, Applies, Tests}
 use Rattle.rules.specs.Order.{refusalOrder, isSublist, position}
 use Rattle.rules.specs.Rule.{Rule, lowest}
+use Rattle.rules.proofs.Call.{answer-number, answer-refused, number-given}
 use Rattle.rules.proofs.Condition.{given}
 use Rattle.rules.proofs.Order.{sublist-member, given-earliest, order-distinct}
 
@@ -37,6 +40,17 @@ module _ (numbers : List ℕ) (conditions : List Condition) {Left : Type 0} (num
   pub refuses-tested : (rules : List Rule) → Tests rules conditions → (0 < lowest rules → Left)
       → Refuses numbers conditions (lowest rules) Left
   refuses-tested rules tests = refuses-given (lowest rules) (given rules conditions tests)
+
+-- so does a call that answers with its number, if its refusals test them and what it hands back with a number is what is left
+pub refuses-call : (numbers : List ℕ) (conditions : List Condition) → conditionNumbers conditions ≡ numbers
+    → isSublist numbers refusalOrder ≡ true → {A : Type 0} (call : Call A) (number : A → ℕ) → number (call .value) ≡ 0
+    → ((n : ℕ) → number (call .refused n) ≡ n) → (Left : A → Type 0) → Tests (call .refusals) conditions
+    → ((n : ℕ) → Left (call .refused n)) → Refuses numbers conditions (number (answer call)) (Left (answer call))
+refuses-call numbers conditions numbered ordered call number none some Left tests left =
+    let is-number = answer-number call number none some in
+    refuses-given numbers conditions numbered ordered (number (answer call))
+    (subst (Given conditions) (sym is-number) (number-given call conditions tests))
+    (λ positive. subst Left (sym (answer-refused call (subst (λ (n : ℕ). 0 < n) is-number positive))) (left (numberOf call)))
 
 -- a call ends in a result or in one of the order's numbers
 pub answers-known : {numbers : List ℕ} {conditions : List Condition} {n : ℕ} {Left : Type 0} → Refuses numbers conditions n Left
