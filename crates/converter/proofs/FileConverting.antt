@@ -1,7 +1,7 @@
 -- The converter, return by return. `tested` is what the test before the return answered.
 -- Assumes nothing.
 use Prim.Native.Nat.{ℕ, _<_, _≤_}
-use mathlib.Core.Path.{_≡_, refl, sym, ap₂, _∙_}
+use mathlib.Core.Path.{_≡_, sym, ap, ap₂, _∙_}
 use mathlib.Core.Bool.{Bool, true, false}
 use mathlib.Core.List.{List, [], _++_}
 use mathlib.Core.Logic.{_≢_}
@@ -13,58 +13,62 @@ use Rattle.types.specs.declared.Header.{Header}
 use Rattle.encoding.specs.Bytes.{bytesOf}
 use Rattle.encoding.specs.Placed.{Placed}
 use Rattle.encoding.proofs.Placed.{placed-behind, placed-number, placed-stored}
-use Rattle.rules.specs.Rule.{lowest}
-use Rattle.rules.proofs.Lowest.{lowest-append-zero, lowest-earlier, lowest-later-zero, pass, stop}
-use Rattle.rules.proofs.Answer.{unlessRefused-positive, unlessRefused-zero}
-use Rattle.formats.specs.Convert.{convertAfter, convertRules, converted, otherVersion, wideRecord}
+use Rattle.rules.specs.Call.{answer, numberOf}
+use Rattle.rules.proofs.Call.{tested-refused, tested-value}
+use Rattle.rules.proofs.Lowest.{clear-lowest, lowest-clear, lowest-earlier, pass, stop}
+use Rattle.formats.specs.Convert.{converted, converting, otherVersion, wideRecord}
 use Rattle.formats.specs.Meaning.{IsRoundFile}
-use Rattle.formats.specs.RoundCalls.{fileRules}
-use Rattle.formats.specs.RoundFile.{countField, fileVersion, recordStart, roundMark}
+use Rattle.formats.specs.RoundCalls.{counting}
+use Rattle.formats.specs.RoundFile.{badFile, countField, fileVersion, recordStart, roundMark}
 use Rattle.formats.specs.Rounds.{fileIn, roundsOf}
-use Rattle.formats.specs.Write.{short, written, writtenAtStart}
+use Rattle.formats.specs.Write.{short}
 use Rattle.formats.proofs.Converting.{length-converted}
-use Rattle.formats.proofs.Files.{length-roundMark, record-behind}
+use Rattle.formats.proofs.Files.{file-passes, length-roundMark, record-behind}
 use Rattle.formats.proofs.Growing.{file-long}
 use Rattle.formats.proofs.Rounds.{length-roundsOf}
-use Rattle.formats.proofs.Writing.{Leaves, short-passes}
+use Rattle.formats.proofs.Writing.{Leaves, leaves, short-passes}
 use Rattle.round_layout.proofs.FileTest.{file-clear}
 use Rattle.converter.specs.Records.{otherRecords, otherWidth}
 
 module _ (h : Header) (f buffer : List ℕ) where
-  module _ {n : ℕ} (tested : n ≡ lowest (fileRules h f)) where
+  module _ {n : ℕ} (tested : n ≡ numberOf (counting h f)) where
     -- a file that is no round file of the sheet is refused with its number
-    pub file-stops : n ≢ 0 → n ≡ lowest (convertRules h f buffer)
-    unfolding convertRules
-    file-stops some = tested ∙ sym (lowest-earlier (fileRules h f) _ (omega arith))
+    pub file-stops : n ≢ 0 → n ≡ numberOf (converting h f buffer)
+    unfolding counting converting numberOf
+    file-stops some = tested ∙ sym (lowest-earlier (counting h f .refusals) _ (omega (arith, tested)))
 
     module _ (passed : n ≡ 0) {wide : Bool} (wide-tested : wide ≡ wideRecord h f) where
+      -- a file that passes is a round file
+      file-good : badFile h f ≡ false
+      file-good = file-passes h f .1 (file-clear h f tested passed)
+
       -- a record that the other version cannot hold is refused
-      pub wide-stops : wide ≡ true → 15 ≡ lowest (convertRules h f buffer)
-      unfolding convertRules fileRules
-      wide-stops e = sym (lowest-later-zero (fileRules h f) _ tt (sym tested ∙ passed) ∙ stop 15 _ (sym wide-tested ∙ e))
+      pub wide-stops : wide ≡ true → 15 ≡ numberOf (converting h f buffer)
+      unfolding converting numberOf
+      wide-stops e = sym (pass 12 _ file-good ∙ stop 15 _ (sym wide-tested ∙ e))
 
       module _ (narrow : wide ≡ false) {size : ℕ} (is-size : size ≡ recordStart (otherWidth f) h (countField f)) where
         -- a buffer that is shorter than the result is refused
-        pub room-stops : length buffer < size → 22 ≡ lowest (convertRules h f buffer)
-        unfolding convertRules fileRules short
+        pub room-stops : length buffer < size → 22 ≡ numberOf (converting h f buffer)
+        unfolding converting numberOf short
         room-stops less =
-            sym (lowest-later-zero (fileRules h f) _ tt (sym tested ∙ passed) ∙ pass 15 _ (sym wide-tested ∙ narrow)
+            sym (pass 12 _ file-good ∙ pass 15 _ (sym wide-tested ∙ narrow)
             ∙ stop 22 [] (lt-ltb (length buffer) _ (rw (← is-size) less)))
 
         -- one that can hold it is not
-        pub convert-passes : size ≤ length buffer → 0 ≡ lowest (convertRules h f buffer)
-        unfolding convertRules fileRules
+        pub convert-passes : size ≤ length buffer → 0 ≡ numberOf (converting h f buffer)
+        unfolding converting numberOf
         convert-passes fits =
             let room = short-passes buffer (recordStart (otherWidth f) h (countField f)) .1 (rw (← is-size) fits) in
-            sym (lowest-append-zero (fileRules h f) _ tt tt .1 (sym tested ∙ passed, (sym wide-tested ∙ narrow, (room, tt))))
+            sym (lowest-clear _ (file-good, (sym wide-tested ∙ narrow, (room, tt))))
 
-  module _ {n : ℕ} (tested : n ≡ lowest (convertRules h f buffer)) where
-    -- where nothing is refused, the file is a round file of the sheet and the buffer can hold the result
+  module _ {n : ℕ} (tested : n ≡ numberOf (converting h f buffer)) where
+    -- if nothing is refused, the file is a round file of the sheet and the buffer can hold the result
     pub convert-clear : n ≡ 0 → IsRoundFile h f × (recordStart (otherWidth f) h (countField f) ≤ length buffer)
-    unfolding convertRules fileRules
+    unfolding converting numberOf
     convert-clear e =
-        let (file, (narrow, (room, none))) = lowest-append-zero (fileRules h f) _ tt tt .0 (sym tested ∙ e) in
-        (file-clear h f refl file, short-passes buffer _ .0 room)
+        let (file, (narrow, (room, none))) = clear-lowest (converting h f buffer .refusals) tt (sym tested ∙ e) in
+        (file-passes h f .0 file, short-passes buffer _ .0 room)
 
     -- each of them has the seven bytes before the records
     pub seven-bytes : n ≡ 0 → (7 ≤ length f) × (7 ≤ length buffer)
@@ -73,12 +77,9 @@ module _ (h : Header) (f buffer : List ℕ) where
         (file-long file, omega (arith, record-behind (otherWidth f) h (countField f)))
 
     -- a refused call keeps the buffer
-    pub convert-none : n ≢ 0 → Leaves (record { refusal = n; length = 0 }) buffer (convertAfter [] h f buffer)
-    unfolding convertAfter writtenAtStart written
-    convert-none some = (
-      rw (← tested, unlessRefused-positive (length (converted h f)) 0 n (omega arith)),
-      rw (← tested) (sym (unlessRefused-positive (sets buffer 0 (converted h f)) buffer n (omega arith))),
-    )
+    pub convert-none : n ≢ 0 → Leaves (record { refusal = n; length = 0 }) buffer (answer (converting h f buffer))
+    unfolding converting
+    convert-none some = leaves (tested-refused (converting h f buffer) tested some)
 
     -- a call that is not refused leaves the mark, the version, the count and the records
     pub convert-made : {version count size : ℕ} {marked versioned counted after : List ℕ}
@@ -87,15 +88,16 @@ module _ (h : Header) (f buffer : List ℕ) where
         → count ≡ countField f → counted ≡ sets versioned 5 (bytesOf 2 count)
         → after ≡ sets counted 7 (otherRecords h f (countField f))
         → size ≡ recordStart (otherWidth f) h (countField f)
-        → Leaves (record { refusal = 0; length = size }) after (convertAfter [] h f buffer)
-    unfolding convertAfter writtenAtStart written converted fileIn otherRecords roundsOf
+        → Leaves (record { refusal = 0; length = size }) after (answer (converting h f buffer))
+    unfolding converting converted fileIn otherRecords roundsOf
     convert-made {version} {count} e is-marked is-version is-versioned is-count is-counted is-after is-size =
         let mark : Placed buffer 0 roundMark _ 3 = record { stored = is-marked; behind = omega (arith, length-roundMark) } in
         let fields = placed-number (placed-number mark 2 version is-versioned) 2 count is-counted in
         let bytes : ℕ → ℕ → List ℕ = λ v n. roundMark ++ bytesOf 2 v ++ bytesOf 2 n ++ otherRecords h f (countField f) in
         let whole : _ ≡ sets buffer 0 (bytes version count) =
         placed-behind fields (placed-stored _ 7 (otherRecords h f (countField f)) is-after) .stored in
-        let same = ap₂ (λ (v n : ℕ). sets buffer 0 (bytes v n)) is-version (is-count ∙ sym (length-roundsOf h f)) in (
-          rw (← tested, e, unlessRefused-zero, is-size, ← length-converted h f),
-          rw (← tested, e, unlessRefused-zero) (whole ∙ same),
+        let same = ap₂ (λ (v n : ℕ). sets buffer 0 (bytes v n)) is-version (is-count ∙ sym (length-roundsOf h f)) in
+        let (answers, bytes-left) = leaves (tested-value (converting h f buffer) tested e) in (
+          ap (λ (n : ℕ). record { refusal = 0; length = n }) (is-size ∙ sym (length-converted h f)) ∙ answers,
+          whole ∙ same ∙ bytes-left,
         )

@@ -13,9 +13,8 @@ use types::Header;
 use types::Written;
 ghost use Prim.Native.Nat.{_≤_};
 ghost use mathlib.Core.Path.{_≡_};
-ghost use mathlib.Core.List.{[]};
-ghost use Rattle.rules.specs.Rule.{lowest};
-ghost use Rattle.formats.specs.Convert.{convertAfter, convertRules};
+ghost use Rattle.rules.specs.Call.{answer, numberOf};
+ghost use Rattle.formats.specs.Convert.{converting};
 ghost use Rattle.formats.specs.Meaning.{IsRoundFile};
 ghost use Rattle.formats.specs.RoundFile.{countField, recordStart};
 ghost use Rattle.converter.specs.Records.{otherWidth};
@@ -36,7 +35,7 @@ fn other_length(h: Header, file: &[u8]) -> usize
 fn convert_refusal(h: Header, file: &[u8], buffer: &[u8]) -> u32
     requires rows { ⌜ h .rows ≤ 8 ⌝ }
     requires columns { ⌜ h .columns ≤ 8 ⌝ }
-    ensures { λ r. ⌜ r ≡ lowest (convertRules h (now (file .entry)) (now (buffer .entry))) ⌝ }
+    ensures { λ r. ⌜ r ≡ numberOf (converting h (now (file .entry)) (now (buffer .entry))) ⌝ }
 {
     let refusal = file_refusal(h, file);
     if refusal != 0 {
@@ -56,8 +55,8 @@ fn convert_refusal(h: Header, file: &[u8], buffer: &[u8]) -> u32
 pub fn convert_in(h: Header, file: &[u8], buffer: &mut [u8]) -> Written
     requires rows { ⌜ h .rows ≤ 8 ⌝ }
     requires columns { ⌜ h .columns ≤ 8 ⌝ }
-    ensures answer { λ r. ⌜ r ≡ convertAfter [] h (now (file .entry)) (now (buffer .entry)) .answer ⌝ }
-    ensures bytes { λ _. ⌜ now (buffer .exit) ≡ convertAfter [] h (now (file .entry)) (now (buffer .entry)) .buffer ⌝ }
+    ensures answer { λ r. ⌜ r ≡ answer (converting h (now (file .entry)) (now (buffer .entry))) .answer ⌝ }
+    ensures bytes { λ _. ⌜ now (buffer .exit) ≡ answer (converting h (now (file .entry)) (now (buffer .entry))) .buffer ⌝ }
 {
     let refusal = convert_refusal(h, file, buffer);
     if refusal != 0 {

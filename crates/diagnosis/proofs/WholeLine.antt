@@ -11,27 +11,28 @@ use Rattle.types.specs.declared.Loaded.{Loaded}
 use Rattle.types.specs.declared.Round.{Round}
 use Rattle.types.specs.declared.Verdict.{Verdict}
 use Rattle.types.specs.declared.Verdict.the-variants.{Accepted, Rejected, Refused}
-use Rattle.rules.specs.Rule.{lowest}
-use Rattle.rules.proofs.Condition.{given}
+use Rattle.rules.specs.Call.{answer, numberOf}
+use Rattle.rules.proofs.Call.{answer-number as call-number, number-given}
 use Rattle.rules.proofs.Explains.{explain, explains-given, known, rising-first}
 use Rattle.sigma.specs.Image.{image}
 use Rattle.sigma.specs.Instance.{instanceWith, tableOf}
 use Rattle.sigma.specs.Judge.{judgeLoaded}
 use Rattle.sigma.specs.Round.{expectedImage}
-use Rattle.formats.specs.Load.{load, loadRefusal, loadRules}
+use Rattle.formats.specs.Load.{load, loadRefusal}
 use Rattle.formats.specs.Meaning.{IsRoundFile}
 use Rattle.formats.specs.Refusals.{roundConditions}
-use Rattle.formats.specs.RoundCalls.{checkAfter, checkRound, roundRules}
+use Rattle.formats.specs.RoundCalls.{checkRound, checking}
 use Rattle.formats.specs.RoundFile.{countField}
 use Rattle.formats.specs.Sheet.{entriesOf, headerOf, instanceOf}
-use Rattle.formats.proofs.After.{checkAfter-clear, checkAfter-refused}
 use Rattle.formats.proofs.Files.{check-runs}
 use Rattle.formats.proofs.Loads.{loads}
+use Rattle.formats.proofs.OnSheet.{on-sheet-refused}
 use Rattle.formats.proofs.Refusals.{round-tests}
 use Rattle.runs.specs.Marker.{verdictOn}
 use Rattle.runs.proofs.Loaded.{judge-loaded}
 use Rattle.runs.proofs.Marker.{round-refusal}
-use Rattle.instance.proofs.Answers.{answer-header, answer-header-call, answer-instance, answer-number}
+use Rattle.instance.proofs.Answers.{answer-header, answer-instance, answer-number}
+use Rattle.instance.proofs.OnLoaded.{on-header}
 use Rattle.reasons.specs.declared.Spot.{Spot}
 use Rattle.reasons.specs.Lines.{refusedLine}
 use Rattle.reasons.specs.Ours.{firstRound}
@@ -104,30 +105,32 @@ module _ (s f : List ℕ) {loaded : Loaded} (is-load : loaded ≡ load s) where
   -- a refused sheet
   pub sheet-line : loaded .refusal ≢ 0 → (x y : ℕ)
       → reasonLine s x f y ≡ refusedLine (loaded .refusal) (sheetSpot s x (loaded .refusal))
-  unfolding checkRound loadRefusal
+  unfolding checkRound checking
   sheet-line some x y =
       let n = loaded .refusal in
       let number = answer-number s loaded is-load in
-      let check = checkAfter-refused (loadRules s) (headerOf s) (omega arith) f 0 ∙ sym number in
+      let check = on-sheet-refused s (checking (headerOf s) f 0) (omega arith) ∙ sym number in
       check-line s f x y n check (omega arith) (sheet-number s f x y n (refused-with s n (omega arith) number .high))
 
-  module _ (passed : loaded .refusal ≡ 0) {n : ℕ} (is-check : n ≡ checkAfter [] (loaded .header) f 0) where
+  module _ (passed : loaded .refusal ≡ 0) {n : ℕ} (is-check : n ≡ answer (checking (loaded .header) f 0)) where
     -- the check's number is that of the sheet and the file
     checks : n ≡ checkRound s f 0
     unfolding checkRound
-    checks = answer-header-call s loaded is-load passed (λ before h none. checkAfter-clear before h none f 0) is-check
+    checks = on-header s loaded is-load passed (λ h. checking h f 0) is-check
 
     -- it is 0, 12 or 13
     file-range : n ≢ 0 → (11 < n) × (n < 14)
-    unfolding checkAfter
+    unfolding checking
     file-range some =
         let h = loaded .header in
+        let call = checking h f 0 in
+        let number : n ≡ numberOf call = is-check ∙ call-number call (λ k. k) refl (λ k. refl) in
         let Range : ℕ → Type 0 = λ k. (11 < k) × (k < 14) in
         let range =
-        explains-given Range (λ k. ⊥) (roundConditions h f 0) (lowest (roundRules h f 0))
+        explains-given Range (λ k. ⊥) (roundConditions h f 0) (numberOf call)
         (explain (known Range 12 (omega arith)) λ file. explain (known Range 13 (omega arith)) λ number. tt)
-        (given (roundRules h f 0) (roundConditions h f 0) (round-tests h f 0)) (omega arith) in
-        omega arith
+        (number-given call (roundConditions h f 0) (round-tests h f 0)) (omega (arith, number)) in
+        omega (arith, number, range)
 
     -- a refused file
     pub file-line : n ≢ 0 → (x y : ℕ) → reasonLine s x f y ≡ refusedLine n (fileSpot f y n)

@@ -90,6 +90,6 @@ or-refusals = record {
       refuses-on-pair s s′ _ _ (respondingOr (instanceOf s) (instanceOf s′) p c x) (λ step. step .refusal) (OrUnmoved p) refl refl
       (λ v w. respond-or-tests v w p c x) refl (λ n. refl) (λ n some. (refl, refl, refl, refl));
   dropping = λ p.
-      refuses-call _ _ (droppingOr p) (λ step. step .refusal) (OrUnmoved p) refl refl (drop-or-tests p) refl (λ n. refl)
-      (λ n some. (refl, refl, refl, refl));
+      refuses-call _ _ refl refl (droppingOr p) (λ step. step .refusal) refl (λ n. refl) (OrUnmoved p) (drop-or-tests p)
+      (λ n. (refl, refl, refl, refl));
 }

@@ -7,16 +7,16 @@ use Rattle.disjunctions.specs.Judge.{badChallenges, badCommitments, badResponse
 use Rattle.disjunctions.specs.Round.{firstRound, otherChallenge, readOr, secondRound}
 use Rattle.encoding.specs.Bytes.{bytesOf, bytesOfEach, numberAt}
 use Rattle.encoding.specs.Text.{ascii}
-use Rattle.formats.specs.Append.{append, appendAfter, appendRules, appended, badInUse, emptyFile, emptyRules, wideChallenge}
-use Rattle.formats.specs.Convert.{convert, convertAfter, convertRules, converted, otherVersion, wideRecord}
-use Rattle.formats.specs.Encode.{encode, encodeRules, headerBytes, sheetOf, storedEntries}
+use Rattle.formats.specs.Append.{append, appending, appended, badInUse, emptyFile, starting, wideChallenge}
+use Rattle.formats.specs.Convert.{convert, converting, converted, otherVersion, wideRecord}
+use Rattle.formats.specs.Encode.{encode, encoding, headerBytes, sheetOf, storedEntries}
 use Rattle.formats.specs.Load.{badLength, badStart, load, loadEntries, loadRefusal, loadRules, noHeader, shapeRules}
-use Rattle.formats.specs.RoundCalls.{checkAfter, countAfter, countRounds, fetchAfter, fetchRound, fileRules, locateAfter, locateRound, noRound, partOfRound, roundRules}
+use Rattle.formats.specs.RoundCalls.{checking, counting, countRounds, fetching, fetchRound, locating, locateRound, noRound, partOfRound}
 use Rattle.formats.specs.RoundFile.{badFile, challengeWidth, countField, fileVersion, noRounds, recordBytes, recordLength, recordStart, roundAt, roundMark, unknownVersion, widthOf}
 use Rattle.formats.specs.Rounds.{fileIn, roundsOf}
-use Rattle.formats.specs.SameCommitment.{commitmentBytes, sameAfter, sameCommitment, sameRules}
+use Rattle.formats.specs.SameCommitment.{commitmentBytes, comparing, sameCommitment}
 use Rattle.formats.specs.Sheet.{entriesOf, entryCount, headerOf, instanceOf, sheetLength, sheetMark, statementOf, versionOf, zeros64}
-use Rattle.formats.specs.Write.{short, written, writtenAtStart}
+use Rattle.formats.specs.Write.{short}
 use Rattle.lists.specs.Places.{eightByEight, itemsAt, pad8, places, tabulate, zeros8}
 use Rattle.numbers.specs.Bits.{maskBelow}
 use Rattle.numbers.specs.Gcd.{euclid, gcd}
@@ -55,29 +55,29 @@ use Rattle.examples.specs.TeamPage.{brought}
 use Rattle.examples.specs.TwoRows.{eight, narrow, roundWith, table, twoRoots, wide}
 
 pub answer-page : AnswerPage
-unfolding any append appendAfter appendRules appended array ascii asked askedKind askedPattern badAsked badChallenge
-    badChallenges badCommitment badCommitments badCoordinates badCount badDigits badEntries badFile badImages badInUse
-    badKind badLength badModulus badOrder badPatternFile badProduct badResponses badSize badSizes badStart badStatement
-    badTeam bezoutLeft bezoutRight brought bytesOf bytesOfEach challengeWidth challengesOr changed checkAfter combined
-    commitmentBytes compareSides computed convert convertAfter convertRules converted countAfter
-    countField countRounds differ differences digit eight eightByEight eightPlaces eitherRules elementRules emptyFile
-    emptyRules encode encodeRules entriesOf entry entryCount entryOf euclid expectedImage extracting answer
-    numberOf extractOr extractWitness extracted extractedOf extractedOr extractedSide fetchAfter fetchRound
-    fileIn fileRules fileVersion find firstDifference firstDivisor firstRound formula fourBytes gcd
-    headerBytes headerFor headerOf headerRules honestOr image instanceOf inverse isAccepted isCoordinate
-    isElement isExponent isOrAccepted itemsAt joinAll joinResponses judging judgeOr judgeRound judged load
-    loadEntries loadRefusal loadRules locateAfter locateRound logarithmSheet lowest madeFor madeRules makeFrom
-    makeRules maskBelow misnamed multiplyAll multiplyCommitments narrow narrowThree noBytes noHeader
-    extractingOr joining judgingOr multiplying
-    noRound noRounds numberAt one orWith otherChallenge otherVersion pad8 pairRules partOfRound patternAt patternBytes
-    patternCount patternEnd patternEntries patternFile patternFrom patternMark patternStart patternVersion patterns
-    places power product quotient readOr recordBytes recordLength recordStart residue responsesOr root
-    rootBytes roundAt roundMark roundRules roundWith roundsOf rowImage sameAfter sameCommitment sameRules secondOr
-    secondRound sevens shapeRules sheetBytes sheetLength sheetMark sheetOf shipped shippedBytes short simulating
-    simulateCommitment simulated slotFormula smallOr smallSheet someNonCoordinate someNonElement
-    statementAt statementOf storedEntries sum table tableHeader tableValues tabulate teamRules three twice twoRoots
-    unknownVersion unlessRefused verdict verdictOr versionOf wide wideChallenge wideRecord wideThree widthOf
-    writeShipped written writtenAtStart zeros64 zeros8 zerosFile flatten
+unfolding any append appending appended array ascii asked askedKind askedPattern badAsked badChallenge
+    badChallenges badCommitment badCommitments badCoordinates badCount badDigits badEntries badFile badImages
+    badInUse badKind badLength badModulus badOrder badPatternFile badProduct badResponses badSize badSizes
+    badStart badStatement badTeam bezoutLeft bezoutRight brought bytesOf bytesOfEach challengeWidth
+    challengesOr changed combined commitmentBytes compareSides computed convert converted countField
+    countRounds differ differences digit eight eightByEight eightPlaces eitherRules elementRules emptyFile
+    encode entriesOf entry entryCount entryOf euclid expectedImage extracting answer numberOf extractOr
+    extractWitness extracted extractedOf extractedOr extractedSide fetchRound fileIn fileVersion find
+    firstDifference firstDivisor firstRound formula fourBytes gcd headerBytes headerFor headerOf headerRules
+    honestOr image instanceOf inverse isAccepted isCoordinate isElement isExponent isOrAccepted itemsAt
+    joinAll joinResponses judging judgeOr judgeRound judged load loadEntries loadRefusal loadRules locateRound
+    logarithmSheet lowest madeFor madeRules makeFrom makeRules maskBelow misnamed multiplyAll
+    multiplyCommitments narrow narrowThree noBytes noHeader extractingOr joining judgingOr multiplying noRound
+    noRounds numberAt one orWith otherChallenge otherVersion pad8 pairRules partOfRound patternAt patternBytes
+    patternCount patternEnd patternEntries patternFile patternFrom patternMark patternStart patternVersion
+    patterns places power product quotient readOr recordBytes recordLength recordStart residue responsesOr
+    root rootBytes roundAt roundMark roundWith roundsOf rowImage sameCommitment secondOr secondRound sevens
+    shapeRules sheetBytes sheetLength sheetMark sheetOf shipped shippedBytes short simulating
+    simulateCommitment simulated slotFormula smallOr smallSheet someNonCoordinate someNonElement checking
+    converting counting starting encoding fetching locating comparing statementAt statementOf storedEntries
+    sum table tableHeader tableValues tabulate teamRules three twice twoRoots unknownVersion unlessRefused
+    verdict verdictOr versionOf wide wideChallenge wideRecord wideThree widthOf writeShipped zeros64 zeros8
+    zerosFile flatten
 answer-page = record {
   loaded = refl;
   entries = refl;

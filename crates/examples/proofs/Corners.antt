@@ -22,16 +22,16 @@ use Rattle.examples.specs.TeamCorners.{bothPlayers, commitments, images,
 use Rattle.examples.specs.TeamPage.{brought, each, joining, multiplying, pairBytes, teamNumbers}
 use Rattle.examples.specs.WatchPage.{newWatch}
 use Rattle.examples.specs.TwoRows.{exponents, first, narrow, raised, reworded, roots, roundWith, second, spoilt, table, twoRoots, wide}
-use Rattle.formats.specs.Append.{append, appendAfter, appendRules, appended, badInUse, wideChallenge}
-use Rattle.formats.specs.Convert.{convert, convertAfter, convertRules, converted, otherVersion, wideRecord}
-use Rattle.formats.specs.Encode.{encode, encodeRules, headerBytes, sheetOf, storedEntries}
+use Rattle.formats.specs.Append.{append, appending, appended, badInUse, wideChallenge}
+use Rattle.formats.specs.Convert.{convert, converting as convertingCall, converted, otherVersion, wideRecord}
+use Rattle.formats.specs.Encode.{encode, encoding, headerBytes, sheetOf, storedEntries}
 use Rattle.formats.specs.Load.{badLength, badStart, load, loadEntries, loadRefusal, loadRules, noHeader, shapeRules}
-use Rattle.formats.specs.RoundCalls.{checkAfter, checkRound, countAfter, countRounds, fetchAfter, fetchRound, fileRules, locateAfter, locateRound, noRound, partOfRound, roundRules}
+use Rattle.formats.specs.RoundCalls.{checking, checkRound, counting, countRounds, fetching, fetchRound, locating, locateRound, noRound, partOfRound}
 use Rattle.formats.specs.RoundFile.{badFile, challengeWidth, countField, fileVersion, recordBytes, recordLength, recordStart, roundAt, roundMark, unknownVersion, widthOf}
 use Rattle.formats.specs.Rounds.{fileIn, roundsOf}
-use Rattle.formats.specs.SameCommitment.{commitmentBytes, sameAfter, sameCommitment, sameRules}
+use Rattle.formats.specs.SameCommitment.{commitmentBytes, comparing, sameCommitment}
 use Rattle.formats.specs.Sheet.{entriesOf, entryCount, headerOf, instanceOf, sheetLength, sheetMark, statementOf, versionOf, zeros64}
-use Rattle.formats.specs.Write.{short, written, writtenAtStart}
+use Rattle.formats.specs.Write.{short}
 use Rattle.lists.specs.Choices.{selected}
 use Rattle.lists.specs.Places.{eightByEight, itemsAt, pad8, places, tabulate, zeros8}
 use Rattle.numbers.specs.Bits.{bit, maskBelow}
@@ -87,15 +87,13 @@ unfolding extractOr extractedOf extractedOr extractedSide isOrAccepted badChalle
     respondingTo simulatingOn strangeRows strangeSlots tellingOn unfitPeggy unfitVic wrongRows badSheets
     callsOn writing fourBytes schnorrSheet sheetBytes smallSheet bothPlayers commitments images onOther
     responses withCommitments withImages withResponses brought each joining multiplying pairBytes teamNumbers
-    exponents first narrow raised reworded roots roundWith second spoilt table twoRoots wide append
-    appendAfter appendRules appended badInUse wideChallenge convert convertAfter convertRules converted
-    otherVersion wideRecord encode encodeRules headerBytes sheetOf storedEntries badLength badStart load
-    loadEntries loadRefusal loadRules noHeader shapeRules checkAfter checkRound countAfter countRounds
-    fetchAfter fetchRound fileRules locateAfter locateRound noRound partOfRound roundRules badFile
-    challengeWidth countField fileVersion recordBytes recordLength recordStart roundAt roundMark
-    unknownVersion widthOf fileIn roundsOf commitmentBytes sameAfter sameCommitment sameRules entriesOf
-    entryCount headerOf instanceOf sheetLength sheetMark statementOf versionOf zeros64 short written
-    writtenAtStart selected eightByEight itemsAt pad8 places tabulate zeros8 bit maskBelow euclid gcd
+    exponents first narrow raised reworded roots roundWith second spoilt table twoRoots wide append appended
+    badInUse wideChallenge convert converted otherVersion wideRecord encode headerBytes sheetOf storedEntries
+    badLength badStart load loadEntries loadRefusal loadRules noHeader shapeRules checkRound countRounds
+    fetchRound locateRound noRound partOfRound badFile challengeWidth countField fileVersion recordBytes
+    recordLength recordStart roundAt roundMark unknownVersion widthOf fileIn roundsOf commitmentBytes
+    sameCommitment entriesOf entryCount headerOf instanceOf sheetLength sheetMark statementOf versionOf
+    zeros64 short selected eightByEight itemsAt pad8 places tabulate zeros8 bit maskBelow euclid gcd
     bezoutLeft bezoutRight power quotient residue inverse product sum any find asked askedKind askedPattern
     badAsked madeRules makeFrom makeRules digit entryOf headerFor madeFor patternEntries root badDigits
     badPatternFile badSizes misnamed patternAt patternBytes patternCount patternEnd patternFile patternFrom
@@ -114,7 +112,8 @@ unfolding extractOr extractedOf extractedOr extractedSide isOrAccepted badChalle
     extractLoaded judgeLoaded paddedRound badGame gameRefusal gameRules namedCommitment freshWatch isNamed
     isWatched namedRound nearest noting openWatch remembering reuses unfitWatch watchAfter watchRound
     watchRules watchVerdict zeroRound rememberedAt newWatch flatten extractingOrCall judgingOr
-    committingOrCall respondingOr joiningCall multiplyingCall
+    committingOrCall respondingOr joiningCall multiplyingCall appending convertingCall encoding checking
+    counting fetching locating comparing
 every-disjunct = (
   record {
     passing = refl;

@@ -9,7 +9,7 @@ use Rattle.examples.specs.GameCorners.{GameCorners, choicesGame, onesFil
 use Rattle.examples.specs.GamePage.{oneRound}
 use Rattle.examples.specs.Sheets.{fourBytes, schnorrSheet, sheetBytes, smallSheet}
 use Rattle.formats.specs.Load.{badLength, badStart, loadRules, shapeRules}
-use Rattle.formats.specs.RoundCalls.{checkAfter, fetchAfter, fetchRound, fileRules, noRound, roundRules}
+use Rattle.formats.specs.RoundCalls.{checking, fetching, fetchRound, noRound}
 use Rattle.formats.specs.RoundFile.{badFile, challengeWidth, countField, fileVersion, recordLength, recordStart, roundAt, roundMark, unknownVersion, widthOf}
 use Rattle.formats.specs.Sheet.{entriesOf, entryCount, headerOf, instanceOf, sheetLength, sheetMark, statementOf, versionOf}
 use Rattle.games.specs.Text.{badGame, gameRefusal, gameRules, namedCommitment}
@@ -17,6 +17,7 @@ use Rattle.lists.specs.Places.{eightByEight, itemsAt, pad8, places, tabulate, z
 use Rattle.numbers.specs.Gcd.{euclid, gcd}
 use Rattle.numbers.specs.Search.{any, find}
 use Rattle.rules.specs.Answer.{unlessRefused}
+use Rattle.rules.specs.Call.{answer, numberOf}
 use Rattle.rules.specs.Rule.{lowest}
 use Rattle.sigma.specs.Admission.{badCount, badEntries, badKind, badModulus, badOrder, badSize, badStatement, elementRules, firstDivisor, headerRules}
 use Rattle.sigma.specs.Comparison.{differ, firstDifference}
@@ -26,13 +27,13 @@ use Rattle.sigma.specs.Round.{badCommitment}
 
 pub game-corners : GameCorners
 unfolding flatten numberAt ascii changed choicesGame onesFile onesGame rootsGame rootsIn slotsIn wideBytes oneRound
-    fourBytes schnorrSheet sheetBytes smallSheet badLength badStart loadRules shapeRules checkAfter fetchAfter
-    fetchRound fileRules noRound roundRules badFile challengeWidth countField fileVersion recordLength recordStart
+    fourBytes schnorrSheet sheetBytes smallSheet badLength badStart loadRules shapeRules checking fetching
+    fetchRound noRound badFile challengeWidth countField fileVersion recordLength recordStart
     roundAt roundMark unknownVersion widthOf entriesOf entryCount headerOf instanceOf sheetLength sheetMark
     statementOf versionOf badGame gameRefusal gameRules namedCommitment eightByEight itemsAt pad8 places tabulate
     zeros8 euclid gcd any find unlessRefused lowest badCount badEntries badKind badModulus badOrder badSize
     badStatement elementRules firstDivisor headerRules differ firstDifference isElement someNonElement entry
-    isExponent statementAt badCommitment
+    isExponent statementAt badCommitment answer numberOf
 game-corners = record {
   choices31 = (refl, refl);
   modulus31 = (refl, refl);

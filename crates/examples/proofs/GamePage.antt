@@ -10,7 +10,7 @@ use Rattle.examples.specs.MarkerExample.{exampleFile, narrowFile}
 use Rattle.examples.specs.Pages.{repeated}
 use Rattle.examples.specs.Sheets.{fourBytes, schnorrSheet, sheetBytes, smallSheet}
 use Rattle.formats.specs.Load.{badLength, badStart, loadRules, shapeRules}
-use Rattle.formats.specs.RoundCalls.{checkAfter, fetchAfter, fetchRound, fileRules, noRound, roundRules}
+use Rattle.formats.specs.RoundCalls.{checking, fetching, fetchRound, noRound}
 use Rattle.formats.specs.RoundFile.{badFile, challengeWidth, countField, fileVersion, recordLength, recordStart, roundAt, roundMark, unknownVersion, widthOf}
 use Rattle.formats.specs.Sheet.{entriesOf, entryCount, headerOf, instanceOf, sheetLength, sheetMark, statementOf, versionOf}
 use Rattle.games.specs.Slots.{slotsOf}
@@ -35,16 +35,16 @@ use Rattle.sigma.specs.Round.{badChallenge, badCommitment, badCoordinates, expe
 
 pub game-page : GamePage
 unfolding flatten numberAt ascii decimal digits rootBytes oneRound okamotoBytes playOn exampleFile narrowFile repeated
-    fourBytes schnorrSheet sheetBytes smallSheet badLength badStart loadRules shapeRules checkAfter fetchAfter
-    fetchRound fileRules noRound roundRules badFile challengeWidth countField fileVersion recordLength recordStart
+    fourBytes schnorrSheet sheetBytes smallSheet badLength badStart loadRules shapeRules checking fetching
+    fetchRound noRound badFile challengeWidth countField fileVersion recordLength recordStart
     roundAt roundMark unknownVersion widthOf entriesOf entryCount headerOf instanceOf sheetLength sheetMark
     statementOf versionOf slotsOf answerLine answerLines answered badGame candidate candidates firstAnswer gameRefusal
     gameRules gameText isAnswered linesOf namedCommitment textOf selected eightByEight itemsAt pad8 places tabulate
     zeros8 euclid gcd product any find unlessRefused lowest newline rowWord wordLine badCount badEntries badKind
     badModulus badOrder badSize badStatement elementRules firstDivisor headerRules isAccepted judged compareSides
     differ differences firstDifference isCoordinate isElement someNonCoordinate someNonElement image rowImage entry
-    isExponent statementAt judging answer numberOf judgeLoaded badChallenge badCommitment badCoordinates expectedImage
-    verdict
+    isExponent statementAt judging answer numberOf judgeLoaded badChallenge badCommitment badCoordinates
+    expectedImage verdict
 game-page = record {
   A = refl;
   A-two = refl;

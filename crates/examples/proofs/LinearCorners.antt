@@ -2,10 +2,12 @@
 -- Assumes nothing.
 use mathlib.Core.Path.{refl}
 use Rattle.formats.specs.Sheet.{entryCount, sheetLength}
-use Rattle.formats.specs.Write.{short, written, writtenAtStart}
+use Rattle.formats.specs.Write.{short}
 use Rattle.linear_forms.specs.Linear.{badCoefficient, badCounts, linearInstance, linearRules, makeLinear}
 use Rattle.lists.specs.Places.{itemsAt, pad8, tabulate}
 use Rattle.numbers.specs.Search.{any, find}
+use Rattle.rules.specs.Answer.{unlessRefused}
+use Rattle.rules.specs.Call.{answer, numberOf}
 use Rattle.rules.specs.Rule.{lowest}
 use Rattle.sigma.specs.Admission.{badCount, badModulus, badOrder, badSize, badStatement, firstDivisor}
 use Rattle.sigma.specs.Element.{isElement, someNonElement}
@@ -28,7 +30,7 @@ pub linear-corners : LinearCorners
 unfolding any badCoefficient badCount badCounts badModulus badOrder badSize badStatement entryCount find firstDivisor
     forming formingCounts formingIn formingOf formingWith generated isElement isExponent itemsAt linearInstance
     linearRules lowest makeLinear maurerForms pad8 sheetLength short someNonElement spoilt stated tabulate weighted
-    written writtenAtStart
+    answer numberOf unlessRefused
 linear-corners = record {
   refusal5 = (refl, refl);
   refusal6 = (refl, refl);

@@ -7,12 +7,13 @@ use Rattle.encoding.specs.Text.{ascii}
 use Rattle.formats.specs.Encode.{headerBytes, sheetOf, storedEntries}
 use Rattle.formats.specs.Load.{badLength, badStart, load, loadEntries, loadRefusal, loadRules, shapeRules}
 use Rattle.formats.specs.Sheet.{entriesOf, entryCount, headerOf, instanceOf, sheetLength, sheetMark, statementOf, versionOf}
-use Rattle.formats.specs.Write.{short, written, writtenAtStart}
+use Rattle.formats.specs.Write.{short}
 use Rattle.linear_forms.specs.Linear.{badCoefficient, badCounts, coefficient, linearEntry, linearInstance, linearRules, makeLinear}
 use Rattle.lists.specs.Places.{eightByEight, itemsAt, pad8, places, tabulate, zeros8}
 use Rattle.numbers.specs.Product.{product}
 use Rattle.numbers.specs.Search.{any, find}
 use Rattle.rules.specs.Answer.{unlessRefused}
+use Rattle.rules.specs.Call.{answer, numberOf}
 use Rattle.rules.specs.Rule.{lowest}
 use Rattle.sigma.specs.Admission.{badCount, badEntries, badKind, badModulus, badOrder, badSize, badStatement, elementRules, firstDivisor, headerRules}
 use Rattle.sigma.specs.Comparison.{differ, firstDifference}
@@ -31,7 +32,7 @@ unfolding any ascii badCoefficient badCount badCounts badEntries badKind badLeng
     isExponent itemsAt linearEntry linearInstance linearRules load loadEntries loadRefusal loadRules lowest makeLinear
     maurerForms maurerPlan maurerSheet numberAt pad8 places product rowImage sevens shapeRules sheetBytes
     sheetLength sheetMark sheetOf short someNonElement statementOf storedEntries tabulate unlessRefused
-    versionOf written writtenAtStart zeros8 flatten
+    versionOf zeros8 flatten answer numberOf
 linear-page = record {
   made = refl;
   refused = refl;

@@ -50,17 +50,15 @@ use Rattle.sigma.specs.Round.{
   badWitness,
 }
 use Rattle.sigma.specs.Simulator.{simulated, simulating as simulatingCall}
-use Rattle.formats.specs.Append.{emptyRules, emptyFile, badInUse, wideChallenge, appendRules, appended, appendAfter, append}
-use Rattle.formats.specs.Convert.{otherVersion, wideRecord, converted, convertRules, convertAfter, convert}
-use Rattle.formats.specs.Encode.{headerBytes, storedEntries, sheetOf, encodeRules, encode}
+use Rattle.formats.specs.Append.{emptyFile, badInUse, wideChallenge, appended, append, starting as startingCall, appending as appendingCall}
+use Rattle.formats.specs.Convert.{otherVersion, wideRecord, converted, convert, converting as convertingCall}
+use Rattle.formats.specs.Encode.{headerBytes, storedEntries, sheetOf, encode, encoding}
 use Rattle.formats.specs.Load.{badStart, badLength, shapeRules, loadRules, loadRefusal, noHeader, load, loadEntries}
 use Rattle.formats.specs.RoundCalls.{
-  fileRules,
-  roundRules,
   noRound,
-  countAfter,
-  checkAfter,
-  fetchAfter,
+  counting as countingCall,
+  checking,
+  fetching,
   countRounds,
   checkRound,
   fetchRound,
@@ -91,7 +89,7 @@ use Rattle.formats.specs.Sheet.{
   statementOf,
   instanceOf,
 }
-use Rattle.formats.specs.Write.{short, written, writtenAtStart}
+use Rattle.formats.specs.Write.{short}
 use Rattle.formats.proofs.Writing.{written-refusal}
 use Rattle.patterns.specs.Maker.{askedKind, askedPattern, asked, badAsked, madeRules, makeRules, makeFrom}
 use Rattle.patterns.specs.Pattern.{digit, entryOf, patternEntries, headerFor, madeFor, root}
@@ -275,7 +273,7 @@ use Rattle.examples.specs.Sheets.{
 
 -- a number above the shipped file's count is refused with 1
 above-count : (number values statement : ℕ) → 5 < number → making number values statement ≡ 1
-unfolding making makingFrom shippedBytes makeFrom makeRules writtenAtStart patternCount numberAt
+unfolding making makingFrom shippedBytes makeFrom makeRules patternCount numberAt
 above-count number values statement high =
     written-refusal _ _ _ _ ∙ pass 23 _ (ap badPatternFile (sym shipped-bytes) ∙ shipped-passes .0)
     ∙ pass 24 _ (ap badDigits (sym shipped-bytes) ∙ shipped-passes .1)
@@ -294,10 +292,9 @@ unfolding euclid gcd residue quotient power bezoutRight bezoutLeft inverse produ
     loadRefusal askedKind askedPattern asked badAsked madeRules makeRules makeFrom digit entryOf
     patternEntries headerFor madeFor root patternMark patternVersion patternCount patternEnd patternStart
     patternFrom patternAt badSizes badPatternFile misnamed badDigits patternBytes patternFile patterns shipped
-    writeShipped shippedBytes onePattern manyPatterns makingFrom askingRoot fileRules roundRules noRound
-    countAfter checkAfter fetchAfter countRounds fetchRound roundMark fileVersion countField widthOf
-    challengeWidth recordLength recordStart roundAt badFile sheetMark versionOf headerOf entryCount
-    sheetLength zeros64 entriesOf statementOf instanceOf short written writtenAtStart judgeRound
+    writeShipped shippedBytes onePattern manyPatterns makingFrom askingRoot noRound countRounds fetchRound
+    roundMark fileVersion countField widthOf challengeWidth recordLength recordStart roundAt badFile sheetMark
+    versionOf headerOf entryCount sheetLength zeros64 entriesOf statementOf instanceOf short judgeRound
     simulateCommitment extractWitness newline wordLine rowWord verdictText verdictLine resultLine verdictOn
     roundLine roundLines markerText proverState proverIn newProver committingCall unfitProver respondingCall
     commit respond noMemory listedAt isListed isFull listing verifierState verifierIn newVerifier
@@ -305,18 +302,19 @@ unfolding euclid gcd residue quotient power bezoutRight bezoutLeft inverse produ
     honestRound exampleFile exampleText array smallRound run bothWays judging fourBytes sheetBytes smallSheet
     schnorrSheet madeSheet okamotoSheet diffieHellmanSheet productSheet rootSheet flatten onesSheet
     manyChallenges changed rootBytes making writingIn zerosFile noBytes counting appending extracting
-    simulating peggy committing responding dropping vic hearing asking telling noRounds badInUse appendRules
-    recordBytes appended appendAfter append emptyFile noHeader load loadEntries encodeRules encode
-    droppingCall dropSession checkRound firstNonElement firstNonCoordinate sheetSpot fileSpot roundSpot spotOf
-    firstVerdict spotText rowText lineText reasonLine reasonText repeated reasonOn badLevel strongEnough
-    failsAt markRules markRefusal refusedWord marking lastLine eitherRules isOrAccepted extractedSide
-    extractedOf extractedOr extractOr pairRules badCommitments badChallenges badResponses combined verdictOr
-    judgeOr orRound sideRows orOutcome own other orProverIn wipedOr newOrProver firstCommitment
-    secondCommitment unfitOr commitOr respondOr dropOr otherChallenge firstRound secondRound readOr
-    logarithmSheet smallOr judgingOr orRun bothWaysOr orJudging orExtracting orPeggy knowsFirst orCommitting
-    orResponding orNumbers fewerChallenges unknownVersion emptyRules wideChallenge otherVersion wideRecord
-    converted convertRules convertAfter convert roundsOf fileIn storing starting converting narrowFile eight
-    peggyListed peggyHolds vicHolds orHolds extractingOr judgingOrCall committingOr respondingOr droppingOr
+    simulating peggy committing responding dropping vic hearing asking telling noRounds badInUse recordBytes
+    appended append emptyFile noHeader load loadEntries encode droppingCall dropSession checkRound
+    firstNonElement firstNonCoordinate sheetSpot fileSpot roundSpot spotOf firstVerdict spotText rowText
+    lineText reasonLine reasonText repeated reasonOn badLevel strongEnough failsAt markRules markRefusal
+    refusedWord marking lastLine eitherRules isOrAccepted extractedSide extractedOf extractedOr extractOr
+    pairRules badCommitments badChallenges badResponses combined verdictOr judgeOr orRound sideRows orOutcome
+    own other orProverIn wipedOr newOrProver firstCommitment secondCommitment unfitOr commitOr respondOr
+    dropOr otherChallenge firstRound secondRound readOr logarithmSheet smallOr judgingOr orRun bothWaysOr
+    orJudging orExtracting orPeggy knowsFirst orCommitting orResponding orNumbers fewerChallenges
+    unknownVersion wideChallenge otherVersion wideRecord converted convert roundsOf fileIn storing starting
+    converting narrowFile eight peggyListed peggyHolds vicHolds orHolds extractingOr judgingOrCall
+    committingOr respondingOr droppingOr countingCall checking fetching appendingCall encoding startingCall
+    convertingCall
 worked-examples = (
   record {
     A = refl;

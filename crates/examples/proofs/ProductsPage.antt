@@ -9,10 +9,10 @@ use Rattle.examples.specs.Pages.{array, smallRound}
 use Rattle.examples.specs.ProductsPage.{ProductsPage, logarithm, logarithms, pairRound, root}
 use Rattle.examples.specs.Sheets.{fourBytes, schnorrSheet, sheetBytes, smallSheet}
 use Rattle.examples.specs.TeamPage.{pairBytes}
-use Rattle.formats.specs.Encode.{encode, encodeRules, headerBytes, sheetOf, storedEntries}
+use Rattle.formats.specs.Encode.{encode, encoding, headerBytes, sheetOf, storedEntries}
 use Rattle.formats.specs.Load.{badLength, badStart, load, loadEntries, loadRefusal, loadRules, shapeRules}
 use Rattle.formats.specs.Sheet.{entriesOf, entryCount, headerOf, instanceOf, sheetLength, sheetMark, statementOf, versionOf, zeros64}
-use Rattle.formats.specs.Write.{short, written, writtenAtStart}
+use Rattle.formats.specs.Write.{short}
 use Rattle.lists.specs.Places.{eightByEight, itemsAt, pad8, places, tabulate, zeros8}
 use Rattle.numbers.specs.Bits.{maskBelow}
 use Rattle.numbers.specs.Gcd.{euclid, gcd}
@@ -37,14 +37,14 @@ use Rattle.sigma.specs.Round.{badChallenge, badCommitment, badCoordinates, expe
 
 pub products-page : ProductsPage
 unfolding flatten bytesOf bytesOfEach numberAt ascii rootBytes array smallRound logarithm logarithms pairRound root
-    fourBytes schnorrSheet sheetBytes smallSheet pairBytes encode encodeRules headerBytes sheetOf storedEntries
+    fourBytes schnorrSheet sheetBytes smallSheet pairBytes encode encoding headerBytes sheetOf storedEntries
     badLength badStart load loadEntries loadRefusal loadRules shapeRules entriesOf entryCount headerOf instanceOf
-    sheetLength sheetMark statementOf versionOf zeros64 short written writtenAtStart eightByEight itemsAt pad8 places
+    sheetLength sheetMark statementOf versionOf zeros64 short eightByEight itemsAt pad8 places
     tabulate zeros8 maskBelow euclid gcd bezoutLeft bezoutRight power quotient residue inverse product any find
     unlessRefused lowest extractWitness judgeRound badCount badEntries badKind badModulus badOrder badSize badStatement
     elementRules firstDivisor headerRules computed eightPlaces isAccepted judged compareSides differ differences
-    firstDifference combine isCoordinate isElement someNonCoordinate someNonElement extracting answer numberOf extracted
-    formula slotFormula image rowImage entry isExponent statementAt joinSlots multiplyRows judging
+    firstDifference combine isCoordinate isElement someNonCoordinate someNonElement extracting answer numberOf
+    extracted formula slotFormula image rowImage entry isExponent statementAt joinSlots multiplyRows judging
     badChallenge badCommitment badCoordinates expectedImage verdict
 products-page =
     record {

@@ -11,7 +11,7 @@ use Rattle.examples.specs.Sheets.{fourBytes, schnorrSheet, sheetBytes, s
 use Rattle.examples.specs.TeamPage.{pairBytes}
 use Rattle.examples.specs.TwoRows.{narrow, twoColumns, twoRoots, wide}
 use Rattle.formats.specs.Load.{badLength, badStart, loadRules, shapeRules}
-use Rattle.formats.specs.RoundCalls.{checkAfter, checkRound, fetchAfter, fetchRound, fileRules, noRound, roundRules}
+use Rattle.formats.specs.RoundCalls.{checking, checkRound, fetching, fetchRound, noRound}
 use Rattle.formats.specs.RoundFile.{badFile, challengeWidth, countField, fileVersion, recordLength, recordStart, roundAt, roundMark, unknownVersion, widthOf}
 use Rattle.formats.specs.Sheet.{entriesOf, entryCount, headerOf, instanceOf, sheetLength, sheetMark, statementOf, versionOf, zeros64}
 use Rattle.lists.specs.Choices.{selected}
@@ -41,16 +41,16 @@ use mathlib.Core.List.{flatten}
 pub reason-page : ReasonPage
 unfolding bytesOf numberAt ascii decimal digits changed manyChallenges noBytes onesSheet rootBytes zerosFile
     exampleFile narrowFile eightRows fourBytes schnorrSheet sheetBytes smallSheet pairBytes narrow twoColumns twoRoots
-    wide badLength badStart loadRules shapeRules checkAfter checkRound fetchAfter fetchRound fileRules noRound
-    roundRules badFile challengeWidth countField fileVersion recordLength recordStart roundAt roundMark unknownVersion
+    wide badLength badStart loadRules shapeRules checking checkRound fetching fetchRound noRound
+    badFile challengeWidth countField fileVersion recordLength recordStart roundAt roundMark unknownVersion
     widthOf entriesOf entryCount headerOf instanceOf sheetLength sheetMark statementOf versionOf zeros64 selected
     eightByEight itemsAt pad8 places tabulate zeros8 bit maskBelow euclid gcd product sum any find digit root
     patternBytes patternFile patternMark patterns shipped fileSpot firstNonCoordinate firstNonElement firstVerdict
     lineText reasonLine reasonText roundSpot rowText sheetSpot spotOf spotText unlessRefused lowest judgeRound
     badCount badEntries badKind badModulus badOrder badSize badStatement elementRules firstDivisor headerRules judged
     outcome rowsOf compareSides differ differences firstDifference isCoordinate isElement someNonCoordinate
-    someNonElement image rowImage entry isExponent statementAt judging answer numberOf badChallenge badCommitment
-    badCoordinates expectedImage response responseCoordinate verdict flatten
+    someNonElement image rowImage entry isExponent statementAt judging answer numberOf badChallenge
+    badCommitment badCoordinates expectedImage response responseCoordinate verdict flatten
 reason-page = record {
   refusal2 = refl;
   refusal3 = refl;

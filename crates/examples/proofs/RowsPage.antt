@@ -11,7 +11,7 @@ use Rattle.examples.specs.RowsPage.{eightRows, withRows, threeDiffer, pa
 use Rattle.examples.specs.Sheets.{fourBytes, sheetBytes}
 use Rattle.examples.specs.TeamPage.{pairBytes}
 use Rattle.formats.specs.Load.{badStart, badLength, shapeRules, loadRules, loadRefusal}
-use Rattle.formats.specs.RoundCalls.{fileRules, roundRules, noRound, countAfter, checkAfter, fetchAfter, countRounds, fetchRound, checkRound}
+use Rattle.formats.specs.RoundCalls.{noRound, counting, checking, fetching, countRounds, fetchRound, checkRound}
 use Rattle.formats.specs.RoundFile.{roundMark, fileVersion, countField, widthOf, challengeWidth, recordLength, recordStart, roundAt, badFile, recordBytes, unknownVersion}
 use Rattle.formats.specs.Rounds.{fileIn}
 use Rattle.formats.specs.Sheet.{sheetMark, versionOf, headerOf, entryCount, sheetLength, zeros64, entriesOf, statementOf, instanceOf}
@@ -46,17 +46,16 @@ unfolding euclid gcd product find any itemsAt tabulate places pad8 zeros8 eightB
     badSize badCount badEntries badStatement headerRules elementRules outcome isAccepted judged
     firstDifference differ differences compareSides rowsOf selected bit maskBelow sum isElement someNonElement
     isCoordinate someNonCoordinate rowImage image isExponent entry statementAt judging expectedImage verdict
-    badCommitment badChallenge badCoordinates badStart badLength shapeRules loadRules loadRefusal fileRules
-    roundRules noRound countAfter checkAfter fetchAfter countRounds fetchRound roundMark fileVersion
-    countField widthOf challengeWidth recordLength recordStart roundAt badFile sheetMark versionOf headerOf
-    entryCount sheetLength zeros64 entriesOf statementOf instanceOf judgeRound newline wordLine rowWord
-    verdictText verdictLine resultLine verdictOn roundLine roundLines markerText verifierState verifierIn
-    unfitCommitment takingResponse takeResponse array fourBytes sheetBytes flatten recordBytes checkRound
-    firstNonElement firstNonCoordinate sheetSpot fileSpot roundSpot spotOf firstVerdict spotText rowText
-    lineText reasonLine reasonText badLevel strongEnough failsAt markRules markRefusal refusedWord eitherRules
-    pairRules badCommitments badChallenges badResponses combined verdictOr judgeOr sideRows orOutcome
-    otherChallenge firstRound secondRound readOr unknownVersion fileIn eightRows withRows threeDiffer
-    pairRound pairBytes judgingOr
+    badCommitment badChallenge badCoordinates badStart badLength shapeRules loadRules loadRefusal noRound
+    countRounds fetchRound roundMark fileVersion countField widthOf challengeWidth recordLength recordStart
+    roundAt badFile sheetMark versionOf headerOf entryCount sheetLength zeros64 entriesOf statementOf
+    instanceOf judgeRound newline wordLine rowWord verdictText verdictLine resultLine verdictOn roundLine
+    roundLines markerText verifierState verifierIn unfitCommitment takingResponse takeResponse array fourBytes
+    sheetBytes flatten recordBytes checkRound firstNonElement firstNonCoordinate sheetSpot fileSpot roundSpot
+    spotOf firstVerdict spotText rowText lineText reasonLine reasonText badLevel strongEnough failsAt
+    markRules markRefusal refusedWord eitherRules pairRules badCommitments badChallenges badResponses combined
+    verdictOr judgeOr sideRows orOutcome otherChallenge firstRound secondRound readOr unknownVersion fileIn
+    eightRows withRows threeDiffer pairRound pairBytes judgingOr counting checking fetching
 rows-page = record {
   none = refl;
   three = refl;

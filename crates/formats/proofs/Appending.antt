@@ -5,7 +5,7 @@ use Prim.Native.Nat.{ℕ, _+_, _^_, _<_, _≤_}
 use mathlib.Core.Path.{_≡_, refl, sym, ap, subst, _∙_}
 use mathlib.Core.Logic.{_↔_, _⊎_, ⊎-elim}
 use mathlib.Core.Bool.{false}
-use mathlib.Core.List.{List, _++_}
+use mathlib.Core.List.{List}
 use native.Mathlib.Omega.{arith}
 use lib.ListN.{length, getD, take, drop, length-append}
 use lib.Seq.{sets, length-sets, length-take-le}
@@ -15,21 +15,19 @@ use Rattle.encoding.specs.Bytes.{bytesOf}
 use Rattle.encoding.proofs.Bytes.{length-bytesOf, length-bytesOfEach, numberAt-sets, numberAt-take}
 use Rattle.encoding.proofs.Replaced.{getD-sets-before, getD-sets-behind, drop-sets-behind, part-sets}
 use Rattle.lists.proofs.Places.{length-places}
-use Rattle.rules.specs.Rule.{lowest}
-use Rattle.rules.proofs.Lowest.{clear-append, clear-lowest, lowest-clear}
+use Rattle.rules.specs.Call.{numberOf}
+use Rattle.rules.proofs.Call.{answer-number}
 use Rattle.rules.proofs.Says.{says-false}
-use Rattle.formats.specs.Append.{appendRules, appended, appendAfter, append, wideChallenge}
-use Rattle.formats.specs.Load.{loadRules}
+use Rattle.formats.specs.Append.{append, appended, appending, wideChallenge}
+use Rattle.formats.specs.Load.{onSheet}
 use Rattle.formats.specs.Meaning.{Loads, InUse}
 use Rattle.formats.specs.Outcome.{Keeps, Adds}
 use Rattle.formats.specs.RoundFile.{countField, fileVersion, recordBytes, recordLength, recordStart, widthInUse, widthOf}
 use Rattle.formats.specs.Sheet.{headerOf}
-use Rattle.formats.specs.Write.{written}
 use Rattle.formats.proofs.Files.{in-use-passes, record-behind}
-use Rattle.formats.proofs.Loads.{load-clear}
-use Rattle.formats.proofs.Positive.{record-positive}
+use Rattle.formats.proofs.OnSheet.{on-sheet-runs}
 use Rattle.formats.proofs.Tests.{says-wideChallenge}
-use Rattle.formats.proofs.Writing.{short-passes, written-refusal, written-refused, written-given}
+use Rattle.formats.proofs.Writing.{short-passes, written-refused, written-given}
 
 -- a record is as long as 01 says
 pub length-recordBytes : (width : ℕ) (h : Header) (round : Round) → length (recordBytes width h round) ≡ recordLength width h
@@ -69,35 +67,33 @@ module _ {h : Header} {buffer : List ℕ} {used : ℕ} (u : InUse h buffer used)
   in-use-count = numberAt-take 2 used buffer 5 in-use-long
 
 module _ (s buffer : List ℕ) (used : ℕ) (round : Round) where
-  -- its number is what its rules give
-  pub append-refusal : append s buffer used round .answer .refusal ≡ lowest (loadRules s ++ appendRules (headerOf s) buffer used round)
-  unfolding append appendAfter
-  append-refusal = written-refusal _ _ _ _
+  -- the number that it answers
+  append-number : append s buffer used round .answer .refusal ≡ numberOf (onSheet s (appending (headerOf s) buffer used round))
+  unfolding append appending
+  append-number =
+      answer-number (onSheet s (appending (headerOf s) buffer used round)) (λ w. w .answer .refusal) refl (λ n. refl)
 
   -- it runs exactly where the sheet loads, the bytes in use are a round file with room, their version can hold the challenge and
   -- the buffer the record
   pub append-runs : (append s buffer used round .answer .refusal ≡ 0)
       ↔ (Loads s × InUse (headerOf s) buffer used × Narrow (fileVersion (take used buffer)) (round .challenge)
       × (used + recordLength (widthInUse buffer used) (headerOf s) ≤ length buffer))
-  unfolding appendRules
+  unfolding appending
   append-runs =
       let h = headerOf s in
-      let rules = loadRules s ++ appendRules h buffer used round in
-      let parts = clear-append (loadRules s) (appendRules h buffer used round) in
+      let runs = on-sheet-runs s (appending h buffer used round) tt in
       let file = in-use-passes h buffer used in
       let hold = narrow-passes (fileVersion (take used buffer)) (round .challenge) in
       let room = short-passes buffer (used + recordLength (widthInUse buffer used) h) in (
         λ e.
-            let clear = clear-lowest rules (record-positive s h buffer used round) (sym append-refusal ∙ e) in
-            let (sheet, (inside, (narrow, (fits, none)))) = parts .0 clear in
-            (load-clear s .0 sheet, file .0 inside, hold .0 narrow, room .0 fits),
-        λ (l, u, narrow, fits).
-            append-refusal ∙ lowest-clear rules (parts .1 (load-clear s .1 l, (file .1 u, (hold .1 narrow, (room .1 fits, tt))))),
+            let (l, (inside, (narrow, (fits, none)))) = runs .0 (sym append-number ∙ e) in
+            (l, file .0 inside, hold .0 narrow, room .0 fits),
+        λ (l, u, narrow, fits). append-number ∙ runs .1 (l, (file .1 u, (hold .1 narrow, (room .1 fits, tt)))),
       )
 
   -- a refused call keeps the buffer
   pub append-refused : 0 < append s buffer used round .answer .refusal → Keeps buffer (append s buffer used round)
-  unfolding append appendAfter written
+  unfolding append appending
   append-refused some = written-refused _ _ _ _ some
 
   -- else the answer is the new count of bytes in use, and the buffer has the record and the raised count field
@@ -107,8 +103,8 @@ module _ (s buffer : List ℕ) (used : ℕ) (round : Round) where
         answer = record { refusal = 0; length = used + recordLength (widthInUse buffer used) (headerOf s) };
         buffer = appended (headerOf s) buffer used round;
       }
-  unfolding append appendAfter
-  append-given e = written-given _ _ _ _ (sym append-refusal ∙ e)
+  unfolding append appending
+  append-given e = written-given _ _ _ _ e
 
 -- ---- the buffer of the record writer
 

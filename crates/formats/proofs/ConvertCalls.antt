@@ -1,37 +1,25 @@
 -- The call that converts a round file (02, card 7): when it runs, what it leaves in the buffer, and that the calls which read
 -- files answer the same on the result as on the original.
 -- Assumes nothing.
-use Prim.Native.Nat.{ℕ, _<_, _≤_}
-use mathlib.Core.Path.{_≡_, sym, ap, subst, _∙_}
+use Prim.Native.Nat.{ℕ, _≤_}
+use mathlib.Core.Path.{_≡_, refl, sym, ap, subst, _∙_}
 use mathlib.Core.Bool.{false}
 use mathlib.Core.Logic.{_↔_}
-use mathlib.Core.List.{List, _++_}
+use mathlib.Core.List.{List}
 use native.Mathlib.Decide.{decLt}
 use native.Mathlib.Omega.{arith}
 use lib.ListN.{length}
 use Rattle.types.specs.declared.Round.{Round}
 use Rattle.encoding.specs.Bytes.{AllBytes}
-use Rattle.rules.specs.Answer.{unlessRefused}
-use Rattle.rules.specs.Rule.{lowest}
-use Rattle.rules.proofs.Lowest.{lowest-append-zero}
-use Rattle.rules.proofs.Answer.{unlessRefused-positive}
-use Rattle.formats.specs.Convert.{convert, convertAfter, convertRules, converted, otherVersion, wideRecord}
-use Rattle.formats.specs.Load.{loadRefusal, loadRules}
+use Rattle.rules.specs.Call.{numberOf}
+use Rattle.rules.proofs.Call.{answer-number}
+use Rattle.formats.specs.Convert.{convert, converted, converting, otherVersion, wideRecord}
+use Rattle.formats.specs.Load.{onSheet}
 use Rattle.formats.specs.Meaning.{IsRoundFile, Loads}
-use Rattle.formats.specs.Outcome.{Keeps, Puts}
-use Rattle.formats.specs.RoundCalls.{
-  checkAfter,
-  checkRound,
-  countRounds,
-  fetchAfter,
-  fetchRound,
-  fileRules,
-  noRound,
-  roundRules,
-}
+use Rattle.formats.specs.Outcome.{Puts}
+use Rattle.formats.specs.RoundCalls.{checkRound, checking, countRounds, fetchRound, noRound}
 use Rattle.formats.specs.RoundFile.{countField, fileVersion, recordStart, widthOf}
 use Rattle.formats.specs.Sheet.{headerOf}
-use Rattle.formats.specs.Write.{written, writtenAtStart}
 use Rattle.formats.proofs.Converting.{
   converted-again,
   converted-count,
@@ -40,45 +28,38 @@ use Rattle.formats.proofs.Converting.{
   converted-round,
   length-converted,
 }
-use Rattle.formats.proofs.Files.{check-runs, count-given, count-runs, fetch-given, file-passes}
-use Rattle.formats.proofs.Loads.{loads}
-use Rattle.formats.proofs.Positive.{load-positive}
-use Rattle.formats.proofs.Writing.{short-passes, start-written, written-refusal, written-refused}
+use Rattle.formats.proofs.Files.{check-runs, count-given, count-runs, fetch-given, fetch-refused, file-passes}
+use Rattle.formats.proofs.OnSheet.{on-sheet-runs}
+use Rattle.formats.proofs.Writing.{short-passes, start-written}
 
 module _ (s f buffer : List ℕ) where
-  -- its number is what its rules give
-  pub convert-refusal : convert s f buffer .answer .refusal ≡ lowest (loadRules s ++ convertRules (headerOf s) f buffer)
-  unfolding convert convertAfter writtenAtStart
-  convert-refusal = written-refusal _ _ _ _
+  -- the number that it answers
+  convert-number : convert s f buffer .answer .refusal ≡ numberOf (onSheet s (converting (headerOf s) f buffer))
+  unfolding convert converting
+  convert-number = answer-number (onSheet s (converting (headerOf s) f buffer)) (λ w. w .answer .refusal) refl (λ n. refl)
 
   -- it runs exactly where the sheet loads, the file is one of its round files, no challenge is too wide and the buffer can hold
   -- the result
   pub convert-runs : (convert s f buffer .answer .refusal ≡ 0)
       ↔ (Loads s × IsRoundFile (headerOf s) f × (wideRecord (headerOf s) f ≡ false)
       × (recordStart (widthOf (otherVersion (fileVersion f))) (headerOf s) (countField f) ≤ length buffer))
-  unfolding convertRules fileRules loadRefusal
+  unfolding converting
   convert-runs =
       let h = headerOf s in
-      let parts = lowest-append-zero (loadRules s) (convertRules h f buffer) (load-positive s) tt in
+      let runs = on-sheet-runs s (converting h f buffer) tt in
       let room = short-passes buffer (recordStart (widthOf (otherVersion (fileVersion f))) h (countField f)) in (
         λ e.
-            let (sheet, (file, (narrow, (fits, none)))) = parts .0 (sym convert-refusal ∙ e) in
-            (loads s .0 sheet, file-passes h f .0 file, narrow, room .0 fits),
-        λ (l, r, narrow, fits).
-            convert-refusal ∙ parts .1 (loads s .1 l, (file-passes h f .1 r, (narrow, (room .1 fits, tt)))),
+            let (l, (file, (narrow, (fits, none)))) = runs .0 (sym convert-number ∙ e) in
+            (l, file-passes h f .0 file, narrow, room .0 fits),
+        λ (l, r, narrow, fits). convert-number ∙ runs .1 (l, (file-passes h f .1 r, (narrow, (room .1 fits, tt)))),
       )
 
-  -- a refused call keeps the buffer
-  pub convert-refused : 0 < convert s f buffer .answer .refusal → Keeps buffer (convert s f buffer)
-  unfolding convert convertAfter writtenAtStart written
-  convert-refused some = written-refused _ _ _ _ some
-
-  -- else the file in the other version stands at the start of the buffer
+  -- it then puts the file in the other version at the start of the buffer
   pub convert-puts : convert s f buffer .answer .refusal ≡ 0 → Puts (converted (headerOf s) f) buffer (convert s f buffer)
-  unfolding convert convertAfter
+  unfolding convert converting
   convert-puts e =
       let (l, r, narrow, fits) = convert-runs .0 e in
-      start-written _ (converted (headerOf s) f) buffer (sym convert-refusal ∙ e) (omega (arith, length-converted (headerOf s) f))
+      start-written _ (converted (headerOf s) f) buffer e (omega (arith, length-converted (headerOf s) f))
 
 -- ---- what is read of the result
 
@@ -93,7 +74,7 @@ module _ (s f : List ℕ) (l : Loads s) (r : IsRoundFile (headerOf s) f) where
 
   -- a round number is checked as the file's
   pub convert-check : (k : ℕ) → checkRound s (converted (headerOf s) f) k ≡ checkRound s f k
-  unfolding checkRound checkAfter roundRules fileRules
+  unfolding checkRound checking
   convert-check k =
       let h = headerOf s in
       rw (
@@ -105,15 +86,13 @@ module _ (s f : List ℕ) (l : Loads s) (r : IsRoundFile (headerOf s) f) where
   module _ (b : AllBytes f) (narrow : wideRecord (headerOf s) f ≡ false) where
     -- a round is read as the file's
     pub convert-fetch : (k : ℕ) → fetchRound s (converted (headerOf s) f) k ≡ fetchRound s f k
-    unfolding fetchRound fetchAfter checkRound
     convert-fetch k =
         let h = headerOf s in
         let same = convert-check k in
         elim (decLt 0 (checkRound s f k)) [
           | yes some ↦
-              let zeros : (round : Round) → unlessRefused (checkRound s f k) round noRound ≡ noRound =
-              λ round. unlessRefused-positive round noRound (checkRound s f k) some in
-              rw (same, zeros _, zeros _)
+              fetch-refused s (converted h f) k (rw same some)
+              ∙ ap (λ (n : ℕ). record { refusal = n; round = noRound }) same ∙ sym (fetch-refused s f k some)
           | no none ↦
               let passed : checkRound s f k ≡ 0 = omega arith in
               let (sheet, file, below) = check-runs s f k .0 passed in

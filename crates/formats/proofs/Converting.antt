@@ -5,7 +5,7 @@ use Prim.Native.Nat.{ℕ, _+_, _*_, _^_, _<_}
 use mathlib.Core.Path.{_≡_, refl, sym, ap, ap₂, subst, _∙_}
 use mathlib.Core.Bool.{false}
 use mathlib.Core.Logic.{_↔_, _⊎_, _≢_, inl, inr, ⊎-elim}
-use mathlib.Core.List.{List, [], _∷_, _++_, map}
+use mathlib.Core.List.{List, [], _∷_, map}
 use native.Mathlib.Omega.{arith}
 use lib.ListN.{getD, length}
 use borrow.Author.Tests.{eq-eqb, ne-eqb}
@@ -14,22 +14,14 @@ use Rattle.types.specs.declared.Round.{Round}
 use Rattle.encoding.specs.Bytes.{AllBytes, numberAt}
 use Rattle.lists.specs.Member.{Member}
 use Rattle.rules.specs.Condition.{Tests}
-use Rattle.rules.specs.Rule.{_when_}
 use Rattle.rules.specs.Says.{Says}
-use Rattle.rules.proofs.Condition.{tests-append}
 use Rattle.rules.proofs.Says.{says-decides, says-equal, says-false, says-iff}
 use Rattle.sigma.specs.Reads.{paddedRound}
 use Rattle.sigma.proofs.Calculus.{says-any}
-use Rattle.formats.specs.Convert.{
-  convertRules,
-  converted,
-  otherVersion,
-  wideRecord,
-}
-use Rattle.formats.specs.Load.{loadRules}
+use Rattle.formats.specs.Convert.{converted, converting, otherVersion, wideRecord}
 use Rattle.formats.specs.Meaning.{IsRoundFile, IsVersion, recordSize}
-use Rattle.formats.specs.Refusals.{convertConditions, loadConditions}
-use Rattle.formats.specs.RoundCalls.{fileRules, noRound}
+use Rattle.formats.specs.Refusals.{convertConditions}
+use Rattle.formats.specs.RoundCalls.{noRound}
 use Rattle.formats.specs.RoundFile.{
   challengeWidth,
   countField,
@@ -40,11 +32,9 @@ use Rattle.formats.specs.RoundFile.{
   widthOf,
 }
 use Rattle.formats.specs.Rounds.{Words, fileIn, roundsOf}
-use Rattle.formats.specs.Sheet.{headerOf}
 use Rattle.formats.specs.Write.{short}
 use Rattle.formats.proofs.Appending.{Narrow, width-narrow}
 use Rattle.formats.proofs.Records.{roundAt-padded, roundAt-words}
-use Rattle.formats.proofs.Refusals.{load-tests}
 use Rattle.formats.proofs.Rounds.{
   count-fileIn,
   each-round,
@@ -142,16 +132,9 @@ module _ (h : Header) (f : List ℕ) where
   ]
 
   -- 12, 15 and 22 of the converter
-  convert-rules : (buffer : List ℕ) → Tests (convertRules h f buffer) (convertConditions h f buffer)
-  unfolding convertRules fileRules
-  convert-rules buffer = (refl, says-badFile h f, (refl, says-wideRecord, (refl, says-room buffer, tt)))
-
--- 2 to 12, 15 and 22, after the rules of the sheet
-pub convert-tests : (s f buffer : List ℕ)
-    → Tests (loadRules s ++ convertRules (headerOf s) f buffer) (loadConditions s ++ convertConditions (headerOf s) f buffer)
-convert-tests s f buffer =
-    tests-append (loadRules s) (convertRules (headerOf s) f buffer) (loadConditions s) (convertConditions (headerOf s) f buffer)
-    (load-tests s) (convert-rules (headerOf s) f buffer)
+  pub convert-tests : (buffer : List ℕ) → Tests (converting h f buffer .refusals) (convertConditions h f buffer)
+  unfolding converting
+  convert-tests buffer = (refl, says-badFile h f, (refl, says-wideRecord, (refl, says-room buffer, tt)))
 
 -- ---- the file in the other version
 

@@ -8,25 +8,28 @@ use native.Mathlib.Omega.{arith}
 use Rattle.types.specs.declared.Round.{Round}
 use Rattle.rules.specs.Order.{isSublist, refusalOrder, sheetNumbers}
 use Rattle.rules.specs.Refuses.{conditionNumbers}
-use Rattle.rules.proofs.Refuses.{refuses-tested}
-use Rattle.formats.specs.Convert.{convert, convertAfter, converted, otherVersion}
+use Rattle.formats.specs.Convert.{convert, converted, converting, otherVersion}
 use Rattle.formats.specs.Converts.{ConvertRefusals, Converts, OneAndOther}
 use Rattle.formats.specs.Ours.{fileCalls, roundsRead}
 use Rattle.formats.specs.Outcome.{Puts}
+use Rattle.formats.specs.Refusals.{convertConditions}
 use Rattle.formats.specs.RoundFile.{fileVersion}
 use Rattle.formats.specs.Rounds.{fileIn, roundsOf}
 use Rattle.formats.specs.Sheet.{headerOf}
-use Rattle.formats.specs.Write.{written, writtenAtStart}
-use Rattle.formats.proofs.ConvertCalls.{convert-again, convert-puts, convert-refused, convert-runs}
+use Rattle.formats.proofs.ConvertCalls.{convert-again, convert-puts, convert-runs}
 use Rattle.formats.proofs.Converting.{convert-tests, other-version}
 use Rattle.formats.proofs.Files.{rounds-read}
-use Rattle.formats.proofs.Writing.{puts-front}
+use Rattle.formats.proofs.Refusals.{on-sheet-tests}
+use Rattle.formats.proofs.Writing.{puts-front, writing-refuses}
 
 -- the refusals
 pub convert-refusals : ConvertRefusals fileCalls
-unfolding conditionNumbers isSublist refusalOrder sheetNumbers convert convertAfter writtenAtStart written
+unfolding conditionNumbers isSublist refusalOrder sheetNumbers convert converting
 convert-refusals = record {
-  converting = λ sheet f buffer. refuses-tested _ _ refl refl _ (convert-tests sheet f buffer) (convert-refused sheet f buffer);
+  converting = λ sheet f buffer.
+      let h = headerOf sheet in
+      writing-refuses _ _ refl refl _ _ _ buffer
+      (on-sheet-tests sheet (converting h f buffer) (convertConditions h f buffer) (convert-tests h f buffer));
 }
 
 -- the other of the two versions

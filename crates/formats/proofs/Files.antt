@@ -1,10 +1,10 @@
 -- A round file is read exactly where none of 01's conditions holds, and what the calls that read it answer then.
 -- Assumes nothing.
 use Prim.Native.Nat.{ℕ, _<_, _≤_}
-use mathlib.Core.Path.{_≡_, refl, sym, ap}
+use mathlib.Core.Path.{_≡_, refl, sym, ap, _∙_}
 use mathlib.Core.Logic.{_↔_, inl, inr}
 use mathlib.Core.Bool.{Bool, true, false, cond, not, _||_}
-use mathlib.Core.List.{List, _++_}
+use mathlib.Core.List.{List}
 use native.Mathlib.Omega.{arith}
 use lib.Dec.{eqb, leb, ltb}
 use lib.ListN.{length, take}
@@ -12,18 +12,17 @@ use borrow.Author.Tests.{leb-false, lt-leb, ltb-false, le-ltb}
 use Rattle.types.specs.declared.Header.{Header}
 use Rattle.encoding.specs.Text.{ascii}
 use Rattle.lists.proofs.Places.{tabulate-agree}
-use Rattle.rules.proofs.Lowest.{clear-append, clear-lowest, lowest-clear}
+use Rattle.rules.specs.Call.{numberOf}
+use Rattle.rules.proofs.Call.{answer-number, answer-refused, answer-value}
 use Rattle.rules.proofs.Says.{says-equal, says-or}
 use Rattle.sigma.specs.Comparison.{differ}
-use Rattle.rules.proofs.Answer.{unlessRefused-zero}
 use Rattle.sigma.proofs.Calculus.{says-passes, both-fail}
 use Rattle.sigma.proofs.Comparison.{differ-false}
 use Rattle.formats.specs.Append.{badInUse}
-use Rattle.formats.specs.Load.{loadRules}
+use Rattle.formats.specs.Load.{onSheet}
 use Rattle.formats.specs.Meaning.{Loads, HasWidth, IsRoundFile, IsVersion, InUse}
 use Rattle.formats.specs.Ours.{roundsRead}
-use Rattle.formats.specs.RoundCalls.{fileRules, roundRules, countAfter, checkAfter}
-use Rattle.formats.specs.RoundCalls.{fetchAfter, countRounds, checkRound, fetchRound}
+use Rattle.formats.specs.RoundCalls.{checkRound, checking, countRounds, counting, fetchRound, fetching, noRound}
 use Rattle.formats.specs.RoundFile.{
   badFile,
   challengeWidth,
@@ -37,8 +36,8 @@ use Rattle.formats.specs.RoundFile.{
 }
 use Rattle.formats.specs.Rounds.{roundsOf}
 use Rattle.formats.specs.Sheet.{headerOf}
-use Rattle.formats.proofs.Loads.{begins, load-clear}
-use Rattle.formats.proofs.Positive.{count-positive, check-positive}
+use Rattle.formats.proofs.Loads.{begins}
+use Rattle.formats.proofs.OnSheet.{on-sheet-runs}
 
 -- the mark has three bytes
 pub length-roundMark : length roundMark ≡ 3
@@ -151,45 +150,60 @@ pub number-passes : (f : List ℕ) (k : ℕ) → (leb (countField f) k ≡ false
 number-passes f k = (leb-false (countField f) k, lt-leb (countField f) k)
 
 module _ (s f : List ℕ) where
-  -- a file's rounds are counted exactly where the sheet loads and the file is one of its round files
+  -- the number that counting answers
+  pub count-number : countRounds s f .refusal ≡ numberOf (onSheet s (counting (headerOf s) f))
+  unfolding countRounds counting
+  count-number = answer-number (onSheet s (counting (headerOf s) f)) (λ counted. counted .refusal) refl (λ n. refl)
+
+  -- a file's rounds are counted exactly if the sheet loads and the file is one of its round files
   pub count-runs : (countRounds s f .refusal ≡ 0) ↔ (Loads s × IsRoundFile (headerOf s) f)
-  unfolding countRounds countAfter fileRules
+  unfolding counting
   count-runs =
-      let rules = loadRules s ++ fileRules (headerOf s) f in
-      let parts = clear-append (loadRules s) (fileRules (headerOf s) f) in
+      let runs = on-sheet-runs s (counting (headerOf s) f) tt in
       let passes = file-passes (headerOf s) f in (
-        λ e.
-            let (sheet, (file, none)) = parts .0 (clear-lowest rules (count-positive s (headerOf s) f) e) in
-            (load-clear s .0 sheet, passes .0 file),
-        λ (l, r). lowest-clear rules (parts .1 (load-clear s .1 l, (passes .1 r, tt))),
+        λ e. let (l, (file, none)) = runs .0 (sym count-number ∙ e) in (l, passes .0 file),
+        λ (l, r). count-number ∙ runs .1 (l, (passes .1 r, tt)),
       )
 
   -- the count is then the file's own
   pub count-given : countRounds s f .refusal ≡ 0 → countRounds s f ≡ record { refusal = 0; count = countField f }
-  unfolding countRounds countAfter
-  count-given e = simp (e, unlessRefused-zero)
+  unfolding countRounds counting
+  count-given e = answer-value (onSheet s (counting (headerOf s) f)) (sym count-number ∙ e)
 
   module _ (k : ℕ) where
-    -- a round passes the check exactly where the sheet loads, the file is one of its round files and has the round
+    -- the number that checking answers
+    pub check-number : checkRound s f k ≡ numberOf (onSheet s (checking (headerOf s) f k))
+    unfolding checkRound checking
+    check-number = answer-number (onSheet s (checking (headerOf s) f k)) (λ n. n) refl (λ n. refl)
+
+    -- a round passes the check exactly if the sheet loads, the file is one of its round files and has the round
     pub check-runs : (checkRound s f k ≡ 0) ↔ (Loads s × IsRoundFile (headerOf s) f × (k < countField f))
-    unfolding checkRound checkAfter roundRules fileRules
+    unfolding checking
     check-runs =
-        let rules = loadRules s ++ roundRules (headerOf s) f k in
-        let parts = clear-append (loadRules s) (roundRules (headerOf s) f k) in
+        let runs = on-sheet-runs s (checking (headerOf s) f k) tt in
         let passes = file-passes (headerOf s) f in
         let below = number-passes f k in (
-          λ e.
-              let (sheet, (file, (number, none))) = parts .0 (clear-lowest rules (check-positive s (headerOf s) f k) e) in
-              (load-clear s .0 sheet, passes .0 file, below .0 number),
-          λ (l, r, b). lowest-clear rules (parts .1 (load-clear s .1 l, (passes .1 r, (below .1 b, tt)))),
+          λ e. let (l, (file, (number, none))) = runs .0 (sym check-number ∙ e) in (l, passes .0 file, below .0 number),
+          λ (l, r, b). check-number ∙ runs .1 (l, (passes .1 r, (below .1 b, tt))),
         )
 
-    -- reading then gives the values that stand in the record
+    -- reading answers the number of the check
+    pub fetch-number : fetchRound s f k .refusal ≡ checkRound s f k
+    unfolding fetchRound fetching numberOf
+    fetch-number =
+        answer-number (onSheet s (fetching (headerOf s) f k)) (λ fetched. fetched .refusal) refl (λ n. refl) ∙ sym check-number
+
+    -- if that is 0, it gives the values that stand in the record
     pub fetch-given : checkRound s f k ≡ 0
         → fetchRound s f k
         ≡ record { refusal = 0; round = roundAt (challengeWidth f) (headerOf s) f (recordStart (challengeWidth f) (headerOf s) k) }
-    unfolding fetchRound fetchAfter checkRound
-    fetch-given e = simp (e, unlessRefused-zero)
+    unfolding fetchRound fetching numberOf
+    fetch-given e = answer-value (onSheet s (fetching (headerOf s) f k)) (sym check-number ∙ e)
+
+    -- else zeros
+    pub fetch-refused : 0 < checkRound s f k → fetchRound s f k ≡ record { refusal = checkRound s f k; round = noRound }
+    unfolding fetchRound fetching numberOf
+    fetch-refused some = rw check-number (answer-refused (onSheet s (fetching (headerOf s) f k)) (rw check-number at some))
 
 -- the rounds that the calls read are the file's
 pub rounds-read : (s f : List ℕ) → Loads s → IsRoundFile (headerOf s) f → roundsRead s f ≡ roundsOf (headerOf s) f

@@ -6,7 +6,6 @@ pub mod Positive
 pub mod Loads
 pub mod OnSheet
 pub mod Files
-pub mod After
 pub mod Unread
 pub mod Entries
 pub mod Writing

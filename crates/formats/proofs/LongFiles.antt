@@ -15,22 +15,23 @@ use lib.Seq.{append-snoc, getD-take, length-take-le, take-all}
 use Rattle.types.specs.declared.Header.{Header}
 use Rattle.encoding.proofs.Bytes.{numberAt-take}
 use Rattle.lists.specs.Places.{zeros8}
+use Rattle.rules.specs.Call.{Call, answer, numberOf}
 use Rattle.rules.specs.Rule.{Rule, _when_, lowest, Clear, allPositive}
+use Rattle.rules.proofs.Call.{answer-refused}
 use Rattle.rules.proofs.Lowest.{clear-lowest, lowest-earlier, lowest-later, stop}
 use Rattle.rules.proofs.Says.{says-decides, says-iff, says-same}
 use Rattle.sigma.specs.Admission.{headerRules, elementRules}
-use Rattle.rules.proofs.Answer.{unlessRefused-positive}
 use Rattle.sigma.proofs.Passed.{size-passes}
 use Rattle.sigma.proofs.Tests.{says-exponent}
-use Rattle.formats.specs.Load.{badStart, badLength, shapeRules, loadRules, loadRefusal, noHeader, load, loadEntries}
+use Rattle.formats.specs.Load.{badStart, badLength, shapeRules, loadRules, loadRefusal, noHeader, load, loadEntries, onSheet}
 use Rattle.formats.specs.Meaning.{IsRoundFile, Loads}
-use Rattle.formats.specs.RoundCalls.{checkAfter, checkRound, countAfter, countRounds, fileRules, roundRules}
-use Rattle.formats.specs.RoundFile.{badFile, challengeWidth, countField, recordLength, recordStart}
+use Rattle.formats.specs.RoundCalls.{checkRound, checking, countRounds, counting}
+use Rattle.formats.specs.RoundFile.{badFile, challengeWidth, recordLength, recordStart}
 use Rattle.formats.specs.Sheet.{headerOf, instanceOf, sheetLength, versionOf}
-use Rattle.formats.proofs.After.{checkAfter-clear, checkAfter-refused, countAfter-refused}
 use Rattle.formats.proofs.Entries.{entryCount-exponent, entryCount-root}
 use Rattle.formats.proofs.Files.{file-passes, width-small}
-use Rattle.formats.proofs.Loads.{load-clear, load-refused, entries-refused, loads, loads-few}
+use Rattle.formats.proofs.Loads.{load-refused, entries-refused, loads, loads-few}
+use Rattle.formats.proofs.OnSheet.{on-sheet-loads, on-sheet-refused}
 use Rattle.formats.proofs.Tests.{says-badLength, says-badStart}
 
 -- ---- how long a sheet and a round file can be
@@ -182,48 +183,47 @@ long-file s l f long =
     omega arith)
 
 module _ (n : ℕ) (enough : 34824 ≤ n) (s f : List ℕ) where
-  -- a call that answers one thing where the sheet is refused and one where the file is, answers the same of the first n bytes
-  cut-same : {A : Type 0} (call : List ℕ → A) (early late : A)
-      → (0 < loadRefusal s → (g : List ℕ) → call g ≡ early)
-      → (Clear (loadRules s) → (g : List ℕ) → badFile (headerOf s) g ≡ true → call g ≡ late) → call (take n f) ≡ call f
-  cut-same call early late sheet file = elim (decLe (length f) n) [
-    | yes short ↦ ap call (take-all n f short)
+  -- a call that is refused with 12 if the file is no round file, and that hands back the same with a number for every file, answers
+  -- the same of the first n bytes
+  cut-same : {A : Type 0} (call : List ℕ → Call A) (handed : ℕ → A) → ((g : List ℕ) (k : ℕ) → call g .refused k ≡ handed k)
+      → ((g : List ℕ) → badFile (headerOf s) g ≡ true → numberOf (call g) ≡ 12)
+      → answer (onSheet s (call (take n f))) ≡ answer (onSheet s (call f))
+  cut-same call handed same file = elim (decLe (length f) n) [
+    | yes short ↦ ap (λ (g : List ℕ). answer (onSheet s (call g))) (take-all n f short)
     | no long ↦ elim (zero-or-more (loadRefusal s)) [
       | inl e ↦
-          let l = loads s .0 e in
-          let clear = load-clear s .1 l in
           let size = length-take-le n f (omega arith) in
-          file clear (take n f) (long-file s l (take n f) (omega arith)) ∙ sym (file clear f (long-file s l f (omega arith)))
-      | inr some ↦ sheet some (take n f) ∙ sym (sheet some f)
+          late e (take n f) (omega arith) ∙ sym (late e f (omega arith))
+      | inr some ↦ early some (take n f) ∙ sym (early some f)
     ]
   ]
+    where
+      early : 0 < loadRefusal s → (g : List ℕ) → answer (onSheet s (call g)) ≡ handed (loadRefusal s)
+      early some g = on-sheet-refused s (call g) some ∙ same g (loadRefusal s)
 
-  -- the check of a file that is refused
-  bad-check : Clear (loadRules s) → (g : List ℕ) (k : ℕ) → badFile (headerOf s) g ≡ true → checkRound s g k ≡ 12
-  unfolding checkRound checkAfter roundRules fileRules
-  bad-check clear g k bad = checkAfter-clear (loadRules s) (headerOf s) clear g k ∙ stop 12 _ bad
+      late : loadRefusal s ≡ 0 → (g : List ℕ) → 34823 < length g → answer (onSheet s (call g)) ≡ handed 12
+      late e g long =
+          let number = file g (long-file s (loads s .0 e) g long) in
+          on-sheet-loads s (call g) e ∙ answer-refused (call g) (omega (arith, number)) ∙ same g (numberOf (call g)) ∙ ap handed number
 
   -- a file cut to its first n bytes is counted as the whole
   pub count-cut : countRounds s (take n f) ≡ countRounds s f
-  unfolding countRounds countAfter loadRefusal fileRules
+  unfolding countRounds counting numberOf
   count-cut =
-      cut-same (countRounds s) _ (record { refusal = 12; count = 0 }) (countAfter-refused (loadRules s) (headerOf s)) (λ clear g bad.
-      rw (lowest-later (loadRules s) _ clear, stop 12 [] bad, unlessRefused-positive (countField g) 0 12 (omega arith)))
+      cut-same (counting (headerOf s)) (λ k. record { refusal = k; count = 0 }) (λ g k. refl) (λ g bad. stop 12 [] bad)
 
   -- a round of it is checked as a round of the whole
   pub check-cut : (k : ℕ) → checkRound s (take n f) k ≡ checkRound s f k
-  unfolding checkRound loadRefusal
-  check-cut k =
-      cut-same (λ g. checkRound s g k) _ 12 (λ some g. checkAfter-refused (loadRules s) (headerOf s) some g k)
-      (λ clear g bad. bad-check clear g k bad)
+  unfolding checkRound checking numberOf
+  check-cut k = cut-same (λ g. checking (headerOf s) g k) (λ m. m) (λ g m. refl) (λ g bad. stop 12 _ bad)
 
 -- a round of a file and of a sheet that are both cut is checked as a round of the whole
 pub both-cut : (a b : ℕ) → 309 ≤ a → 34824 ≤ b → (s f : List ℕ) (k : ℕ) → checkRound (take a s) (take b f) k ≡ checkRound s f k
-unfolding checkRound loadRefusal
+unfolding checkRound checking
 both-cut a b enough enough′ s f k = elim (decLt 0 (loadRefusal s)) [
   | yes refused ↦
       let kept = refusal-cut a enough s in
-      checkAfter-refused (loadRules (take a s)) _ (omega arith) (take b f) k ∙ kept
-      ∙ sym (checkAfter-refused (loadRules s) _ refused f k)
+      on-sheet-refused (take a s) (checking (headerOf (take a s)) (take b f) k) (omega arith) ∙ kept
+      ∙ sym (on-sheet-refused s (checking (headerOf s) f k) refused)
   | no loaded ↦ ap (λ (t : List ℕ). checkRound t (take b f) k) (loads-cut a enough s (omega arith)) ∙ check-cut b enough′ s f k
 ]

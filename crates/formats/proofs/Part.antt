@@ -10,13 +10,14 @@ use lib.ListN.{length, take, drop, length-drop}
 use lib.Seq.{length-take-le}
 use Rattle.types.specs.declared.Header.{Header}
 use Rattle.encoding.specs.Bytes.{AllBytes}
-use Rattle.rules.proofs.Answer.{unlessRefused-zero}
+use Rattle.rules.specs.Call.{numberOf}
+use Rattle.rules.proofs.Call.{answer-refused, answer-value}
+use Rattle.formats.specs.Load.{onSheet}
 use Rattle.formats.specs.Meaning.{IsRoundFile}
-use Rattle.formats.specs.RoundCalls.{checkRound, fetchRound, partOfRound, locateAfter, locateRound}
+use Rattle.formats.specs.RoundCalls.{checkRound, fetchRound, locateRound, locating, partOfRound}
 use Rattle.formats.specs.RoundFile.{challengeWidth, countField, fileVersion, recordBytes, recordLength, recordStart}
 use Rattle.formats.specs.Sheet.{headerOf}
-use Rattle.formats.proofs.After.{nowhere}
-use Rattle.formats.proofs.Files.{check-runs, fetch-given, width-some}
+use Rattle.formats.proofs.Files.{check-number, check-runs, fetch-given, width-some}
 use Rattle.formats.proofs.Records.{recordBytes-roundAt, recordStart-later}
 
 -- a record of a file lies inside it
@@ -32,13 +33,13 @@ module _ (s f : List ℕ) (k : ℕ) where
         offset = recordStart (challengeWidth f) (headerOf s) k;
         length = recordLength (challengeWidth f) (headerOf s);
       }
-  unfolding locateRound locateAfter checkRound
-  place-given e = simp (e, unlessRefused-zero)
+  unfolding locateRound locating numberOf
+  place-given e = answer-value (onSheet s (locating (headerOf s) f k)) (sym (check-number s f k) ∙ e)
 
   -- where it gives a number, the place is of no bytes
   pub place-refused : 0 < checkRound s f k → locateRound s f k ≡ record { offset = 0; length = 0 }
-  unfolding locateRound locateAfter checkRound
-  place-refused some = nowhere _ _ (checkRound s f k) some
+  unfolding locateRound locating numberOf
+  place-refused some = answer-refused (onSheet s (locating (headerOf s) f k)) (rw (check-number s f k) at some)
 
   -- the place lies inside the file
   pub place-inside : locateRound s f k .offset + locateRound s f k .length ≤ length f

@@ -8,7 +8,8 @@ use mathlib.Core.List.{List, [], _∷_, _++_}
 use lib.ListN.{length, take}
 use Rattle.types.specs.declared.Header.{Header}
 use Rattle.types.specs.declared.Round.{Round}
-use Rattle.rules.specs.Condition.{_if_, Tests}
+use Rattle.rules.specs.Call.{Call}
+use Rattle.rules.specs.Condition.{Condition, _if_, Tests}
 use Rattle.rules.specs.Rule.{_when_}
 use Rattle.rules.proofs.Condition.{given, tests-append}
 use Rattle.rules.proofs.Determined.{NoneHold, none-zero}
@@ -18,9 +19,9 @@ use Rattle.sigma.specs.Instance.{Instance}
 use Rattle.sigma.specs.Refusals.{headerConditions, elementConditions}
 use Rattle.sigma.specs.Valid.{Valid}
 use Rattle.sigma.proofs.Refusals.{header-tests, element-tests}
-use Rattle.formats.specs.Append.{appendRules, emptyRules}
-use Rattle.formats.specs.Encode.{encodeRules}
-use Rattle.formats.specs.Load.{badLength, shapeRules, loadRules, loadRefusal}
+use Rattle.formats.specs.Append.{appending, starting}
+use Rattle.formats.specs.Encode.{encoding}
+use Rattle.formats.specs.Load.{badLength, shapeRules, loadRules, loadRefusal, onSheet}
 use Rattle.formats.specs.Refusals.{
   shapeConditions,
   loadConditions,
@@ -30,7 +31,7 @@ use Rattle.formats.specs.Refusals.{
   emptyConditions,
   appendConditions,
 }
-use Rattle.formats.specs.RoundCalls.{fileRules, roundRules}
+use Rattle.formats.specs.RoundCalls.{checking, counting}
 use Rattle.formats.specs.RoundFile.{countField, fileVersion, recordLength, widthInUse}
 use Rattle.formats.specs.Sheet.{headerOf, instanceOf, sheetLength, versionOf}
 use Rattle.formats.specs.Write.{short}
@@ -64,8 +65,8 @@ load-tests s =
     (element-tests (instanceOf s))
 
 -- 4 to 8, 10, 11 and 22 of the second writer
-pub encode-tests : (i : Instance) (buffer : List ℕ) → Tests (encodeRules i buffer) (encodeConditions i buffer)
-unfolding encodeRules
+pub encode-tests : (i : Instance) (buffer : List ℕ) → Tests (encoding i buffer .refusals) (encodeConditions i buffer)
+unfolding encoding
 encode-tests i buffer =
     let needed = sheetLength (i .header) in
     tests-append (headerRules (i .header) ++ elementRules i) ((22 when short buffer needed) ∷ [])
@@ -75,25 +76,25 @@ encode-tests i buffer =
     (refl, says-short buffer needed, tt)
 
 -- 12 of a round file
-pub file-tests : (h : Header) (f : List ℕ) → Tests (fileRules h f) (fileConditions h f)
-unfolding fileRules
+pub file-tests : (h : Header) (f : List ℕ) → Tests (counting h f .refusals) (fileConditions h f)
+unfolding counting
 file-tests h f = (refl, says-badFile h f, tt)
 
 -- 12 and 13 of a round of a file
-pub round-tests : (h : Header) (f : List ℕ) (k : ℕ) → Tests (roundRules h f k) (roundConditions h f k)
-unfolding roundRules fileRules
+pub round-tests : (h : Header) (f : List ℕ) (k : ℕ) → Tests (checking h f k .refusals) (roundConditions h f k)
+unfolding checking
 round-tests h f k = (refl, says-badFile h f, (refl, says-at-most (countField f) k, tt))
 
 -- 12 and 22 of the empty file
-pub empty-tests : (version : ℕ) (buffer : List ℕ) → Tests (emptyRules version buffer) (emptyConditions version buffer)
-unfolding emptyRules
+pub empty-tests : (version : ℕ) (buffer : List ℕ) → Tests (starting version buffer .refusals) (emptyConditions version buffer)
+unfolding starting
 empty-tests version buffer =
     (refl, says-unknownVersion version, (refl, rw (length-noRounds version) (says-short buffer 7), tt))
 
 -- 12, 15 and 22 of the record writer
 pub append-tests : (h : Header) (buffer : List ℕ) (used : ℕ) (round : Round)
-    → Tests (appendRules h buffer used round) (appendConditions h buffer used round)
-unfolding appendRules
+    → Tests (appending h buffer used round .refusals) (appendConditions h buffer used round)
+unfolding appending
 append-tests h buffer used round =
     let wide = says-wideChallenge (fileVersion (take used buffer)) (round .challenge) in
     let room = says-short buffer (used + recordLength (widthInUse buffer used) h) in
@@ -101,27 +102,20 @@ append-tests h buffer used round =
 
 -- ---- after the rules of the sheet
 
+-- a call on a sheet asks the sheet's conditions, then its own
+pub on-sheet-tests : (s : List ℕ) {A : Type 0} (call : Call A) (conditions : List Condition) → Tests (call .refusals) conditions
+    → Tests (onSheet s call .refusals) (loadConditions s ++ conditions)
+on-sheet-tests s call conditions own = tests-append (loadRules s) (call .refusals) (loadConditions s) conditions (load-tests s) own
+
 -- 2 to 12 of counting rounds
 pub count-tests : (s f : List ℕ)
-    → Tests (loadRules s ++ fileRules (headerOf s) f) (loadConditions s ++ fileConditions (headerOf s) f)
-count-tests s f =
-    tests-append (loadRules s) (fileRules (headerOf s) f) (loadConditions s) (fileConditions (headerOf s) f)
-    (load-tests s) (file-tests (headerOf s) f)
+    → Tests (onSheet s (counting (headerOf s) f) .refusals) (loadConditions s ++ fileConditions (headerOf s) f)
+count-tests s f = on-sheet-tests s (counting (headerOf s) f) (fileConditions (headerOf s) f) (file-tests (headerOf s) f)
 
 -- 2 to 13 of checking, giving and reading a round
 pub check-tests : (s f : List ℕ) (k : ℕ)
-    → Tests (loadRules s ++ roundRules (headerOf s) f k) (loadConditions s ++ roundConditions (headerOf s) f k)
-check-tests s f k =
-    tests-append (loadRules s) (roundRules (headerOf s) f k) (loadConditions s) (roundConditions (headerOf s) f k)
-    (load-tests s) (round-tests (headerOf s) f k)
-
--- 2 to 12, 15 and 22 of the record writer
-pub record-tests : (s buffer : List ℕ) (used : ℕ) (round : Round)
-    → Tests (loadRules s ++ appendRules (headerOf s) buffer used round)
-    (loadConditions s ++ appendConditions (headerOf s) buffer used round)
-record-tests s buffer used round =
-    tests-append (loadRules s) (appendRules (headerOf s) buffer used round) (loadConditions s)
-    (appendConditions (headerOf s) buffer used round) (load-tests s) (append-tests (headerOf s) buffer used round)
+    → Tests (onSheet s (checking (headerOf s) f k) .refusals) (loadConditions s ++ roundConditions (headerOf s) f k)
+check-tests s f k = on-sheet-tests s (checking (headerOf s) f k) (roundConditions (headerOf s) f k) (round-tests (headerOf s) f k)
 
 -- ---- where no condition holds
 

@@ -1,7 +1,7 @@
 -- Exactly when the calls on sheets and round files are not refused, in other words than the conditions: it holds of the definitions.
 -- Assumes nothing.
 use Prim.Native.Nat.{ℕ, _+_, _*_, _^_, _<_, _≤_}
-use mathlib.Core.Path.{_≡_, refl, sym, ap, subst, _∙_}
+use mathlib.Core.Path.{_≡_, sym, ap, subst, _∙_}
 use mathlib.Core.Logic.{_↔_, _⊎_, inl, inr, ⊎-elim}
 use mathlib.Core.List.{List}
 use native.Mathlib.Omega.{arith}
@@ -23,7 +23,7 @@ use Rattle.formats.specs.Load.{load, loadRefusal}
 use Rattle.formats.specs.Meaning.{HasWidth, InUse, IsVersion, readInstance, recordSize}
 use Rattle.formats.specs.Ours.{appendEach, fileCalls, loaded, roundsRead}
 use Rattle.formats.specs.Outcome.{Puts}
-use Rattle.formats.specs.RoundCalls.{checkRound, countRounds, fetchAfter, fetchRound, noRound}
+use Rattle.formats.specs.RoundCalls.{checkRound, countRounds, noRound}
 use Rattle.formats.specs.RoundFile.{challengeWidth, fileVersion, recordLength, widthInUse, widthOf}
 use Rattle.formats.specs.Rounds.{roundsOf}
 use Rattle.formats.specs.RunsWhere.{FilesRun, IsSheet}
@@ -35,7 +35,7 @@ use Rattle.formats.proofs.Converting.{narrow-records, other-known, othe
 use Rattle.formats.proofs.Converts.{other-only}
 use Rattle.formats.proofs.Entries.{entryCount-exponent, entryCount-root}
 use Rattle.formats.proofs.FileRefusals.{file-refusals}
-use Rattle.formats.proofs.Files.{check-runs, count-given, count-runs, rounds-read, width-known, width-only}
+use Rattle.formats.proofs.Files.{check-runs, count-given, count-runs, fetch-number, rounds-read, width-known, width-only}
 use Rattle.formats.proofs.FilesByCalls.{rewritten}
 use Rattle.formats.proofs.Loads.{loaded-given, loads, loads-valid}
 use Rattle.formats.proofs.RoundFileRoundTrip.{append-each}
@@ -230,13 +230,13 @@ converts-written s f buffer =
 -- ---- all of them
 
 pub files-run : FilesRun fileCalls
-unfolding load fetchRound fetchAfter checkRound fileVersion
+unfolding load fileVersion
 files-run = record {
   loads = sheet-exactly;
   encodes = encodes-loaded;
   counts = counts-written;
   checks = checks-below;
-  reads = λ s f k. refl;
+  reads = fetch-number;
   compares = same-runs;
   starts = empty-runs;
   appends = appends-counted;

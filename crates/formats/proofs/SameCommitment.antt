@@ -4,69 +4,77 @@ use Prim.Native.Nat.{ℕ, zero, suc, _+_, _*_, _<_}
 use mathlib.Core.Path.{_≡_, refl, sym, ap, _∙_}
 use mathlib.Core.Bool.{Bool, true, false, cond, false≢true}
 use mathlib.Core.Logic.{_↔_, _⊎_, inl, inr, Iff·trans}
-use mathlib.Core.List.{List, _++_}
+use mathlib.Core.List.{List}
 use native.Mathlib.Omega.{arith}
 use lib.Dec.{leb}
 use lib.ListN.{getD, drop}
 use lib.Seq.{getD-drop, getD-take}
 use Rattle.types.specs.declared.Fetched.{Fetched}
 use Rattle.types.specs.declared.Header.{Header}
+use Rattle.formats.specs.declared.Compared.{Compared}
 use Rattle.encoding.specs.Bytes.{AllBytes, numberAt}
 use Rattle.encoding.proofs.Words.{words-bytes}
 use Rattle.lists.proofs.Places.{getD-tabulate}
 use Rattle.rules.specs.Answer.{unlessRefused}
+use Rattle.rules.specs.Call.{numberOf}
 use Rattle.rules.specs.Condition.{Tests}
 use Rattle.rules.specs.Order.{isSublist, refusalOrder, sheetNumbers}
 use Rattle.rules.specs.Refuses.{conditionNumbers}
-use Rattle.rules.specs.Rule.{lowest}
-use Rattle.rules.proofs.Condition.{tests-append}
-use Rattle.rules.proofs.Lowest.{lowest-append-zero}
-use Rattle.rules.proofs.Refuses.{refuses-tested}
+use Rattle.rules.proofs.Call.{answer-number, answer-read, answer-value}
+use Rattle.rules.proofs.Refuses.{refuses-call}
 use Rattle.rules.proofs.Says.{says-at-most, says-or}
 use Rattle.sigma.specs.Comparison.{differ}
 use Rattle.sigma.specs.Reads.{Agree}
 use Rattle.rules.proofs.Answer.{unlessRefused-positive, unlessRefused-zero}
 use Rattle.sigma.proofs.Calculus.{both-fail}
 use Rattle.sigma.proofs.Comparison.{differ-false}
-use Rattle.formats.specs.Load.{loadRules}
+use Rattle.formats.specs.Load.{onSheet}
 use Rattle.formats.specs.Ours.{fileCalls}
-use Rattle.formats.specs.Refusals.{loadConditions, sameConditions}
-use Rattle.formats.specs.RoundCalls.{checkAfter, checkRound, fetchRound, fileRules, partOfRound, roundRules}
+use Rattle.formats.specs.Refusals.{sameConditions}
+use Rattle.formats.specs.RoundCalls.{checkRound, checking, fetchRound, partOfRound}
 use Rattle.formats.specs.RoundFile.{challengeWidth, countField, recordLength, recordStart, roundAt}
-use Rattle.formats.specs.SameCommitment.{commitmentBytes, sameAfter, sameCommitment, sameRules}
+use Rattle.formats.specs.SameCommitment.{commitmentBytes, comparing, sameCommitment}
 use Rattle.formats.specs.Sheet.{headerOf}
 use Rattle.formats.specs.WordsCompare.{WordsCompare, WordsRefusals}
 use Rattle.formats.proofs.ByteLayout.{word-at}
-use Rattle.formats.proofs.Files.{fetch-given}
+use Rattle.formats.proofs.Files.{check-number, fetch-given}
+use Rattle.formats.proofs.OnSheet.{on-sheet-runs}
 use Rattle.formats.proofs.Part.{part-given}
-use Rattle.formats.proofs.Positive.{load-positive}
-use Rattle.formats.proofs.Refusals.{load-tests}
+use Rattle.formats.proofs.Refusals.{on-sheet-tests}
 use Rattle.formats.proofs.Tests.{says-badFile}
 
--- the rules test the conditions
-same-tests : (sheet f : List ℕ) (i j : ℕ)
-    → Tests (loadRules sheet ++ sameRules (headerOf sheet) f i j) (loadConditions sheet ++ sameConditions (headerOf sheet) f i j)
-unfolding sameRules fileRules
-same-tests sheet f i j =
-    tests-append (loadRules sheet) _ (loadConditions sheet) _ (load-tests sheet)
-    (refl, says-badFile (headerOf sheet) f, (refl, says-or (says-at-most (countField f) i) (says-at-most (countField f) j), tt))
+-- 12 and 13
+same-tests : (h : Header) (f : List ℕ) (i j : ℕ) → Tests (comparing h f i j .refusals) (sameConditions h f i j)
+unfolding comparing
+same-tests h f i j =
+    (refl, says-badFile h f, (refl, says-or (says-at-most (countField f) i) (says-at-most (countField f) j), tt))
 
 module _ (sheet f : List ℕ) (i j : ℕ) where
+  -- the number that it answers
+  same-number : sameCommitment sheet f i j .refusal ≡ numberOf (onSheet sheet (comparing (headerOf sheet) f i j))
+  unfolding sameCommitment comparing
+  same-number =
+      answer-number (onSheet sheet (comparing (headerOf sheet) f i j)) (λ compared. compared .refusal) refl (λ n. refl)
+
   -- it runs exactly where the check gives 0 for both rounds
   pub same-runs : (sameCommitment sheet f i j .refusal ≡ 0) ↔ ((checkRound sheet f i ≡ 0) × (checkRound sheet f j ≡ 0))
-  unfolding sameCommitment sameAfter sameRules fileRules checkRound checkAfter roundRules
+  unfolding comparing checking
   same-runs =
-      let whole = lowest-append-zero (loadRules sheet) (sameRules (headerOf sheet) f i j) (load-positive sheet) tt in
-      let first = lowest-append-zero (loadRules sheet) (roundRules (headerOf sheet) f i) (load-positive sheet) tt in
-      let second = lowest-append-zero (loadRules sheet) (roundRules (headerOf sheet) f j) (load-positive sheet) tt in
+      let h = headerOf sheet in
+      let whole = on-sheet-runs sheet (comparing h f i j) tt in
+      let first = on-sheet-runs sheet (checking h f i) tt in
+      let second = on-sheet-runs sheet (checking h f j) tt in
       let numbers = both-fail (leb (countField f) i) (leb (countField f) j) in (
         λ e.
-            let (loads, (file, (below, none))) = whole .0 e in
-            let (one, two) = numbers .0 below in
-            (first .1 (loads, (file, (one, tt))), second .1 (loads, (file, (two, tt)))),
+            let (loads, (file, (below, none))) = whole .0 (sym same-number ∙ e) in
+            let (one, two) = numbers .0 below in (
+              check-number sheet f i ∙ first .1 (loads, (file, (one, tt))),
+              check-number sheet f j ∙ second .1 (loads, (file, (two, tt))),
+            ),
         λ (x, y).
-            let (loads, (file, (one, none))) = first .0 x in
-            whole .1 (loads, (file, (numbers .1 (one, second .0 y .1 .1 .0), tt))),
+            let (loads, (file, (one, none))) = first .0 (sym (check-number sheet f i) ∙ x) in
+            let two = second .0 (sym (check-number sheet f j) ∙ y) .1 .1 .0 in
+            same-number ∙ whole .1 (loads, (file, (numbers .1 (one, two), tt))),
       )
 
 -- 1 is answered exactly where a test fails
@@ -95,8 +103,10 @@ module _ (sheet f : List ℕ) (i j : ℕ) (e : sameCommitment sheet f i j .refus
   -- where nothing is refused, the answer is whether the bytes differ
   same-given : sameCommitment sheet f i j .same
       ≡ cond (differ (4 * headerOf sheet .rows) (commitmentBytes (headerOf sheet) f i) (commitmentBytes (headerOf sheet) f j)) 0 1
-  unfolding sameCommitment sameAfter
-  same-given = rw e (unlessRefused-zero _ _)
+  unfolding sameCommitment comparing
+  same-given =
+      ap (λ (compared : Compared). compared .same)
+      (answer-value (onSheet sheet (comparing h f i j)) (sym (same-number sheet f i j) ∙ e))
 
   -- the answer is 1 exactly where the bytes of both records' commitments agree
   same-bytes : (sameCommitment sheet f i j .same ≡ 1)
@@ -147,18 +157,24 @@ module _ (sheet f : List ℕ) (i j : ℕ) (e : sameCommitment sheet f i j .refus
 
 -- the refusals
 pub words-refusals : WordsRefusals fileCalls
-unfolding conditionNumbers isSublist refusalOrder sheetNumbers sameCommitment sameAfter
+unfolding conditionNumbers isSublist refusalOrder sheetNumbers sameCommitment comparing
 words-refusals = record {
-  comparing = λ sheet f i j. refuses-tested _ _ refl refl _ (same-tests sheet f i j) (unlessRefused-positive _ 0 _);
+  comparing = λ sheet f i j.
+      let h = headerOf sheet in
+      refuses-call _ _ refl refl (onSheet sheet (comparing h f i j)) (λ compared. compared .refusal) refl (λ n. refl)
+      (λ compared. compared .same ≡ 0)
+      (on-sheet-tests sheet (comparing h f i j) (sameConditions h f i j) (same-tests h f i j)) (λ n. refl);
 }
 
 -- what the card asks
 pub words-compare : WordsCompare fileCalls
-unfolding sameCommitment sameAfter
+unfolding sameCommitment comparing
 words-compare = record {
   answers = λ sheet f i j.
       let h = headerOf sheet in
-      zero-or-one (lowest (loadRules sheet ++ sameRules h f i j)) (differ (4 * h .rows) (commitmentBytes h f i) (commitmentBytes h f j));
+      let call = onSheet sheet (comparing h f i j) in
+      rw (answer-read call (λ compared. compared .same))
+      (zero-or-one (numberOf call) (differ (4 * h .rows) (commitmentBytes h f i) (commitmentBytes h f j)));
   bytes = λ sheet f i j e.
       let (x, y) = same-runs sheet f i j .0 e in
       Iff·trans (same-bytes sheet f i j e) (

@@ -12,7 +12,6 @@ use Rattle.lists.proofs.Places.{tabulate-agree, getD-pad8, getD-places, places-
 use Rattle.lists.proofs.Rows.{getD-table}
 use Rattle.numbers.specs.Search.{any}
 use Rattle.numbers.proofs.Search.{any-agree}
-use Rattle.rules.specs.Rule.{Rule}
 use Rattle.rules.proofs.Says.{says-decides}
 use Rattle.sigma.specs.Admission.{badEntries, badStatement, elementRules}
 use Rattle.sigma.specs.Element.{Element, isElement, someNonElement}
@@ -22,9 +21,8 @@ use Rattle.sigma.specs.Valid.{Valid}
 use Rattle.sigma.proofs.ByKind.{exponent-kind, root-kind}
 use Rattle.sigma.proofs.Tests.{says-exponent}
 use Rattle.sigma.proofs.Unread.{same-commitment, same-response}
-use Rattle.formats.specs.Append.{appended, appendAfter, appendRules, append}
-use Rattle.formats.specs.Encode.{storedEntries, sheetOf, encodeRules, encode}
-use Rattle.formats.specs.Load.{loadRules}
+use Rattle.formats.specs.Append.{append, appended, appending}
+use Rattle.formats.specs.Encode.{encode, encoding, sheetOf, storedEntries}
 use Rattle.formats.specs.Meaning.{SameInstance, readInstance}
 use Rattle.formats.specs.RoundFile.{recordBytes}
 use Rattle.formats.specs.Sheet.{headerOf}
@@ -102,7 +100,7 @@ module _ (h : Header) (es es′ : List (List ℕ)) (z z′ : List ℕ) where
 
     -- both are written or refused in the same way
     encode-same-header : (buffer : List ℕ) → encode first buffer ≡ encode second buffer
-    unfolding encode encodeRules elementRules
+    unfolding encode encoding elementRules
     encode-same-header buffer = rw (sheet-same-header, badEntries-same, badStatement-same)
 
 -- the same values, the other way round
@@ -161,14 +159,8 @@ pub recordBytes-same : (width : ℕ) (h : Header) {round round′ : Round} → S
 unfolding recordBytes
 recordBytes-same width h s = rw (same-commitment s, same-response s, s .challenge)
 
--- the record writer, after the rules of the sheet
-pub appendAfter-same : (before : List Rule) (h : Header) (buffer : List ℕ) (used : ℕ) {round round′ : Round}
-    → SameRound h round round′ → appendAfter before h buffer used round ≡ appendAfter before h buffer used round′
-unfolding appendAfter appendRules appended
-appendAfter-same before h buffer used s = rw (recordBytes-same _ h s, s .challenge)
-
 -- the record writer
 pub append-same : (sheet buffer : List ℕ) (used : ℕ) {round round′ : Round}
     → SameRound (headerOf sheet) round round′ → append sheet buffer used round ≡ append sheet buffer used round′
-unfolding append
-append-same sheet buffer used s = appendAfter-same (loadRules sheet) (headerOf sheet) buffer used s
+unfolding append appending appended
+append-same sheet buffer used s = rw (recordBytes-same _ (headerOf sheet) s, s .challenge)

@@ -3,18 +3,18 @@
 -- Assumes nothing.
 use Prim.Native.Nat.{ℕ}
 use mathlib.Core.Bool.{Bool, cond}
-use mathlib.Core.List.{List, [], _∷_, _++_}
+use mathlib.Core.List.{List, [], _∷_}
 use lib.Dec.{eqb}
 use Rattle.types.specs.declared.Header.{Header}
 use Rattle.numbers.specs.Search.{any}
-use Rattle.rules.specs.Rule.{Rule, _when_, lowest}
+use Rattle.rules.specs.Call.{Call, answer}
+use Rattle.rules.specs.Rule.{_when_}
 use Rattle.formats.specs.Append.{wideChallenge}
-use Rattle.formats.specs.Load.{loadRules}
-use Rattle.formats.specs.RoundCalls.{fileRules}
-use Rattle.formats.specs.RoundFile.{challengeWidth, countField, fileVersion, recordStart, roundAt, widthOf}
+use Rattle.formats.specs.Load.{onSheet}
+use Rattle.formats.specs.RoundFile.{badFile, challengeWidth, countField, fileVersion, recordStart, roundAt, widthOf}
 use Rattle.formats.specs.Rounds.{fileIn, roundsOf}
 use Rattle.formats.specs.Sheet.{headerOf}
-use Rattle.formats.specs.Write.{Writing, short, writtenAtStart}
+use Rattle.formats.specs.Write.{Writing, short, writingAtStart}
 
 -- the version that is not the given one: 2 for 1, and 1 for 2
 unfoldable pub otherVersion : ℕ → ℕ
@@ -30,16 +30,14 @@ wideRecord h f =
 unfoldable pub converted : Header → List ℕ → List ℕ
 converted h f = fileIn (otherVersion (fileVersion f)) h (roundsOf h f)
 
--- the rules of the file and the buffer
-unfoldable pub convertRules : Header → List ℕ → List ℕ → List Rule
-convertRules h f buffer =
-    fileRules h f ++
-    (15 when wideRecord h f) ∷ (22 when short buffer (recordStart (widthOf (otherVersion (fileVersion f))) h (countField f))) ∷ []
-
--- after the rules of the sheet: the converter's outcome
-unfoldable pub convertAfter : List Rule → Header → List ℕ → List ℕ → Writing
-convertAfter before h f buffer = writtenAtStart (lowest (before ++ convertRules h f buffer)) (converted h f) buffer
+-- converting a file: 12, 15 and 22, else its rounds in the other version
+unfoldable pub converting : Header → List ℕ → List ℕ → Call Writing
+converting h f buffer =
+    writingAtStart
+    ((12 when badFile h f) ∷ (15 when wideRecord h f) ∷
+    (22 when short buffer (recordStart (widthOf (otherVersion (fileVersion f))) h (countField f))) ∷ [])
+    (converted h f) buffer
 
 -- the converter
 unfoldable pub convert : List ℕ → List ℕ → List ℕ → Writing
-convert sheet f buffer = convertAfter (loadRules sheet) (headerOf sheet) f buffer
+convert sheet f buffer = answer (onSheet sheet (converting (headerOf sheet) f buffer))

@@ -6,11 +6,12 @@ use mathlib.Core.List.{List, [], _∷_, _++_, flatten}
 use Rattle.types.specs.declared.Header.{Header}
 use Rattle.encoding.specs.Bytes.{bytesOf, bytesOfEach}
 use Rattle.lists.specs.Places.{tabulate, places}
-use Rattle.rules.specs.Rule.{Rule, _when_, lowest}
+use Rattle.rules.specs.Call.{Call, answer}
+use Rattle.rules.specs.Rule.{_when_}
 use Rattle.sigma.specs.Admission.{headerRules, elementRules}
 use Rattle.sigma.specs.Instance.{Instance, tableOf, isExponent, entry}
 use Rattle.formats.specs.Sheet.{sheetMark, sheetLength}
-use Rattle.formats.specs.Write.{Writing, short, writtenAtStart}
+use Rattle.formats.specs.Write.{Writing, short, writingAtStart}
 
 -- bytes 0..19: the mark, the version 1, the kind, m, ℓ, K, and the counts of rows and columns
 unfoldable pub headerBytes : Header → List ℕ
@@ -30,11 +31,13 @@ sheetOf inst =
     headerBytes (inst .header) ++ bytesOfEach 4 (storedEntries inst) ++
     bytesOfEach 4 (places (inst .header .rows) (inst .statement))
 
--- the rules of any values and the buffer
-unfoldable pub encodeRules : Instance → List ℕ → List Rule
-encodeRules inst buffer =
-    headerRules (inst .header) ++ elementRules inst ++ (22 when short buffer (sheetLength (inst .header))) ∷ []
+-- writing any values: 4 to 8, 10, 11 and 22, else their sheet
+unfoldable pub encoding : Instance → List ℕ → Call Writing
+encoding inst buffer =
+    writingAtStart
+    (headerRules (inst .header) ++ elementRules inst ++ (22 when short buffer (sheetLength (inst .header))) ∷ [])
+    (sheetOf inst) buffer
 
 -- the second writer: the sheet of any values, as the loader gives them
 unfoldable pub encode : Instance → List ℕ → Writing
-encode inst buffer = writtenAtStart (lowest (encodeRules inst buffer)) (sheetOf inst) buffer
+encode inst buffer = answer (encoding inst buffer)

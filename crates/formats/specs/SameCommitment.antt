@@ -3,37 +3,35 @@
 -- Assumes nothing.
 use Prim.Native.Nat.{ℕ, _+_, _*_}
 use mathlib.Core.Bool.{cond, _||_}
-use mathlib.Core.List.{List, [], _∷_, _++_}
+use mathlib.Core.List.{List, [], _∷_}
 use lib.Dec.{leb}
 use lib.ListN.{getD}
 use Rattle.types.specs.declared.Header.{Header}
 use Rattle.formats.specs.declared.Compared.{Compared}
 use Rattle.lists.specs.Places.{tabulate}
-use Rattle.rules.specs.Answer.{unlessRefused}
-use Rattle.rules.specs.Rule.{Rule, _when_, lowest}
+use Rattle.rules.specs.Call.{Call, answer}
+use Rattle.rules.specs.Rule.{_when_}
 use Rattle.sigma.specs.Comparison.{differ}
-use Rattle.formats.specs.Load.{loadRules}
-use Rattle.formats.specs.RoundCalls.{fileRules}
-use Rattle.formats.specs.RoundFile.{challengeWidth, countField, recordStart}
+use Rattle.formats.specs.Load.{onSheet}
+use Rattle.formats.specs.RoundFile.{badFile, challengeWidth, countField, recordStart}
 use Rattle.formats.specs.Sheet.{headerOf}
 
 -- the 4s bytes of the commitment of record k
 unfoldable pub commitmentBytes : Header → List ℕ → ℕ → List ℕ
 commitmentBytes h f k = tabulate (4 * h .rows) (λ b. getD f (recordStart (challengeWidth f) h k + b) 0)
 
--- the rules of a file and two round numbers
-unfoldable pub sameRules : Header → List ℕ → ℕ → ℕ → List Rule
-sameRules h f i j = fileRules h f ++ (13 when (leb (countField f) i || leb (countField f) j)) ∷ []
-
--- after the rules of the sheet: whether all bytes of the two commitments agree
-unfoldable pub sameAfter : List Rule → Header → List ℕ → ℕ → ℕ → Compared
-sameAfter before h f i j =
-    let number : ℕ = lowest (before ++ sameRules h f i j) in
+-- comparing two commitments: 12 and 13, else 1 if all bytes of the two agree and 0 if not
+unfoldable pub comparing : Header → List ℕ → ℕ → ℕ → Call Compared
+comparing h f i j =
     record {
-      same = unlessRefused number (cond (differ (4 * h .rows) (commitmentBytes h f i) (commitmentBytes h f j)) 0 1) 0;
-      refusal = number;
+      refusals = (12 when badFile h f) ∷ (13 when (leb (countField f) i || leb (countField f) j)) ∷ [];
+      value = record {
+        same = cond (differ (4 * h .rows) (commitmentBytes h f i) (commitmentBytes h f j)) 0 1;
+        refusal = 0;
+      };
+      refused = λ n. record { same = 0; refusal = n };
     }
 
 -- the call
 unfoldable pub sameCommitment : List ℕ → List ℕ → ℕ → ℕ → Compared
-sameCommitment sheet f i j = sameAfter (loadRules sheet) (headerOf sheet) f i j
+sameCommitment sheet f i j = answer (onSheet sheet (comparing (headerOf sheet) f i j))

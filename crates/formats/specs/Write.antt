@@ -7,7 +7,8 @@ use lib.Dec.{ltb}
 use lib.ListN.{length}
 use lib.Seq.{sets}
 use Rattle.types.specs.declared.Written.{Written}
-use Rattle.rules.specs.Answer.{unlessRefused}
+use Rattle.rules.specs.Call.{Call}
+use Rattle.rules.specs.Rule.{Rule}
 
 -- what a writing call answers, and the buffer's bytes when it returns
 pub record Writing : Type 0 where
@@ -18,14 +19,15 @@ pub record Writing : Type 0 where
 unfoldable pub short : List ℕ → ℕ → Bool
 short buffer needed = ltb (length buffer) needed
 
--- the outcome of a call whose result has the given length and leaves the given bytes in the buffer
-unfoldable pub written : ℕ → ℕ → List ℕ → List ℕ → Writing
-written refusal used after buffer =
+-- a call of these refusals that answers the given length and leaves the given bytes in the buffer
+abbrev pub writing : List Rule → ℕ → List ℕ → List ℕ → Call Writing
+writing refusals used left buffer =
     record {
-      answer = record { refusal = refusal; length = unlessRefused refusal used 0 };
-      buffer = unlessRefused refusal after buffer;
+      refusals = refusals;
+      value = record { answer = record { refusal = 0; length = used }; buffer = left };
+      refused = λ n. record { answer = record { refusal = n; length = 0 }; buffer = buffer };
     }
 
--- the outcome of a call that puts bytes at the buffer's start and changes no byte after them
-unfoldable pub writtenAtStart : ℕ → List ℕ → List ℕ → Writing
-writtenAtStart refusal bytes buffer = written refusal (length bytes) (sets buffer 0 bytes) buffer
+-- a call of these refusals that puts bytes at the buffer's start and changes no byte after them
+abbrev pub writingAtStart : List Rule → List ℕ → List ℕ → Call Writing
+writingAtStart refusals bytes buffer = writing refusals (length bytes) (sets buffer 0 bytes) buffer

@@ -13,14 +13,17 @@ use Rattle.types.specs.declared.Loaded.{Loaded}
 use Rattle.encoding.specs.Placed.{Fitted}
 use Rattle.encoding.proofs.Fitted.{fitted-as, fitted-start}
 use Rattle.encoding.specs.Text.{ascii}
+use Rattle.rules.specs.Call.{answer}
 use Rattle.rules.specs.Rule.{Clear, _when_, lowest}
 use Rattle.rules.proofs.Lowest.{clear-lowest}
-use Rattle.formats.specs.Load.{load, loadRefusal, loadRules}
-use Rattle.formats.specs.RoundCalls.{checkRound, fetchAfter, fetchRound}
+use Rattle.formats.specs.Load.{load, loadRefusal}
+use Rattle.formats.specs.RoundCalls.{checkRound, checking, fetchRound, fetching}
 use Rattle.formats.specs.Sheet.{entriesOf, headerOf, instanceOf}
-use Rattle.formats.proofs.After.{checkAfter-refused, fetchAfter-clear}
+use Rattle.formats.proofs.Files.{fetch-number}
+use Rattle.formats.proofs.OnSheet.{on-sheet-refused}
 use Rattle.runs.specs.Marker.{newline, wordLine}
-use Rattle.instance.proofs.Answers.{answer-header, answer-header-call, answer-instance, answer-number, answer-valid}
+use Rattle.instance.proofs.Answers.{answer-header, answer-instance, answer-number, answer-valid}
+use Rattle.instance.proofs.OnLoaded.{on-header}
 use Rattle.sigma.specs.Element.{someNonElement}
 use Rattle.sigma.specs.Instance.{instanceWith}
 use Rattle.sigma.specs.Round.{badCommitment}
@@ -43,9 +46,9 @@ module _ (s f : List ℕ) where
 
   -- that of a refused sheet
   sheet-number : 0 < loadRefusal s → gameRefusal s f ≡ loadRefusal s
-  unfolding checkRound loadRefusal
+  unfolding checkRound checking
   sheet-number some =
-      let same = checkAfter-refused (loadRules s) (headerOf s) some f 0 in
+      let same = on-sheet-refused s (checking (headerOf s) f 0) some in
       number-checked s f (rw same some) ∙ same
 
   -- if nothing is refused the text is that of the answers
@@ -67,16 +70,15 @@ module _ (s f : List ℕ) {loaded : Loaded} (is-load : loaded ≡ load s) where
       let number = answer-number s loaded is-load in
       refused-text s f (loaded .refusal) some (sheet-number s f (omega arith) ∙ sym number)
 
-  module _ (passed : loaded .refusal ≡ 0) {fetched : Fetched} (is-fetched : fetched ≡ fetchAfter [] (loaded .header) f 0) where
+  module _ (passed : loaded .refusal ≡ 0) {fetched : Fetched} (is-fetched : fetched ≡ answer (fetching (loaded .header) f 0)) where
     -- reading answers the sheet's and the file's number, and round 0
     fetches : fetched ≡ fetchRound s f 0
     unfolding fetchRound
-    fetches = answer-header-call s loaded is-load passed (λ before h none. fetchAfter-clear before h none f 0) is-fetched
+    fetches = on-header s loaded is-load passed (λ h. fetching h f 0) is-fetched
 
     -- the number is that of the check
     fetched-number : fetched .refusal ≡ checkRound s f 0
-    unfolding fetchRound fetchAfter checkRound
-    fetched-number = ap (λ (a : Fetched). a .refusal) fetches
+    fetched-number = ap (λ (a : Fetched). a .refusal) fetches ∙ fetch-number s f 0
 
     -- a refused file
     pub file-text : fetched .refusal ≢ 0 → gameText s f ≡ wordLine (ascii "refused") (fetched .refusal)

@@ -11,7 +11,7 @@ use Rattle.rules.proofs.Condition.{tests-append}
 use Rattle.rules.proofs.Says.{says-and, says-equal, says-less, says-or}
 use Rattle.formats.specs.Load.{loadRules}
 use Rattle.formats.specs.Refusals.{loadConditions, roundConditions}
-use Rattle.formats.specs.RoundCalls.{roundRules}
+use Rattle.formats.specs.RoundCalls.{checking}
 use Rattle.formats.specs.Sheet.{headerOf, instanceOf}
 use Rattle.formats.proofs.Refusals.{load-tests, round-tests}
 use Rattle.sigma.specs.Refusals.{Refusal14}
@@ -35,9 +35,9 @@ game-tests sheet f =
     let inst = instanceOf sheet in
     let t = namedCommitment sheet f in
     tests-append (loadRules sheet)
-    (roundRules (headerOf sheet) f 0 ++ (14 when badCommitment inst t) ∷ (31 when badGame (headerOf sheet)) ∷ [])
+    (checking (headerOf sheet) f 0 .refusals ++ (14 when badCommitment inst t) ∷ (31 when badGame (headerOf sheet)) ∷ [])
     (loadConditions sheet) (gameConditions sheet f) (load-tests sheet)
-    (tests-append (roundRules (headerOf sheet) f 0) ((14 when badCommitment inst t) ∷ (31 when badGame (headerOf sheet)) ∷ [])
+    (tests-append (checking (headerOf sheet) f 0 .refusals) ((14 when badCommitment inst t) ∷ (31 when badGame (headerOf sheet)) ∷ [])
     (roundConditions (headerOf sheet) f 0) ((14 if Refusal14 inst t) ∷ (31 if Refusal31 (headerOf sheet)) ∷ [])
     (round-tests (headerOf sheet) f 0)
     (refl, says-badCommitment inst t, (refl, says-badGame (headerOf sheet), tt)))

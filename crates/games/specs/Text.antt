@@ -11,7 +11,7 @@ use Rattle.lists.specs.Choices.{selected}
 use Rattle.numbers.specs.Search.{find}
 use Rattle.rules.specs.Rule.{Rule, _when_, lowest}
 use Rattle.formats.specs.Load.{loadRules}
-use Rattle.formats.specs.RoundCalls.{fetchRound, roundRules}
+use Rattle.formats.specs.RoundCalls.{checking, fetchRound}
 use Rattle.formats.specs.Sheet.{headerOf, instanceOf}
 use Rattle.runs.specs.Marker.{newline, rowWord, wordLine}
 use Rattle.sigma.specs.Answer.{isAccepted}
@@ -73,7 +73,7 @@ namedCommitment sheet f = fetchRound sheet f 0 .round .commitment
 -- what is asked: the sheet, the file and its round 0, the commitment, and that the game is small; neither c nor r
 unfoldable pub gameRules : List ℕ → List ℕ → List Rule
 gameRules sheet f =
-    loadRules sheet ++ (roundRules (headerOf sheet) f 0 ++
+    loadRules sheet ++ (checking (headerOf sheet) f 0 .refusals ++
     (14 when badCommitment (instanceOf sheet) (namedCommitment sheet f)) ∷ (31 when badGame (headerOf sheet)) ∷ [])
 
 -- the number that the game is refused with, 0 if it is not

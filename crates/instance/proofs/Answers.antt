@@ -6,7 +6,6 @@ use mathlib.Core.Path.{_≡_, sym, ap, _∙_}
 use mathlib.Core.Logic.{_≢_}
 use mathlib.Core.List.{List}
 use native.Mathlib.Omega.{arith}
-use Rattle.types.specs.declared.Header.{Header}
 use Rattle.types.specs.declared.Loaded.{Loaded}
 use Rattle.rules.specs.Rule.{Rule, Clear, lowest}
 use Rattle.sigma.specs.Instance.{Instance, instanceWith}
@@ -61,13 +60,7 @@ module _ (s : List ℕ) (answer : Loaded) (same : answer ≡ load s) where
         let clear = load-clear s .1 (loads s .0 (answer-header .0)) in
         is-result ∙ ap onValues is-sheet ∙ sym (is-clear (loadRules s) y clear)
 
-    -- so a call on the fixed fields is the call on those of the answer
-    pub answer-header-call : {A : Type 0} {call : List Rule → Header → A} {onFields : Header → A}
-        → ((before : List Rule) (h : Header) → Clear before → call before h ≡ onFields h)
-        → {result : A} → result ≡ onFields (answer .header) → result ≡ call (loadRules s) (headerOf s)
-    answer-header-call is-clear = called is-clear (answer-header .1)
-
-    -- and a call on the instance is the call on what the answer and the entries make up
+    -- so a call on the instance is the call on what the answer and the entries make up
     pub answer-call : {A : Type 0} {call : List Rule → Instance → A} {onValues : Instance → A}
         → ((before : List Rule) (inst : Instance) → Clear before → call before inst ≡ onValues inst)
         → {entries : List (List ℕ)} → entries ≡ entriesOf s (answer .header) → {result : A}

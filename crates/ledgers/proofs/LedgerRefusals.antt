@@ -15,10 +15,10 @@ pub ledger-refusals : LedgerRefusals ledgerCalls
 unfolding conditionNumbers isSublist refusalOrder checkLedger checkingLedger writeLedger writingLedger ledgerOf zeroLine tabulate itemsAt
 ledger-refusals = record {
   checking = λ base ledger.
-      refuses-call _ _ (checkingLedger base ledger) (λ told. told .refusal) (λ told. (told .accepted ≡ 0) × (told .line ≡ 0)) refl refl
-      (check-tests base ledger) refl (λ n. refl) (λ n some. (refl, refl));
+      refuses-call _ _ refl refl (checkingLedger base ledger) (λ told. told .refusal) refl (λ n. refl)
+      (λ told. (told .accepted ≡ 0) × (told .line ≡ 0)) (check-tests base ledger) (λ n. (refl, refl));
   writing = λ base entries.
-      refuses-call _ _ (writingLedger base entries) (λ made. made .refusal) (λ made. made .ledger ≡ ledgerOf 0 (λ i. zeroLine)) refl refl
-      (write-tests base entries) refl (λ n. refl) (λ n some. refl);
+      refuses-call _ _ refl refl (writingLedger base entries) (λ made. made .refusal) refl (λ n. refl)
+      (λ made. made .ledger ≡ ledgerOf 0 (λ i. zeroLine)) (write-tests base entries) (λ n. refl);
   inserted = refl;
 }

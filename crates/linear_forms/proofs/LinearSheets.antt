@@ -3,22 +3,21 @@
 use mathlib.Core.Path.{refl}
 use Rattle.rules.specs.Order.{isSublist, refusalOrder}
 use Rattle.rules.specs.Refuses.{conditionNumbers}
-use Rattle.rules.proofs.Refuses.{refuses-tested}
 use Rattle.formats.specs.Ours.{fileCalls}
-use Rattle.formats.specs.Write.{written, writtenAtStart}
+use Rattle.formats.proofs.Writing.{writing-refuses}
 use Rattle.linear_forms.specs.Linear.{linearInstance, makeLinear}
 use Rattle.linear_forms.specs.LinearSheets.{LinearRefusals, LinearSheets}
 use Rattle.linear_forms.specs.Ours.{linearCalls}
 use Rattle.linear_forms.proofs.Image.{plan-image}
-use Rattle.linear_forms.proofs.Making.{linear-loads, linear-puts, linear-refused, maker-runs}
+use Rattle.linear_forms.proofs.Making.{linear-loads, linear-puts, maker-runs}
 use Rattle.linear_forms.proofs.OfPlan.{linear-of-plan}
 use Rattle.linear_forms.proofs.Tests.{linear-tests}
 
 -- demand 1 holds of the linear maker
 pub linear-refusals : LinearRefusals linearCalls
-unfolding conditionNumbers isSublist refusalOrder makeLinear writtenAtStart written
+unfolding conditionNumbers isSublist refusalOrder makeLinear
 linear-refusals = record {
-  making = λ p buffer. refuses-tested _ _ refl refl _ (linear-tests p buffer) (linear-refused p buffer);
+  making = λ p buffer. writing-refuses _ _ refl refl _ _ _ buffer (linear-tests p buffer);
   inserted = refl;
 }
 

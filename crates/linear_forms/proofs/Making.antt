@@ -21,14 +21,13 @@ use Rattle.sigma.proofs.Tests.{says-element}
 use Rattle.sigma.proofs.Valid.{clear-valid}
 use Rattle.formats.specs.Encode.{sheetOf}
 use Rattle.formats.specs.Load.{load}
-use Rattle.formats.specs.Outcome.{Keeps, Puts, front}
+use Rattle.formats.specs.Outcome.{Puts, front}
 use Rattle.formats.specs.Sheet.{instanceOf, sheetLength}
-use Rattle.formats.specs.Write.{written, writtenAtStart}
 use Rattle.formats.proofs.Loads.{loads}
 use Rattle.formats.proofs.SheetRoundTrip.{sheet-loads}
 use Rattle.formats.proofs.SheetWritten.{instanceOf-sheetOf}
 use Rattle.formats.proofs.Unread.{read-same, same-instance-sym}
-use Rattle.formats.proofs.Writing.{length-sheetOf, puts-front, short-passes, start-written, written-refusal, written-refused}
+use Rattle.formats.proofs.Writing.{length-sheetOf, puts-front, short-passes, start-written, written-refusal}
 use Rattle.linear_forms.specs.Linear.{badCoefficient, badCounts, coefficient, linearEntry, linearInstance, linearRules, makeLinear}
 use Rattle.linear_forms.specs.LinearPlan.{LinearPlan}
 use Rattle.linear_forms.specs.LinearSheets.{OfPlan}
@@ -89,14 +88,9 @@ module _ (p : LinearPlan) where
       (λ g. coefficient p i g j) elements
 
 module _ (p : LinearPlan) (buffer : List ℕ) where
-  -- a refused call keeps the buffer
-  pub linear-refused : 0 < makeLinear p buffer .answer .refusal → Keeps buffer (makeLinear p buffer)
-  unfolding makeLinear writtenAtStart written
-  linear-refused some = written-refused _ _ _ _ some
-
   -- the maker's number is what its rules give
   linear-refusal : makeLinear p buffer .answer .refusal ≡ lowest (linearRules p buffer)
-  unfolding makeLinear writtenAtStart
+  unfolding makeLinear
   linear-refusal = written-refusal _ _ _ _
 
   -- none of its rules has the number 0
@@ -146,7 +140,7 @@ module _ (p : LinearPlan) (buffer : List ℕ) where
     pub linear-puts : Puts (sheetOf (linearInstance p)) buffer (makeLinear p buffer)
     unfolding makeLinear linearInstance
     linear-puts =
-        start-written _ (sheetOf (linearInstance p)) buffer (sym linear-refusal ∙ given)
+        start-written _ (sheetOf (linearInstance p)) buffer given
         (omega (arith, length-sheetOf (linearInstance p), maker-runs .0 given .2))
 
     module _ (small : p .modulus < 2 ^ 32) (short : p .order < 2 ^ 32) where

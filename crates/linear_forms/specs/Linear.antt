@@ -9,10 +9,11 @@ use lib.ListN.{getD, length}
 use Rattle.lists.specs.Places.{eightByEight, pad8}
 use Rattle.numbers.specs.Product.{product}
 use Rattle.numbers.specs.Search.{any}
-use Rattle.rules.specs.Rule.{Rule, _when_, lowest}
+use Rattle.rules.specs.Call.{answer}
+use Rattle.rules.specs.Rule.{Rule, _when_}
 use Rattle.formats.specs.Encode.{sheetOf}
 use Rattle.formats.specs.Sheet.{sheetLength}
-use Rattle.formats.specs.Write.{Writing, short, writtenAtStart}
+use Rattle.formats.specs.Write.{Writing, short, writingAtStart}
 use Rattle.sigma.specs.Admission.{badCount, badModulus, badOrder, badSize, badStatement}
 use Rattle.sigma.specs.Element.{someNonElement}
 use Rattle.sigma.specs.Instance.{Instance}
@@ -62,4 +63,4 @@ linearRules p buffer =
 
 -- the maker of sheets from linear forms
 unfoldable pub makeLinear : LinearPlan → List ℕ → Writing
-makeLinear p buffer = writtenAtStart (lowest (linearRules p buffer)) (sheetOf (linearInstance p)) buffer
+makeLinear p buffer = answer (writingAtStart (linearRules p buffer) (sheetOf (linearInstance p)) buffer)

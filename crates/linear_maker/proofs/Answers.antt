@@ -2,7 +2,7 @@
 -- plan's values, since 4 cannot apply and the entries are group elements.
 -- Assumes nothing.
 use Prim.Native.Nat.{ℕ, _<_}
-use mathlib.Core.Path.{_≡_, refl, sym, ap, subst, _∙_}
+use mathlib.Core.Path.{_≡_, refl, sym, subst, _∙_}
 use mathlib.Core.Bool.{false}
 use mathlib.Core.List.{List, [], _∷_, _++_}
 use mathlib.Core.Logic.{inl}
@@ -11,7 +11,9 @@ use lib.Dec.{T}
 use lib.ListN.{getD, length}
 use Rattle.types.specs.declared.Written.{Written}
 use Rattle.lists.specs.Places.{eightByEight, pad8}
+use Rattle.rules.specs.Call.{numberOf}
 use Rattle.rules.specs.Rule.{Rule, _when_, allPositive, lowest}
+use Rattle.rules.proofs.Call.{answer-same}
 use Rattle.rules.proofs.Lowest.{lowest-earlier, lowest-later-zero, pass}
 use Rattle.sigma.specs.Admission.{badEntries, badStatement, elementRules, headerRules}
 use Rattle.sigma.specs.Element.{Element, someNonElement}
@@ -21,9 +23,9 @@ use Rattle.sigma.proofs.ElementGroup.{element-powers}
 use Rattle.sigma.proofs.Passed.{entries-pass, kind-passes}
 use Rattle.sigma.proofs.Positive.{header-positive}
 use Rattle.sigma.proofs.Tests.{says-element}
-use Rattle.formats.specs.Encode.{encode, encodeRules, sheetOf}
+use Rattle.formats.specs.Encode.{encode, encoding, sheetOf}
 use Rattle.formats.specs.Sheet.{sheetLength}
-use Rattle.formats.specs.Write.{short, writtenAtStart}
+use Rattle.formats.specs.Write.{short}
 use Rattle.formats.proofs.Writing.{Leaves}
 use Rattle.linear_forms.specs.Linear.{coefficient, linearEntry, linearInstance, linearRules, makeLinear}
 use Rattle.linear_forms.specs.LinearPlan.{LinearPlan}
@@ -91,14 +93,14 @@ module _ (p : LinearPlan) where
       module _ (own : lowest ownRules ≡ 0) where
         -- where it is not either, the maker is the second writer on the plan's values
         linear-encodes : makeLinear p buffer ≡ encode (linearInstance p) buffer
-        unfolding makeLinear encode encodeRules headerRules elementRules linearInstance
+        unfolding makeLinear encode encoding headerRules elementRules linearInstance numberOf
         linear-encodes =
             let maker = behind-fields ∙ lowest-later-zero ownRules last own-positive own in
             let writer =
             lowest-later-zero (headerRules (linearHeader p)) ((10 when badEntries (linearInstance p)) ∷ last)
             (header-positive (linearHeader p)) fields
             ∙ pass 10 last (entries-right fields own) in
-            ap (λ (n : ℕ). writtenAtStart n (sheetOf (linearInstance p)) buffer) (maker ∙ sym writer)
+            answer-same _ _ (maker ∙ sym writer) refl refl
 
         -- and the writer that is handed these values leaves what the maker leaves
         pub plan-written : {answer : Written} {entries : List (List ℕ)} {eight after : List ℕ}

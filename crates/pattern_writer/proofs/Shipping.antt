@@ -1,7 +1,7 @@
 -- The shipped file, part by part: the patterns of the table one after another, and the file.
 -- Assumes nothing.
 use Prim.Native.Nat.{ℕ, zero, suc, _+_, _-_, _*_, _≤_, _<_}
-use mathlib.Core.Path.{_≡_, refl}
+use mathlib.Core.Path.{_≡_, refl, sym}
 use mathlib.Core.List.{List, [], _∷_, _++_, flatten}
 use native.Mathlib.Omega.{arith}
 use lib.ListN.{length, take}
@@ -13,10 +13,11 @@ use Rattle.encoding.specs.Text.{ascii}
 use Rattle.encoding.proofs.Fitted.{fitted-none, fitted-then, fitted-whole}
 use Rattle.encoding.proofs.Placed.{placed-behind, placed-number}
 use Rattle.lists.specs.Places.{itemsAt, tabulate}
-use Rattle.rules.specs.Answer.{unlessRefused}
-use Rattle.rules.specs.Rule.{lowest}
-use Rattle.formats.specs.Write.{short, written, writtenAtStart}
-use Rattle.formats.proofs.Writing.{Leaves}
+use Rattle.rules.specs.Call.{numberOf}
+use Rattle.rules.proofs.Call.{tested-refused, tested-value}
+use Rattle.rules.proofs.Lowest.{lowest-clear, stop}
+use Rattle.formats.specs.Write.{short}
+use Rattle.formats.proofs.Writing.{Leaves, leaves}
 use Rattle.patterns.specs.PatternFile.{patternBytes, patternFile, patternMark}
 use Rattle.patterns.specs.Table.{patterns, shipped, writeShipped}
 use Rattle.patterns.proofs.Shipped.{length-shipped}
@@ -84,21 +85,21 @@ length-patterns = refl
 module _ (buffer : List ℕ) where
   -- the buffer is too short
   pub shipped-none : length buffer < 34 → Leaves (record { refusal = 22; length = 0 }) buffer (writeShipped buffer)
-  unfolding writeShipped writtenAtStart written short lowest unlessRefused
+  unfolding writeShipped short numberOf
   shipped-none less =
       let few = lt-ltb (length buffer) (length shipped) (omega (arith, length-shipped)) in
-      (rw few, rw few)
+      leaves (tested-refused _ (sym (stop 22 [] few)) (λ (z : 22 ≡ 0). omega arith))
 
   -- in any other the file is stored
   pub shipped-made : {marked versioned counted after : List ℕ} {used : ℕ} → 34 ≤ length buffer → marked ≡ sets buffer 0 patternMark
       → versioned ≡ sets marked 3 (bytesOf 2 1) → counted ≡ sets versioned 5 (bytesOf 1 5)
       → length counted ≡ length buffer → Fitted counted 6 (storedPatterns 5) after used
       → Leaves (record { refusal = 0; length = used }) after (writeShipped buffer)
-  unfolding writeShipped writtenAtStart written short lowest unlessRefused patternMark ascii
+  unfolding writeShipped short numberOf patternMark ascii
   shipped-made {marked} {used = used} room mark version count size fitted =
       let start : Placed buffer 0 patternMark marked 3 = record { stored = mark; behind = refl } in
       let stored = fitted-whole fitted (omega (arith, length-patterns)) in
       let placed = rw file-whole at (placed-behind (placed-number (placed-number start 2 1 version) 1 5 count) stored) in
       let enough = le-ltb (length buffer) (length shipped) (omega (arith, length-shipped)) in
       let end : used ≡ length shipped = omega (arith, placed .behind) in
-      (rw (enough, end), rw (enough, placed .stored))
+      rw (end, placed .stored) (leaves (tested-value _ (sym (lowest-clear _ (enough, tt))) refl))

@@ -14,7 +14,9 @@ use borrow.Author.Tests.{ne-eqb}
 use Rattle.types.specs.declared.Header.{Header}
 use Rattle.lists.proofs.Member.{member-at, member-place}
 use Rattle.lists.proofs.Rows.{row-within}
+use Rattle.rules.specs.Call.{numberOf}
 use Rattle.rules.specs.Rule.{lowest}
+use Rattle.rules.proofs.Call.{answer-same}
 use Rattle.rules.proofs.Lowest.{pass}
 use Rattle.rules.proofs.Says.{says-equal, says-false}
 use Rattle.sigma.specs.Admission.{badEntries, badKind, badModulus, badSize, elementRules, headerRules}
@@ -23,8 +25,7 @@ use Rattle.sigma.specs.Instance.{Instance, tableOf, entry}
 use Rattle.sigma.proofs.Calculus.{all-pass, says-stable}
 use Rattle.sigma.proofs.Passed.{entries-pass, kind-passes, modulus-passes, size-passes}
 use Rattle.sigma.proofs.Tests.{says-element}
-use Rattle.formats.specs.Encode.{encode, encodeRules, sheetOf}
-use Rattle.formats.specs.Write.{writtenAtStart}
+use Rattle.formats.specs.Encode.{encode, encoding}
 use Rattle.patterns.specs.Maker.{asked, askedKind, askedPattern, badAsked, madeRules, makeFrom, makeRules}
 use Rattle.patterns.specs.Pattern.{Pattern, digit, entryOf, headerFor, madeFor, root}
 use Rattle.patterns.specs.PatternCalls.{Named, Sized}
@@ -141,8 +142,8 @@ module _ (kind : ℕ) (p : Pattern) (modulus order challenges : ℕ) (values sta
       (entryOf-element (inst .header) values _ large (elements .0 e) (omega (arith, usable .digits r c a b)))))
 
   -- behind the tests of number and counts, the maker's number is the second writer's
-  pub made-rules : (buffer : List ℕ) → lowest (madeRules values inst buffer) ≡ lowest (encodeRules inst buffer)
-  unfolding lowest madeRules encodeRules headerRules elementRules madeFor headerFor
+  pub made-rules : (buffer : List ℕ) → lowest (madeRules values inst buffer) ≡ lowest (encoding inst buffer .refusals)
+  unfolding lowest madeRules encoding headerRules elementRules madeFor headerFor
   made-rules buffer =
       rw kind-right
       (cond-behind (badModulus (inst .header)) _ _ _
@@ -198,11 +199,12 @@ pub maker-encodes : (f : List ℕ) (number modulus order challenges : ℕ) (valu
     → badPatternFile f ≡ false → badDigits f ≡ false → badAsked f number values statement ≡ false → (buffer : List ℕ)
     → makeFrom f number modulus order challenges values statement buffer
     ≡ encode (asked f number modulus order challenges values statement) buffer
-unfolding makeFrom encode makeRules asked
+unfolding makeFrom encode encoding makeRules asked numberOf
 maker-encodes f number modulus order challenges values statement filed digits fits buffer =
     let inst = asked f number modulus order challenges values statement in
     let (few, counted, rowed) = asked-passes f number values statement fits in
     let (usable, suits) = asked-usable f (passes-23 f .0 filed) digits number few in
-    ap (λ (n : ℕ). writtenAtStart n (sheetOf inst) buffer)
+    answer-same _ _
     (pass 23 _ filed ∙ pass 24 _ digits ∙ pass 1 _ fits
     ∙ made-rules (askedKind number) (askedPattern f number) modulus order challenges values statement usable suits counted buffer)
+    refl refl

@@ -14,12 +14,12 @@ use Rattle.sigma.proofs.Tests.{says-someNonElement, says-badModulus, says-badOr
 use Rattle.formats.specs.Encode.{encode, sheetOf}
 use Rattle.formats.specs.Load.{loadRefusal}
 use Rattle.formats.specs.Ours.{loaded}
-use Rattle.formats.specs.Outcome.{Keeps, Puts}
+use Rattle.formats.specs.Outcome.{Puts}
 use Rattle.formats.specs.Sheet.{sheetLength}
-use Rattle.formats.specs.Write.{Writing, written, writtenAtStart}
+use Rattle.formats.specs.Write.{Writing}
 use Rattle.formats.proofs.SheetRoundTrip.{encode-loads}
 use Rattle.formats.proofs.Tests.{says-short}
-use Rattle.formats.proofs.Writing.{encode-puts, written-refusal, written-refused}
+use Rattle.formats.proofs.Writing.{encode-puts, written-refusal}
 use Rattle.patterns.specs.Maker.{asked, askedKind, askedPattern, badAsked, madeRules, makeFrom, makeRules}
 use Rattle.patterns.specs.Pattern.{headerFor, madeFor}
 use Rattle.patterns.specs.PatternFile.{badDigits, badPatternFile}
@@ -77,14 +77,9 @@ module _ (f : List ℕ) (number modulus order challenges : ℕ) (values statemen
   abbrev made : Writing
   made = makeFrom f number modulus order challenges values statement buffer
 
-  -- a refused call keeps the buffer
-  pub make-refused : 0 < made .answer .refusal → Keeps buffer made
-  unfolding makeFrom writtenAtStart written
-  make-refused some = written-refused _ _ _ _ some
-
   -- the maker's number is what its rules give
   make-refusal : made .answer .refusal ≡ lowest (makeRules f number values statement inst buffer)
-  unfolding makeFrom writtenAtStart
+  unfolding makeFrom
   make-refusal = written-refusal _ _ _ _
 
   module _ (given : made .answer .refusal ≡ 0) where

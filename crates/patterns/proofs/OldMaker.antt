@@ -14,14 +14,14 @@ use Rattle.rules.specs.Says.{Says}
 use Rattle.rules.proofs.Condition.{given-unique}
 use Rattle.rules.proofs.Determined.{refused-or-not}
 use Rattle.rules.proofs.Lowest.{clear-lowest}
-use Rattle.rules.proofs.Refuses.{refuses-tested}
+use Rattle.rules.proofs.Refuses.{refuses-call}
 use Rattle.rules.proofs.Says.{says-equal, says-less, says-not, says-or}
 use Rattle.formats.specs.Encode.{sheetOf}
 use Rattle.formats.specs.Outcome.{Keeps, Puts}
 use Rattle.formats.specs.Sheet.{sheetLength}
-use Rattle.formats.specs.Write.{written, writtenAtStart}
 use Rattle.formats.proofs.OnlyWriting.{keeps-only, puts-only}
-use Rattle.formats.proofs.Writing.{length-sheetOf, short-passes, start-written, written-refusal, written-refused}
+use Rattle.formats.specs.Write.{Writing}
+use Rattle.formats.proofs.Writing.{length-sheetOf, short-passes, start-written, written-refusal}
 use Rattle.patterns.specs.Maker.{madeRules}
 use Rattle.patterns.specs.PatternCalls.{Maker, OldMaker}
 use Rattle.patterns.specs.Refusals.{oldConditions}
@@ -40,31 +40,25 @@ says-old number values statement =
     (says-or (says-not (says-equal (length values) (patternOf number .values)))
     (says-not (says-equal (length statement) (patternOf number .rows))))))
 
--- a refused call keeps the buffer
-old-refused : (number m ℓ K : ℕ) (values z buffer : List ℕ) → 0 < fromPattern number m ℓ K values z buffer .answer .refusal
-    → Keeps buffer (fromPattern number m ℓ K values z buffer)
-unfolding fromPattern writtenAtStart written
-old-refused number m ℓ K values z buffer some = written-refused _ _ _ _ some
-
 -- if nothing is refused, the sheet of the pattern's values stands at the buffer's start
 old-puts : (number m ℓ K : ℕ) (values z buffer : List ℕ) → fromPattern number m ℓ K values z buffer .answer .refusal ≡ 0
     → Puts (sheetOf (made number m ℓ K values z)) buffer (fromPattern number m ℓ K values z buffer)
-unfolding fromPattern writtenAtStart madeRules
+unfolding fromPattern madeRules
 old-puts number m ℓ K values z buffer e =
     let inst = made number m ℓ K values z in
     let rules = (1 when badPattern number values z) ∷ madeRules values inst buffer in
     let none = sym (written-refusal _ _ _ buffer) ∙ e in
     let (counts, (modulus, (order, (count, (elements, (statement, (fits, rest))))))) = clear-lowest rules tt none in
     let room = short-passes buffer (sheetLength (inst .header)) .0 fits in
-    start-written _ (sheetOf inst) buffer none (omega (arith, length-sheetOf inst))
+    start-written _ (sheetOf inst) buffer e (omega (arith, length-sheetOf inst))
 
 -- 01's sheet maker as it is defined
 pub some-maker : OldMaker fromPattern
-unfolding conditionNumbers isSublist refusalOrder fromPattern writtenAtStart written
+unfolding conditionNumbers isSublist refusalOrder fromPattern
 some-maker = record {
   refused = λ number m ℓ K values z buffer.
-      refuses-tested _ _ refl refl _ (refl, says-old number values z, made-tests values _ buffer)
-      (old-refused number m ℓ K values z buffer);
+      refuses-call _ _ refl refl _ (λ (w : Writing). w .answer .refusal) refl (λ n. refl) (Keeps buffer)
+      (refl, says-old number values z, made-tests values _ buffer) (λ n. record { answered = refl; same = refl });
   written = old-puts;
 }
 

@@ -6,11 +6,10 @@ use mathlib.Core.List.{List}
 use Rattle.lists.specs.Places.{itemsAt, tabulate, zeros8}
 use Rattle.rules.specs.Order.{isSublist, refusalOrder}
 use Rattle.rules.specs.Refuses.{conditionNumbers}
-use Rattle.rules.proofs.Refuses.{refuses-tested}
 use Rattle.sigma.specs.Image.{rowImage}
 use Rattle.sigma.specs.Instance.{Instance, entry, isExponent, tableOf}
 use Rattle.formats.specs.Sheet.{zeros64}
-use Rattle.formats.specs.Write.{written, writtenAtStart}
+use Rattle.formats.proofs.Writing.{writing-refuses}
 use Rattle.patterns.specs.Maker.{asked, askedKind, askedPattern, makeFrom}
 use Rattle.patterns.specs.Ours.{makerCalls}
 use Rattle.patterns.specs.Pattern.{Pattern, digit, headerFor, madeFor, root}
@@ -18,7 +17,7 @@ use Rattle.patterns.specs.PatternCalls.{PatternCalls, PatternRefusals}
 use Rattle.patterns.specs.Table.{writeShipped}
 use Rattle.patterns.proofs.Files.{not-23}
 use Rattle.patterns.proofs.Maker.{asked-pattern}
-use Rattle.patterns.proofs.Making.{make-puts, make-refused, make-tests}
+use Rattle.patterns.proofs.Making.{make-puts, make-tests}
 use Rattle.patterns.proofs.Meaning.{pattern-means}
 use Rattle.patterns.proofs.OldMaker.{one-maker, some-maker}
 use Rattle.patterns.proofs.Sheets.{entryOf-none, entryOf-value, made-entry, made-statement}
@@ -28,19 +27,18 @@ use Rattle.patterns.proofs.Shipped.{
   old-sheet,
   shipped-bytes,
   shipped-puts,
-  shipped-refused,
   shipped-tests,
 }
 use Rattle.patterns.proofs.Spelled.{filed-spells, spells-count, spells-digits, spells-filed, spells-number}
 
 -- demand 1 holds of the calls on pattern files
 pub pattern-refusals : PatternRefusals makerCalls
-unfolding conditionNumbers isSublist refusalOrder tabulate itemsAt makeFrom writeShipped writtenAtStart written
+unfolding conditionNumbers isSublist refusalOrder tabulate itemsAt makeFrom writeShipped
 pattern-refusals = record {
   order = refl;
   making = λ f number m ℓ K values z buffer.
-      refuses-tested _ _ refl refl _ (make-tests f number values z _ buffer) (make-refused f number m ℓ K values z buffer);
-  shipping = λ buffer. refuses-tested _ _ refl refl _ (shipped-tests buffer) (shipped-refused buffer);
+      writing-refuses _ _ refl refl _ _ _ buffer (make-tests f number values z _ buffer);
+  shipping = λ buffer. writing-refuses _ _ refl refl _ _ _ buffer (shipped-tests buffer);
 }
 
 -- the sheet of a number above 0 is of kind 1

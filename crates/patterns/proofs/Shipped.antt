@@ -1,6 +1,6 @@
 -- The shipped file: its bytes, and that with it the sheet maker is 01's.
 -- Assumes nothing.
-use Prim.Native.Nat.{ℕ, _<_, _≤_}
+use Prim.Native.Nat.{ℕ, _≤_}
 use mathlib.Core.Path.{_≡_, refl, sym, ap, ap₂, _∙_}
 use mathlib.Core.Logic.{_↔_}
 use mathlib.Core.Bool.{Bool, false, cond}
@@ -13,16 +13,18 @@ use Rattle.encoding.specs.Bytes.{bytesOf, numberAt}
 use Rattle.encoding.specs.Text.{ascii}
 use Rattle.lists.specs.Places.{itemsAt, tabulate}
 use Rattle.numbers.specs.Search.{any, find}
+use Rattle.rules.specs.Call.{numberOf}
 use Rattle.rules.specs.Condition.{Tests}
 use Rattle.rules.specs.Rule.{_when_, lowest}
+use Rattle.rules.proofs.Call.{answer-same}
 use Rattle.rules.proofs.Lowest.{clear-lowest, lowest-clear, pass}
 use Rattle.sigma.specs.Comparison.{differ, firstDifference}
 use Rattle.sigma.specs.Instance.{Instance}
 use Rattle.formats.specs.Encode.{sheetOf}
-use Rattle.formats.specs.Outcome.{Keeps, Puts}
-use Rattle.formats.specs.Write.{short, written, writtenAtStart}
+use Rattle.formats.specs.Outcome.{Puts}
+use Rattle.formats.specs.Write.{short, writingAtStart}
 use Rattle.formats.proofs.Tests.{says-short}
-use Rattle.formats.proofs.Writing.{short-passes, start-written, written-refusal, written-refused}
+use Rattle.formats.proofs.Writing.{short-passes, start-written, written-refusal}
 use Rattle.patterns.specs.Maker.{asked, askedKind, askedPattern, badAsked, madeRules, makeFrom, makeRules}
 use Rattle.patterns.specs.Pattern.{Pattern, madeFor, root}
 use Rattle.patterns.specs.PatternFile.{
@@ -66,14 +68,9 @@ module _ (buffer : List ℕ) where
   pub shipped-tests : Tests ((22 when short buffer (length shipped)) ∷ []) (shippedConditions buffer)
   shipped-tests = rw length-shipped (refl, says-short buffer 34, tt)
 
-  -- a refused call keeps the buffer
-  pub shipped-refused : 0 < writeShipped buffer .answer .refusal → Keeps buffer (writeShipped buffer)
-  unfolding writeShipped writtenAtStart written
-  shipped-refused some = written-refused _ _ _ _ some
-
   -- it is written exactly into 34 bytes or more
   pub shipped-runs : (writeShipped buffer .answer .refusal ≡ 0) ↔ (34 ≤ length buffer)
-  unfolding writeShipped writtenAtStart
+  unfolding writeShipped
   shipped-runs =
       let rules = (22 when short buffer (length shipped)) ∷ [] in
       let passes = short-passes buffer (length shipped) in
@@ -86,9 +83,9 @@ module _ (buffer : List ℕ) where
 
   -- it then stands at the start of the buffer
   pub shipped-puts : writeShipped buffer .answer .refusal ≡ 0 → Puts shipped buffer (writeShipped buffer)
-  unfolding writeShipped writtenAtStart
+  unfolding writeShipped
   shipped-puts e =
-      start-written _ shipped buffer (sym (written-refusal _ _ _ buffer) ∙ e) (omega (arith, length-shipped, shipped-runs .0 e))
+      start-written _ shipped buffer e (omega (arith, length-shipped, shipped-runs .0 e))
 
 -- ---- its sheets
 
@@ -134,12 +131,12 @@ module _ {number old : ℕ} (asks : Asks shipped number old) (m ℓ K : ℕ) (va
 
   -- and the maker gives what 01's gave
   pub old-sheet : (buffer : List ℕ) → makeFrom shipped number m ℓ K values z buffer ≡ fromPattern old m ℓ K values z buffer
-  unfolding makeFrom fromPattern makeRules
+  unfolding makeFrom fromPattern makeRules numberOf
   old-sheet buffer =
       let number-same =
       pass 23 _ (shipped-passes .0) ∙ pass 24 _ (shipped-passes .1)
       ∙ ap₂ (λ (b : Bool) (i : Instance). lowest ((1 when b) ∷ madeRules values i buffer)) (asks .counts values z) old-values in
-      ap₂ (λ (n : ℕ) (i : Instance). writtenAtStart n (sheetOf i) buffer) number-same old-values
+      answer-same _ _ number-same (ap (λ (i : Instance). writingAtStart [] (sheetOf i) buffer .value) old-values) refl
 
 -- of 1 to 5 too
 pub same-values : (number m ℓ K : ℕ) (values z : List ℕ) → 1 ≤ number → number ≤ 5

@@ -5,13 +5,14 @@ use mathlib.Core.Bool.{Bool, not, cond, _||_}
 use mathlib.Core.List.{List, [], _∷_}
 use lib.Dec.{eqb, ltb}
 use lib.ListN.{length}
-use Rattle.rules.specs.Rule.{Rule, _when_, lowest}
+use Rattle.rules.specs.Call.{answer}
+use Rattle.rules.specs.Rule.{Rule, _when_}
 use Rattle.sigma.specs.Admission.{badModulus, badOrder, badCount, badStatement}
 use Rattle.sigma.specs.Element.{someNonElement}
 use Rattle.sigma.specs.Instance.{Instance}
 use Rattle.formats.specs.Encode.{sheetOf}
 use Rattle.formats.specs.Sheet.{sheetLength}
-use Rattle.formats.specs.Write.{Writing, short, writtenAtStart}
+use Rattle.formats.specs.Write.{Writing, short, writingAtStart}
 use Rattle.patterns.specs.Pattern.{Pattern, madeFor, root}
 use Rattle.patterns.specs.PatternFile.{badDigits, badPatternFile, patternAt, patternCount}
 
@@ -55,4 +56,4 @@ makeRules f number values statement inst buffer =
 unfoldable pub makeFrom : List ℕ → ℕ → ℕ → ℕ → ℕ → List ℕ → List ℕ → List ℕ → Writing
 makeFrom f number modulus order challenges values statement buffer =
     let inst : Instance = asked f number modulus order challenges values statement in
-    writtenAtStart (lowest (makeRules f number values statement inst buffer)) (sheetOf inst) buffer
+    answer (writingAtStart (makeRules f number values statement inst buffer) (sheetOf inst) buffer)

@@ -7,10 +7,11 @@ use mathlib.Core.List.{List, [], _∷_}
 use lib.Dec.{eqb, ltb}
 use lib.ListN.{length, getD, take}
 use Rattle.types.specs.declared.Header.{Header}
-use Rattle.rules.specs.Rule.{_when_, lowest}
+use Rattle.rules.specs.Call.{answer}
+use Rattle.rules.specs.Rule.{_when_}
 use Rattle.sigma.specs.Instance.{Instance}
 use Rattle.formats.specs.Encode.{sheetOf}
-use Rattle.formats.specs.Write.{Writing, short, writtenAtStart}
+use Rattle.formats.specs.Write.{Writing, short, writingAtStart}
 use Rattle.patterns.specs.Maker.{madeRules}
 use Rattle.patterns.specs.Pattern.{Pattern, headerFor, madeFor, root}
 use Rattle.patterns.specs.PatternFile.{patternFile}
@@ -55,7 +56,7 @@ badPattern number values statement =
 unfoldable pub fromPattern : ℕ → ℕ → ℕ → ℕ → List ℕ → List ℕ → List ℕ → Writing
 fromPattern number modulus order challenges values statement buffer =
     let inst : Instance = made number modulus order challenges values statement in
-    writtenAtStart (lowest ((1 when badPattern number values statement) ∷ madeRules values inst buffer)) (sheetOf inst) buffer
+    answer (writingAtStart ((1 when badPattern number values statement) ∷ madeRules values inst buffer) (sheetOf inst) buffer)
 
 -- the file of patterns 1 to 5
 unfoldable pub shipped : List ℕ
@@ -63,4 +64,4 @@ shipped = patternFile (take 5 patterns)
 
 -- the call that writes the shipped file (refusal 22)
 unfoldable pub writeShipped : List ℕ → Writing
-writeShipped buffer = writtenAtStart (lowest ((22 when short buffer (length shipped)) ∷ [])) shipped buffer
+writeShipped buffer = answer (writingAtStart ((22 when short buffer (length shipped)) ∷ []) shipped buffer)

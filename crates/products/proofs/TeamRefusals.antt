@@ -103,10 +103,10 @@ pub team-refusals : TeamRefusals teamCalls
 unfolding conditionNumbers isSublist refusalOrder multiplyCommitments multiplying joinResponses joining
 team-refusals = record {
   multiplying = λ sheet count images commitments.
-      refuses-call _ _ (after (shapeRules sheet) (multiplying (instanceOf sheet) count images commitments)) (λ (c : Computed). c .refusal)
-      (λ c. c .values ≡ zeros8) refl refl (multiply-tests sheet count images commitments) refl (λ n. refl) (λ n some. refl);
+      refuses-call _ _ refl refl (after (shapeRules sheet) (multiplying (instanceOf sheet) count images commitments))
+      (λ (c : Computed). c .refusal) refl (λ n. refl) (λ c. c .values ≡ zeros8) (multiply-tests sheet count images commitments) (λ n. refl);
   joining = λ sheet count images responses.
-      refuses-call _ _ (after (shapeRules sheet) (joining (instanceOf sheet) count images responses)) (λ (c : Computed). c .refusal)
-      (λ c. c .values ≡ zeros8) refl refl (join-tests sheet count images responses) refl (λ n. refl) (λ n some. refl);
+      refuses-call _ _ refl refl (after (shapeRules sheet) (joining (instanceOf sheet) count images responses))
+      (λ (c : Computed). c .refusal) refl (λ n. refl) (λ c. c .values ≡ zeros8) (join-tests sheet count images responses) (λ n. refl);
   inserted = refl;
 }

@@ -11,7 +11,7 @@ use Rattle.lists.specs.Places.{zeros8}
 use Rattle.rules.specs.Answer.{unlessRefused}
 use Rattle.rules.specs.Call.{Call, answer, numberOf}
 use Rattle.rules.proofs.Answer.{unlessRefused-zero, unlessRefused-positive}
-use Rattle.rules.proofs.Told.{numbered-refused, numbered-value}
+use Rattle.rules.proofs.Call.{tested-refused, tested-value}
 use Rattle.runs.specs.Prover.{handedBack}
 use Rattle.crossing.specs.Provers.{proverAnswer, proverSession}
 use Rattle.crossing.specs.declared.ProverSession.{ProverSession}
@@ -23,7 +23,7 @@ module _ (given : ProverSession) (call : Call ProverStep) {n : ℕ} (is-number :
       → record { session = given; values = zeros8; refusal = n } ≡ proverAnswer given (answer call)
   unfolding proverAnswer
   answer-refused {before} back other =
-      rw (sym (numbered-refused call is-number other), back, unlessRefused-positive (proverSession before) given n (omega arith))
+      rw (sym (tested-refused call is-number other), back, unlessRefused-positive (proverSession before) given n (omega arith))
 
   -- if the number is 0, the changed session and the values are answered
   pub answer-given : {after : Prover} {values : List ℕ} → call .value ≡ record { refusal = 0; session = after; values = values } → n ≡ 0
@@ -31,7 +31,7 @@ module _ (given : ProverSession) (call : Call ProverStep) {n : ℕ} (is-number :
       → record { session = session; values = values; refusal = 0 } ≡ proverAnswer given (answer call)
   unfolding proverAnswer
   answer-given {after} value none is-session =
-      rw (sym (numbered-value call is-number none), value, unlessRefused-zero (proverSession after) given, is-session)
+      rw (sym (tested-value call is-number none), value, unlessRefused-zero (proverSession after) given, is-session)
 
 module _ (given : ProverSession) (before after : Prover) (xs : List ℕ) {n : ℕ} {step : ProverStep}
     (same : stepWith n before after xs ≡ step) where

@@ -14,19 +14,17 @@ use lib.Seq.{getD-take, take-all}
 use Rattle.types.specs.declared.Verdict.the-variants.{Refused}
 use Rattle.numbers.proofs.Search.{find-agree}
 use Rattle.encoding.proofs.Bytes.{numberAt-take}
-use Rattle.rules.proofs.Condition.{given}
 use Rattle.rules.proofs.Says.{says-equal}
 use Rattle.sigma.specs.Comparison.{differ, firstDifference}
 use Rattle.sigma.proofs.Calculus.{says-stable}
-use Rattle.formats.specs.Load.{loadRules}
 use Rattle.formats.specs.Refusals.{loadConditions, roundConditions}
-use Rattle.formats.specs.RoundCalls.{checkAfter, checkRound, roundRules}
+use Rattle.formats.specs.RoundCalls.{checkRound}
 use Rattle.formats.specs.RoundFile.{countField, fileVersion, roundMark}
 use Rattle.formats.specs.Sheet.{headerOf, sheetLength}
 use Rattle.formats.proofs.Files.{check-runs}
 use Rattle.formats.proofs.Loads.{loads, loads-few}
 use Rattle.formats.proofs.LongFiles.{both-cut, file-short, loads-cut, sheet-short}
-use Rattle.formats.proofs.Refusals.{check-tests}
+use Rattle.formats.proofs.FileRefusals.{file-refusals}
 use Rattle.reasons.specs.Lines.{refusedLine}
 use Rattle.reasons.specs.Reason.{fileSpot, reasonLine, sheetSpot, spotOf}
 use Rattle.rules.proofs.Explains.{Explains, explain, explains-given, known}
@@ -73,12 +71,11 @@ module _ (a b : ℕ) (enough : 309 ≤ a) (enough′ : 34824 ≤ b) (s f : List 
 
   -- so is the line
   pub line-cut : reasonLine (take a s) x (take b f) y ≡ reasonLine s x f y
-  unfolding checkRound checkAfter
   line-cut = elim (decLt 0 (checkRound s f 0)) [
     | yes refused ↦
         let n = checkRound s f 0 in
         let conditions = loadConditions s ++ roundConditions (headerOf s) f 0 in
-        let gives = given (loadRules s ++ roundRules (headerOf s) f 0) conditions (check-tests s f 0) in
+        let gives = file-refusals .checking s f 0 .given in
         let kept = checked-refused (take a s) (take b f) (omega (arith, number-cut)) ∙ ap Refused number-cut in
         line-refused (take a s) (take b f) x y n kept
         ∙ ap (refusedLine n) (explains-given Same (λ k. ⊥) conditions n spots-cut gives refused)

@@ -7,6 +7,7 @@ use mathlib.Core.Logic.{_↔_, _⊎_, inl, inr, ⊎-elim}
 use native.Mathlib.Decide.{decLt}
 use native.Mathlib.Omega.{arith}
 use lib.ListN.{getD}
+use Rattle.types.specs.declared.Fetched.{Fetched}
 use Rattle.types.specs.declared.Round.{Round}
 use Rattle.types.specs.declared.Verdict.{Verdict}
 use Rattle.types.specs.declared.Verdict.the-variants.{Accepted, Rejected, Refused}
@@ -16,13 +17,12 @@ use Rattle.lists.proofs.Places.{getD-zeros8}
 use Rattle.sigma.specs.Answer.{judged, outcome, rowsOf}
 use Rattle.sigma.specs.Judge.{judging}
 use Rattle.sigma.specs.Meaning.{FailsExactly}
-use Rattle.rules.proofs.Answer.{unlessRefused-positive}
 use Rattle.sigma.proofs.Answer.{accepted-not-refused, judged-given}
 use Rattle.sigma.proofs.Fails.{fails-split}
 use Rattle.formats.specs.Load.{loadRefusal}
-use Rattle.formats.specs.RoundCalls.{checkRound, fetchAfter, fetchRound, noRound}
+use Rattle.formats.specs.RoundCalls.{checkRound, noRound}
 use Rattle.formats.specs.Sheet.{instanceOf}
-use Rattle.formats.proofs.Files.{check-runs}
+use Rattle.formats.proofs.Files.{check-runs, fetch-refused}
 use Rattle.formats.proofs.Loads.{loads, loads-valid}
 use Rattle.formats.proofs.OnSheet.{on-sheet-refused}
 use Rattle.runs.specs.Calls.{judgeRound}
@@ -85,14 +85,14 @@ module _ (s f : List ℕ) where
 
   -- a round that judging accepts stands in a file that the check lets pass: else it is read as zeros, which are no elements
   accepted-passed : judgeRound s (firstRound s f) ≡ Accepted → checkRound s f 0 ≡ 0
-  unfolding fetchRound fetchAfter checkRound noRound
+  unfolding noRound
   accepted-passed accepted = elim (decLt 0 (checkRound s f 0)) [
     | yes refused ↦
         let loaded = accepted-loads s (firstRound s f) accepted in
         let fits = sheet-accepted s loaded (firstRound s f) .0 accepted .0 in
         let element = fits .commitment 0 (loads-valid s loaded .table .some-row) in
         let zeros : getD (firstRound s f .commitment) 0 0 ≡ getD zeros8 0 0 =
-        ap (λ (round : Round). getD (round .commitment) 0 0) (unlessRefused-positive _ noRound (checkRound s f 0) refused) in
+        ap (λ (fetched : Fetched). getD (fetched .round .commitment) 0 0) (fetch-refused s f 0 refused) in
         absurd (omega (arith, element .positive, zeros, getD-zeros8 0))
     | no passed ↦ omega arith
   ]

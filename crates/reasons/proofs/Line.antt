@@ -11,6 +11,7 @@ use Rattle.types.specs.declared.Verdict.the-variants.{Accepted, Rejected, Refus
 use Rattle.encoding.specs.Text.{ascii, decimal}
 use Rattle.lists.specs.Member.{Member}
 use Rattle.lists.proofs.Words.{words-agree}
+use Rattle.rules.specs.Call.{numberOf}
 use Rattle.rules.specs.Condition.{Given}
 use Rattle.rules.specs.Rule.{Rule, lowest}
 use Rattle.rules.proofs.Condition.{given, tests-append}
@@ -26,8 +27,9 @@ use Rattle.sigma.proofs.Refusals.{judge-tests}
 use Rattle.sigma.proofs.Values.{expected-image-at, image-at}
 use Rattle.formats.specs.Load.{loadRules}
 use Rattle.formats.specs.Refusals.{loadConditions, roundConditions}
-use Rattle.formats.specs.RoundCalls.{checkAfter, checkRound, roundRules}
+use Rattle.formats.specs.RoundCalls.{checkRound, checking}
 use Rattle.formats.specs.Sheet.{headerOf, instanceOf}
+use Rattle.formats.proofs.Files.{check-number}
 use Rattle.formats.proofs.Positive.{check-positive}
 use Rattle.formats.proofs.Refusals.{load-tests, round-tests}
 use Rattle.runs.specs.Calls.{judgeRound}
@@ -75,18 +77,19 @@ module _ (s f : List ℕ) where
   checked-judged passed = rw passed (judged-zero (judgeRound s (firstRound s f)))
 
   -- the number is that of the lowest rule of the sheet, the file and round 0
-  number-lowest : reasonNumber s f ≡ lowest (loadRules s ++ (roundRules (headerOf s) f 0 ++ roundJudged))
-  unfolding reasonNumber outcome checkRound checkAfter
+  number-lowest : reasonNumber s f ≡ lowest (loadRules s ++ (checking (headerOf s) f 0 .refusals ++ roundJudged))
+  unfolding reasonNumber outcome numberOf
   number-lowest =
       let load = loadRules s in
-      let file = roundRules (headerOf s) f 0 in
+      let file = checking (headerOf s) f 0 .refusals in
+      let number = check-number s f 0 in
       elim (decLt 0 (checkRound s f 0)) [
         | yes refused ↦
-            ap (λ (v : Verdict). outcome v .number) (checked-refused refused)
-            ∙ sym (ap lowest (sym (append-assoc load file roundJudged)) ∙ lowest-earlier (load ++ file) roundJudged refused)
+            ap (λ (v : Verdict). outcome v .number) (checked-refused refused) ∙ number
+            ∙ sym (ap lowest (sym (append-assoc load file roundJudged)) ∙ lowest-earlier (load ++ file) roundJudged (rw number at refused))
         | no passed ↦
             let none : checkRound s f 0 ≡ 0 = omega arith in
-            let (clear, clear′) = clear-append load file .0 (clear-lowest (load ++ file) (check-positive s (headerOf s) f 0) none) in
+            let (clear, clear′) = clear-append load file .0 (clear-lowest (load ++ file) (check-positive s f 0) (sym number ∙ none)) in
             ap (λ (v : Verdict). outcome v .number) (checked-judged none)
             ∙ judge-lowest s (firstRound s f) ∙ lowest-later load roundJudged clear
             ∙ sym (lowest-later load (file ++ roundJudged) clear ∙ lowest-later file roundJudged clear′)
@@ -100,8 +103,8 @@ module _ (s f : List ℕ) where
       let conditions = roundConditions h f 0 ++ judgeConditions (instanceOf s) round in
       rw number-lowest
       (given _ (reasonConditions s f)
-      (tests-append (loadRules s) (roundRules h f 0 ++ roundJudged) (loadConditions s) conditions (load-tests s)
-      (tests-append (roundRules h f 0) roundJudged (roundConditions h f 0) (judgeConditions (instanceOf s) round) (round-tests h f 0)
+      (tests-append (loadRules s) (checking h f 0 .refusals ++ roundJudged) (loadConditions s) conditions (load-tests s)
+      (tests-append (checking h f 0 .refusals) roundJudged (roundConditions h f 0) (judgeConditions (instanceOf s) round) (round-tests h f 0)
       (judge-tests (instanceOf s) round))))
 
   -- ---- the line

@@ -9,19 +9,18 @@ use Rattle.types.specs.declared.Round.{Round}
 use Rattle.encoding.specs.Bytes.{numberAt, wordsAt}
 use Rattle.lists.specs.Places.{pad8}
 use Rattle.rules.specs.Condition.{Given}
-use Rattle.rules.proofs.Condition.{given, given-unique}
+use Rattle.rules.proofs.Condition.{given-unique}
 use Rattle.rules.proofs.Explains.{Explained, Explains, explain}
 use Rattle.sigma.specs.Element.{Coordinate, Element, isCoordinate, isElement}
 use Rattle.sigma.specs.Refusals.{judgeConditions}
 use Rattle.sigma.proofs.Tests.{says-coordinate, says-element}
-use Rattle.formats.specs.Load.{loadRules}
 use Rattle.formats.specs.Refusals.{loadConditions, roundConditions}
-use Rattle.formats.specs.RoundCalls.{checkAfter, checkRound, roundRules}
+use Rattle.formats.specs.RoundCalls.{checkRound}
 use Rattle.formats.specs.RoundFile.{challengeWidth, recordStart, roundAt}
 use Rattle.formats.specs.Sheet.{headerOf, instanceOf}
 use Rattle.formats.proofs.ByteLayout.{word-at}
 use Rattle.formats.proofs.Files.{fetch-given}
-use Rattle.formats.proofs.Refusals.{check-tests}
+use Rattle.formats.proofs.FileRefusals.{file-refusals}
 use Rattle.reasons.specs.Ours.{firstRound}
 use Rattle.reasons.specs.Reason.{firstNonCoordinate, firstNonElement, roundSpot, spotOf}
 use Rattle.reasons.proofs.Named.{Broken, Named, caused, in-file, value-named}
@@ -30,11 +29,8 @@ use Rattle.reasons.proofs.Words.{words-explained}
 module _ (s f : List ℕ) where
   -- where none of 2 to 13 holds, round 0 passes the check
   pub check-none : Given (loadConditions s ++ roundConditions (headerOf s) f 0) 0 → checkRound s f 0 ≡ 0
-  unfolding checkRound checkAfter
   check-none none =
-      let rules = loadRules s ++ roundRules (headerOf s) f 0 in
-      let conditions = loadConditions s ++ roundConditions (headerOf s) f 0 in
-      given-unique conditions _ 0 (given rules conditions (check-tests s f 0)) none
+      given-unique (loadConditions s ++ roundConditions (headerOf s) f 0) _ 0 (file-refusals .checking s f 0 .given) none
 
   -- 15: the challenge, behind the commitment
   challenge-explained : Explained (Named s f) (Broken s f) 15

@@ -18,21 +18,22 @@ use Rattle.lists.proofs.Places.{tabulate-agree}
 use Rattle.encoding.specs.Placed.{Fitted}
 use Rattle.encoding.proofs.Fitted.{fitted-as, fitted-start}
 use Rattle.encoding.specs.Text.{ascii}
+use Rattle.rules.specs.Call.{answer}
 use Rattle.rules.specs.Rule.{_when_, lowest}
 use Rattle.sigma.specs.Answer.{isAccepted}
 use Rattle.formats.specs.Load.{load}
 use Rattle.formats.specs.Meaning.{IsRoundFile}
-use Rattle.formats.specs.RoundCalls.{countAfter, countRounds}
+use Rattle.formats.specs.RoundCalls.{countRounds, counting}
 use Rattle.formats.specs.RoundFile.{countField}
 use Rattle.formats.specs.Sheet.{entriesOf, headerOf, instanceOf}
-use Rattle.formats.proofs.After.{countAfter-clear}
 use Rattle.formats.proofs.Files.{count-given, count-runs}
 use Rattle.runs.specs.Level.{badLevel, levelOf, strongEnough}
 use Rattle.runs.specs.Marker.{failsAt, markerText, resultLine, roundLine, roundLines, verdictLine, verdictOn, wordLine}
 use Rattle.runs.proofs.Marker.{round-lines, verdict-on-record}
 use Rattle.runs.proofs.MarkerLength.{text-short}
 use Rattle.runs.proofs.MarkerRefusal.{file-line, file-refusal, level-line, sheet-line}
-use Rattle.instance.proofs.Answers.{answer-number, answer-header, answer-instance, answer-header-call}
+use Rattle.instance.proofs.Answers.{answer-number, answer-header, answer-instance}
+use Rattle.instance.proofs.OnLoaded.{on-header}
 use Rattle.sigma.specs.Instance.{instanceWith}
 use Rattle.round_lines.specs.Lines.{failsIn, linesIn, verdictIn}
 use Rattle.report.proofs.AtLevel.{level-bad, level-good}
@@ -80,11 +81,11 @@ module _ (s f : List ℕ) {loaded : Loaded} (is-load : loaded ≡ load s) where
       let number = answer-number s loaded is-load in
       rw number (sheet-line s f level (omega arith))
 
-  module _ (passed : loaded .refusal ≡ 0) {counted : Counted} (is-count : counted ≡ countAfter [] (loaded .header) f) where
+  module _ (passed : loaded .refusal ≡ 0) {counted : Counted} (is-count : counted ≡ answer (counting (loaded .header) f)) where
     -- counting answers the sheet's and the file's number
     counts : counted ≡ countRounds s f
     unfolding countRounds
-    counts = answer-header-call s loaded is-load passed (λ before h none. countAfter-clear before h none f) is-count
+    counts = on-header s loaded is-load passed (λ h. counting h f) is-count
 
     -- a refused file
     pub file-text : (level : List ℕ) → counted .refusal ≢ 0 → markerText s f level ≡ wordLine (ascii "file") (counted .refusal)

@@ -13,19 +13,19 @@ use types::Part;
 use types::Round;
 ghost use Prim.Native.Nat.{_+_, _*_, _≤_};
 ghost use mathlib.Core.Path.{_≡_};
-ghost use mathlib.Core.List.{[]};
 ghost use lib.ListN.{length};
 ghost use Rattle.lists.specs.Places.{pad8};
 ghost use Rattle.encoding.specs.Bytes.{numberAt, wordsAt};
+ghost use Rattle.rules.specs.Call.{answer};
 ghost use Rattle.formats.specs.RoundFile.{recordLength, roundAt};
-ghost use Rattle.formats.specs.RoundCalls.{noRound, countAfter, checkAfter, locateAfter, fetchAfter};
+ghost use Rattle.formats.specs.RoundCalls.{noRound, counting, checking, locating, fetching};
 ghost use Rattle.round_layout.specs.Width.{IsWidth};
 
 // How many rounds a file has; 0 beside the number where it is refused.
 pub fn count_in(h: Header, file: &[u8]) -> Counted
     requires rows { ⌜ h .rows ≤ 8 ⌝ }
     requires columns { ⌜ h .columns ≤ 8 ⌝ }
-    ensures { λ r. ⌜ r ≡ countAfter [] h (now (file .entry)) ⌝ }
+    ensures { λ r. ⌜ r ≡ answer (counting h (now (file .entry))) ⌝ }
 {
     let refusal = file_refusal(h, file);
     if refusal != 0 {
@@ -41,7 +41,7 @@ pub fn count_in(h: Header, file: &[u8]) -> Counted
 pub fn check_in(h: Header, file: &[u8], k: usize) -> u32
     requires rows { ⌜ h .rows ≤ 8 ⌝ }
     requires columns { ⌜ h .columns ≤ 8 ⌝ }
-    ensures { λ r. ⌜ r ≡ checkAfter [] h (now (file .entry)) k ⌝ }
+    ensures { λ r. ⌜ r ≡ answer (checking h (now (file .entry)) k) ⌝ }
 {
     let refusal = file_refusal(h, file);
     if refusal != 0 {
@@ -58,7 +58,7 @@ pub fn check_in(h: Header, file: &[u8], k: usize) -> u32
 pub fn locate_in(h: Header, file: &[u8], k: usize) -> Part
     requires rows { ⌜ h .rows ≤ 8 ⌝ }
     requires columns { ⌜ h .columns ≤ 8 ⌝ }
-    ensures { λ r. ⌜ r ≡ locateAfter [] h (now (file .entry)) k ⌝ }
+    ensures { λ r. ⌜ r ≡ answer (locating h (now (file .entry)) k) ⌝ }
 {
     let refusal = check_in(h, file, k);
     if refusal != 0 {
@@ -135,7 +135,7 @@ pub fn no_round() -> Round
 pub fn read_in(h: Header, file: &[u8], k: usize) -> Fetched
     requires rows { ⌜ h .rows ≤ 8 ⌝ }
     requires columns { ⌜ h .columns ≤ 8 ⌝ }
-    ensures { λ r. ⌜ r ≡ fetchAfter [] h (now (file .entry)) k ⌝ }
+    ensures { λ r. ⌜ r ≡ answer (fetching h (now (file .entry)) k) ⌝ }
 {
     let refusal = check_in(h, file, k);
     if refusal != 0 {

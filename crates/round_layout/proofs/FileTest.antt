@@ -8,12 +8,13 @@ use lib.ListN.{length, take}
 use borrow.Author.Tests.{not-true, not-false}
 use Rattle.types.specs.declared.Header.{Header}
 use Rattle.fields.specs.Mark.{hasMark}
+use Rattle.rules.specs.Call.{numberOf}
 use Rattle.rules.specs.Rule.{lowest}
 use Rattle.rules.specs.Says.{Says}
 use Rattle.rules.proofs.Lowest.{clear-lowest, stop}
 use Rattle.sigma.proofs.Comparison.{differ-false}
 use Rattle.formats.specs.Meaning.{IsRoundFile, IsVersion}
-use Rattle.formats.specs.RoundCalls.{fileRules}
+use Rattle.formats.specs.RoundCalls.{counting}
 use Rattle.formats.specs.RoundFile.{challengeWidth, countField, fileVersion, recordStart, roundMark, unknownVersion}
 use Rattle.formats.proofs.Files.{file-passes, length-roundMark, version-passes}
 use Rattle.formats.proofs.Growing.{file-long}
@@ -33,27 +34,27 @@ says-mark s mark e h =
 
 module _ (h : Header) (f : List ℕ) where
   -- a file that is no round file of the sheet is refused
-  pub file-refused : ¬ IsRoundFile h f → 12 ≡ lowest (fileRules h f)
-  unfolding fileRules
+  pub file-refused : ¬ IsRoundFile h f → 12 ≡ numberOf (counting h f)
+  unfolding counting numberOf
   file-refused other = sym (stop 12 [] (not-eq-not {b = true} .0 (λ e. other (file-passes h f .0 e))))
 
   -- a round file of the sheet is not
-  pub file-taken : IsRoundFile h f → 0 ≡ lowest (fileRules h f)
-  unfolding fileRules lowest
+  pub file-taken : IsRoundFile h f → 0 ≡ numberOf (counting h f)
+  unfolding counting numberOf lowest
   file-taken r = rw (file-passes h f .1 r)
 
   -- a file that is not refused is a round file of the sheet
-  pub file-clear : {n : ℕ} → n ≡ lowest (fileRules h f) → n ≡ 0 → IsRoundFile h f
-  unfolding fileRules
-  file-clear tested e = file-passes h f .0 (clear-lowest (fileRules h f) tt (sym tested ∙ e) .0)
+  pub file-clear : {n : ℕ} → n ≡ numberOf (counting h f) → n ≡ 0 → IsRoundFile h f
+  unfolding counting numberOf
+  file-clear tested e = file-passes h f .0 (clear-lowest (counting h f .refusals) tt (sym tested ∙ e) .0)
 
   -- and has the seven bytes before the records
-  pub seven-bytes : {n : ℕ} → n ≡ lowest (fileRules h f) → n ≡ 0 → 7 ≤ length f
+  pub seven-bytes : {n : ℕ} → n ≡ numberOf (counting h f) → n ≡ 0 → 7 ≤ length f
   seven-bytes tested e = file-long (file-clear tested e)
 
   module _ {marked : Bool} (tested : marked ≡ hasMark f roundMark) (long : 3 ≤ length f) where
     -- a file that fails the test of the mark is refused
-    pub unmarked-refused : not marked ≡ true → 12 ≡ lowest (fileRules h f)
+    pub unmarked-refused : not marked ≡ true → 12 ≡ numberOf (counting h f)
     unmarked-refused e =
         let says = says-mark f roundMark length-roundMark long in
         file-refused (λ r. false≢true (sym (not-true marked e) ∙ tested ∙ says .complete (r .mark)))
@@ -64,7 +65,7 @@ module _ (h : Header) (f : List ℕ) where
 
   module _ {version : ℕ} {unknown : Bool} (is-version : version ≡ fileVersion f) (tested : unknown ≡ unknownVersion version) where
     -- a file of an unknown version is refused
-    pub version-refused : unknown ≡ true → 12 ≡ lowest (fileRules h f)
+    pub version-refused : unknown ≡ true → 12 ≡ numberOf (counting h f)
     version-refused e =
         file-refused (λ r. false≢true (sym (version-passes (fileVersion f) .1 (r .version)) ∙ rw (← is-version, ← tested) e))
 

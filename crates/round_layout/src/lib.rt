@@ -6,9 +6,9 @@ use types::Header;
 ghost use Prim.Native.Nat.{_≤_};
 ghost use mathlib.Core.Path.{_≡_};
 ghost use lib.ListN.{length};
-ghost use Rattle.rules.specs.Rule.{lowest};
+ghost use Rattle.rules.specs.Call.{numberOf};
 ghost use Rattle.formats.specs.RoundFile.{challengeWidth, recordLength, recordStart, unknownVersion, widthOf};
-ghost use Rattle.formats.specs.RoundCalls.{fileRules};
+ghost use Rattle.formats.specs.RoundCalls.{counting};
 ghost use Rattle.round_layout.specs.Width.{IsWidth};
 
 // The three bytes that a round file begins with.
@@ -79,7 +79,7 @@ pub fn record_start(h: Header, width: usize, k: usize) -> usize
 pub fn file_refusal(h: Header, file: &[u8]) -> u32
     requires rows { ⌜ h .rows ≤ 8 ⌝ }
     requires columns { ⌜ h .columns ≤ 8 ⌝ }
-    ensures { λ r. ⌜ r ≡ lowest (fileRules h (now (file .entry))) ⌝ }
+    ensures { λ r. ⌜ r ≡ numberOf (counting h (now (file .entry))) ⌝ }
 {
     if file.len() < START {
         return 12;

@@ -1,7 +1,7 @@
 -- The comparison of two rounds' commitments, return by return. `tested` is what the test of the file answered.
 -- Assumes nothing.
 use Prim.Native.Nat.{ℕ, _+_, _*_, _<_, _≤_}
-use mathlib.Core.Path.{_≡_, refl, sym, _∙_}
+use mathlib.Core.Path.{_≡_, refl, sym, ap, _∙_}
 use mathlib.Core.Bool.{Bool, true, false, cond, not}
 use mathlib.Core.Logic.{_≢_, _⊎_}
 use mathlib.Core.List.{List, []}
@@ -13,35 +13,18 @@ use Rattle.types.specs.declared.Header.{Header}
 use Rattle.numbers.specs.Search.{any}
 use Rattle.numbers.proofs.Search.{any-agree}
 use Rattle.lists.proofs.Places.{getD-tabulate}
-use Rattle.rules.specs.Rule.{Rule, Clear, lowest}
-use Rattle.rules.proofs.Lowest.{lowest-append-zero, lowest-earlier, lowest-later, lowest-later-zero, stop}
+use Rattle.rules.specs.Call.{answer, numberOf}
+use Rattle.rules.proofs.Call.{tested-refused, tested-value}
+use Rattle.rules.proofs.Lowest.{lowest-clear, lowest-earlier, pass, stop}
 use Rattle.rules.proofs.Says.{says-at-most, says-or}
 use Rattle.sigma.specs.Comparison.{differ, firstDifference}
-use Rattle.rules.proofs.Answer.{unlessRefused-positive, unlessRefused-zero}
 use Rattle.sigma.proofs.Calculus.{both-fail}
-use Rattle.formats.specs.RoundCalls.{fileRules}
-use Rattle.formats.specs.RoundFile.{challengeWidth, countField, recordLength, recordStart}
-use Rattle.formats.specs.SameCommitment.{commitmentBytes, sameAfter, sameRules}
-use Rattle.formats.proofs.Files.{number-passes}
+use Rattle.formats.specs.RoundCalls.{counting}
+use Rattle.formats.specs.RoundFile.{badFile, challengeWidth, countField, recordLength, recordStart}
+use Rattle.formats.specs.SameCommitment.{commitmentBytes, comparing}
+use Rattle.formats.proofs.Files.{file-passes, number-passes}
 use Rattle.formats.proofs.Part.{record-inside}
 use Rattle.round_layout.proofs.FileTest.{file-clear}
-
--- ---- after the rules of the sheet
-
-module _ (before : List Rule) (h : Header) where
-  -- where none of them applies, the comparison is that on the file alone
-  pub sameAfter-clear : Clear before → (f : List ℕ) (i j : ℕ) → sameAfter before h f i j ≡ sameAfter [] h f i j
-  unfolding sameAfter
-  sameAfter-clear none f i j = rw (lowest-later before (sameRules h f i j) none)
-
-  -- where one applies, its number is given and nothing is compared
-  pub sameAfter-refused : 0 < lowest before → (f : List ℕ) (i j : ℕ)
-      → sameAfter before h f i j ≡ record { same = 0; refusal = lowest before }
-  unfolding sameAfter
-  sameAfter-refused some f i j =
-      rw (lowest-earlier before (sameRules h f i j) some, unlessRefused-positive {A = ℕ} _ 0 (lowest before) some)
-
--- ---- on the file
 
 -- the bytes of two commitments differ exactly where the file's do, from the two records on
 commitments-differ : (h : Header) (f : List ℕ) (i j : ℕ)
@@ -65,23 +48,26 @@ one-unless : (other : Bool) → _≡_ {A = ℕ} (cond (not other) 1 0) (cond oth
 one-unless true = refl
 one-unless false = refl
 
-module _ (h : Header) (f : List ℕ) {n : ℕ} (tested : n ≡ lowest (fileRules h f)) where
+module _ (h : Header) (f : List ℕ) {n : ℕ} (tested : n ≡ numberOf (counting h f)) where
   -- a refused file's number is given
-  pub same-file : n ≢ 0 → (i j : ℕ) → record { same = 0; refusal = n } ≡ sameAfter [] h f i j
-  unfolding sameAfter sameRules
+  pub same-file : n ≢ 0 → (i j : ℕ) → record { same = 0; refusal = n } ≡ answer (comparing h f i j)
+  unfolding counting comparing numberOf
   same-file some i j =
-      rw (lowest-earlier (fileRules h f) _ (omega arith), ← tested, unlessRefused-positive {A = ℕ} _ 0 n (omega arith))
+      tested-refused (comparing h f i j) (tested ∙ sym (lowest-earlier (counting h f .refusals) _ (omega (arith, tested)))) some
 
   module _ (passed : n ≡ 0) where
+    -- a file that passes is a round file
+    file-good : badFile h f ≡ false
+    file-good = file-passes h f .1 (file-clear h f tested passed)
+
     -- 13 for either number at or beyond the count
     pub same-beyond : (i j : ℕ) → (countField f ≤ i) ⊎ (countField f ≤ j)
-        → record { same = 0; refusal = 13 } ≡ sameAfter [] h f i j
-    unfolding sameAfter sameRules fileRules
+        → record { same = 0; refusal = 13 } ≡ answer (comparing h f i j)
+    unfolding comparing numberOf
     same-beyond i j beyond =
-        let number : lowest (sameRules h f i j) ≡ 13 =
-        lowest-later-zero (fileRules h f) _ tt (sym tested ∙ passed)
-        ∙ stop 13 [] (says-or (says-at-most (countField f) i) (says-at-most (countField f) j) .complete beyond) in
-        rw (number, unlessRefused-positive {A = ℕ} _ 0 13 (omega arith))
+        let number =
+        pass 12 _ file-good ∙ stop 13 [] (says-or (says-at-most (countField f) i) (says-at-most (countField f) j) .complete beyond) in
+        tested-refused (comparing h f i j) (sym number) (λ (z : 13 ≡ 0). omega arith)
 
     -- a number below the count is below 512
     pub number-small : (k : ℕ) → k < countField f → k < 512
@@ -97,21 +83,13 @@ module _ (h : Header) (f : List ℕ) {n : ℕ} (tested : n ≡ lowest (fileRules
 
       -- for two such numbers the answer is whether the commitments agree
       pub same-compared : (i j : ℕ) → i < countField f → j < countField f → {a b : ℕ} → a ≡ recordStart width h i
-          → b ≡ recordStart width h j → {agree answer : Bool} → agree ≡ not (differ (4 * h .rows) (drop a f) (drop b f))
-          → agree ≡ answer → record { same = cond answer 1 0; refusal = 0 } ≡ sameAfter [] h f i j
-      unfolding sameAfter sameRules fileRules
-      same-compared i j first second is-first is-second is-agree is-answer =
+          → b ≡ recordStart width h j → {agree told : Bool} → agree ≡ not (differ (4 * h .rows) (drop a f) (drop b f))
+          → agree ≡ told → record { same = cond told 1 0; refusal = 0 } ≡ answer (comparing h f i j)
+      unfolding comparing numberOf
+      same-compared i j first second is-first is-second {told = told} is-agree is-told =
           let inside = both-fail (leb (countField f) i) (leb (countField f) j) .1 (number-passes f i .1 first, number-passes f j .1 second) in
-          let number : lowest (sameRules h f i j) ≡ 0 =
-          lowest-append-zero (fileRules h f) _ tt tt .1 (sym tested ∙ passed, (inside, tt)) in
-          rw (
-            number,
-            commitments-differ h f i j,
-            ← is-width,
-            ← is-first,
-            ← is-second,
-            ← is-answer,
-            is-agree,
-            unlessRefused-zero,
-            one-unless,
-          )
+          let number = lowest-clear (comparing h f i j .refusals) (file-good, (inside, tt)) in
+          let same : _≡_ {A = ℕ} (cond told 1 0)
+          (cond (differ (4 * h .rows) (commitmentBytes h f i) (commitmentBytes h f j)) 0 1) =
+          rw (commitments-differ h f i j, ← is-width, ← is-first, ← is-second, ← is-told, is-agree, one-unless) in
+          ap (λ (k : ℕ). record { same = k; refusal = 0 }) same ∙ tested-value (comparing h f i j) (sym number) refl

@@ -10,10 +10,10 @@ use types::Header;
 ghost use Prim.Native.Nat.{_+_, _*_, _≤_};
 ghost use mathlib.Core.Path.{_≡_};
 ghost use mathlib.Core.Bool.{not};
-ghost use mathlib.Core.List.{[]};
 ghost use lib.ListN.{length, drop};
+ghost use Rattle.rules.specs.Call.{answer};
 ghost use Rattle.sigma.specs.Comparison.{differ};
-ghost use Rattle.formats.specs.SameCommitment.{sameAfter, sameCommitment};
+ghost use Rattle.formats.specs.SameCommitment.{comparing, sameCommitment};
 
 // Whether the n words of a file from index a on are those from index b on, in all their bytes.
 fn words_agree(file: &[u8], a: usize, b: usize, n: usize) -> bool
@@ -33,7 +33,7 @@ fn words_agree(file: &[u8], a: usize, b: usize, n: usize) -> bool
 pub fn same_in(h: Header, file: &[u8], i: usize, j: usize) -> Compared
     requires rows { ⌜ h .rows ≤ 8 ⌝ }
     requires columns { ⌜ h .columns ≤ 8 ⌝ }
-    ensures { λ r. ⌜ r ≡ sameAfter [] h (now (file .entry)) i j ⌝ }
+    ensures { λ r. ⌜ r ≡ answer (comparing h (now (file .entry)) i j) ⌝ }
 {
     let refusal = file_refusal(h, file);
     if refusal != 0 {

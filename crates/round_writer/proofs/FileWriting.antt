@@ -18,11 +18,11 @@ use Rattle.encoding.specs.Placed.{Placed}
 use Rattle.encoding.proofs.Bytes.{length-bytesOfEach, numberAt-take}
 use Rattle.encoding.proofs.Placed.{placed-number, placed-words}
 use Rattle.encoding.proofs.Replaced.{part-replaced-front}
-use Rattle.rules.specs.Answer.{unlessRefused}
-use Rattle.rules.specs.Rule.{_when_, lowest}
+use Rattle.rules.specs.Call.{answer, numberOf}
+use Rattle.rules.specs.Rule.{_when_}
+use Rattle.rules.proofs.Call.{tested-refused, tested-value}
 use Rattle.rules.proofs.Lowest.{clear-lowest, lowest-clear, pass, stop}
-use Rattle.rules.proofs.Answer.{unlessRefused-positive, unlessRefused-zero}
-use Rattle.formats.specs.Append.{appendAfter, appendRules, appended, emptyFile, emptyRules, wideChallenge}
+use Rattle.formats.specs.Append.{appended, appending, emptyFile, starting, wideChallenge}
 use Rattle.formats.specs.Meaning.{InUse}
 use Rattle.formats.specs.RoundFile.{
   challengeWidth,
@@ -35,10 +35,10 @@ use Rattle.formats.specs.RoundFile.{
   unknownVersion,
   widthInUse,
 }
-use Rattle.formats.specs.Write.{short, written, writtenAtStart}
+use Rattle.formats.specs.Write.{short}
 use Rattle.formats.proofs.Appending.{in-use-long, length-recordBytes}
 use Rattle.formats.proofs.Files.{in-use-passes, length-roundMark, width-version}
-use Rattle.formats.proofs.Writing.{Leaves, length-noRounds, short-passes}
+use Rattle.formats.proofs.Writing.{Leaves, leaves, length-noRounds, short-passes}
 
 module _ (version : ℕ) (buffer : List ℕ) where
   -- the mark, the version and the count of no rounds stored one behind the other are the file of no rounds stored
@@ -52,30 +52,33 @@ module _ (version : ℕ) (buffer : List ℕ) where
   module _ {unknown : Bool} (tested : unknown ≡ unknownVersion version) where
     -- an unknown version is refused, and the buffer kept
     pub empty-unknown : unknown ≡ true → Leaves (record { refusal = 12; length = 0 }) buffer (emptyFile version buffer)
-    unfolding emptyFile emptyRules writtenAtStart written unlessRefused
+    unfolding emptyFile starting numberOf
     empty-unknown e =
         let number = stop 12 ((22 when short buffer (length (noRounds version))) ∷ []) (sym tested ∙ e) in
-        (rw number, rw number)
+        leaves (tested-refused (starting version buffer) (sym number) (λ (z : 12 ≡ 0). omega arith))
 
     -- a buffer of under seven bytes is kept
     pub empty-none : unknown ≡ false → length buffer < 7
         → Leaves (record { refusal = 22; length = 0 }) buffer (emptyFile version buffer)
-    unfolding emptyFile emptyRules writtenAtStart written short unlessRefused
+    unfolding emptyFile starting numberOf short
     empty-none e less =
         let few = lt-ltb (length buffer) (length (noRounds version)) (omega (arith, length-noRounds version)) in
         let number = pass 12 _ (sym tested ∙ e) ∙ stop 22 [] few in
-        (rw number, rw number)
+        leaves (tested-refused (starting version buffer) (sym number) (λ (z : 22 ≡ 0). omega arith))
 
     -- in any other the mark, the version and the count of no rounds are stored
     pub empty-made : {marked versioned after : List ℕ} → unknown ≡ false → 7 ≤ length buffer
         → marked ≡ sets buffer 0 roundMark → versioned ≡ sets marked 3 (bytesOf 2 version) → after ≡ sets versioned 5 (bytesOf 2 0)
         → Leaves (record { refusal = 0; length = 7 }) after (emptyFile version buffer)
-    unfolding emptyFile emptyRules writtenAtStart written unlessRefused
+    unfolding emptyFile starting numberOf
     empty-made e room is-marked is-versioned is-after =
         let size = length-noRounds version in
         let fits = short-passes buffer (length (noRounds version)) .1 (omega arith) in
-        let number = lowest-clear (emptyRules version buffer) (sym tested ∙ e, (fits, tt)) in
-        (rw (number, size), rw (number, is-after, is-versioned, is-marked) no-rounds-stored)
+        let number = lowest-clear (starting version buffer .refusals) (sym tested ∙ e, (fits, tt)) in
+        let (answers, bytes) = leaves (tested-value (starting version buffer) (sym number) refl) in (
+          ap (λ (n : ℕ). record { refusal = 0; length = n }) (sym size) ∙ answers,
+          rw (is-after, is-versioned, is-marked) no-rounds-stored ∙ bytes,
+        )
 
 -- the three fields of a record stored one behind the other are the record stored
 pub record-stored : (width : ℕ) (h : Header) (round : Round) (l : List ℕ) {with-t with-c with-r : List ℕ}
@@ -102,8 +105,8 @@ in-use-width {buffer = buffer} {used} u =
 
 module _ (h : Header) (buffer : List ℕ) (used : ℕ) (round : Round) where
   -- bytes in use that are no round file with room for a round are refused
-  pub in-use-refused : ¬ InUse h buffer used → 12 ≡ lowest (appendRules h buffer used round)
-  unfolding appendRules
+  pub in-use-refused : ¬ InUse h buffer used → 12 ≡ numberOf (appending h buffer used round)
+  unfolding appending numberOf
   in-use-refused other = sym (stop 12 _ (not-eq-not {b = true} .0 (λ e. other (in-use-passes h buffer used .0 e))))
 
   module _ (u : InUse h buffer used) {version : ℕ} {wide : Bool} (is-version : version ≡ fileVersion (take used buffer))
@@ -113,31 +116,31 @@ module _ (h : Header) (buffer : List ℕ) (used : ℕ) (round : Round) where
     wide-tested = tested ∙ ap (λ (v : ℕ). wideChallenge v (round .challenge)) is-version
 
     -- a challenge that a record of the version cannot hold is refused
-    pub wide-refused : wide ≡ true → 15 ≡ lowest (appendRules h buffer used round)
-    unfolding appendRules
+    pub wide-refused : wide ≡ true → 15 ≡ numberOf (appending h buffer used round)
+    unfolding appending numberOf
     wide-refused e = sym (pass 12 _ (in-use-passes h buffer used .1 u) ∙ stop 15 _ (sym wide-tested ∙ e))
 
     module _ (narrow : wide ≡ false) {width size : ℕ} (is-width : width ≡ widthInUse buffer used)
         (is-size : size ≡ recordLength width h) where
       -- a buffer without room for the record is refused
-      pub room-refused : length buffer < used + size → 22 ≡ lowest (appendRules h buffer used round)
-      unfolding appendRules short
+      pub room-refused : length buffer < used + size → 22 ≡ numberOf (appending h buffer used round)
+      unfolding appending numberOf short
       room-refused less =
           sym (pass 12 _ (in-use-passes h buffer used .1 u) ∙ pass 15 _ (sym wide-tested ∙ narrow)
           ∙ stop 22 [] (lt-ltb (length buffer) (used + recordLength (widthInUse buffer used) h) (rw (← is-width, ← is-size) less)))
 
       -- one with room is not
-      pub append-passes : used + size ≤ length buffer → 0 ≡ lowest (appendRules h buffer used round)
-      unfolding appendRules
+      pub append-passes : used + size ≤ length buffer → 0 ≡ numberOf (appending h buffer used round)
+      unfolding appending numberOf
       append-passes fits =
           let room = short-passes buffer (used + recordLength (widthInUse buffer used) h) .1 (rw (← is-width, ← is-size) fits) in
           sym (lowest-clear _ (in-use-passes h buffer used .1 u, (sym wide-tested ∙ narrow, (room, tt))))
 
-  module _ {n : ℕ} (tested : n ≡ lowest (appendRules h buffer used round)) where
+  module _ {n : ℕ} (tested : n ≡ numberOf (appending h buffer used round)) where
     -- where nothing is refused, the bytes in use are a round file with room for a round
     in-use-there : n ≡ 0 → InUse h buffer used
-    unfolding appendRules
-    in-use-there e = in-use-passes h buffer used .0 (clear-lowest (appendRules h buffer used round) tt (sym tested ∙ e) .0)
+    unfolding appending numberOf
+    in-use-there e = in-use-passes h buffer used .0 (clear-lowest (appending h buffer used round .refusals) tt (sym tested ∙ e) .0)
 
     -- the buffer then has the seven bytes before the records
     pub seven-used : n ≡ 0 → 7 ≤ length buffer
@@ -145,31 +148,30 @@ module _ (h : Header) (buffer : List ℕ) (used : ℕ) (round : Round) where
 
     -- and room for the record
     pub record-room : {width : ℕ} → n ≡ 0 → width ≡ challengeWidth buffer → used + recordLength width h ≤ length buffer
-    unfolding appendRules
+    unfolding appending numberOf
     record-room e is-width =
-        let (file, (narrow, (room, none))) = clear-lowest (appendRules h buffer used round) tt (sym tested ∙ e) in
+        let (file, (narrow, (room, none))) = clear-lowest (appending h buffer used round .refusals) tt (sym tested ∙ e) in
         rw (is-width, ← in-use-width (in-use-there e)) (short-passes buffer _ .0 room)
 
     -- a refused call keeps the buffer
-    pub append-none : n ≢ 0 → Leaves (record { refusal = n; length = 0 }) buffer (appendAfter [] h buffer used round)
-    unfolding appendAfter written
-    append-none some = (
-      rw (← tested, unlessRefused-positive (used + recordLength (widthInUse buffer used) h) 0 n (omega arith)),
-      rw (← tested) (sym (unlessRefused-positive (appended h buffer used round) buffer n (omega arith))),
-    )
+    pub append-none : n ≢ 0 → Leaves (record { refusal = n; length = 0 }) buffer (answer (appending h buffer used round))
+    unfolding appending
+    append-none some = leaves (tested-refused (appending h buffer used round) tested some)
 
     -- a call that is not refused answers the bytes in use and leaves the record and the raised count
     pub append-record : {count width size : ℕ} {part after : List ℕ}
         → n ≡ 0 → count ≡ countField buffer → width ≡ challengeWidth buffer → size ≡ recordLength width h
         → part ≡ sets (take (length buffer - used) (drop used buffer)) 0 (recordBytes width h round)
         → after ≡ sets (take used buffer ++ (part ++ drop (length buffer - used) (drop used buffer))) 5 (bytesOf 2 (count + 1))
-        → Leaves (record { refusal = 0; length = used + size }) after (appendAfter [] h buffer used round)
-    unfolding appendAfter written appended
-    append-record {width = width} e is-count is-width is-size is-part is-after =
+        → Leaves (record { refusal = 0; length = used + size }) after (answer (appending h buffer used round))
+    unfolding appending appended
+    append-record {width = width} {after = after} e is-count is-width is-size is-part is-after =
         let same : widthInUse buffer used ≡ width = in-use-width (in-use-there e) ∙ sym is-width in
         let bytes = recordBytes width h round in
         let room : length bytes ≤ length buffer - used = omega (arith, length-recordBytes width h round, record-room e is-width) in
-        let back = part-replaced-front used (length buffer - used) buffer bytes room in (
-          rw (← tested, e, is-size, same, unlessRefused-zero),
-          rw (← tested, e, same, unlessRefused-zero, is-after, is-part, is-count, back),
+        let back = part-replaced-front used (length buffer - used) buffer bytes room in
+        let stored : after ≡ appended h buffer used round = rw (same, is-after, is-part, is-count, back) in
+        let (answers, bytes-left) = leaves (tested-value (appending h buffer used round) tested e) in (
+          ap (λ (n : ℕ). record { refusal = 0; length = used + n }) (is-size ∙ ap (λ (k : ℕ). recordLength k h) (sym same)) ∙ answers,
+          stored ∙ bytes-left,
         )

@@ -17,9 +17,8 @@ use types::Round;
 use types::Written;
 ghost use Prim.Native.Nat.{_≤_};
 ghost use mathlib.Core.Path.{_≡_};
-ghost use mathlib.Core.List.{[]};
-ghost use Rattle.rules.specs.Rule.{lowest};
-ghost use Rattle.formats.specs.Append.{appendAfter, appendRules, emptyFile};
+ghost use Rattle.rules.specs.Call.{answer, numberOf};
+ghost use Rattle.formats.specs.Append.{appending, emptyFile};
 
 // Puts the file of no rounds in a version at the start of buffer and answers its length. No byte behind it is changed. A
 // version other than 1 and 2 gets 12, a buffer that is shorter 22, and buffer keeps its bytes.
@@ -52,7 +51,7 @@ pub fn empty(version: u32, buffer: &mut [u8]) -> Written
 fn append_refusal(h: Header, buffer: &[u8], used: usize, round: Round) -> u32
     requires rows { ⌜ h .rows ≤ 8 ⌝ }
     requires columns { ⌜ h .columns ≤ 8 ⌝ }
-    ensures { λ r. ⌜ r ≡ lowest (appendRules h (now (buffer .entry)) used round) ⌝ }
+    ensures { λ r. ⌜ r ≡ numberOf (appending h (now (buffer .entry)) used round) ⌝ }
 {
     if buffer.len() < used {
         return 12;
@@ -78,8 +77,8 @@ fn append_refusal(h: Header, buffer: &[u8], used: usize, round: Round) -> u32
 pub fn append_in(h: Header, buffer: &mut [u8], used: usize, round: Round) -> Written
     requires rows { ⌜ h .rows ≤ 8 ⌝ }
     requires columns { ⌜ h .columns ≤ 8 ⌝ }
-    ensures answer { λ r. ⌜ r ≡ appendAfter [] h (now (buffer .entry)) used round .answer ⌝ }
-    ensures bytes { λ _. ⌜ now (buffer .exit) ≡ appendAfter [] h (now (buffer .entry)) used round .buffer ⌝ }
+    ensures answer { λ r. ⌜ r ≡ answer (appending h (now (buffer .entry)) used round) .answer ⌝ }
+    ensures bytes { λ _. ⌜ now (buffer .exit) ≡ answer (appending h (now (buffer .entry)) used round) .buffer ⌝ }
 {
     let refusal = append_refusal(h, buffer, used, round);
     if refusal != 0 {

@@ -2,8 +2,9 @@
 -- other refusals put in front it is the same call if none of these applies, and else is refused with their number.
 -- Assumes nothing.
 use Prim.Native.Nat.{ℕ, zero, suc, _<_}
-use mathlib.Core.Path.{_≡_, refl, sym, ap, _∙_}
-use mathlib.Core.List.{List, [], _∷_, _++_}
+use mathlib.Core.Path.{_≡_, sym, ap, _∙_}
+use mathlib.Core.Logic.{_≢_}
+use mathlib.Core.List.{List}
 use native.Mathlib.Omega.{arith}
 use Rattle.rules.specs.Answer.{unlessRefused}
 use Rattle.rules.specs.Call.{Call, after, answer, numberOf}
@@ -38,6 +39,14 @@ module _ {A : Type 0} (call : Call A) where
   unfolding answer
   answer-refused some = unlessRefused-positive _ _ (numberOf call) some
 
+  -- a number that was found and is not 0 makes what is handed back the answer
+  pub tested-refused : {n : ℕ} → n ≡ numberOf call → n ≢ 0 → call .refused n ≡ answer call
+  tested-refused tested some = ap (call .refused) tested ∙ sym (answer-refused (omega (arith, tested)))
+
+  -- and one that is 0 makes the value the answer
+  pub tested-value : {n : ℕ} → n ≡ numberOf call → n ≡ 0 → call .value ≡ answer call
+  tested-value tested none = sym (answer-value (sym tested ∙ none))
+
   -- what is read off the answer is read off the value or off what a refused call hands back
   pub answer-read : {B : Type 0} (read : A → B)
       → read (answer call) ≡ unlessRefused (numberOf call) (read (call .value)) (read (call .refused (numberOf call)))
@@ -68,3 +77,9 @@ module _ {A : Type 0} (call : Call A) where
   unfolding answer numberOf
   after-refused before some =
       rw (lowest-earlier before (call .refusals) some) (unlessRefused-positive _ _ (lowest before) some)
+
+-- calls with the same number, value and answers to a refusal answer the same
+pub answer-same : {A : Type 0} (call call′ : Call A) → numberOf call ≡ numberOf call′ → call .value ≡ call′ .value
+    → call .refused ≡ call′ .refused → answer call ≡ answer call′
+unfolding answer
+answer-same call call′ number value refused = rw (number, value, refused)

@@ -1,4 +1,5 @@
 -- A number that conditions give is 0 or one of theirs, and so one of the order's, and of those that apply it is the earliest there.
+-- A call whose refusals test the conditions answers with such a number.
 -- Assumes nothing.
 use mathlib.Core.Path.{_≡_, sym, subst}
 use mathlib.Core.Bool.{true}
@@ -40,17 +41,17 @@ module _ (numbers : List ℕ) (conditions : List Condition) {Left : Type 0} (num
       → Refuses numbers conditions (lowest rules) Left
   refuses-tested rules tests = refuses-given (lowest rules) (given rules conditions tests)
 
--- demand 1 of every call: its refusals test the conditions, its answer has the number in a place of its own, and what a refused call
--- hands back is what is asked of it
-pub refuses-call : (numbers : List ℕ) (conditions : List Condition) {A : Type 0} (call : Call A) (number : A → ℕ) (Left : A → Type 0)
-    → conditionNumbers conditions ≡ numbers → isSublist numbers refusalOrder ≡ true → Tests (call .refusals) conditions
-    → number (call .value) ≡ 0 → ((n : ℕ) → number (call .refused n) ≡ n) → ((n : ℕ) → 0 < n → Left (call .refused n))
-    → Refuses numbers conditions (number (answer call)) (Left (answer call))
-refuses-call numbers conditions call number Left numbered ordered tests none some left =
-    let same = answer-number call number none some in
-    subst (λ (n : ℕ). Refuses numbers conditions n (Left (answer call))) (sym same)
-    (refuses-given numbers conditions numbered ordered (numberOf call) (number-given call conditions tests)
-    (λ above. subst Left (sym (answer-refused call above)) (left (numberOf call) above)))
+-- demand 1 of every call: its refusals test the conditions, its answer has the number in a place of its own, and what it hands back
+-- with a number is what is left
+pub refuses-call : (numbers : List ℕ) (conditions : List Condition) → conditionNumbers conditions ≡ numbers
+    → isSublist numbers refusalOrder ≡ true → {A : Type 0} (call : Call A) (number : A → ℕ) → number (call .value) ≡ 0
+    → ((n : ℕ) → number (call .refused n) ≡ n) → (Left : A → Type 0) → Tests (call .refusals) conditions
+    → ((n : ℕ) → Left (call .refused n)) → Refuses numbers conditions (number (answer call)) (Left (answer call))
+refuses-call numbers conditions numbered ordered call number none some Left tests left =
+    let is-number = answer-number call number none some in
+    refuses-given numbers conditions numbered ordered (number (answer call))
+    (subst (Given conditions) (sym is-number) (number-given call conditions tests))
+    (λ positive. subst Left (sym (answer-refused call (subst (λ (n : ℕ). 0 < n) is-number positive))) (left (numberOf call)))
 
 -- a call ends in a result or in one of the order's numbers
 pub answers-known : {numbers : List ℕ} {conditions : List Condition} {n : ℕ} {Left : Type 0} → Refuses numbers conditions n Left

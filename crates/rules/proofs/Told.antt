@@ -1,10 +1,8 @@
--- What a call answers, by a number: by one that is the call's, as a function finds it, and by the one that stands in the answer; and
--- what two calls with one number answer alike.
+-- What a call answers, by the number that stands in the answer; and what two calls with one number answer alike.
 -- Assumes nothing.
 use Prim.Native.Nat.{ℕ, _<_}
 use mathlib.Core.Path.{_≡_, sym, ap, _∙_}
-use mathlib.Core.Logic.{_↔_, _≢_}
-use native.Mathlib.Omega.{arith}
+use mathlib.Core.Logic.{_↔_}
 use mathlib.Core.List.{List}
 use lib.Dec.{T}
 use Rattle.rules.specs.Answer.{unlessRefused}
@@ -15,15 +13,6 @@ use Rattle.rules.proofs.Call.{answer-number, answer-read, answer-refuse
 use Rattle.rules.proofs.Lowest.{lowest-append-zero, lowest-zero}
 
 module _ {A : Type 0} (call : Call A) where
-  module _ {n : ℕ} (is-number : n ≡ numberOf call) where
-    -- a number other than 0: what a refused call hands back with it
-    pub numbered-refused : n ≢ 0 → call .refused n ≡ answer call
-    numbered-refused other = ap (call .refused) is-number ∙ sym (answer-refused call (omega (arith, is-number)))
-
-    -- 0: the value
-    pub numbered-value : n ≡ 0 → call .value ≡ answer call
-    numbered-value none = sym (answer-value call (sym is-number ∙ none))
-
   module _ (number : A → ℕ) (none : number (call .value) ≡ 0) (some : (n : ℕ) → number (call .refused n) ≡ n) where
     -- an answer with the number 0 is the value
     pub told-value : number (answer call) ≡ 0 → answer call ≡ call .value

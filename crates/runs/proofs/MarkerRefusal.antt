@@ -2,7 +2,7 @@
 -- the text is then.
 -- Assumes nothing.
 use Prim.Native.Nat.{ℕ, _<_, _≤_}
-use mathlib.Core.Path.{_≡_, refl, ap, _∙_}
+use mathlib.Core.Path.{_≡_, refl, sym, ap, _∙_}
 use mathlib.Core.Logic.{_⊎_, inl, inr}
 use mathlib.Core.Bool.{Bool, true, false, _&&_}
 use mathlib.Core.List.{List, [], _∷_, _++_}
@@ -12,17 +12,19 @@ use lib.Dec.{T, ltb}
 use borrow.Author.Tests.{ltb-true, ne-eqb}
 use Rattle.lists.specs.Member.{Member}
 use Rattle.encoding.specs.Text.{ascii, digits, decimal}
+use Rattle.rules.specs.Call.{numberOf}
 use Rattle.rules.specs.Condition.{_if_, Tests}
 use Rattle.rules.specs.Refuses.{conditionNumbers}
 use Rattle.rules.specs.Rule.{_when_, lowest}
 use Rattle.rules.proofs.Condition.{given, tests-append}
 use Rattle.rules.proofs.Lowest.{lowest-clear, lowest-earlier, lowest-later-zero, pass, stop}
 use Rattle.rules.proofs.Refuses.{given-among}
-use Rattle.formats.specs.Load.{loadRules, loadRefusal}
+use Rattle.formats.specs.Load.{loadRules, loadRefusal, onSheet}
 use Rattle.formats.specs.Refusals.{fileConditions, loadConditions}
-use Rattle.formats.specs.RoundCalls.{countAfter, countRounds, fileRules}
+use Rattle.formats.specs.RoundCalls.{countRounds, counting}
 use Rattle.formats.specs.RoundFile.{badFile}
 use Rattle.formats.specs.Sheet.{headerOf}
+use Rattle.formats.proofs.Files.{count-number}
 use Rattle.formats.proofs.Positive.{count-positive, load-positive}
 use Rattle.formats.proofs.Refusals.{count-tests, load-tests}
 use Rattle.rules.proofs.Answer.{unlessRefused-positive}
@@ -70,9 +72,10 @@ module _ (sheet : List ℕ) where
 module _ (sheet f : List ℕ) where
   -- of a sheet that loads, a file is refused with 12 and no other number
   pub file-refusal : loadRefusal sheet ≡ 0 → 0 < countRounds sheet f .refusal → countRounds sheet f .refusal ≡ 12
-  unfolding loadRefusal countRounds countAfter fileRules lowest
+  unfolding loadRefusal counting lowest numberOf
   file-refusal e h =
-      let same = lowest-later-zero (loadRules sheet) (fileRules (headerOf sheet) f) (load-positive sheet) e in
+      let same =
+      count-number sheet f ∙ lowest-later-zero (loadRules sheet) (counting (headerOf sheet) f .refusals) (load-positive sheet) e in
       same ∙ twelve (badFile (headerOf sheet) f) (rw same at h)
     where
       twelve : (b : Bool) → 0 < lowest ((12 when b) ∷ []) → lowest ((12 when b) ∷ []) ≡ 12
@@ -84,20 +87,24 @@ module _ (sheet f : List ℕ) where
 
     -- the number of a refused sheet or file
     early-number : 0 < countRounds sheet f .refusal → markRefusal sheet f level ≡ countRounds sheet f .refusal
-    unfolding markRefusal markRules countRounds countAfter
-    early-number some = lowest-earlier (loadRules sheet ++ fileRules (headerOf sheet) f) _ some
+    unfolding markRefusal markRules numberOf
+    early-number some =
+        lowest-earlier (onSheet sheet (counting (headerOf sheet) f) .refusals) _ (rw (count-number sheet f) at some)
+        ∙ sym (count-number sheet f)
 
     -- that of a refused sheet
     sheet-number : 0 < loadRefusal sheet → markRefusal sheet f level ≡ loadRefusal sheet
-    unfolding loadRefusal countRounds countAfter
+    unfolding loadRefusal numberOf
     sheet-number some =
-        let same = lowest-earlier (loadRules sheet) (fileRules (headerOf sheet) f) some in
+        let same = count-number sheet f ∙ lowest-earlier (loadRules sheet) (counting (headerOf sheet) f .refusals) some in
         early-number (rw same some) ∙ same
 
     -- else that of the level
     late-number : countRounds sheet f .refusal ≡ 0 → markRefusal sheet f level ≡ lowest ((25 when badLevel level) ∷ [])
-    unfolding markRefusal markRules countRounds countAfter
-    late-number e = lowest-later-zero (loadRules sheet ++ fileRules (headerOf sheet) f) _ (count-positive sheet (headerOf sheet) f) e
+    unfolding markRefusal markRules numberOf
+    late-number e =
+        lowest-later-zero (onSheet sheet (counting (headerOf sheet) f) .refusals) _ (count-positive sheet f)
+        (sym (count-number sheet f) ∙ e)
 
     -- nothing is refused
     pub none-refused : countRounds sheet f .refusal ≡ 0 → badLevel level ≡ false → markRefusal sheet f level ≡ 0
@@ -136,7 +143,7 @@ module _ (sheet f : List ℕ) where
     pub mark-tests : Tests (markRules sheet f level) (loadConditions sheet ++ markConditions (headerOf sheet) f level)
     unfolding markRules
     mark-tests =
-        tests-append (loadRules sheet ++ fileRules (headerOf sheet) f) ((25 when badLevel level) ∷ [])
+        tests-append (onSheet sheet (counting (headerOf sheet) f) .refusals) ((25 when badLevel level) ∷ [])
         (loadConditions sheet ++ fileConditions (headerOf sheet) f) ((25 if Refusal25 level) ∷ []) (count-tests sheet f)
         (refl, says-badLevel level, tt)
 

@@ -10,7 +10,7 @@ use Rattle.lists.proofs.Places.{tabulate-agree}
 use Rattle.numbers.proofs.Search.{any-agree}
 use Rattle.formats.specs.Convert.{converted}
 use Rattle.formats.specs.Ours.{fileCalls}
-use Rattle.formats.specs.RoundCalls.{countRounds, fetchRound, fileRules}
+use Rattle.formats.specs.RoundCalls.{countRounds, counting, fetchRound}
 use Rattle.formats.specs.RoundFile.{badFile}
 use Rattle.formats.specs.Sheet.{headerOf}
 use Rattle.formats.proofs.ConvertCalls.{convert-count, convert-fetch, convert-puts, convert-runs}
@@ -54,7 +54,7 @@ module _ (sheet f g : List ℕ) (files : badFile (headerOf sheet) g ≡ badFile 
 
   -- and the text is
   same-text : (level : List ℕ) → markerText sheet g level ≡ markerText sheet f level
-  unfolding markerText markRefusal markRules fileRules
+  unfolding markerText markRefusal markRules counting
   same-text level = rw (files, count, same-lines (levelOf level) (countRounds sheet f .count))
 
   pub reads-alike : ReadsAlike fileCalls runCalls markerCalls sheet f g

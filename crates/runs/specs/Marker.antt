@@ -13,7 +13,7 @@ use Rattle.rules.specs.Answer.{unlessRefused}
 use Rattle.rules.specs.Rule.{Rule, _when_, lowest}
 use Rattle.formats.specs.Load.{loadRules}
 use Rattle.formats.specs.Ours.{fileCalls}
-use Rattle.formats.specs.RoundCalls.{countRounds, fileRules}
+use Rattle.formats.specs.RoundCalls.{countRounds, counting}
 use Rattle.formats.specs.Sheet.{headerOf}
 use Rattle.sigma.specs.Answer.{isAccepted, rowsOf}
 use Rattle.runs.specs.Level.{badLevel, levelOf, strongEnough}
@@ -66,7 +66,7 @@ roundLines sheet f w count =
 
 -- what is asked before any round is judged: the sheet's rules, the file's and the level's
 unfoldable pub markRules : List ℕ → List ℕ → List ℕ → List Rule
-markRules sheet f level = loadRules sheet ++ fileRules (headerOf sheet) f ++ (25 when badLevel level) ∷ []
+markRules sheet f level = loadRules sheet ++ counting (headerOf sheet) f .refusals ++ (25 when badLevel level) ∷ []
 
 -- the number of the one line of a sheet, a file or a level that is refused, 0 where none is
 unfoldable pub markRefusal : List ℕ → List ℕ → List ℕ → ℕ

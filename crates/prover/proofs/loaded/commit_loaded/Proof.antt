@@ -6,7 +6,7 @@ use Prim.Native.Nat.{ℕ}
 use borrow.Author.Needs.{needs}
 use Rattle.types.specs.declared.ProverPhase.the-variants.{Committed}
 use Rattle.lists.specs.Places.{pad8}
-use Rattle.rules.proofs.Told.{numbered-refused, numbered-value}
+use Rattle.rules.proofs.Call.{tested-refused, tested-value}
 use Rattle.runs.specs.Prover.{committing}
 use Rattle.prover.specs.Parts.{committedStep}
 use Rattle.image.proofs.Unread.{image-places}
@@ -26,7 +26,7 @@ returns c = λ m.
     let start = c .before .before .before in
     let number = c .before .before .commit-refusal .ensures (start .args .entries) (start .args .statement) m in
     rw (c .not-committed .ensures)
-    (step-refused _ _ (c .before .if1 .taken) ∙ numbered-refused (committing _ _ _) number (c .before .if1 .taken))
+    (step-refused _ _ (c .before .if1 .taken) ∙ tested-refused (committing _ _ _) number (c .before .if1 .taken))
 
 cast-first-places : tie.Need-cast-first-places
 cast-first-places c = search needs
@@ -45,7 +45,7 @@ returns-2 c = λ m.
     let number = numbered .before .commit-refusal .ensures (start .args .entries) (start .args .statement) m in
     let read = c .image .ensures ∙ ap (λ (xs : List ℕ). pad8 0 xs) (sym (image-places _ (start .pre .table) _)) in
     step-given _ _ (λ j. record { phase = Committed; nonce = c .before .first-places .ensures j; commitment = read j; memory = m }) read
-    ∙ numbered-value (committing _ _ _) number (numbered .if1 .left)
+    ∙ tested-value (committing _ _ _) number (numbered .if1 .left)
 
 pub commit-loaded-spec : {M : Type 1} → statement M
 commit-loaded-spec =

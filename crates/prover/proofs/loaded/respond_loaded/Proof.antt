@@ -5,7 +5,7 @@ use mathlib.Core.List.{List}
 use Prim.Native.Nat.{ℕ}
 use borrow.Author.Needs.{needs}
 use Rattle.lists.specs.Places.{pad8}
-use Rattle.rules.proofs.Told.{numbered-refused, numbered-value}
+use Rattle.rules.proofs.Call.{tested-refused, tested-value}
 use Rattle.runs.specs.Prover.{responding}
 use Rattle.prover.specs.Parts.{answeredStep}
 use Rattle.image.proofs.Unread.{response-places}
@@ -24,7 +24,7 @@ unfolding responding answeredStep
 returns c = λ m bars.
     let number = c .before .before .respond-refusal .ensures m bars in
     rw (c .not-answered .ensures)
-    (step-refused _ _ (c .before .if1 .taken) ∙ numbered-refused (responding _ _ _ _) number (c .before .if1 .taken))
+    (step-refused _ _ (c .before .if1 .taken) ∙ tested-refused (responding _ _ _ _) number (c .before .if1 .taken))
 
 response-requires : tie.Need-response-requires
 response-requires c κs = search needs
@@ -35,7 +35,7 @@ returns-2 c = λ m bars.
     let numbered = c .before .before in
     let read = c .response .ensures ∙ ap (λ (xs : List ℕ). pad8 0 xs) (sym (response-places _ _ _ _)) in
     step-given _ _ refl read
-    ∙ numbered-value (responding _ _ _ _) (numbered .before .respond-refusal .ensures m bars) (numbered .if1 .left)
+    ∙ tested-value (responding _ _ _ _) (numbered .before .respond-refusal .ensures m bars) (numbered .if1 .left)
 
 pub respond-loaded-spec : {M : Type 1} → statement M
 respond-loaded-spec =

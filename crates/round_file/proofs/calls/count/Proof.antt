@@ -1,10 +1,10 @@
 -- `round_file::calls::count` meets its contract: a refused sheet's number is the answer, else the fixed fields are loaded.
 -- Assumes nothing.
-use mathlib.Core.Path.{sym}
 use native.Mathlib.Omega.{arith}
-use Rattle.formats.specs.RoundCalls.{countRounds}
-use Rattle.formats.proofs.After.{countAfter-clear, countAfter-refused}
-use Rattle.instance.proofs.Answers.{answer-refused, answer-few, answer-header-call}
+use Rattle.formats.specs.RoundCalls.{countRounds, counting}
+use Rattle.formats.specs.Sheet.{headerOf}
+use Rattle.instance.proofs.Answers.{answer-few}
+use Rattle.instance.proofs.OnLoaded.{loaded-refused, on-header}
 use Rattle.round_file.proofs.calls.count.Statement.{statement}
 use Rattle.round_file.proofs.calls.count.Tie as tie
 
@@ -12,10 +12,10 @@ load-requires : tie.Need-load-requires
 load-requires c κs = omega arith
 
 returns : tie.Need-returns
-unfolding countRounds
+unfolding countRounds counting
 returns c =
-    let (number, some) = answer-refused _ _ (c .before .load .ensures) (c .if1 .taken) in
-    rw number (sym (countAfter-refused _ _ some _))
+    let args = c .before .before .before .before .args in
+    loaded-refused _ _ (c .before .load .ensures) (c .if1 .taken) (counting (headerOf (args .sheet .now)) (args .file .now))
 
 count-in-requires : tie.Need-count-in-requires
 count-in-requires c κs = answer-few _ _ (c .before .before .load .ensures) (c .before .if1 .left)
@@ -25,8 +25,7 @@ unfolding countRounds
 returns-2 c =
     let passed = c .before .before in
     let args = passed .before .before .before .before .args in
-    answer-header-call _ _ (passed .before .load .ensures) (passed .if1 .left)
-    (λ before h none. countAfter-clear before h none (args .file .now)) (c .count-in .ensures)
+    on-header _ _ (passed .before .load .ensures) (passed .if1 .left) (λ h. counting h (args .file .now)) (c .count-in .ensures)
 
 pub count-spec : {M : Type 1} → statement M
 count-spec = tie.close (tie.spec load-requires returns count-in-requires returns-2)

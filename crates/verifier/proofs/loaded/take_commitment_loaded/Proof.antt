@@ -1,7 +1,7 @@
 -- `verifier::loaded::take_commitment_loaded` meets its contract: the number decides the outcome.
 -- Assumes nothing.
 use borrow.Author.Needs.{needs}
-use Rattle.rules.proofs.Told.{numbered-refused, numbered-value}
+use Rattle.rules.proofs.Call.{tested-refused, tested-value}
 use Rattle.runs.specs.Verifier.{takingCommitment}
 use Rattle.verifier.proofs.loaded.take_commitment_loaded.Statement.{statement}
 use Rattle.verifier.proofs.loaded.take_commitment_loaded.Tie as tie
@@ -11,7 +11,7 @@ commitment-refusal-requires c κs = search needs
 
 returns : tie.Need-returns
 unfolding takingCommitment
-returns c = λ entries statement. numbered-refused (takingCommitment _ _ _) (c .before .commitment-refusal .ensures entries statement) (c .if1 .taken)
+returns c = λ entries statement. tested-refused (takingCommitment _ _ _) (c .before .commitment-refusal .ensures entries statement) (c .if1 .taken)
 
 cast-first-places : tie.Need-cast-first-places
 cast-first-places c = search needs
@@ -23,7 +23,7 @@ returns-2 : tie.Need-returns-2
 unfolding takingCommitment
 returns-2 c = λ entries statement.
     let passed = c .before .before in
-    rw (c .first-places .ensures) (numbered-value (takingCommitment _ _ _) (passed .before .commitment-refusal .ensures entries statement) (passed .if1 .left))
+    rw (c .first-places .ensures) (tested-value (takingCommitment _ _ _) (passed .before .commitment-refusal .ensures entries statement) (passed .if1 .left))
 
 pub take-commitment-loaded-spec : {M : Type 1} → statement M
 take-commitment-loaded-spec =

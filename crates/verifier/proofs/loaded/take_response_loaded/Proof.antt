@@ -1,7 +1,7 @@
 -- `verifier::loaded::take_response_loaded` meets its contract: the number decides the outcome.
 -- Assumes nothing.
 use borrow.Author.Needs.{needs}
-use Rattle.rules.proofs.Told.{numbered-refused, numbered-value}
+use Rattle.rules.proofs.Call.{tested-refused, tested-value}
 use Rattle.runs.specs.Verifier.{takingResponse}
 use Rattle.verifier.proofs.loaded.take_response_loaded.Statement.{statement}
 use Rattle.verifier.proofs.loaded.take_response_loaded.Tie as tie
@@ -11,7 +11,7 @@ response-refusal-requires c κs = search needs
 
 returns : tie.Need-returns
 unfolding takingResponse
-returns c = numbered-refused (takingResponse _ _ _) (c .before .response-refusal .ensures _ _) (c .if1 .taken)
+returns c = tested-refused (takingResponse _ _ _) (c .before .response-refusal .ensures _ _) (c .if1 .taken)
 
 verdict-requires : tie.Need-verdict-requires
 verdict-requires c κs = search needs
@@ -21,7 +21,7 @@ unfolding takingResponse
 returns-2 c =
     let passed = c .before .before in
     rw (c .verdict .ensures)
-    (numbered-value (takingResponse _ _ _) (passed .before .response-refusal .ensures _ _) (passed .if1 .left))
+    (tested-value (takingResponse _ _ _) (passed .before .response-refusal .ensures _ _) (passed .if1 .left))
 
 pub take-response-loaded-spec : {M : Type 1} → statement M
 take-response-loaded-spec =
