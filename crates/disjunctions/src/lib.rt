@@ -1,10 +1,11 @@
 // The OR proof (02, card 4), "I know a witness of one of two sheets": definitions and their laws. The sides are numbered 0 and 1,
 // and what belongs to them is called first and second.
+#![tactic(auto)]
 use types::ProverPhase;
 
 // A round: both commitments, both responses, the challenge c and the first side's own challenge c0.
 #[repr(C)]
-#[derive(Drop)]
+#[derive(Clone, Copy)]
 pub struct OrRound {
     pub commitment0: [u32; 8],
     pub commitment1: [u32; 8],
@@ -16,7 +17,7 @@ pub struct OrRound {
 
 // What judging a round answers: accepted, rejected with the differing rows of both sides, bit i of a mask for row i and 0 for a side
 // that is accepted, or refused with a number.
-#[derive(Drop)]
+#[derive(Clone, Copy)]
 pub enum OrVerdict {
     OrAccepted,
     OrRejected(u32, u32),
@@ -25,7 +26,7 @@ pub enum OrVerdict {
 
 // What extracting answers: a witness, and the side that it is of.
 #[repr(C)]
-#[derive(Drop)]
+#[derive(Clone, Copy)]
 pub struct OrExtracted {
     pub values: [u32; 8],
     pub side: u32,
@@ -34,7 +35,7 @@ pub struct OrExtracted {
 
 // Peggy's session: the nonce of the side that she knows, the simulated response and challenge of the other, both commitments,
 // and which side she knows.
-#[derive(Drop)]
+#[derive(Clone, Copy)]
 pub struct OrProver {
     pub nonce: [u32; 8],
     pub response: [u32; 8],
@@ -46,7 +47,7 @@ pub struct OrProver {
 }
 
 // What a call on Peggy's session answers: the session handed back, and both commitments, or both responses with c0.
-#[derive(Drop)]
+#[derive(Clone, Copy)]
 pub struct OrStep {
     pub session: OrProver,
     pub values0: [u32; 8],

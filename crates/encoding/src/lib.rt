@@ -1,1 +1,2 @@
 // Laws of encodings: numbers as bytes, items at a stride, padding, replaced bytes.
+#![tactic(auto)]

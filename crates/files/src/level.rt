@@ -7,7 +7,7 @@ use crate::reading::read_file;
 const LEVEL: usize = 2;
 
 // The first two bytes of a level file, or all of a shorter one: so many bytes at the start of an array.
-#[derive(Drop)]
+#[derive(Clone, Copy)]
 pub struct KeptLevel {
     bytes: [u8; LEVEL],
     count: usize,

@@ -36,7 +36,7 @@ pub fn read_file(path: &[u8], buffer: &mut [u8]) -> usize
 }
 
 // What was read of a file: how many of its bytes were kept, its first ones, and how many it has in all.
-#[derive(Drop)]
+#[derive(Clone, Copy)]
 pub struct Held {
     pub kept: usize,
     pub length: usize,

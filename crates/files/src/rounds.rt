@@ -8,7 +8,7 @@ use crate::reading::{read_counted, read_file};
 const ROUNDS: usize = 34824;
 
 // The first 34,824 bytes of a round file, or all of a shorter one: so many bytes at the start of an array.
-#[derive(Drop)]
+#[derive(Clone, Copy)]
 pub struct KeptRounds {
     bytes: [u8; ROUNDS],
     count: usize,
@@ -31,7 +31,7 @@ impl KeptRounds {
 }
 
 // The same, and how many bytes the round file has in all.
-#[derive(Drop)]
+#[derive(Clone, Copy)]
 pub struct CountedRounds {
     bytes: [u8; ROUNDS],
     count: usize,

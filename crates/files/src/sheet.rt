@@ -8,7 +8,7 @@ use crate::reading::{read_counted, read_file};
 const SHEET: usize = 309;
 
 // The first 309 bytes of a sheet, or all of a shorter one: so many bytes at the start of an array.
-#[derive(Drop)]
+#[derive(Clone, Copy)]
 pub struct KeptSheet {
     bytes: [u8; SHEET],
     count: usize,
@@ -31,7 +31,7 @@ impl KeptSheet {
 }
 
 // The same, and how many bytes the sheet has in all.
-#[derive(Drop)]
+#[derive(Clone, Copy)]
 pub struct CountedSheet {
     bytes: [u8; SHEET],
     count: usize,

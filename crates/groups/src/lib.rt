@@ -1,1 +1,2 @@
 // Laws of commutative groups: powers, n-fold products, homomorphisms, extraction and simulation.
+#![tactic(auto)]

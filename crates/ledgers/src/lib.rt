@@ -1,9 +1,10 @@
 // A ledger of committed values (02, card 14): its structs, definitions and laws. The structs are plain numbers with the layout of C, so
 // that they cross to other languages as they are.
+#![tactic(auto)]
 
 // What all lines of a ledger share: the public values g and h, the modulus m, the order q and the challenge count K.
 #[repr(C)]
-#[derive(Drop)]
+#[derive(Clone, Copy)]
 pub struct Base {
     pub g: u32,
     pub h: u32,
@@ -15,7 +16,7 @@ pub struct Base {
 // A line of kind 1, a commitment, 2, the sum of the two lines that it names, or 3, their product, with its own commitment and a round
 // of the product statement: t, c and r.
 #[repr(C)]
-#[derive(Drop)]
+#[derive(Clone, Copy)]
 pub struct Line {
     pub kind: u32,
     pub first: u32,
@@ -28,7 +29,7 @@ pub struct Line {
 
 // A ledger: room for 64 lines, and how many there are.
 #[repr(C)]
-#[derive(Drop)]
+#[derive(Clone, Copy)]
 pub struct Ledger {
     pub lines: [Line; 64],
     pub count: u32,
@@ -36,7 +37,7 @@ pub struct Ledger {
 
 // What checking a ledger answers: accepted is 1, or 0 with the first product line whose round is rejected.
 #[repr(C)]
-#[derive(Drop)]
+#[derive(Clone, Copy)]
 pub struct Checked {
     pub accepted: u32,
     pub line: u32,
@@ -46,7 +47,7 @@ pub struct Checked {
 // What the writer takes for a line: its kind; for 2 and 3 the two lines; for 1 a value and its blinding number ρ; for 3 a blinding
 // number, three nonce slots and a challenge.
 #[repr(C)]
-#[derive(Drop)]
+#[derive(Clone, Copy)]
 pub struct Entry {
     pub kind: u32,
     pub first: u32,
@@ -59,7 +60,7 @@ pub struct Entry {
 
 // What the writer takes: room for 64 entries, and how many there are.
 #[repr(C)]
-#[derive(Drop)]
+#[derive(Clone, Copy)]
 pub struct Entries {
     pub entries: [Entry; 64],
     pub count: u32,
@@ -67,7 +68,7 @@ pub struct Entries {
 
 // What the writer answers.
 #[repr(C)]
-#[derive(Drop)]
+#[derive(Clone, Copy)]
 pub struct LedgerWritten {
     pub ledger: Ledger,
     pub refusal: u32,

@@ -1,1 +1,2 @@
 // Sheets from linear forms (02, card 10): definitions and their laws.
+#![tactic(auto)]

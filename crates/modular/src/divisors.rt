@@ -4,7 +4,7 @@ ghost use Rattle.std.specs.Int.{◌∣◌};
 ghost use Rattle.modular.specs.Divisor.{divisor_of, divisor_outcome, Candidate};
 
 // What a search for a divisor finds.
-#[derive(Drop)]
+#[derive(Clone, Copy)]
 pub enum Divisor {
     Found(u32),
     Nothing,

@@ -1,4 +1,5 @@
 // Two sheets that are loaded together (02, card 4; refusals 2 to 11 of either, then 26), and what is left of a challenge.
+#![tactic(auto)]
 ghost use Rattle.std.specs.Prelude.{◌≡◌, List, ℕ, ◌≤◌, ◌<◌};
 ghost use Rattle.rules.specs.Rule.{lowest};
 ghost use Rattle.rules.proofs.Either.{lower_of};
@@ -11,7 +12,7 @@ use instance::load;
 use types::Loaded;
 
 // What loading two sheets answers: what loading each answers, and the number that both together are refused with.
-#[derive(Drop)]
+#[derive(Clone, Copy)]
 pub struct LoadedPair {
     pub first: Loaded,
     pub second: Loaded,

@@ -15,7 +15,7 @@ pub const START: usize = 6;
 pub const MOST_PATTERNS: u32 = 32;
 
 // How many rows, columns, public values and digits a pattern has.
-#[derive(Drop)]
+#[derive(Clone, Copy)]
 pub struct Sizes {
     pub rows: u32,
     pub columns: u32,

@@ -1,4 +1,5 @@
 // The pattern file that is shipped (02, card 2), written from 01's patterns 1 to 5 as a constant table.
+#![tactic(auto)]
 ghost use Rattle.std.specs.Prelude.{◌*◌, ◌≤◌, ◌<◌, ◌≡◌, length};
 ghost use Rattle.encoding.specs.Placed.{Fitted};
 ghost use Rattle.patterns.specs.Table.{write_shipped};
@@ -10,7 +11,7 @@ use text::write_word;
 use types::Written;
 
 // A row of the table: rows, columns, how many public values, and the digits, row by row.
-#[derive(Drop)]
+#[derive(Clone, Copy)]
 pub struct Pattern {
     rows: u8,
     columns: u8,

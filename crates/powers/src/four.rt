@@ -20,7 +20,7 @@ pub fn side_by_side(n: usize, m: u32) -> bool
 }
 
 // Four numbers, passed by value so that they stay in registers.
-#[derive(Drop)]
+#[derive(Clone, Copy)]
 pub struct Four {
     pub a: u32,
     pub b: u32,

@@ -1,5 +1,7 @@
 // Products and powers modulo a 32-bit number m by Barrett's method, four numbers side by side, so that the processor need not
 // wait for one product before it begins the next; and powers of whole numbers beside a bound.
+#![tactic(auto)]
+
 mod arrays; // arrays.rt: powers and products of the places of an array
 mod barrett; // barrett.rt: one product
 mod bound; // bound.rt: whether a power is above a bound

@@ -1,4 +1,5 @@
 // The search for a divisor of an order (01, "Turned back", 8), by a table of primes.
+#![tactic(auto)]
 ghost use Rattle.std.specs.Prelude.{◌≡◌, true, suc, ◌+◌, ◌/◌, ◌≤◌, ◌<◌};
 ghost use Rattle.numbers.specs.Divisors.{NoDivisorBelow};
 ghost use Rattle.modular.specs.Divisor.{divisor_of, divisor_outcome};
@@ -14,7 +15,7 @@ const COUNT: usize = 1308;
 const BLOCK: usize = 16;
 
 // The five numbers of a word.
-#[derive(Drop)]
+#[derive(Clone, Copy)]
 struct Five {
     first: u32,
     second: u32,

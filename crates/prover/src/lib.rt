@@ -1,5 +1,6 @@
 // Committing and responding (01, "Sessions") by the parts of Peggy's session that they read. The whole session stands in
 // prover_session.
+#![tactic(auto)]
 mod calls; // calls.rt: the calls on a sheet's bytes
 mod loaded; // loaded.rt: the same on loaded values
 
@@ -7,7 +8,7 @@ pub use calls::{commit, respond};
 use types::ProverPhase;
 
 // Peggy's session without its memory: her state beside the nonce and the commitment that she holds.
-#[derive(Drop)]
+#[derive(Clone, Copy)]
 pub struct Held {
     pub nonce: [u32; 8],
     pub commitment: [u32; 8],
@@ -15,7 +16,7 @@ pub struct Held {
 }
 
 // What committing gives: the nonce and the commitment that the session then holds, or a number beside zeros.
-#[derive(Drop)]
+#[derive(Clone, Copy)]
 pub struct Committing {
     pub nonce: [u32; 8],
     pub commitment: [u32; 8],

@@ -17,7 +17,7 @@ use round_layout::{file_width, record_start};
 use types::{Header, Verdict};
 
 // What the lines of a file's rounds leave: the index after them, and whether a round failed.
-#[derive(Drop)]
+#[derive(Clone, Copy)]
 pub struct Written {
     pub next: usize,
     pub failed: bool,

@@ -1,1 +1,2 @@
 // Which refusal a call gives, and what a Boolean test says.
+#![tactic(auto)]

@@ -1,1 +1,2 @@
 // Every call on bytes, the sessions and the marker: definitions and their laws.
+#![tactic(auto)]

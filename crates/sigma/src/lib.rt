@@ -1,1 +1,2 @@
 // The protocol on values: definitions and their laws.
+#![tactic(auto)]

@@ -15,7 +15,7 @@ use types::{Header, Round, Verdict};
 use watch_parts::nearest;
 
 // What is told of a round: the verdict, by how many accepted rounds back the named round stands, 0 for none, and the witness.
-#[derive(Drop)]
+#[derive(Clone, Copy)]
 pub struct Told {
     pub witness: [u32; 8],
     pub back: u32,

@@ -1,5 +1,6 @@
 // What a watch answers to a round (02, card 9) in the form in which it crosses to other languages: a struct of numbers with the
 // layout of C, since no enum crosses.
+#![tactic(auto)]
 ghost use Rattle.std.specs.Prelude.{◌≡◌};
 ghost use Rattle.watch_crossing.specs.Answers.{watch_answer};
 
@@ -9,7 +10,7 @@ use watches::{Watch, Watched};
 // What a watch answers to a round: the watch handed back, the witness extracted from the round and the named one, by how many
 // accepted rounds back that one stands, 0 for none, and the verdict.
 #[repr(C)]
-#[derive(Drop)]
+#[derive(Clone, Copy)]
 pub struct WatchAnswer {
     pub watch: Watch,
     pub witness: [u32; 8],
