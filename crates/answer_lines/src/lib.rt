@@ -1,6 +1,7 @@
 // The lines of the game (02, card 12) on loaded values. Each function stores the bytes that have room, leaves out the others, changes
 // no other byte and answers the index after what it stored.
 #![tactic(auto)]
+
 ghost use Rattle.std.specs.Prelude.{◌≤◌, false, ◌≡◌};
 ghost use mathlib.Core.List.{flatten, map};
 ghost use Rattle.lists.specs.Places.{places};

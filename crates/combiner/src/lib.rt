@@ -2,6 +2,7 @@
 // players' images too. The team is tested between the two steps of loading the sheet. What a player brings is a part, a row of an
 // array, and rows beyond the count are not read.
 #![tactic(auto)]
+
 mod calls; // calls.rt: the calls on a sheet's bytes
 mod joining; // joining.rt: parts multiplied and joined, place by place
 mod loaded; // loaded.rt: multiplying and joining on a sheet's values

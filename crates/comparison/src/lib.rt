@@ -1,5 +1,6 @@
 // The places of arrays that are read, and where two arrays differ (01, "A round").
 #![tactic(auto)]
+
 ghost use Rattle.std.specs.Prelude.{◌≡◌, cond, not, ◌+◌, ◌^◌, ◌≤◌, ◌<◌, eqb};
 ghost use Rattle.types.specs.declared.Verdict.TheVariants.{Accepted, Rejected};
 ghost use Rattle.lists.specs.Places.{places, pad8};

@@ -1,6 +1,7 @@
 // Verdicts and sessions in the forms in which they cross to other languages: structs of numbers with the layout of C, since no
 // enum crosses.
 #![tactic(auto)]
+
 mod provers; // provers.rt: the states of Peggy's session
 mod verdicts; // verdicts.rt: what judging answers
 mod verifiers; // verifiers.rt: Vic's session

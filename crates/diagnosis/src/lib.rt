@@ -1,5 +1,6 @@
 // The reason why a sheet, a round file or its round 0 is turned down, as the one line that is printed (02, card 1).
 #![tactic(auto)]
+
 mod judged; // judged.rt: the line on a round of a file that reads
 
 ghost use Rattle.std.specs.Prelude.{ℕ, ◌≤◌, ◌<◌, List, ◌↔◌, ◌≡◌, length, take};

@@ -1,6 +1,7 @@
 // The calls of 01 and 02 and the library's version, for programs in other languages: each export of a call hands its arguments
 // to the call and its answer back, in forms that cross.
 #![tactic(auto)]
+
 mod accounting; // accounting.rt: the calls on a ledger of committed values
 mod explaining; // explaining.rt: the reason
 mod judging; // judging.rt: the calls on a round's values

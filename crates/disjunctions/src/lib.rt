@@ -1,6 +1,7 @@
 // The OR proof (02, card 4), "I know a witness of one of two sheets": definitions and their laws. The sides are numbered 0 and 1,
 // and what belongs to them is called first and second.
 #![tactic(auto)]
+
 use types::ProverPhase;
 
 // A round: both commitments, both responses, the challenge c and the first side's own challenge c0.

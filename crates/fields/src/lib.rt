@@ -1,6 +1,7 @@
 // Fields of a slice of bytes, high byte first: a number of 8, 16 or 32 bits, a run of at most eight 32-bit numbers, and
 // a mark of three bytes. Each function asks that its field lies within the slice.
 #![tactic(auto)]
+
 ghost use Rattle.std.specs.Prelude.{◌+◌, ◌*◌, ◌≤◌, ◌<◌, ◌≡◌, length};
 ghost use Rattle.std.proofs.lemmas.List.Edits.{sets};
 ghost use Rattle.lists.specs.Places.{places, pad8};

@@ -1,6 +1,7 @@
 // Reading files. What is kept of a sheet, of a round file and of a level are structs with private fields: no other crate makes
 // or changes one, so a program hands on what was read, all of it, and nothing else.
 #![tactic(auto)]
+
 mod level; // level.rt: what is kept of a level
 mod reading; // reading.rt: a file's first bytes, and its length
 mod rounds; // rounds.rt: what is kept of a round file

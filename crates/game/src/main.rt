@@ -2,6 +2,7 @@
 // commitment of round 0, each challenge that has an accepting response, with the smallest one. A text that cannot be written
 // whole is told of on standard error, since a program has no exit status.
 #![tactic(auto)]
+
 use files::{read_rounds, read_sheet};
 use game_lines::{LONGEST, game_files};
 use libc::{STDERR_FILENO, STDOUT_FILENO};

@@ -1,6 +1,7 @@
 // The text of the game (02, card 12): for the commitment of a round file's round 0, each challenge that has an accepting
 // response, with the smallest one.
 #![tactic(auto)]
+
 ghost use Rattle.std.specs.Prelude.{ℕ, ◌≤◌, ◌<◌, List, [], ◌∷◌, ◌≡◌, length, take};
 ghost use Rattle.std.proofs.lemmas.List.Edits.{sets};
 ghost use Rattle.rules.specs.Rule.{◌when◌, lowest};

@@ -1,6 +1,7 @@
 // The values of a round on loaded values (01, "A round"): the image, the verifier's two sides and the verdict on them, and the
 // response. Nothing is refused here.
 #![tactic(auto)]
+
 mod answer; // answer.rt: the answer of a refused call
 
 ghost use Rattle.std.specs.Prelude.{◌≡◌, List, [], ℕ, ◌≤◌, ◌<◌, get_or};

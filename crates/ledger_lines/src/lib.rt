@@ -1,6 +1,7 @@
 // One line of a ledger (02, card 14): what is asked of it, its commitment and the entries of its product statement; and the tests of
 // what all lines share.
 #![tactic(auto)]
+
 mod asked; // asked.rt: what is asked of one line
 mod shared; // shared.rt: what all lines share
 mod values; // values.rt: a line's commitment, and the product statement's entries

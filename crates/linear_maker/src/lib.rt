@@ -1,6 +1,7 @@
 // The maker of sheets from linear forms (02, card 10): it puts the sheet at the start of the lent buffer and changes no byte
 // after it; a refused call changes no byte.
 #![tactic(auto)]
+
 mod entries; // entries.rt: the entries that generators and coefficients give
 mod tests; // tests.rt: the tests of the counts, the coefficients and the generators
 

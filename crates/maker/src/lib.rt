@@ -1,6 +1,7 @@
 // The sheet maker over pattern files (02, card 2): it puts the sheet at the start of the lent buffer and changes no byte after
 // it; a refused call changes no byte.
 #![tactic(auto)]
+
 mod entries; // entries.rt: the entries that a pattern's digits stand for
 
 ghost use Rattle.std.specs.Prelude.{ℕ, ◌≤◌, List, ◌≡◌};

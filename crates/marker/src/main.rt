@@ -1,6 +1,7 @@
 // Prints the marker's text (01, "The marker's lines"; 02, card 3) on the files `sheet.bin`, `rounds.bin` and `level.bin` in the
 // folder that it is run in. A text that cannot be written whole is told of on standard error, since a program has no exit status.
 #![tactic(auto)]
+
 use files::{read_level, read_rounds, read_sheet};
 use libc::{STDERR_FILENO, STDOUT_FILENO};
 use report::{LONGEST, mark_files};

@@ -1,5 +1,6 @@
 // Arithmetic modulo a 32-bit number, with products in 64 bits, and the tests of 01 that need it.
 #![tactic(auto)]
+
 mod divisors; // divisors.rt: the search for a divisor of an order
 mod orders; // orders.rt: the test of kind 1 on several values
 mod several; // several.rt: the test of several group elements

@@ -1,5 +1,6 @@
 // Inverses and powers by negative exponents modulo a 32-bit number: of one group element, and of the first places of an array.
 #![tactic(auto)]
+
 ghost use Rattle.std.specs.Prelude.{◌≡◌, ℕ, ◌≤◌, ◌<◌, pos, neg_ℤ, get_or};
 ghost use Rattle.lists.specs.Places.{pad8};
 ghost use Rattle.numbers.specs.Gcd.{gcd};

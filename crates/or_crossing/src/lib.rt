@@ -1,6 +1,7 @@
 // The OR proof's verdict and Peggy's session of it (02, card 4) in the forms in which they cross to other languages: structs of
 // numbers with the layout of C, since no enum crosses.
 #![tactic(auto)]
+
 mod provers; // provers.rt: Peggy's session
 mod verdicts; // verdicts.rt: what judging answers
 

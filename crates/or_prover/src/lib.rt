@@ -1,5 +1,6 @@
 // Committing and responding in Peggy's session of the OR proof (02, card 4).
 #![tactic(auto)]
+
 mod calls; // calls.rt: the calls on two sheets' bytes
 mod loaded; // loaded.rt: committing and responding on loaded values
 

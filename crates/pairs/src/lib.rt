@@ -1,5 +1,6 @@
 // Two sheets that are loaded together (02, card 4; refusals 2 to 11 of either, then 26), and what is left of a challenge.
 #![tactic(auto)]
+
 ghost use Rattle.std.specs.Prelude.{◌≡◌, List, ℕ, ◌≤◌, ◌<◌};
 ghost use Rattle.rules.specs.Rule.{lowest};
 ghost use Rattle.rules.proofs.Either.{lower_of};

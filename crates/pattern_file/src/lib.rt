@@ -1,5 +1,6 @@
 // Testing a pattern file (02, card 2; refusals 23 and 24), and where its patterns stand.
 #![tactic(auto)]
+
 mod digits; // digits.rt: what a pattern's digits name
 mod layout; // layout.rt: the places of the fields, and the walk over the patterns
 

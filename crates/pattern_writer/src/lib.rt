@@ -1,5 +1,6 @@
 // The pattern file that is shipped (02, card 2), written from 01's patterns 1 to 5 as a constant table.
 #![tactic(auto)]
+
 ghost use Rattle.std.specs.Prelude.{◌*◌, ◌≤◌, ◌<◌, ◌≡◌, length};
 ghost use Rattle.encoding.specs.Placed.{Fitted};
 ghost use Rattle.patterns.specs.Table.{write_shipped};

@@ -1,5 +1,6 @@
 // The search for a divisor of an order (01, "Turned back", 8), by a table of primes.
 #![tactic(auto)]
+
 ghost use Rattle.std.specs.Prelude.{◌≡◌, true, suc, ◌+◌, ◌/◌, ◌≤◌, ◌<◌};
 ghost use Rattle.numbers.specs.Divisors.{NoDivisorBelow};
 ghost use Rattle.modular.specs.Divisor.{divisor_of, divisor_outcome};

@@ -1,5 +1,6 @@
 // The search for a divisor of an order (01, "Turned back", 8), by the primes below 65,536.
 #![tactic(auto)]
+
 mod words; // words.rt: the table of primes
 
 ghost use Rattle.std.specs.Prelude.{◌≡◌};

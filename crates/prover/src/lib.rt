@@ -1,6 +1,7 @@
 // Committing and responding (01, "Sessions") by the parts of Peggy's session that they read. The whole session stands in
 // prover_session.
 #![tactic(auto)]
+
 mod calls; // calls.rt: the calls on a sheet's bytes
 mod loaded; // loaded.rt: the same on loaded values
 

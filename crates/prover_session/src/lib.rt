@@ -1,5 +1,6 @@
 // Peggy's whole session, in the form in which it crosses (01, "Sessions"; 02, card 13): new, commit, respond, drop, save, return.
 #![tactic(auto)]
+
 mod committing; // committing.rt: committing
 mod list; // list.rt: the list of answered commitments
 mod responding; // responding.rt: responding

@@ -2,6 +2,7 @@
 // sheet, the file or its round 0. A line that cannot be written whole is told of on standard error, since a program has no exit
 // status.
 #![tactic(auto)]
+
 use diagnosis::{LONGEST, reason_files};
 use files::{count_rounds, count_sheet};
 use libc::{STDERR_FILENO, STDOUT_FILENO};

@@ -1,6 +1,7 @@
 // The text of the reason's line (02, cards 1 and 8). Each function stores the bytes that have room, leaves out the others, changes no
 // other byte and answers the index after what it stored.
 #![tactic(auto)]
+
 ghost use Rattle.std.specs.Prelude.{◌%◌, ◌≤◌, ◌<◌, cond, eqb, length};
 ghost use mathlib.Core.List.{[], ◌++◌, flatten, map};
 ghost use Rattle.encoding.specs.Placed.{Fitted};

@@ -1,5 +1,6 @@
 // The marker's text on a sheet, a round file and a level (01, "The marker's lines"; 02, card 3).
 #![tactic(auto)]
+
 mod level; // level.rt: the level, and whether it is reached
 
 ghost use Rattle.std.specs.Prelude.{ℕ, ◌≤◌, ◌≡◌, List, length, take};

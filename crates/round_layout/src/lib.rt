@@ -1,6 +1,7 @@
 // The layout of a round file (01, "A round"; 02, card 7): its versions and the widths of their challenges, the places of its
 // records, and the test of a file (refusal 12).
 #![tactic(auto)]
+
 ghost use Rattle.std.specs.Prelude.{◌≤◌, ◌≡◌, length};
 ghost use Rattle.rules.specs.Call.{number_of};
 ghost use Rattle.formats.specs.RoundFile.{challenge_width, record_length, record_start, unknown_version, width_of};

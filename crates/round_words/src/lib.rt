@@ -1,5 +1,6 @@
 // Comparing the commitments of two rounds of one file (02, card 5), a word of 32 bits at a time.
 #![tactic(auto)]
+
 ghost use Rattle.std.specs.Prelude.{◌+◌, ◌*◌, ◌≤◌, ◌≡◌, not, length, drop};
 ghost use Rattle.rules.specs.Call.{answer};
 ghost use Rattle.sigma.specs.Comparison.{differ};

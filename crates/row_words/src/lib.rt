@@ -1,6 +1,7 @@
 // The rows of a mask as text (02, card 8): row i if bit i is set. Each function stores the bytes that have room from an index on,
 // leaves out the others, changes no other byte and answers the index after what it stored.
 #![tactic(auto)]
+
 ghost use Rattle.std.specs.Prelude.{◌%◌, cond, eqb};
 ghost use mathlib.Core.List.{[], flatten, map};
 ghost use Rattle.encoding.specs.Placed.{Fitted};

@@ -1,6 +1,7 @@
 // Where the first value that breaks a rule stands (02, card 1): its offset in the file that holds it, or the length found of a
 // file whose length breaks the rule. A length is handed in, since a file may be longer than the bytes at hand.
 #![tactic(auto)]
+
 ghost use Rattle.std.specs.Prelude.{ℕ, ◌+◌, ◌*◌, ◌≤◌, ◌<◌, List, ◌↔◌, ◌≡◌, length};
 ghost use Rattle.formats.specs.Load.{load_refusal};
 ghost use Rattle.formats.specs.RoundFile.{challenge_width, record_length};

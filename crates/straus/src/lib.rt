@@ -1,6 +1,7 @@
 // Products of powers of several numbers modulo a 32-bit number m by Straus's method: the squarings serve all numbers at once.
 // Four rows of numbers are computed side by side.
 #![tactic(auto)]
+
 mod choices; // choices.rt: more than four columns, by tables
 
 ghost use Rattle.std.specs.Prelude.{◌≡◌, [], ◌∷◌, ◌≤◌, ◌<◌};

@@ -1,6 +1,7 @@
 // Text in a slice of bytes: words and decimal numbers. Each function stores the bytes that have room from an index on, leaves out
 // the others, changes no other byte and answers the index after what it stored.
 #![tactic(auto)]
+
 ghost use Rattle.std.specs.Prelude.{◌+◌, ◌≤◌, ◌<◌, [], ◌∷◌, ◌++◌, length};
 ghost use Rattle.encoding.specs.Text.{ascii, decimal};
 ghost use Rattle.encoding.specs.Placed.{Fitted, Placed};

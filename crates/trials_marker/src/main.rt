@@ -3,6 +3,7 @@
 // The file `cases.bin`, in the folder that it is run in, has case after case: the sheet's length in two bytes, the round file's
 // in four and the level's in two, high byte first, then the bytes of the three.
 #![tactic(auto)]
+
 ghost use Rattle.std.specs.Prelude.{◌≤◌, length};
 
 use fields::{read_u16, read_u32};

@@ -1,6 +1,7 @@
 // Runs pages A to J of 01 through the calls on a sheet's bytes, then the steps of both sessions. Each line says what was
 // tried, and then what was answered.
 #![tactic(auto)]
+
 mod pages; // pages.rt: pages A to J
 mod steps; // steps.rt: which calls the states of the sessions allow
 

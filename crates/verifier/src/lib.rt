@@ -1,5 +1,6 @@
 // Vic's session (01, "Sessions"): new, commitment, challenge, response.
 #![tactic(auto)]
+
 mod calls; // calls.rt: a new session, and the calls on a sheet's bytes
 mod loaded; // loaded.rt: the calls for a loaded sheet, and their refusals
 

@@ -1,6 +1,7 @@
 // What a watch answers to a round (02, card 9) in the form in which it crosses to other languages: a struct of numbers with the
 // layout of C, since no enum crosses.
 #![tactic(auto)]
+
 ghost use Rattle.std.specs.Prelude.{◌≡◌};
 ghost use Rattle.watch_crossing.specs.Answers.{watch_answer};
 

@@ -1,6 +1,7 @@
 // The second writer of sheets: it writes the sheet of any values, as the loader gives them, at the start of the lent buffer and
 // changes no byte after it; a refused call changes no byte.
 #![tactic(auto)]
+
 mod sheet; // sheet.rt: the bytes of a sheet
 mod slices; // slices.rt: slices as arrays of eight
 
