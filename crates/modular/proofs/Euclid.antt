@@ -29,6 +29,7 @@ multiple m k = cong_of_equal m {b = 0 + m * k} (omega arith) then cong_add_multi
 
 -- a factor of a sum is at most the sum
 factor_bound : (rest t x : ℕ) {m : ℕ} → rest + t * x ≡ m → 0 < x → t ≤ m
+factor_bound rest t zero whole some = absurd (omega arith)
 factor_bound rest t (suc x) whole some = omega arith
 
 -- at the start: v · 0 is -m and v · 1 is v
