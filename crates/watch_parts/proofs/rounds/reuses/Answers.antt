@@ -2,14 +2,12 @@
 -- Assumes nothing.
 use mathlib.Core.Path.{◌≡◌, sym, ◌∙◌}
 use mathlib.Core.Bool.{true, false, not}
-use borrow.Author.Rules.{rules}
 use lib.Dec.{eqb}
 use Rattle.types.specs.declared.Header.{Header}
 use Rattle.types.specs.declared.Round.{Round}
 use Rattle.sigma.specs.Comparison.{differ}
 use Rattle.watches.specs.Watch.{reuses}
-use Rattle.watch_parts.proofs.rounds.reuses.Statement.{statement}
-use Rattle.watch_parts.proofs.rounds.reuses.Tie as tie
+use Rattle.watch_parts.proofs.rounds.reuses.Goals as goal
 
 module _ (h : Header) (round other : Round) where
   -- another commitment
@@ -23,24 +21,12 @@ module _ (h : Header) (round other : Round) where
   unfolding reuses
   joined agrees = rw agrees
 
-cast-rows : tie.Need-overflow-cast-rows
-cast-rows c = search rules
+pub returns-then-differ : goal.returns-then-differ
+returns-then-differ c =
+    let args = c.args in
+    apart args.h args.round args.other (sym c.differ.ensures ∙ c.if-differ.true)
 
-differ-requires : tie.Need-differ-requires
-differ-requires c κs = search rules
-
-returns : tie.Need-returns
+pub returns : goal.returns
 returns c =
-    let tested = c.before in
-    let args = tested.before.before.before.before.args in
-    apart args.h args.round args.other (sym tested.differ.ensures ∙ c.if1.true)
-
-returns_2 : tie.Need-returns-2
-returns_2 c =
-    let same = c.before.before in
-    let tested = same.before in
-    let args = tested.before.before.before.before.args in
-    joined args.h args.round args.other (sym tested.differ.ensures ∙ same.if1.false)
-
-pub reuses_spec : {M : Type 1} → statement M
-reuses_spec = tie.close (tie.spec cast-rows differ-requires returns returns_2)
+    let args = c.args in
+    joined args.h args.round args.other (sym c.differ.ensures ∙ c.if-differ.false)
