@@ -2,10 +2,10 @@
  * The C interface of Dimkhoros: Maurer's proof of knowledge of a preimage under a group homomorphism, on numbers of at
  * most 32 bits. It is for C99 and C++11, or later, on x86-64 Linux.
  *
- * To link. At the root of the repository `rt staticlib dimkhoros` writes target/staticlib/libdimkhoros.a. There a program is
+ * To link. In crates/dimkhoros `rt lib` writes crates/dimkhoros/out/libdimkhoros.a. There a program is
  * built with
  *
- *     cc -std=c99 -I include program.c target/staticlib/libdimkhoros.a
+ *     cc -std=c99 -I include program.c crates/dimkhoros/out/libdimkhoros.a
  *
  * Elsewhere give the whole paths of the two. The archive must stand after the sources that call it. If `./install PREFIX` has put
  * the library under a folder, pkg-config knows both:

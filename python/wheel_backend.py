@@ -60,7 +60,7 @@ def library() -> bytes:
     ended = subprocess.run(command, capture_output=True, text=True)
     if ended.returncode != 0:
         sys.exit(ended.stderr.strip())
-    folder = os.environ.get("DIMKHOROS_LIB") or ROOT / "target" / "staticlib"
+    folder = os.environ.get("DIMKHOROS_LIB") or ROOT / "crates" / "dimkhoros" / "out"
     return (Path(folder) / LIBRARY).read_bytes()
 
 

@@ -30,11 +30,11 @@ count() {
     echo $#
 }
 
-# Whether a file is built and nothing is newer in the files and folders named after it, but for what cargo builds there.
+# Whether a file is built and nothing is newer in the files and folders named after it, but for what cargo and the prover build there.
 is_newest() {
     built=$1
     shift
-    [ -f "$built" ] && newer=$(find "$@" -name target -prune -o -newer "$built" -print 2>/dev/null) && [ -z "$newer" ]
+    [ -f "$built" ] && newer=$(find "$@" \( -name target -o -name out \) -prune -o -newer "$built" -print 2>/dev/null) && [ -z "$newer" ]
 }
 
 # Whether a file that the prover builds is there and nothing of its sources is newer.
@@ -55,19 +55,26 @@ step() {
 }
 
 # Begins to build what the first word names, out of the crates that stand after the minutes that it takes. Ends if the command rt is
-# missing, which is said of the file.
+# missing, which is said of the file. Each crate's folder gets the folder out, in which rt works, before that, so that it is not newer
+# than what is built.
 begin_build() {
     what=$1 file=$2 minutes=$3
     shift 3
     command -v rt >/dev/null 2>&1 ||
         fail 1 "$file is missing or older than its sources, and the command rt, which builds it, is not on PATH"
+    for folder in "$home"/crates/*/; do
+        [ ! -d "$folder" ] || [ -d "${folder}out" ] || mkdir "${folder}out" || exit 1
+    done
     begin_log
     step "proving $(count $(made_of "$@")) crates and building $what, unless they are proved already" "$minutes minutes"
 }
 
-# Builds it by the command rt with these words. What the prover says goes to the log.
-build_by() {
-    if ! (cd "$home" && rt "$@") >>"$log" 2>&1; then
+# Builds it by the command rt with these words, which is run in the folder that stands before them. What the prover says goes to the
+# log, and so does what a program prints: it is run once, in the folder of its crate.
+build_in() {
+    folder=$1
+    shift
+    if ! (cd "$home/$folder" && rt "$@") >>"$log" 2>&1 </dev/null; then
         tail -n 5 "$log" >&2
         fail 1 "$what is not built; the prover's whole output is in $log"
     fi

@@ -22,13 +22,13 @@ ADVICE = (
 def folders(module: Path, named: str | None) -> list[Path]:
     """The folders in which the library of a module is looked for. If DIMKHOROS_LIB is set, it is the only one.
     Otherwise they are the module's own folder, as in a wheel, the nearest folder `lib` above it, as in a folder that
-    `./install` made, and target/staticlib of the repository."""
+    `./install` made, and crates/dimkhoros/out of the repository."""
     if named:
         if not os.path.isabs(named):
             raise ImportError(f"DIMKHOROS_LIB must be the whole path of a folder, and is {named}.")
         return [Path(named)]
     installed = [folder for folder in module.parents if folder.name == "lib"][:1]
-    return [module.parent, *installed, module.parents[2] / "target" / "staticlib"]
+    return [module.parent, *installed, module.parents[2] / "crates" / "dimkhoros" / "out"]
 
 
 def find(module: Path, named: str | None) -> Path:

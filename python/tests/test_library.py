@@ -137,7 +137,7 @@ class Finding(unittest.TestCase):
 
     def test_in_the_repository(self) -> None:
         """The module stands in its folder python."""
-        module, built = self.copied("python"), self.folder / "target" / "staticlib"
+        module, built = self.copied("python"), self.folder / "crates" / "dimkhoros" / "out"
         built.mkdir(parents=True)
         shutil.copy(LIBRARY, built)
         self.assertEqual(imported(module).stdout, f"{built}/libdimkhoros.so\n")
@@ -146,7 +146,7 @@ class Finding(unittest.TestCase):
         """And with what builds it."""
         module = self.copied("lib/python")
         said = self.failed(imported(module))
-        places = f"{module}/dimkhoros or {self.folder}/lib or {self.folder}/lib/target/staticlib"
+        places = f"{module}/dimkhoros or {self.folder}/lib or {self.folder}/lib/crates/dimkhoros/out"
         self.assertEqual(said, f"ImportError: There is no libdimkhoros.so in {places}. {_library.ADVICE}")
         self.assertIn("scripts/shared_library", said)
         said = self.failed(imported(self.copied("python"), DIMKHOROS_LIB="/no/such/folder"))
@@ -154,8 +154,8 @@ class Finding(unittest.TestCase):
 
     def test_a_relative_folder_is_refused(self) -> None:
         """As it is in C and in Rust."""
-        said = self.failed(imported(self.copied("python"), DIMKHOROS_LIB="target/staticlib"))
-        expected = "DIMKHOROS_LIB must be the whole path of a folder, and is target/staticlib."
+        said = self.failed(imported(self.copied("python"), DIMKHOROS_LIB="crates/dimkhoros/out"))
+        expected = "DIMKHOROS_LIB must be the whole path of a folder, and is crates/dimkhoros/out."
         self.assertEqual(said, f"ImportError: {expected}")
 
     def test_a_file_that_is_no_library_is_refused(self) -> None:

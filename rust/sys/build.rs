@@ -1,6 +1,6 @@
 //! Links the archive of the proved library.
 //!
-//! Its folder is target/staticlib of the repository, or the one whose whole
+//! Its folder is crates/dimkhoros/out of the repository, or the one whose whole
 //! path is in the variable DIMKHOROS_LIB.
 
 use std::env;
@@ -15,7 +15,7 @@ fn main() {
     println!("cargo:rerun-if-changed={}", archive.display());
     if !archive.is_file() {
         fail(&format!(
-            "There is no archive {}. Run `rt staticlib dimkhoros` at the root of the repository, or set \
+            "There is no archive {}. Run `rt lib` in crates/dimkhoros of the repository, or set \
              DIMKHOROS_LIB to the whole path of the folder that has libdimkhoros.a.",
             archive.display()
         ));
@@ -32,7 +32,7 @@ fn folder() -> PathBuf {
     let named = env::var_os("DIMKHOROS_LIB").filter(|folder| !folder.is_empty());
     let Some(folder) = named.map(PathBuf::from) else {
         let home = env::var_os("CARGO_MANIFEST_DIR").unwrap_or_default();
-        return Path::new(&home).join("../../target/staticlib");
+        return Path::new(&home).join("../../crates/dimkhoros/out");
     };
     if !folder.is_absolute() {
         fail(&format!(

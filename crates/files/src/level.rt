@@ -2,6 +2,7 @@
 ghost use Rattle.std.specs.Prelude.{◌≤◌, ◌≡◌, length};
 
 use crate::reading::read_file;
+use std::rt::Files;
 
 // How many bytes are kept: one more than a level has.
 const LEVEL: usize = 2;
@@ -30,11 +31,11 @@ impl KeptLevel {
 }
 
 // Reads what is kept of `level.bin`. A file that is missing or that cannot be read counts as one of no bytes.
-pub fn read_level() -> KeptLevel
+pub fn read_level<R: Files>(rt: &R) -> KeptLevel
     ensures count { result.count ≤ 2 }
     ensures room { length result.bytes ≡ 2 }
 {
     let mut bytes = [0u8; LEVEL];
-    let count = read_file(b"level.bin", &mut bytes);
+    let count = read_file(rt, b"level.bin", &mut bytes);
     KeptLevel { bytes, count }
 }

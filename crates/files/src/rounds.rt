@@ -2,6 +2,7 @@
 ghost use Rattle.std.specs.Prelude.{◌≤◌, ◌<◌, ◌≡◌, length};
 
 use crate::reading::{read_counted, read_file};
+use std::rt::Files;
 
 // How many bytes are kept: one more than the longest round file has, so that a text on what is kept of a longer one is that on the
 // whole.
@@ -62,24 +63,24 @@ impl CountedRounds {
 }
 
 // Reads what is kept of `rounds.bin`. A file that is missing or that cannot be read counts as one of no bytes.
-pub fn read_rounds() -> KeptRounds
+pub fn read_rounds<R: Files>(rt: &R) -> KeptRounds
     ensures count { result.count ≤ 34824 }
     ensures room { length result.bytes ≡ 34824 }
 {
     let mut bytes = [0u8; ROUNDS];
-    let count = read_file(b"rounds.bin", &mut bytes);
+    let count = read_file(rt, b"rounds.bin", &mut bytes);
     KeptRounds { bytes, count }
 }
 
 // The same, and counts `rounds.bin` to its end.
-pub fn count_rounds() -> CountedRounds
+pub fn count_rounds<R: Files>(rt: &R) -> CountedRounds
     ensures count { result.count ≤ 34824 }
     ensures room { length result.bytes ≡ 34824 }
     ensures length { result.count ≤ result.length }
     ensures all { result.count < 34824 → result.length ≡ result.count }
 {
     let mut bytes = [0u8; ROUNDS];
-    let held = read_counted(b"rounds.bin", &mut bytes);
+    let held = read_counted(rt, b"rounds.bin", &mut bytes);
     let count = held.kept;
     let length = held.length;
     CountedRounds {

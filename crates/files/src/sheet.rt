@@ -2,6 +2,7 @@
 ghost use Rattle.std.specs.Prelude.{◌≤◌, ◌<◌, ◌≡◌, length};
 
 use crate::reading::{read_counted, read_file};
+use std::rt::Files;
 
 // How many bytes are kept: one more than the longest sheet has, so that a text on what is kept of a longer one is that on the
 // whole.
@@ -62,24 +63,24 @@ impl CountedSheet {
 }
 
 // Reads what is kept of `sheet.bin`. A file that is missing or that cannot be read counts as one of no bytes.
-pub fn read_sheet() -> KeptSheet
+pub fn read_sheet<R: Files>(rt: &R) -> KeptSheet
     ensures count { result.count ≤ 309 }
     ensures room { length result.bytes ≡ 309 }
 {
     let mut bytes = [0u8; SHEET];
-    let count = read_file(b"sheet.bin", &mut bytes);
+    let count = read_file(rt, b"sheet.bin", &mut bytes);
     KeptSheet { bytes, count }
 }
 
 // The same, and counts `sheet.bin` to its end.
-pub fn count_sheet() -> CountedSheet
+pub fn count_sheet<R: Files>(rt: &R) -> CountedSheet
     ensures count { result.count ≤ 309 }
     ensures room { length result.bytes ≡ 309 }
     ensures length { result.count ≤ result.length }
     ensures all { result.count < 309 → result.length ≡ result.count }
 {
     let mut bytes = [0u8; SHEET];
-    let held = read_counted(b"sheet.bin", &mut bytes);
+    let held = read_counted(rt, b"sheet.bin", &mut bytes);
     let count = held.kept;
     let length = held.length;
     CountedSheet {

@@ -1,81 +1,88 @@
-// Lines on standard output: a label, and then what a call answered.
+// Lines on standard output: a label, and then what a call answered. An error is that of a write.
 use instance::load;
+use std::io;
 use types::Verdict;
 
 // Prints a label and a number on a line.
-pub fn line(label: &[u8], number: u32) {
-    io::write_all(1, label);
-    io::print_decimal(1, number as u64);
-    io::write_all(1, b"\n");
+pub fn line(rt: &impl Print, label: &[u8], number: u32) -> io::Result<()> {
+    rt.write_all(label)?;
+    println!(rt; "{number}")
 }
 
 // Prints a label and a count of bytes on a line.
-pub fn length(label: &[u8], bytes: &[u8]) {
-    io::write_all(1, label);
-    io::print_decimal(1, bytes.len() as u64);
-    io::write_all(1, b"\n");
+pub fn length(rt: &impl Print, label: &[u8], bytes: &[u8]) -> io::Result<()> {
+    rt.write_all(label)?;
+    let count = bytes.len();
+    println!(rt; "{count}")
 }
 
 // Prints a label and the number that loading a sheet answers on a line.
-pub fn loading(label: &[u8], sheet: &[u8]) {
-    line(label, load(sheet).refusal);
+pub fn loading(rt: &impl Print, label: &[u8], sheet: &[u8]) -> io::Result<()> {
+    line(rt, label, load(sheet).refusal)
 }
 
 // Prints a space and a number.
-fn spaced(number: u32) {
-    io::write_all(1, b" ");
-    io::print_decimal(1, number as u64);
+fn spaced(rt: &impl Print, number: u32) -> io::Result<()> {
+    print!(rt; " {number}")
 }
 
 // Prints the first count values, with a space before each.
-fn print_first(values: [u32; 8], count: usize) {
-    for i in 0..8 {
-        if i < count {
-            spaced(values[i]);
-        }
+fn print_first(rt: &impl Print, values: [u32; 8], count: usize) -> io::Result<()> {
+    for value in values.iter().take(count) {
+        spaced(rt, *value)?;
     }
+    Ok(())
 }
 
 // Prints a label, and then the first count values of an answer or, where it is refused, the number.
-pub fn answer(label: &[u8], refusal: u32, values: [u32; 8], count: usize) {
-    io::write_all(1, label);
+pub fn answer(
+    rt: &impl Print,
+    label: &[u8],
+    refusal: u32,
+    values: [u32; 8],
+    count: usize,
+) -> io::Result<()> {
+    rt.write_all(label)?;
     if refusal != 0 {
-        io::write_all(1, b" refused");
-        spaced(refusal);
-        return;
+        return print!(rt; " refused {refusal}");
     }
-    print_first(values, count);
+    print_first(rt, values, count)
 }
 
 // Prints what `answer` prints, and ends the line.
-pub fn answer_line(label: &[u8], refusal: u32, values: [u32; 8], count: usize) {
-    answer(label, refusal, values, count);
-    io::write_all(1, b"\n");
+pub fn answer_line(
+    rt: &impl Print,
+    label: &[u8],
+    refusal: u32,
+    values: [u32; 8],
+    count: usize,
+) -> io::Result<()> {
+    answer(rt, label, refusal, values, count)?;
+    println!(rt;)
 }
 
 // Prints the rows of a mask, rising, each with a space before it.
-fn print_rows(mask: u32) {
+fn print_rows(rt: &impl Print, mask: u32) -> io::Result<()> {
     let mut rest = mask;
-    for row in 0..8u32 {
+    for row in 0..8 {
         if rest % 2 == 1 {
-            spaced(row);
+            spaced(rt, row)?;
         }
-        rest = rest / 2;
+        rest /= 2;
     }
+    Ok(())
 }
 
 // Prints a label and a verdict, in the words of the marker, and ends the line.
-pub fn verdict(label: &[u8], verdict: Verdict) {
-    io::write_all(1, label);
+pub fn verdict(rt: &impl Print, label: &[u8], verdict: Verdict) -> io::Result<()> {
+    rt.write_all(label)?;
     match verdict {
-        Verdict::Accepted => {
-            io::write_all(1, b"accepted\n");
-        }
+        Verdict::Accepted => println!(rt; "accepted"),
         Verdict::Rejected(mask) => {
-            io::write_all(1, b"rejected");
-            print_rows(mask);
-            io::write_all(1, b"\n");
+            print!(rt; "rejected")?;
+            print_rows(rt, mask)?;
+            println!(rt;)
         }
-        Verdict::Refused(number) => line(b"refused ", number),
+        Verdict::Refused(number) => line(rt, b"refused ", number),
     }
 }

@@ -4,11 +4,12 @@ use lines::{front, length, line, loading, store};
 use round_file::{check, count, read};
 use round_layout::MOST_ROUNDS;
 use round_writer::{append, empty};
+use std::io;
 use types::{Header, Round, Written};
 
 // Page K, a sheet of eight rows and one of nine. All numbers from 1 to m - 1 are group elements, so that nothing but the
 // count of the rows is wrong with the second.
-fn rows() {
+fn rows(rt: &impl Print) -> io::Result<()> {
     let header = Header {
         kind: 1,
         modulus: 4294967291,
@@ -19,9 +20,9 @@ fn rows() {
     };
     let mut sheet = [1u8; 344];
     let made = writer::encode(header, [[2u32; 8]; 8], [3u32; 8], &mut sheet);
-    loading(b"8 rows: ", front(&sheet, made.length));
+    loading(rt, b"8 rows: ", front(&sheet, made.length))?;
     store(&mut sheet, 18, 9);
-    loading(b"9 rows: ", &sheet);
+    loading(rt, b"9 rows: ", &sheet)
 }
 
 // Makes the largest sheet, with the largest modulus, and answers its length.
@@ -38,18 +39,18 @@ fn make_largest(sheet: &mut [u8]) -> usize {
 }
 
 // The last entry of the largest sheet, loaded back.
-fn last_entry(sheet: &[u8]) {
+fn last_entry(rt: &impl Print, sheet: &[u8]) -> io::Result<()> {
     let entries = instance::entries(sheet);
-    line(b"its last entry: ", entries[7][7]);
+    line(rt, b"its last entry: ", entries[7][7])
 }
 
 // The other values of the largest sheet, loaded back.
-fn largest(sheet: &[u8]) {
+fn largest(rt: &impl Print, sheet: &[u8]) -> io::Result<()> {
     let loaded = load(sheet);
-    length(b"bytes of the largest sheet: ", sheet);
-    line(b"its refusal: ", loaded.refusal);
-    line(b"its modulus: ", loaded.header.modulus);
-    line(b"its last statement value: ", loaded.statement[7]);
+    length(rt, b"bytes of the largest sheet: ", sheet)?;
+    line(rt, b"its refusal: ", loaded.refusal)?;
+    line(rt, b"its modulus: ", loaded.header.modulus)?;
+    line(rt, b"its last statement value: ", loaded.statement[7])
 }
 
 // Appends the round of this number to the bytes of the file that are in use.
@@ -72,43 +73,45 @@ fn append_all(sheet: &[u8], file: &mut [u8], version: u32) -> usize {
 }
 
 // The largest round file, and page K: 512 rounds are read.
-fn full(sheet: &[u8], file: &[u8]) {
-    length(b"bytes of the largest round file: ", file);
-    line(b"its count: ", count(sheet, file).count);
+fn full(rt: &impl Print, sheet: &[u8], file: &[u8]) -> io::Result<()> {
+    length(rt, b"bytes of the largest round file: ", file)?;
+    line(rt, b"its count: ", count(sheet, file).count)?;
     line(
+        rt,
         b"challenge of its last round: ",
         read(sheet, file, 511).round.challenge,
-    );
-    line(b"512 rounds: ", check(sheet, file, 511));
+    )?;
+    line(rt, b"512 rounds: ", check(sheet, file, 511))
 }
 
 // One round more is not appended, and page K: a file of 513 rounds is refused.
-fn beyond(sheet: &[u8], file: &mut [u8], used: usize) {
+fn beyond(rt: &impl Print, sheet: &[u8], file: &mut [u8], used: usize) -> io::Result<()> {
     line(
+        rt,
         b"one round more: ",
         append_one(sheet, file, used, MOST_ROUNDS).refusal,
-    );
+    )?;
     store(file, 6, 1);
-    line(b"513 rounds: ", count(sheet, file).refusal);
+    line(rt, b"513 rounds: ", count(sheet, file).refusal)
 }
 
 // The trials of round files of a version, in a buffer that has room for 513 rounds and no more.
-fn rounds(sheet: &[u8], file: &mut [u8], version: u32) {
-    line(b"version: ", version);
+fn rounds(rt: &impl Print, sheet: &[u8], file: &mut [u8], version: u32) -> io::Result<()> {
+    line(rt, b"version: ", version)?;
     let used = append_all(sheet, file, version);
-    full(sheet, front(file, used));
-    beyond(sheet, file, used);
+    full(rt, sheet, front(file, used))?;
+    beyond(rt, sheet, file, used)
 }
 
 // Page K, the largest sheet, and the largest round file of each version.
-pub fn all() {
-    rows();
+pub fn all(rt: &impl Print) -> io::Result<()> {
+    rows(rt)?;
     let mut sheet = [0u8; 400];
     let length = make_largest(&mut sheet);
-    largest(front(&sheet, length));
-    last_entry(front(&sheet, length));
+    largest(rt, front(&sheet, length))?;
+    last_entry(rt, front(&sheet, length))?;
     let mut file = [0u8; 34891];
-    rounds(front(&sheet, length), &mut file, 1);
+    rounds(rt, front(&sheet, length), &mut file, 1)?;
     let mut narrow = [0u8; 33865];
-    rounds(front(&sheet, length), &mut narrow, 2);
+    rounds(rt, front(&sheet, length), &mut narrow, 2)
 }

@@ -4,12 +4,12 @@
 // in four and the level's in two, high byte first, then the bytes of the three.
 #![tactic(auto)]
 
-ghost use Rattle.std.specs.Prelude.{◌≤◌, length};
+ghost use Rattle.std.specs.Prelude.{◌≤◌, length, IfOk};
 
 use fields::{read_u16, read_u32};
 use files::read_file;
-use libc::STDOUT_FILENO;
 use report::{LONGEST, mark};
+use std::io;
 
 // How many bytes of stored cases are read.
 const CASES: usize = 100000;
@@ -18,48 +18,50 @@ const CASES: usize = 100000;
 const LENGTHS: usize = 8;
 
 // Prints the marker's text on a sheet, a round file and a level.
-fn print_text(sheet: &[u8], file: &[u8], level: &[u8]) {
+fn print_text(rt: &impl Print, sheet: &[u8], file: &[u8], level: &[u8]) -> io::Result<()> {
     let mut text = [0u8; LONGEST];
     let length = mark(sheet, file, level, &mut text);
-    io::write_all(STDOUT_FILENO, &text[..length]);
+    rt.write_all(&text[..length])
 }
 
-// Prints the text on the case that cases begins with, and answers how many bytes the case has, 0 where it is not whole.
-fn print_first(cases: &[u8]) -> usize
-    ensures { result ≤ length cases.now }
+// Prints the text on the case that cases begins with, and answers how many bytes the case has, 0 where it is not whole. An
+// error is that of a write.
+fn print_first(rt: &impl Print, cases: &[u8]) -> io::Result<usize>
+    ensures { IfOk result (λ n. n ≤ length cases.now) }
 {
     if cases.len() < LENGTHS {
-        return 0;
+        return Ok(0);
     }
     let sheet_end = LENGTHS + read_u16(cases, 0) as usize;
     let file_end = sheet_end + read_u32(cases, 2) as usize;
     let level_end = file_end + read_u16(cases, 6) as usize;
     if cases.len() < level_end {
-        return 0;
+        return Ok(0);
     }
     print_text(
+        rt,
         &cases[LENGTHS..sheet_end],
         &cases[sheet_end..file_end],
         &cases[file_end..level_end],
-    );
-    level_end
+    )?;
+    Ok(level_end)
 }
 
 // Prints the text on each case. At a case that is not whole it prints a line that says so, and ends.
-fn print_all(cases: &[u8]) {
+fn print_all(rt: &impl Print, cases: &[u8]) -> io::Result<()> {
     let mut done = 0;
     while done < cases.len() {
-        let more = print_first(&cases[done..]);
+        let more = print_first(rt, &cases[done..])?;
         if more == 0 {
-            io::write_all(STDOUT_FILENO, b"cases.bin is damaged\n");
-            return;
+            return println!(rt; "cases.bin is damaged");
         }
         done += more;
     }
+    Ok(())
 }
 
-fn main() {
+fn main(rt: HostRuntime) -> io::Result<()> {
     let mut cases = [0u8; CASES];
-    let length = read_file(b"cases.bin", &mut cases);
-    print_all(&cases[..length]);
+    let length = read_file(&rt, b"cases.bin", &mut cases);
+    print_all(&rt, &cases[..length])
 }

@@ -5,6 +5,7 @@ use instance::load;
 use lines::{answer, answer_line, front, loading, one, three, verdict};
 use maker::make;
 use protocol::{judge, simulate};
+use std::io;
 use types::{Round, Verifier};
 
 // Vic's session once he has taken a commitment and a challenge.
@@ -15,7 +16,14 @@ fn asked(sheet: &[u8], commitment: [u32; 8], challenge: u32) -> Verifier {
 
 // A run of both sessions: Peggy commits, Vic takes the commitment and the challenge, Peggy responds, Vic judges. Prints the
 // commitment, the response and the verdict.
-fn run(label: &[u8], sheet: &[u8], witness: [u32; 8], nonce: [u32; 8], c: u32) {
+fn run(
+    rt: &impl Print,
+    label: &[u8],
+    sheet: &[u8],
+    witness: [u32; 8],
+    nonce: [u32; 8],
+    c: u32,
+) -> io::Result<()> {
     let header = load(sheet).header;
     let committed = prover_session::commit(sheet, prover_session::new(), nonce);
     let t = committed.values;
@@ -23,15 +31,22 @@ fn run(label: &[u8], sheet: &[u8], witness: [u32; 8], nonce: [u32; 8], c: u32) {
     let peggy = committed.session;
     let responded = prover_session::respond(sheet, peggy, c, witness);
     let r = responded.values;
-    answer(label, committed.refusal, t, header.rows as usize);
-    answer(b", r", responded.refusal, r, header.columns as usize);
+    answer(rt, label, committed.refusal, t, header.rows as usize)?;
+    answer(rt, b", r", responded.refusal, r, header.columns as usize)?;
     let judged = verifier::take_response(sheet, vic, r).verdict;
-    verdict(b", ", judged);
+    verdict(rt, b", ", judged)
 }
 
 // A run with a witness and a nonce of one slot.
-fn run_one(label: &[u8], sheet: &[u8], witness: u32, nonce: u32, c: u32) {
-    run(label, sheet, one(witness), one(nonce), c);
+fn run_one(
+    rt: &impl Print,
+    label: &[u8],
+    sheet: &[u8],
+    witness: u32,
+    nonce: u32,
+    c: u32,
+) -> io::Result<()> {
+    run(rt, label, sheet, one(witness), one(nonce), c)
 }
 
 // A round of one row and one column.
@@ -44,26 +59,39 @@ fn round_of(t: u32, c: u32, r: u32) -> Round {
 }
 
 // Prints the witness of one slot that two rounds give, and that the same rounds give when swapped.
-fn both_ways(label: &[u8], sheet: &[u8], first: Round, second: Round) {
+fn both_ways(
+    rt: &impl Print,
+    label: &[u8],
+    sheet: &[u8],
+    first: Round,
+    second: Round,
+) -> io::Result<()> {
     let given = extract(sheet, first, second);
     let witness = given.values;
-    answer(label, given.refusal, witness, 1);
+    answer(rt, label, given.refusal, witness, 1)?;
     let swapped = extract(sheet, second, first);
     let same = swapped.values;
-    answer_line(b", swapped", swapped.refusal, same, 1);
+    answer_line(rt, b", swapped", swapped.refusal, same, 1)
 }
 
 // Pages A, B and C: a run, extracting either way round, and simulating.
-fn schnorr(sheet: &[u8]) {
-    run_one(b"A: t", sheet, 7, 5, 3);
-    both_ways(b"B: witness", sheet, round_of(9, 3, 4), round_of(9, 1, 1));
+fn schnorr(rt: &impl Print, sheet: &[u8]) -> io::Result<()> {
+    run_one(rt, b"A: t", sheet, 7, 5, 3)?;
+    both_ways(
+        rt,
+        b"B: witness",
+        sheet,
+        round_of(9, 3, 4),
+        round_of(9, 1, 1),
+    )?;
     let simulated = simulate(sheet, 3, one(0));
     let t = simulated.values;
-    answer_line(b"C: t", simulated.refusal, t, 1);
+    answer_line(rt, b"C: t", simulated.refusal, t, 1)
 }
 
 // A run on the sheet of a pattern with m 23, q 11 and K 11.
 fn pattern_run(
+    rt: &impl Print,
     label: &[u8],
     patterns: &[u8],
     number: u32,
@@ -72,15 +100,16 @@ fn pattern_run(
     witness: [u32; 8],
     nonce: [u32; 8],
     c: u32,
-) {
+) -> io::Result<()> {
     let mut buffer = [0u8; 64];
     let made = make(patterns, number, 23, 11, 11, values, statement, &mut buffer);
-    run(label, front(&buffer, made.length), witness, nonce, c);
+    run(rt, label, front(&buffer, made.length), witness, nonce, c)
 }
 
 // Page D: two witnesses whose rounds are the same.
-fn okamoto(patterns: &[u8]) {
+fn okamoto(rt: &impl Print, patterns: &[u8]) -> io::Result<()> {
     pattern_run(
+        rt,
         b"D, witness 1 2: t",
         patterns,
         2,
@@ -89,8 +118,9 @@ fn okamoto(patterns: &[u8]) {
         three(1, 2, 99),
         three(0, 0, 99),
         1,
-    );
+    )?;
     pattern_run(
+        rt,
         b"D, witness 6 0: t",
         patterns,
         2,
@@ -99,12 +129,13 @@ fn okamoto(patterns: &[u8]) {
         three(6, 0, 99),
         three(6, 2, 99),
         1,
-    );
+    )
 }
 
 // Pages E and F: two rows, and an image as the commitment to a nonce, which is the witness here.
-fn two_rows(patterns: &[u8]) {
+fn two_rows(rt: &impl Print, patterns: &[u8]) -> io::Result<()> {
     pattern_run(
+        rt,
         b"E: t",
         patterns,
         4,
@@ -113,8 +144,9 @@ fn two_rows(patterns: &[u8]) {
         one(7),
         one(5),
         3,
-    );
+    )?;
     pattern_run(
+        rt,
         b"F: t",
         patterns,
         5,
@@ -123,56 +155,65 @@ fn two_rows(patterns: &[u8]) {
         three(2, 1, 0),
         three(2, 1, 0),
         1,
-    );
+    )
 }
 
 // Pages G and H: two runs in kind 2, and extracting from their rounds either way round.
-fn root(patterns: &[u8]) {
+fn root(rt: &impl Print, patterns: &[u8]) -> io::Result<()> {
     let none = [0u32; 8];
     let mut buffer = [0u8; 64];
     let made = make(patterns, 0, 35, 5, 5, &none[0..0], &[32u32], &mut buffer);
     let sheet = front(&buffer, made.length);
-    run_one(b"G, c 1: t", sheet, 2, 3, 1);
-    run_one(b"G, c 3: t", sheet, 2, 3, 3);
+    run_one(rt, b"G, c 1: t", sheet, 2, 3, 1)?;
+    run_one(rt, b"G, c 3: t", sheet, 2, 3, 3)?;
     both_ways(
+        rt,
         b"H: witness",
         sheet,
         round_of(33, 1, 6),
         round_of(33, 3, 24),
-    );
+    )
 }
 
 // Prints the number that loading a sheet of kind 1 with one row and one column answers, for values below 256. The sheet stands
 // byte by byte, since no writer writes one that is refused.
-fn small_sheet(label: &[u8], modulus: u8, order: u8, challenges: u8, entry: u8, statement: u8) {
+fn small_sheet(
+    rt: &impl Print,
+    label: &[u8],
+    modulus: u8,
+    order: u8,
+    challenges: u8,
+    entry: u8,
+    statement: u8,
+) -> io::Result<()> {
     let sheet = [
         0x48, 0x4F, 0x4D, 0, 1, 1, 0, 0, 0, modulus, 0, 0, 0, order, 0, 0, 0, challenges, 1, 1, 0,
         0, 0, entry, 0, 0, 0, statement,
     ];
-    loading(label, &sheet);
+    loading(rt, label, &sheet)
 }
 
 // Page I: the largest challenge count at a prime order, at one that is not prime, and the next count.
-fn challenge_counts() {
-    small_sheet(b"I, q 11, K 11: ", 23, 11, 11, 2, 13);
-    small_sheet(b"I, q 11, K 12: ", 23, 11, 12, 2, 13);
-    small_sheet(b"I, q 15, K 3: ", 31, 15, 3, 1, 1);
-    small_sheet(b"I, q 15, K 4: ", 31, 15, 4, 1, 1);
+fn challenge_counts(rt: &impl Print) -> io::Result<()> {
+    small_sheet(rt, b"I, q 11, K 11: ", 23, 11, 11, 2, 13)?;
+    small_sheet(rt, b"I, q 11, K 12: ", 23, 11, 12, 2, 13)?;
+    small_sheet(rt, b"I, q 15, K 3: ", 31, 15, 3, 1, 1)?;
+    small_sheet(rt, b"I, q 15, K 4: ", 31, 15, 4, 1, 1)
 }
 
 // Page J: a commitment that is no group element, a response that is a slot, so that the round is judged, and one that is none.
-fn tested_values(sheet: &[u8]) {
-    verdict(b"J, t 5: ", judge(sheet, round_of(5, 0, 0)));
-    verdict(b"J, response 10: ", judge(sheet, round_of(9, 0, 10)));
-    verdict(b"J, response 11: ", judge(sheet, round_of(9, 0, 11)));
+fn tested_values(rt: &impl Print, sheet: &[u8]) -> io::Result<()> {
+    verdict(rt, b"J, t 5: ", judge(sheet, round_of(5, 0, 0)))?;
+    verdict(rt, b"J, response 10: ", judge(sheet, round_of(9, 0, 10)))?;
+    verdict(rt, b"J, response 11: ", judge(sheet, round_of(9, 0, 11)))
 }
 
 // Pages A to J, with a file of 01's patterns; the sheet is page A's.
-pub fn all(patterns: &[u8], sheet: &[u8]) {
-    schnorr(sheet);
-    okamoto(patterns);
-    two_rows(patterns);
-    root(patterns);
-    challenge_counts();
-    tested_values(sheet);
+pub fn all(rt: &impl Print, patterns: &[u8], sheet: &[u8]) -> io::Result<()> {
+    schnorr(rt, sheet)?;
+    okamoto(rt, patterns)?;
+    two_rows(rt, patterns)?;
+    root(rt, patterns)?;
+    challenge_counts(rt)?;
+    tested_values(rt, sheet)
 }

@@ -17,8 +17,8 @@ use crate::search;
 use folders::{Folder, folders};
 use scratch::Scratch;
 
-/// Where `rt check` puts programs.
-pub const BUILT: &str = concat!(env!("CARGO_MANIFEST_DIR"), "/../../target/bin");
+/// Where the crates stand, in whose folders `out` `rt run` puts programs.
+pub const BUILT: &str = concat!(env!("CARGO_MANIFEST_DIR"), "/../../crates");
 
 /// A program, and the judge's text on a sheet, a round file and a level file.
 pub struct Program {
@@ -34,14 +34,14 @@ pub const PROGRAMS: [Program; 3] = [
 ];
 
 impl Program {
-    /// Runs the program, which stands in this folder, in folders made from the
+    /// Runs the program, whose crate stands in this folder, in folders made from the
     /// seed and answers the line to print. An error says that there is no
     /// program, or what differs.
     pub fn check(&self, seed: u64, built: &Path) -> Result<String, String> {
-        let (name, path) = (self.name, built.join(self.name));
+        let (name, path) = (self.name, built.join(self.name).join("out").join(self.name));
         let Ok(program) = fs::canonicalize(&path) else {
             return Err(format!(
-                "compare: there is no program {}; `rt check {name}` at the root of the repository builds it",
+                "compare: there is no program {}; `rt run` in crates/{name} builds it",
                 path.display()
             ));
         };

@@ -1,5 +1,5 @@
 //! The archive is found by one rule, in C, in Rust and for the shared library: in the folder whose whole path is in DIMKHOROS_LIB,
-//! and else in target/staticlib of the repository. Where it is not found, one line says so.
+//! and else in crates/dimkhoros/out of the repository. Where it is not found, one line says so.
 
 use crate::cc;
 
@@ -33,15 +33,15 @@ fn assert_fails(folder: &str, expected: &str) {
 
 #[test]
 fn a_relative_folder_is_refused() {
-    let expected = "DIMKHOROS_LIB must be the whole path of a folder, and is target/staticlib.";
-    assert_fails("target/staticlib", expected);
+    let expected = "DIMKHOROS_LIB must be the whole path of a folder, and is crates/dimkhoros/out.";
+    assert_fails("crates/dimkhoros/out", expected);
 }
 
 #[test]
 fn a_missing_archive_is_named() {
     let folder = cc::scratch("no such folder").display().to_string();
     let expected = format!(
-        "There is no archive {folder}/libdimkhoros.a. Run `rt staticlib dimkhoros` at the root of the repository, or set \
+        "There is no archive {folder}/libdimkhoros.a. Run `rt lib` in crates/dimkhoros of the repository, or set \
          DIMKHOROS_LIB to the whole path of the folder that has libdimkhoros.a."
     );
     assert_fails(&folder, &expected);

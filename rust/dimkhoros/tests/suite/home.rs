@@ -10,6 +10,9 @@ use std::path::{Path, PathBuf};
 use std::process::{Command, Stdio};
 use std::time::{Duration, SystemTime};
 
+/// The programs that the scripts build.
+const PROGRAMS: [&str; 3] = ["marker", "reason", "game"];
+
 /// The folder, and the name of the script that stands in it.
 pub struct Home(pub PathBuf, &'static str);
 
@@ -28,8 +31,11 @@ impl Home {
         if home.exists() {
             fs::remove_dir_all(&home).unwrap();
         }
-        for folder in ["crates", "scripts", "target/bin", "tools"] {
+        for folder in ["crates/dimkhoros/out", "scripts", "tools"] {
             fs::create_dir_all(home.join(folder)).unwrap();
+        }
+        for program in PROGRAMS {
+            fs::create_dir_all(home.join("crates").join(program).join("out")).unwrap();
         }
         fs::write(home.join("crates.txt"), crates).unwrap();
         let home = Home(home, script);
@@ -48,8 +54,8 @@ impl Home {
 
     /// Puts the programs `marker`, `reason` and `game` here, which are then newer than all that stands here.
     pub fn put_programs(&self) {
-        for program in ["marker", "reason", "game"] {
-            copy(&built(program), &self.0.join("target/bin").join(program));
+        for program in PROGRAMS {
+            copy(&built(program), &self.0.join("crates").join(program).join("out").join(program));
         }
     }
 
@@ -67,9 +73,11 @@ impl Home {
         command
     }
 
-    /// Makes a command run in this folder, with the tools alone on PATH and without the variable that `./install` reads.
+    /// Makes a command run in this folder, with the tools alone on PATH and without the variable that `./install` reads. A tool
+    /// that is put there can write what it is asked to the file that the variable ASKED names.
     pub fn prepared<'a>(&self, command: &'a mut Command) -> &'a mut Command {
         command.env("PATH", self.0.join("tools")).env_remove("DESTDIR");
+        command.env("ASKED", self.0.join("asked"));
         command.current_dir(&self.0).stdin(Stdio::null())
     }
 
@@ -103,12 +111,12 @@ impl Home {
     }
 }
 
-/// A program as `rt check` builds it.
+/// A program as `rt run` builds it.
 pub fn built(name: &str) -> PathBuf {
-    let program = cc::root().join("target/bin").join(name);
+    let program = cc::root().join("crates").join(name).join("out").join(name);
     assert!(
         program.exists(),
-        "there is no {program:?}; `rt check {name}` at the root of the repository builds it"
+        "there is no {program:?}; `rt run` in crates/{name} builds it"
     );
     program
 }

@@ -123,8 +123,8 @@ fn laid_out(test: &str) -> Home {
     }
     fs::create_dir_all(home.0.join("rust/target/release")).unwrap();
     home.put_programs();
-    write(&home, "target/staticlib/libdimkhoros.a");
-    write(&home, "target/staticlib/libdimkhoros.so");
+    write(&home, "crates/dimkhoros/out/libdimkhoros.a");
+    write(&home, "crates/dimkhoros/out/libdimkhoros.so");
     for file in ["README.md", "docs/AUTHORS.md", "examples/team.c", "rust/tool/README.md"] {
         write(&home, file);
     }
@@ -178,13 +178,13 @@ fn all_files_stand_in_their_places() {
         ("bin/marker", "scripts/program"),
         ("bin/reason", "scripts/program"),
         ("bin/game", "scripts/program"),
-        ("libexec/dimkhoros/marker", "target/bin/marker"),
-        ("libexec/dimkhoros/reason", "target/bin/reason"),
-        ("libexec/dimkhoros/game", "target/bin/game"),
+        ("libexec/dimkhoros/marker", "crates/marker/out/marker"),
+        ("libexec/dimkhoros/reason", "crates/reason/out/reason"),
+        ("libexec/dimkhoros/game", "crates/game/out/game"),
         ("include/dimkhoros.h", "include/dimkhoros.h"),
         ("include/dimkhoros_box.h", "include/dimkhoros_box.h"),
-        ("lib/libdimkhoros.a", "target/staticlib/libdimkhoros.a"),
-        ("lib/libdimkhoros.so", "target/staticlib/libdimkhoros.so"),
+        ("lib/libdimkhoros.a", "crates/dimkhoros/out/libdimkhoros.a"),
+        ("lib/libdimkhoros.so", "crates/dimkhoros/out/libdimkhoros.so"),
         ("share/dimkhoros/patterns.bin", "share/patterns.bin"),
         ("share/dimkhoros/ledger.txt", "share/ledger.txt"),
         ("lib/python/dimkhoros/verbs.py", "python/dimkhoros/verbs.py"),
@@ -513,11 +513,11 @@ fn without_cargo_the_tool_is_left_out() {
 fn without_cargo_an_old_tool_is_left_out() {
     let home = laid_out("old");
     for changed in
-        ["rust/dimkhoros/Cargo.toml", "rust/dimkhoros", "target/staticlib/libdimkhoros.a"]
+        ["rust/dimkhoros/Cargo.toml", "rust/dimkhoros", "crates/dimkhoros/out/libdimkhoros.a"]
     {
         install(&home, "prefix");
         home.date(changed, true);
-        home.date("target/staticlib/libdimkhoros.so", true);
+        home.date("crates/dimkhoros/out/libdimkhoros.so", true);
         assert_eq!(home.run(&["prefix"]).stderr, NO_CARGO, "{changed} has changed");
         home.date(changed, false);
     }
@@ -563,7 +563,7 @@ fn a_tool_that_cannot_be_built_is_left_out() {
 fn without_a_compiler_the_shared_library_is_left_out() {
     let home = laid_out("cc");
     install(&home, "prefix");
-    fs::remove_file(home.0.join("target/staticlib/libdimkhoros.so")).unwrap();
+    fs::remove_file(home.0.join("crates/dimkhoros/out/libdimkhoros.so")).unwrap();
     let run = home.run(&["prefix"]);
     let begins = "install: lib/libdimkhoros.so is not installed: ";
     assert_eq!(run.status, Some(1));
@@ -578,10 +578,10 @@ fn without_rt_nothing_old_is_installed() {
     let home = laid_out("rt");
     let before = tree(&home.0);
     for name in [
-        "target/staticlib/libdimkhoros.a",
-        "target/bin/marker",
-        "target/bin/reason",
-        "target/bin/game",
+        "crates/dimkhoros/out/libdimkhoros.a",
+        "crates/marker/out/marker",
+        "crates/reason/out/reason",
+        "crates/game/out/game",
     ] {
         home.date(name, false);
         let line = format!(
@@ -594,20 +594,20 @@ fn without_rt_nothing_old_is_installed() {
     assert_eq!(tree(&home.0), before);
 }
 
-/// The crates are proved in one call, which does it side by side, and the archive is built by another.
+/// The crates are proved in one call, which does it side by side, and the programs and the archive are built by others.
 #[test]
 fn what_is_old_is_built_once() {
     let home = laid_out("build");
-    home.date("target/bin/reason", false);
-    home.date("target/staticlib/libdimkhoros.so", true);
+    home.date("crates/reason/out/reason", false);
+    home.date("crates/dimkhoros/out/libdimkhoros.so", true);
     home.date("rust/target/release/dimkhoros", true);
-    home.put_tool("rt", "echo \"$@\" >>asked\necho 'rt: ok'");
+    home.put_tool("rt", "echo \"${PWD##*/} $*\" >>\"$ASKED\"\necho 'rt: ok'");
     let run = home.run(&["prefix"]);
     let begins = "install: proving 7 crates and building libdimkhoros.a with marker, reason and game, unless they are proved \
                   already; about 5 minutes on two processors\ninstall: proving the crate of the exports and building \
                   libdimkhoros.a; about 30 seconds on two processors\n";
     assert_eq!(run.stderr, begins);
-    let asked = "check laws others code marker reason game\nstaticlib dimkhoros\n";
+    let asked = "build all check\nmarker run\nreason run\ngame run\ndimkhoros lib\n";
     assert_eq!((run.status, home.text("asked").as_str()), (Some(0), asked));
     install(&home, "prefix");
     assert_eq!(home.text("asked"), asked);
@@ -620,7 +620,7 @@ fn what_is_old_is_built_once() {
 #[test]
 fn a_failed_proof_names_its_log_and_installs_nothing() {
     let home = laid_out("failed");
-    home.date("target/bin/marker", false);
+    home.date("crates/marker/out/marker", false);
     home.put_tool("rt", "echo 'rt: no proof' >&2; exit 1");
     let run = home.run(&["prefix"]);
     let lines: Vec<&str> = run.stderr.lines().collect();

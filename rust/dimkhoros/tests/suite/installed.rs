@@ -45,8 +45,7 @@ fn laid_out() -> Home {
     }
     cc::succeed(Command::new("cp").arg("-R").arg(cc::root().join("python")).arg(&home.0));
     symlink(cc::root().join("rust"), home.0.join("rust")).unwrap();
-    fs::create_dir(home.0.join("target/staticlib")).unwrap();
-    home::copy(Path::new(ARCHIVE), &home.0.join("target/staticlib/libdimkhoros.a"));
+    home::copy(Path::new(ARCHIVE), &home.0.join("crates/dimkhoros/out/libdimkhoros.a"));
     home.put_programs();
     home
 }

@@ -79,7 +79,7 @@ fn compile_words(page: &str, program: &str) -> Vec<String> {
     let line = page.lines().find(|line| line.starts_with("    cc ")).unwrap();
     let word = |word: &str| match word {
         "program.c" => program.to_string(),
-        "target/staticlib/libdimkhoros.a" => ARCHIVE.to_string(),
+        "crates/dimkhoros/out/libdimkhoros.a" => ARCHIVE.to_string(),
         _ => word.to_string(),
     };
     line.split_whitespace().map(word).collect()

@@ -334,7 +334,7 @@ fn a_folders_name_stays_in_its_line() {
 #[test]
 fn an_old_marker_is_not_run_without_rt() {
     let home = laid_out("old");
-    let marker = home.0.join("target/bin/marker");
+    let marker = home.0.join("crates/marker/out/marker");
     let line = format!(
         "{} is missing or older than its sources, and the command rt, which builds it, is not on PATH",
         marker.to_str().unwrap()
@@ -352,8 +352,8 @@ fn an_old_marker_is_not_run_without_rt() {
 #[test]
 fn an_old_marker_is_built_once() {
     let home = laid_out("build");
-    home.date("target/bin/marker", false);
-    home.put_tool("rt", "echo \"$@\" >>asked\necho 'rt: ok'");
+    home.date("crates/marker/out/marker", false);
+    home.put_tool("rt", "echo \"${PWD##*/} $*\" >>\"$ASKED\"\necho 'rt: ok'");
     let built = home.run(&[]);
     assert_eq!((built.status, built.stdout.as_str()), (Some(0), EXAMPLE));
     assert!(
@@ -363,7 +363,7 @@ fn an_old_marker_is_built_once() {
     );
     assert_eq!(built.stderr.lines().count(), 1);
     assert_eq!(home.run(&[]), marked(EXAMPLE));
-    assert_eq!(home.text("asked"), "check marker\n");
+    assert_eq!(home.text("asked"), "marker run\n");
     assert_eq!(home.text("target/run.log"), "rt: ok\n");
 }
 
@@ -371,8 +371,8 @@ fn an_old_marker_is_built_once() {
 #[test]
 fn an_old_program_is_built_for_itself() {
     let home = laid_out("reason-build");
-    home.date("target/bin/reason", false);
-    home.put_tool("rt", "echo \"$@\" >>asked\necho 'rt: ok'");
+    home.date("crates/reason/out/reason", false);
+    home.put_tool("rt", "echo \"${PWD##*/} $*\" >>\"$ASKED\"\necho 'rt: ok'");
     assert_eq!(home.run(&[]), marked(EXAMPLE));
     let built = home.run(&["reason"]);
     assert_eq!((built.status, built.stdout.as_str()), (Some(0), "accepted\n"));
@@ -382,8 +382,8 @@ fn an_old_program_is_built_for_itself() {
         built.stderr
     );
     assert_eq!(home.run(&["reason"]), accepted("accepted\n"));
-    assert_eq!(home.text("asked"), "check reason\n");
-    home.date("target/bin/game", false);
+    assert_eq!(home.text("asked"), "reason run\n");
+    home.date("crates/game/out/game", false);
     assert_eq!(home.run(&["reason"]), accepted("accepted\n"));
     let built = home.run(&["game"]);
     assert_eq!((built.status, built.stdout.as_str()), (Some(0), GAME));
@@ -392,26 +392,26 @@ fn an_old_program_is_built_for_itself() {
         "{}",
         built.stderr
     );
-    assert_eq!(home.text("asked"), "check reason\ncheck game\n");
+    assert_eq!(home.text("asked"), "reason run\ngame run\n");
 }
 
 #[test]
 fn what_changes_during_a_build_is_built_again() {
     let home = laid_out("during");
-    home.date("target/bin/marker", false);
+    home.date("crates/marker/out/marker", false);
     home.put_tool(
         "rt",
-        "echo \"$@\" >>asked\nPATH=/usr/bin:/bin\nsleep 0.1; touch crates.txt; sleep 0.1",
+        "echo \"${PWD##*/} $*\" >>\"$ASKED\"\nPATH=/usr/bin:/bin\nsleep 0.1; touch ../../crates.txt; sleep 0.1",
     );
     assert_eq!(home.run(&[]).stdout, EXAMPLE);
     assert_eq!(home.run(&[]).stdout, EXAMPLE);
-    assert_eq!(home.text("asked"), "check marker\n".repeat(2));
+    assert_eq!(home.text("asked"), "marker run\n".repeat(2));
 }
 
 #[test]
 fn a_failed_build_names_its_log() {
     let home = laid_out("failed");
-    home.date("target/bin/marker", false);
+    home.date("crates/marker/out/marker", false);
     home.put_tool("rt", "for line in 1 2 3 4 5 6; do echo \"error $line\" >&2; done\nexit 1");
     let run = home.run(&[]);
     assert_eq!((run.status, run.stdout.as_str()), (Some(1), ""));
