@@ -3,12 +3,8 @@
 use mathlib.Core.Path.{refl}
 use Rattle.lists.specs.Places.{zeros8}
 use Rattle.runs.specs.Verifier.{new_verifier}
-use Rattle.verifier.proofs.calls.new.Statement.{statement}
-use Rattle.verifier.proofs.calls.new.Tie as tie
+use Rattle.verifier.proofs.calls.new.Goals as goal
 
-returns : tie.Need-returns
+pub returns : goal.returns
 unfolding new_verifier zeros8
 returns c = refl
-
-pub new_spec : {M : Type 1} → statement M
-new_spec = tie.close (tie.spec returns)
