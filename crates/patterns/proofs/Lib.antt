@@ -7,6 +7,7 @@ pub mod Making
 pub mod Spelled
 pub mod Meaning
 pub mod Shipped
+pub mod ShippedPuts
 pub mod OldMaker
 pub mod PatternCalls
 pub mod Corollaries

@@ -26,9 +26,9 @@ use Rattle.patterns.proofs.Shipped.{
   asks_same,
   old_sheet,
   shipped_bytes_law,
-  shipped_puts,
   shipped_tests,
 }
+use Rattle.patterns.proofs.ShippedPuts.{shipped_puts}
 use Rattle.patterns.proofs.Spelled.{filed_spells, spells_count, spells_digits, spells_filed, spells_number}
 
 -- demand 1 holds of the calls on pattern files

@@ -21,10 +21,9 @@ use Rattle.rules.proofs.Lowest.{clear_lowest, lowest_clear, pass}
 use Rattle.sigma.specs.Comparison.{differ, first_difference}
 use Rattle.sigma.specs.Instance.{Instance}
 use Rattle.formats.specs.Encode.{sheet_of}
-use Rattle.formats.specs.Outcome.{Puts}
 use Rattle.formats.specs.Write.{short, writing_at_start}
 use Rattle.formats.proofs.Tests.{says_short}
-use Rattle.formats.proofs.Writing.{short_passes, start_written, written_refusal}
+use Rattle.formats.proofs.Writing.{short_passes, written_refusal}
 use Rattle.patterns.specs.Maker.{asked, asked_kind, asked_pattern, bad_asked, made_rules, make_from, make_rules}
 use Rattle.patterns.specs.Pattern.{Pattern, made_for, root}
 use Rattle.patterns.specs.PatternFile.{
@@ -80,12 +79,6 @@ module _ (buffer : List ℕ) where
             omega (arith, passes.0 fits),
         λ fits. written_refusal _ _ _ buffer ∙ lowest_clear rules (passes.1 (omega arith), tt),
       )
-
-  -- it then stands at the start of the buffer
-  pub shipped_puts : (write_shipped buffer).answer.refusal ≡ 0 → Puts shipped buffer (write_shipped buffer)
-  unfolding write_shipped
-  shipped_puts e =
-      start_written _ shipped buffer e (omega (arith, length_shipped, shipped_runs.0 e))
 
 -- ---- its sheets
 
