@@ -4,29 +4,28 @@ use native.Mathlib.Omega.{arith}
 use borrow.Author.Tests.{lt-ltb, le-ltb}
 use Rattle.patterns.specs.PatternFile.{bad_sizes}
 use Rattle.pattern_file.specs.Walk.{wrong_sizes}
-use Rattle.pattern_file.proofs.layout.wrong_sizes.Statement.{statement}
-use Rattle.pattern_file.proofs.layout.wrong_sizes.Tie as tie
+use Rattle.pattern_file.proofs.layout.wrong_sizes.Goals as goal
 
-returns : tie.Need-returns
+pub returns-then-p-lt1 : goal.returns-then-p-lt1
 unfolding wrong_sizes bad_sizes
-returns c = rw (lt-ltb _ 1 c.if1.true)
+returns-then-p-lt1 c = rw (lt-ltb _ 1 c.if-p-lt1.true)
 
-returns_2 : tie.Need-returns-2
+pub returns-then-p-gt8 : goal.returns-then-p-gt8
 unfolding wrong_sizes bad_sizes
-returns_2 c =
-    let p = c.before.before.before.before.args.p in
+returns-then-p-gt8 c =
+    let p = c.args.p in
     rw (le-ltb p.rows 1 (omega arith), lt-ltb 8 p.rows (omega arith))
 
-returns-3 : tie.Need-returns-3
+pub returns-then-p-lt1-2 : goal.returns-then-p-lt1-2
 unfolding wrong_sizes bad_sizes
-returns-3 c =
-    let p = c.before.before.before.before.before.before.args.p in
+returns-then-p-lt1-2 c =
+    let p = c.args.p in
     rw (le-ltb p.rows 1 (omega arith), le-ltb 8 p.rows (omega arith), lt-ltb p.columns 1 (omega arith))
 
-returns-4 : tie.Need-returns-4
+pub returns-then-p-gt8-2 : goal.returns-then-p-gt8-2
 unfolding wrong_sizes bad_sizes
-returns-4 c =
-    let p = c.before.before.before.before.before.before.before.before.args.p in
+returns-then-p-gt8-2 c =
+    let p = c.args.p in
     rw (
       le-ltb p.rows 1 (omega arith),
       le-ltb 8 p.rows (omega arith),
@@ -34,10 +33,10 @@ returns-4 c =
       lt-ltb 8 p.columns (omega arith),
     )
 
-returns-5 : tie.Need-returns-5
+pub returns-then-p-lt1-3 : goal.returns-then-p-lt1-3
 unfolding wrong_sizes bad_sizes
-returns-5 c =
-    let p = c.before.before.before.before.before.before.before.before.before.before.args.p in
+returns-then-p-lt1-3 c =
+    let p = c.args.p in
     rw (
       le-ltb p.rows 1 (omega arith),
       le-ltb 8 p.rows (omega arith),
@@ -46,10 +45,10 @@ returns-5 c =
       lt-ltb p.values 1 (omega arith),
     )
 
-returns-6 : tie.Need-returns-6
+pub returns : goal.returns
 unfolding wrong_sizes bad_sizes
-returns-6 c =
-    let p = c.before.before.before.before.before.before.before.before.before.before.before.args.p in
+returns c =
+    let p = c.args.p in
     rw (
       le-ltb p.rows 1 (omega arith),
       le-ltb 8 p.rows (omega arith),
@@ -57,6 +56,3 @@ returns-6 c =
       le-ltb 8 p.columns (omega arith),
       le-ltb p.values 1 (omega arith),
     )
-
-pub wrong_sizes_spec : {M : Type 1} → statement M
-wrong_sizes_spec = tie.close (tie.spec returns returns_2 returns-3 returns-4 returns-5 returns-6)
