@@ -1,10 +1,10 @@
--- Which states a `let .. else` or an arm of a match turns back: a session with the tag of another state does not have the one
+-- Which states a `let .. else` or an arm of a match turns back: a session in another state does not have the one
 -- that the call asks for. The code tells a state by a number, its place in 01's sentence from 0.
 -- Assumes nothing.
 use mathlib.Core.Path.{◌≡◌}
 use mathlib.Core.Bool.{true, false, not, ◌||◌}
 use mathlib.Core.List.{[], ◌∷◌}
-use mathlib.Core.Logic.{◌⊎◌, inl, inr, ⊎_elim}
+use mathlib.Core.Logic.{◌≢◌, ◌⊎◌, inl, inr, ⊎_elim}
 use denote.Enum.Declared.{tag_of}
 use types.Run.{OneOf, miss}
 use Rattle.types.specs.declared.Prover.{Prover}
@@ -25,14 +25,12 @@ started Dropped told = absurd (miss (0 ∷ 1 ∷ []) 3 tt told)
 
 module _ (p : Prover) where
   -- not New
-  pub not_new : OneOf (1 ∷ 2 ∷ 3 ∷ []) (tag_of the_type p.phase) → not (prover_in New p) ≡ true
-  not_new told =
-      (says_not (says_prover New p)).complete (λ (same : p.phase ≡ New). miss (1 ∷ 2 ∷ 3 ∷ []) 0 tt (rw same at told))
+  pub not_new : p.phase ≢ New → not (prover_in New p) ≡ true
+  not_new other = (says_not (says_prover New p)).complete other
 
   -- not Committed
-  pub not_committed : OneOf (0 ∷ 2 ∷ 3 ∷ []) (tag_of the_type p.phase) → not (prover_in Committed p) ≡ true
-  not_committed told =
-      (says_not (says_prover Committed p)).complete (λ (same : p.phase ≡ Committed). miss (0 ∷ 2 ∷ 3 ∷ []) 1 tt (rw same at told))
+  pub not_committed : p.phase ≢ Committed → not (prover_in Committed p) ≡ true
+  not_committed other = (says_not (says_prover Committed p)).complete other
 
   -- Answered or Dropped cannot be dropped
   pub not_started : OneOf (2 ∷ 3 ∷ []) (tag_of the_type p.phase) → not (prover_in New p || prover_in Committed p) ≡ true
