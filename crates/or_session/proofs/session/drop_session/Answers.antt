@@ -10,25 +10,15 @@ use Rattle.rules.proofs.Lowest.{pass, stop}
 use Rattle.disjunctions.specs.Prover.{drop_or, dropping_or}
 use Rattle.or_session.proofs.States.{is_started, not_started}
 use Rattle.or_session.proofs.Steps.{step_refused, step_given}
-use Rattle.or_session.proofs.session.drop_session.Statement.{statement}
-use Rattle.or_session.proofs.session.drop_session.Tie as tie
+use Rattle.or_session.proofs.session.drop_session.Goals as goal
 
-wiped-requires : tie.Need-wiped-requires
-wiped-requires c κs = omega arith
-
-refused-requires : tie.Need-refused-requires
-refused-requires c κs = omega arith
-
-returns : tie.Need-returns
+pub returns-in-New : goal.returns-in-New
 unfolding drop_or dropping_or number_of lowest zeros8
-returns c =
-    step_given (dropping_or _) (sym (pass 21 [] (is_started _ c.before.match.keys1))) refl
+returns-in-New c =
+    step_given (dropping_or _) (sym (pass 21 [] (is_started _ c.in-New.is))) refl
     (λ i. record { session = c.wiped.ensures i; values0 = zeros8; values1 = zeros8; challenge0 = 0; refusal = 0 })
 
-returns_2 : tie.Need-returns-2
+pub returns-in-Answered : goal.returns-in-Answered
 unfolding drop_or dropping_or number_of
-returns_2 c =
-    step_refused (dropping_or _) (sym (stop 21 _ (not_started _ c.before.match.keys2))) (omega arith) c.refused.ensures
-
-pub drop_session_spec : {M : Type 1} → statement M
-drop_session_spec = tie.close (tie.spec wiped-requires refused-requires returns returns_2)
+returns-in-Answered c =
+    step_refused (dropping_or _) (sym (stop 21 _ (not_started _ c.in-Answered.is))) (omega arith) c.refused.ensures
