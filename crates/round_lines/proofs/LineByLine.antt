@@ -2,7 +2,7 @@
 -- Assumes nothing.
 use Prim.Native.Nat.{ℕ, suc, ◌+◌}
 use mathlib.Core.Path.{◌≡◌, refl, ap, ◌∙◌}
-use mathlib.Core.Bool.{Bool, false, not, ◌||◌}
+use mathlib.Core.Bool.{Bool, true, false, not, ◌||◌}
 use mathlib.Core.List.{List, [], ◌∷◌, ◌++◌, append_assoc, append-nil, flatten}
 use native.Mathlib.Numerals.{add-one}
 use lib.Dec.{T}
@@ -46,7 +46,7 @@ module _ (i : Instance) (f : List ℕ) where
   -- and none of them fails
   pub none_fails : (failed : Bool) → T (not failed) → failed ≡ fails_in i f 0
   unfolding fails_in any find
-  none_fails mathlib.Core.Bool.true e = absurd e
+  none_fails true e = elim e [ ]
   none_fails false e = refl
 
   module _ {l m : List ℕ} {at x : ℕ} (k : ℕ) (lines : Fitted l at (lines_in i f k) m x) where

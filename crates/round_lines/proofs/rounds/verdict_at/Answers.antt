@@ -8,10 +8,9 @@ use Rattle.round_lines.proofs.rounds.verdict_at.Goals as goal
 
 pub round_at-round-requires : goal.round_at-round-requires
 round_at-round-requires c =
-    let valid = c.requires.valid in
     record {
-      rows = valid.table.few_rows;
-      columns = valid.table.few_columns;
+      rows = c.requires.valid.table.few_rows;
+      columns = c.requires.valid.table.few_columns;
       width = c.requires.known;
       within = rw (c.record_start-start.ensures.value, c.requires.width) (record_inside c.requires.file _ c.requires.number);
     }
