@@ -13,7 +13,7 @@ use lib.ListN.{get_or, replicate, set}
 use Rattle.lists.specs.Places.{items_at, pad8, places, tabulate}
 use Rattle.patterns.specs.Pattern.{header_for, made_for}
 use Rattle.patterns.specs.Table.{kind_of, made, pattern_of, patterns}
-use Rattle.sigma.specs.Instance.{Instance, instance_with}
+use Rattle.sigma.specs.Instance.{instance_with}
 use Rattle.sigma.specs.Judge.{judging, judge_loaded}
 use Rattle.sigma.specs.Reads.{round_of}
 use Rattle.sigma.specs.Valid.{Valid}

@@ -46,6 +46,7 @@ module _ (i : Instance) (f : List ℕ) where
   -- and none of them fails
   pub none_fails : (failed : Bool) → T (not failed) → failed ≡ fails_in i f 0
   unfolding fails_in any find
+  none_fails mathlib.Core.Bool.true e = absurd e
   none_fails false e = refl
 
   module _ {l m : List ℕ} {at x : ℕ} (k : ℕ) (lines : Fitted l at (lines_in i f k) m x) where

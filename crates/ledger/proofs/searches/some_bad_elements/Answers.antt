@@ -1,0 +1,15 @@
+use mathlib.Core.Path.{sym, ◌∙◌}
+use native.Mathlib.Omega.{arith}
+use Rattle.numbers.proofs.Search.{any_here, any_on, any_start}
+use Rattle.ledger.proofs.searches.some_bad_elements.Goals as goal
+
+pub loop-i-init : goal.loop-i-init
+loop-i-init c = (omega arith, any_start _)
+
+pub returns-then-bad_elements : goal.returns-then-bad_elements
+returns-then-bad_elements c =
+    any_here _ _ _ c.loop-i-test.true (sym c.bad_elements.ensures ∙ c.if-bad_elements.true)
+
+pub loop-i-preserved : goal.loop-i-preserved
+loop-i-preserved c =
+    (omega arith, any_on _ _ c.loop-i.invariant.1 (sym c.bad_elements.ensures ∙ c.if-bad_elements.false))
