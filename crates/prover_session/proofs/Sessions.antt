@@ -3,19 +3,15 @@
 use Prim.Native.Nat.{ℕ, ◌+◌, ◌<◌, ◌≤◌}
 use mathlib.Core.Path.{◌≡◌}
 use mathlib.Core.Bool.{true, false, not, ◌||◌, or-eq-true_iff}
-use mathlib.Core.List.{[], ◌∷◌}
 use mathlib.Core.Logic.Or
-use mathlib.Core.Logic.{◌≢◌}
-use denote.Enum.Declared.{tag_of}
-use types.Run.{OneOf}
+use mathlib.Core.Logic.{◌≢◌, ◌⊎◌}
 use native.Mathlib.Numerals.{add-one}
 use borrow.Author.Tests.{le-leb, lt-leb, eq-eqb, ne_eqb}
 use lib.Dec.{leb}
 use lib.ListN.{set}
 use Rattle.types.specs.declared.Memory.{Memory}
 use Rattle.types.specs.declared.ProverPhase.{ProverPhase}
-use Rattle.types.specs.declared.ProverPhase.TheVariants.{New, Committed, Answered}
-use Rattle.types.specs.contracts.ProverPhase.{the_type}
+use Rattle.types.specs.declared.ProverPhase.TheVariants.{New, Committed, Answered, Dropped}
 use Rattle.lists.specs.Places.{zeros8}
 use Rattle.runs.specs.Memory.{listing, never_saved, saved_at}
 use Rattle.runs.specs.Prover.{prover_in, prover_state}
@@ -26,13 +22,13 @@ use Rattle.prover.proofs.States.{is_started, not_started}
 
 module _ (s : ProverSession) {phase : ProverPhase} (same : phase ≡ prover_phase s.phase) where
   -- New or Committed can be dropped
-  pub session_started : OneOf (0 ∷ 1 ∷ []) (tag_of the_type phase)
+  pub session_started : (phase ≡ New) ⊎ (phase ≡ Committed)
       → not (prover_in New (prover_of s) || prover_in Committed (prover_of s)) ≡ false
   unfolding prover_of
   session_started told = is_started (prover_of s) (rw same at told)
 
   -- Answered or Dropped cannot
-  pub session_ended : OneOf (2 ∷ 3 ∷ []) (tag_of the_type phase)
+  pub session_ended : (phase ≡ Answered) ⊎ (phase ≡ Dropped)
       → not (prover_in New (prover_of s) || prover_in Committed (prover_of s)) ≡ true
   unfolding prover_of
   session_ended told = not_started (prover_of s) (rw same at told)

@@ -9,13 +9,10 @@ use native.Mathlib.Numerals.{add-one}
 use native.Mathlib.Omega.{arith}
 use borrow.Author.Tests.{lt-ltb, le-ltb}
 use lib.Dec.{ltb}
-use denote.Enum.Declared.{tag_of}
-use types.Run.{OneOf, miss}
 use Rattle.types.specs.declared.Computed.{Computed}
 use Rattle.types.specs.declared.Round.{Round}
 use Rattle.types.specs.declared.Verdict.{Verdict}
 use Rattle.types.specs.declared.Verdict.TheVariants.{Accepted, Rejected, Refused}
-use Rattle.types.specs.contracts.Verdict.{the_type}
 use Rattle.lists.specs.Places.{zeros8}
 use Rattle.rules.specs.Call.{answer, number_of}
 use Rattle.rules.specs.Rule.{Rule, ◌when◌, lowest}
@@ -36,12 +33,12 @@ use Rattle.watches.specs.Window.{remembered_at}
 use Rattle.watches.specs.declared.Watch.{Watch}
 use Rattle.watch.specs.Told.{told_of}
 
--- a verdict with the tag of one of the first two cases has no number
-pub not_refused : (v : Verdict) → OneOf (0 ∷ 1 ∷ []) (tag_of the_type v) → (outcome v).number ≡ 0
+-- a verdict that is no refusal has no number
+pub not_refused : (v : Verdict) → ((k : ℕ) → v ≢ Refused k) → (outcome v).number ≡ 0
 unfolding outcome
-not_refused Accepted told = refl
-not_refused (Rejected mask) told = refl
-not_refused (Refused number) told = absurd (miss (0 ∷ 1 ∷ []) 2 tt told)
+not_refused Accepted other = refl
+not_refused (Rejected mask) other = refl
+not_refused (Refused number) other = absurd (other number refl)
 
 -- a refusal is not accepted
 refused_other : (n : ℕ) → Refused n ≢ Accepted

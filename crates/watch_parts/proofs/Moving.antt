@@ -1,6 +1,6 @@
 -- A loop that puts one element in front of an array and moves every other on by a place.
 -- Assumes nothing.
-use Prim.Native.Nat.{ℕ, suc, ◌+◌, ◌≤◌, ◌<◌, min}
+use Prim.Native.Nat.{ℕ, zero, suc, ◌+◌, ◌≤◌, ◌<◌, min}
 use mathlib.Core.Path.{◌≡◌, refl, sym, ◌∙◌}
 use mathlib.Core.List.{List, ◌∷◌}
 use native.Mathlib.Numerals.{add-one}
@@ -19,6 +19,7 @@ module _ {A : Type 0} (d newest : A) (old : List A) where
   -- before the first turn the newest stands everywhere
   pub behind_start : (n : ℕ) → 0 < n → Filled (replicate n newest) n moved (replicate n newest) 1
   unfolding tabulate items_at
+  behind_start zero some = elim some [ ]
   behind_start (suc n) some = record { room = rw (length-replicate (suc n) newest) (omega arith); within = omega arith; held = refl }
 
   -- the next element moves on by a place

@@ -9,6 +9,9 @@ use crate::specs::{Place, crates, files_in, root, text_of};
 const OF_PROGRAMS: [(&str, &str); 3] =
     [("report", "mark_files"), ("diagnosis", "reason_files"), ("game_lines", "game_files")];
 
+/// The kit's own library, whose words are no definitions of ours.
+const LIBRARY: &str = "std";
+
 /// A function with a contract.
 pub struct Contract {
     /// The function's name.
@@ -17,7 +20,7 @@ pub struct Contract {
     pub parameters: Vec<String>,
     /// Those of them that are lent to be changed.
     pub lent: Vec<String>,
-    /// What the contract ensures, clause by clause.
+    /// What the contract ensures, clause by clause, each from its bracket on.
     pub ensured: Vec<String>,
     /// How many lines the contract has.
     pub lines: usize,
@@ -38,7 +41,7 @@ impl Contract {
 
 /// The functions that other languages can call, of all crates.
 pub fn exports() -> Vec<Contract> {
-    crates().iter().flat_map(|name| contracts_in(name, "\n#[no_mangle]\n")).collect()
+    crates().iter().flat_map(|name| contracts_in(name, "\n#[unsafe(no_mangle)]\n")).collect()
 }
 
 /// The public functions of a crate.
@@ -77,16 +80,31 @@ fn contract_of(function: &str, imports: &BTreeMap<String, Place>) -> Contract {
     let name = named_so.rsplit(' ').next().expect("a function has a name");
     let clauses =
         head.find("\n    requires").or(head.find("\n    ensures")).map_or("", |at| &head[at..]);
-    let parts = clauses.split(|c: char| c.is_whitespace() || "(){}.,;[]⌜⌝".contains(c));
+    let said = [claims_of(clauses, "\n    requires"), claims_of(clauses, "\n    ensures")].concat();
+    let parts = said
+        .iter()
+        .flat_map(|claim| claim.split(|c: char| c.is_whitespace() || "(){}.,;[]".contains(c)));
     let named = parts.filter_map(|word| Some((word.to_string(), imports.get(word)?.clone())));
     Contract {
         name: name.to_string(),
         parameters: parameters_of(&head[begin.len()..], ""),
         lent: parameters_of(&head[begin.len()..], "&mut "),
-        ensured: clauses.split("\n    ensures").skip(1).map(str::to_string).collect(),
+        ensured: claims_of(clauses, "\n    ensures"),
         lines: clauses.lines().filter(|line| !line.trim().is_empty()).count(),
         named: named.collect(),
     }
+}
+
+/// What the clauses claim that begin so: each without its name, which stands before the bracket.
+fn claims_of(clauses: &str, begin: &str) -> Vec<String> {
+    let mut found = Vec::new();
+    for clause in clauses.split(begin).skip(1) {
+        let own = clause.split("\n    requires").next().unwrap_or(clause);
+        let own = own.split("\n    ensures").next().unwrap_or(own);
+        let at = own.find('{').expect("a clause has a bracket");
+        found.push(own[at..].to_string());
+    }
+    found
 }
 
 /// The names of the parameters in a head's brackets whose types begin so.
@@ -101,9 +119,12 @@ fn parameters_of(brackets: &str, begin: &str) -> Vec<String> {
 fn ghost_imports(text: &str) -> BTreeMap<String, Place> {
     let joined = text.replace('\n', " ");
     let mut found = BTreeMap::new();
-    for part in joined.split("ghost use Rattle·").skip(1) {
+    for part in joined.split("ghost use Rattle.").skip(1) {
         let Some((path, rest)) = part.split_once(".{") else { continue };
         let Some((crate_name, module)) = path.split_once(".specs.") else { continue };
+        if crate_name == LIBRARY {
+            continue;
+        }
         for name in rest.split('}').next().unwrap_or("").split(',').map(str::trim) {
             found.insert(name.to_string(), (crate_name.to_string(), module.to_string()));
         }

@@ -4,13 +4,10 @@ use std::collections::BTreeSet;
 
 use crate::specs::{Definition, Import, Place, Specs};
 
-/// The words of a definition's line, between spaces and brackets, without the fields that are taken of a value (` .field`).
+/// The words of a definition's line, between spaces and brackets, without the fields that are taken of a value (`value.field`).
 pub fn words(line: &str) -> impl Iterator<Item = &str> {
     let parts = line.split(|c: char| c.is_whitespace() || "(){},;[]".contains(c));
-    parts
-        .filter(|part| !part.starts_with('.'))
-        .map(|part| part.trim_end_matches('.'))
-        .filter(|word| !word.is_empty())
+    parts.filter_map(|part| part.split('.').next()).filter(|word| !word.is_empty())
 }
 
 /// The index of what a word of a file stands for, if it is a definition of the crates.
@@ -22,7 +19,7 @@ pub fn meant(specs: &Specs, place: &Place, word: &str) -> Option<usize> {
         return Some(found);
     }
     let imports = specs.imports.get(place)?;
-    let operator = format!("_{word}_");
+    let operator = format!("◌{word}◌");
     let Import { place, name } = imports.get(word).or_else(|| imports.get(&operator))?;
     at(place, name)
         .or_else(|| specs.definitions.iter().position(|d| d.place == *place && constructs(d, name)))

@@ -168,11 +168,10 @@ fn name_defined(line: &str, in_record: bool) -> Option<String> {
 fn imports_of(text: &str) -> BTreeMap<String, Import> {
     let joined = text.replace('\n', " ");
     let mut found = BTreeMap::new();
-    for part in joined.split("use Rattle·").skip(1) {
+    for part in joined.split("use Rattle.").skip(1) {
         let Some((path, rest)) = part.split_once(".{") else { continue };
         let Some((crate_name, module)) = path.split_once(".specs.") else { continue };
-        let crate_name = crate_name.strip_suffix("·specs").unwrap_or(crate_name);
-        let module = module.strip_suffix(".the-variants").unwrap_or(module);
+        let module = module.strip_suffix(".TheVariants").unwrap_or(module);
         let names = rest.split('}').next().unwrap_or("");
         for item in names.split(',').map(str::trim).filter(|item| !item.is_empty()) {
             let (name, given) = item.split_once(" as ").unwrap_or((item, item));

@@ -10,7 +10,9 @@ type Crates = BTreeSet<String>;
 fn listed() -> BTreeMap<String, Crates> {
     let text = text_of(&root().join("crates.txt"));
     let lines = text.lines().filter_map(|line| line.split('#').next()?.split_once(':'));
-    let lines: Vec<(&str, &str)> = lines.map(|(name, used)| (name.trim(), used)).collect();
+    // Behind the name stands what else the crate is, as `staticlib`.
+    let named = lines.filter_map(|(name, used)| Some((name.split_whitespace().next()?, used)));
+    let lines: Vec<(&str, &str)> = named.collect();
     let own = |used: &str| lines.iter().any(|(name, _)| *name == used);
     let used =
         |used: &str| used.split_whitespace().filter(|name| own(name)).map(String::from).collect();

@@ -10,10 +10,10 @@ use believed::specs::{Definition, Place, Specs, root, text_of};
 
 /// The export whose contract names a call's definition in a form of its own, and that call.
 const IN_A_FORM: [(&str, &str, &str); 1] =
-    [("dimkhoros_entries", "flatUnlessRefused", "loadEntries")];
+    [("dimkhoros_entries", "flat_unless_refused", "load_entries")];
 
-/// The call that no export hands out: its part is a slice of the caller's file, of which `locateRound` tells the place.
-const NOT_EXPORTED: [&str; 1] = ["partOfRound"];
+/// The call that no export hands out: its part is a slice of the caller's file, of which `locate_round` tells the place.
+const NOT_EXPORTED: [&str; 1] = ["part_of_round"];
 
 /// The export that is no call of 01 or 02.
 const NO_CALL: [&str; 1] = ["dimkhoros_version"];
@@ -125,10 +125,13 @@ fn each_export_hands_its_parameters_to_its_call_in_their_order() {
 #[test]
 fn each_contract_of_an_export_says_what_is_answered_and_what_stands_in_a_lent_array() {
     for export in exports() {
-        let says = |begin: &str| export.ensured.iter().any(|clause| clause.contains(begin));
-        assert!(says("λ r. ⌜ r ≡"), "{} says what it answers", export.name);
+        let says = |left: &str| {
+            let begin = ["{", left, "≡"];
+            export.ensured.iter().any(|clause| clause.split_whitespace().take(3).eq(begin))
+        };
+        assert!(says("result"), "{} says what it answers", export.name);
         for array in &export.lent {
-            let after = format!("⌜ now ({array} .exit)");
+            let after = format!("{array}.new");
             assert!(says(&after), "{} says what stands in {array} after it", export.name);
         }
     }
@@ -142,10 +145,10 @@ fn same_has_an_equation_for_each_call() {
     let mut parts = Vec::new();
     reach(&specs, &place, &record.lines, &mut BTreeSet::new(), &mut parts);
     let lines = parts.iter().flat_map(|at| &specs.definitions[*at].lines);
-    let taken: Vec<&str> = lines.flat_map(|line| line.split_whitespace()).collect();
+    let whole = lines.flat_map(|line| line.split(|c: char| c.is_whitespace() || "()".contains(c)));
+    let taken: Vec<&str> = whole.flat_map(|word| word.split('.').skip(1)).collect();
     for call in ours(&specs) {
-        let field = format!(".{}", call.name);
-        let sides = taken.iter().filter(|word| **word == field).count();
+        let sides = taken.iter().filter(|word| **word == call.name).count();
         assert_eq!(sides, 2, "`Same` has an equation of what {} answers in both codes", call.name);
     }
 }

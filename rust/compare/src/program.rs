@@ -246,7 +246,9 @@ mod tests {
     fn another_program_is_found() {
         let scratch = Scratch::new().unwrap();
         for program in &PROGRAMS {
-            fs::copy("/bin/sh", scratch.path().join(program.name)).unwrap();
+            let built = scratch.path().join(program.name).join("out");
+            fs::create_dir_all(&built).unwrap();
+            fs::copy("/bin/sh", built.join(program.name)).unwrap();
             let found = program.check(SEED, scratch.path()).unwrap_err();
             let start = format!("the program {} differs", program.name);
             assert!(found.starts_with(&start), "{found}");

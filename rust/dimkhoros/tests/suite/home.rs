@@ -114,10 +114,7 @@ impl Home {
 /// A program as `rt run` builds it.
 pub fn built(name: &str) -> PathBuf {
     let program = cc::root().join("crates").join(name).join("out").join(name);
-    assert!(
-        program.exists(),
-        "there is no {program:?}; `rt run` in crates/{name} builds it"
-    );
+    assert!(program.exists(), "there is no {program:?}; `rt run` in crates/{name} builds it");
     program
 }
 

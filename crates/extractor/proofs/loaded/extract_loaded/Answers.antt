@@ -2,7 +2,7 @@
 -- Assumes nothing.
 use mathlib.Core.Path.{sym, ◌∙◌}
 use native.Mathlib.Omega.{arith}
-use Rattle.extractor.proofs.Extracting.{not_accepted, pair_refused, first_rejected_law, second_rejected, both_accepted}
+use Rattle.extractor.proofs.Extracting.{pair_refused, first_rejected_law, second_rejected, both_accepted}
 use Rattle.extractor.proofs.Extracting.{swapped_rounds, witness_fits, witness_given, witness_swapped}
 use Rattle.extractor.proofs.loaded.extract_loaded.Goals as goal
 

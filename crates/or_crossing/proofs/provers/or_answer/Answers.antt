@@ -1,0 +1,20 @@
+-- `or_crossing::provers::or_answer` meets its contract: the number decides which session is handed back.
+-- Assumes nothing.
+use Prim.Native.Nat.{◌<◌}
+use mathlib.Core.Path.{◌≡◌}
+use native.Mathlib.Omega.{arith}
+use Rattle.rules.proofs.Answer.{unless_refused_zero, unless_refused_positive}
+use Rattle.or_crossing.specs.Provers.{or_answer}
+use Rattle.or_crossing.proofs.provers.or_answer.Goals as goal
+
+pub returns-then-refusal-ne0 : goal.returns-then-refusal-ne0
+unfolding or_answer
+returns-then-refusal-ne0 c =
+    let refused : 0 < c.args.step.refusal = omega arith in
+    rw (unless_refused_positive _ _ _ refused)
+
+pub returns : goal.returns
+unfolding or_answer
+returns c =
+    let passed : c.args.step.refusal ≡ 0 = omega arith in
+    rw (c.or_session_of.ensures, passed, unless_refused_zero)

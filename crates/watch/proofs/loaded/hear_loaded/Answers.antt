@@ -1,0 +1,26 @@
+-- `watch::loaded::hear_loaded` meets its contract: each return is a law of giving a watch a round.
+-- Assumes nothing.
+use mathlib.Core.Path.{sym, ◌∙◌}
+use Rattle.watch.proofs.Hearing.{not_refused, refused_told, rejected_told, unfit_bytes, unfit_count, unfit_told}
+use Rattle.watch.proofs.loaded.hear_loaded.Goals as goal
+
+pub returns-in-Refused : goal.returns-in-Refused
+returns-in-Refused c = λ sheet held size is-watched.
+    c.unnamed.ensures ∙ refused_told sheet _ _ _ c.judge_loaded-verdict.ensures c.in-Refused.is
+
+pub returns-then-not-watched : goal.returns-then-not-watched
+returns-then-not-watched c = λ sheet held size is-watched.
+    c.unnamed-then-not-watched.ensures
+    ∙ unfit_told sheet _ _ _ c.judge_loaded-verdict.ensures (not_refused _ c.in_default.not-Refused)
+    (unfit_bytes sheet _ _ _ (sym is-watched ∙ c.if-not-watched.true))
+
+pub returns-then-count-gt63 : goal.returns-then-count-gt63
+returns-then-count-gt63 c = λ sheet held size is-watched.
+    c.unnamed-then-count-gt63.ensures
+    ∙ unfit_told sheet _ _ _ c.judge_loaded-verdict.ensures (not_refused _ c.in_default.not-Refused)
+    (unfit_count sheet _ _ _ c.if-count-gt63.true)
+
+pub returns-in_default-verdict : goal.returns-in_default-verdict
+returns-in_default-verdict c = λ sheet held size is-watched.
+    c.unnamed-in_default-verdict.ensures
+    ∙ rejected_told sheet _ _ _ (sym is-watched ∙ c.if-not-watched.false) c.if-count-gt63.false c.judge_loaded-verdict.ensures c.in_default-verdict.not-Accepted
