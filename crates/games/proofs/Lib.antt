@@ -7,6 +7,7 @@ pub mod FirstByte
 pub mod Tests
 pub mod Number
 pub mod Words
+pub mod WordsAgree
 pub mod Playing
 pub mod Length
 pub mod Cut

@@ -31,7 +31,8 @@ use Rattle.games.proofs.FirstByte.{shown_none}
 use Rattle.games.proofs.Lines.{answers_of, first_response, lines_shown}
 use Rattle.games.proofs.Number.{number_none}
 use Rattle.games.proofs.Tests.{game_tests}
-use Rattle.games.proofs.Words.{answers_agree, named_agree}
+use Rattle.games.proofs.Words.{answers_agree}
+use Rattle.games.proofs.WordsAgree.{named_agree}
 
 module _ (sheet f : List ℕ) where
   -- the text of what is refused is the one line with its number

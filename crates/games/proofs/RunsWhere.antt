@@ -36,7 +36,8 @@ use Rattle.games.proofs.FirstByte.{shown_not_refused}
 use Rattle.games.proofs.Number.{number_own, own_rules}
 use Rattle.games.proofs.Playing.{refused_line_law, text_shown}
 use Rattle.games.proofs.Tests.{says_bad_game}
-use Rattle.games.proofs.Words.{named_agree, named_words}
+use Rattle.games.proofs.Words.{named_words}
+use Rattle.games.proofs.WordsAgree.{named_agree}
 
 module _ (sheet : List ℕ) where
   -- the values of a small sheet that loads, by its bytes

@@ -5,11 +5,9 @@ use mathlib.Core.Path.{◌≡◌, refl, sym, ap, ◌∙◌}
 use mathlib.Core.List.{List}
 use native.Mathlib.Nat.{zero-mul}
 use native.Mathlib.Omega.{arith}
-use lib.ListN.{get_or}
 use Rattle.types.specs.declared.Fetched.{Fetched}
 use Rattle.encoding.specs.Bytes.{words_at}
 use Rattle.lists.specs.Places.{pad8}
-use Rattle.lists.proofs.Places.{get_d_pad8}
 use Rattle.formats.specs.RoundCalls.{check_round}
 use Rattle.formats.specs.RoundFile.{challenge_width, record_length, record_start, round_at}
 use Rattle.formats.specs.Sheet.{header_of, instance_of}
@@ -30,10 +28,6 @@ module _ (sheet f : List ℕ) (checked : check_round sheet f 0 ≡ 0) where
       omega (arith, zero-mul (record_length (challenge_width f) (header_of sheet))) in
       ap (λ (fetched : Fetched). fetched.round.commitment) (fetch_given sheet f 0 checked)
       ∙ ap (λ (at : ℕ). pad8 0 (words_at f at (header_of sheet).rows)) start
-
-  -- so it agrees with the words in all places
-  pub named_agree : Agree (header_of sheet).rows (named_commitment sheet f) (commitment_words sheet f)
-  named_agree j b = ap (λ (t : List ℕ). get_or t j 0) named_words ∙ get_d_pad8 0 (commitment_words sheet f) j
 
 -- the answers on a commitment are those on every other that agrees with it in s places
 module _ (sheet t t' : List ℕ) (agree : Agree (header_of sheet).rows t t') where

@@ -107,7 +107,7 @@ any_same n n' p p' count same = any_agree n p p' same ∙ ap (λ (k : ℕ). any 
 
 module _ (base : Base) {ledger ledger' : Ledger} (s : SameLedger ledger ledger') where
   -- the refusals are the same
-  rules_same : number_of (checking_ledger base ledger) ≡ number_of (checking_ledger base ledger')
+  pub rules_same : number_of (checking_ledger base ledger) ≡ number_of (checking_ledger base ledger')
   unfolding number_of checking_ledger
   rules_same =
       let same = any_same ledger.count ledger'.count in
@@ -160,7 +160,7 @@ product_same s C i A B E p =
 
 module _ (base : Base) {ledger ledger' : Ledger} (s : SameLedger ledger ledger') where
   -- commitments of the lines of one are those of the other
-  commits_over : ((i : ℕ) → i < ledger.count → RightLine base i (line_at ledger i)) → (C : ℕ → ℕ) → Commits base ledger C
+  pub commits_over : ((i : ℕ) → i < ledger.count → RightLine base i (line_at ledger i)) → (C : ℕ → ℕ) → Commits base ledger C
       → Commits base ledger' C
   commits_over right C c = record {
     stored = λ i inside other.
@@ -182,7 +182,7 @@ module _ (base : Base) {ledger ledger' : Ledger} (s : SameLedger ledger ledger')
       stores i (inr (inr p)) single = inr p.0
 
   -- what is told of one is told of the other
-  tells_over : (C : ℕ → ℕ) (told : Checked) → Tells base ledger C told → Tells base ledger' C told
+  pub tells_over : (C : ℕ → ℕ) (told : Checked) → Tells base ledger C told → Tells base ledger' C told
   tells_over C told =
       let over = product_same s C in
       let back = product_same (same_ledger_sym s) C in
@@ -202,19 +202,3 @@ module _ (base : Base) {ledger ledger' : Ledger} (s : SameLedger ledger ledger')
         ),
         λ i A' B' E' early p'. hold i A' B' E' p' (before i A' B' E' early (back i A' B' E' p')),
       ))
-
-  -- the number is the same
-  number : (check_ledger base ledger).refusal ≡ (check_ledger base ledger').refusal
-  number = check_number base ledger ∙ rules_same base s ∙ sym (check_number base ledger')
-
-  -- so checking answers the same
-  pub lines_alone : check_ledger base ledger ≡ check_ledger base ledger'
-  lines_alone =
-      either (check_ledger base ledger).refusal (λ none.
-      let none' = sym number ∙ none in
-      tells_only base ledger' (lines base ledger' none') _ _ (commits_over (lines base ledger none) _ (commits base ledger none))
-      (commits base ledger' none') _ _ (tells_over _ _ (tells base ledger none)) (tells base ledger' none'))
-      (λ some.
-      let (accepted, line) = (ledger_refusals.checking base ledger).left some in
-      let (accepted', line') = (ledger_refusals.checking base ledger').left (subst (λ (n : ℕ). 0 < n) number some) in
-      λ j. record { accepted = (accepted ∙ sym accepted') j; line = (line ∙ sym line') j; refusal = number j })

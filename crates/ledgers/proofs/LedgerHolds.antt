@@ -6,7 +6,7 @@ use Rattle.patterns.specs.Ours.{maker_calls}
 use Rattle.runs.specs.Ours.{run_calls}
 use Rattle.ledgers.specs.LedgerHolds.{LedgerAnswers, LedgerHolds, MadeOf}
 use Rattle.ledgers.specs.Ours.{ledger_calls}
-use Rattle.ledgers.proofs.Alone.{lines_alone}
+use Rattle.ledgers.proofs.LinesAlone.{lines_alone}
 use Rattle.ledgers.proofs.Checking.{commits, tells}
 use Rattle.ledgers.proofs.EntriesAlone.{entries_alone}
 use Rattle.ledgers.proofs.MadeLedger.{made_accepted, made_honest, made_opens}

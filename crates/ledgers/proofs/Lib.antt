@@ -3,6 +3,7 @@ pub mod Tests
 pub mod LedgerRefusals
 pub mod Answers
 pub mod Right
+pub mod AllRight
 pub mod RunsWhere
 pub mod Valid
 pub mod Product
@@ -17,5 +18,6 @@ pub mod Honest
 pub mod MadeLedger
 pub mod Only
 pub mod Alone
+pub mod LinesAlone
 pub mod EntriesAlone
 pub mod LedgerHolds

@@ -19,7 +19,7 @@ use Rattle.ledgers.specs.declared.Ledger.{Ledger}
 use Rattle.ledgers.specs.declared.Line.{Line}
 use Rattle.ledgers.proofs.Commitments.{product_over}
 use Rattle.ledgers.proofs.Openings.{entry_over, values_only}
-use Rattle.ledgers.proofs.Right.{entries_right, ledger_right}
+use Rattle.ledgers.proofs.AllRight.{entries_right, ledger_right}
 
 -- ---- the checker
 

@@ -34,11 +34,11 @@ use Rattle.ledgers.specs.declared.Line.{Line}
 -- ---- kinds and lines above
 
 -- a kind that is not unknown is one of three
-known : (kind : ℕ) → ¬ UnknownKind kind → (kind ≡ 1) ⊎ (kind ≡ 2) ⊎ (kind ≡ 3)
+pub known : (kind : ℕ) → ¬ UnknownKind kind → (kind ≡ 1) ⊎ (kind ≡ 2) ⊎ (kind ≡ 3)
 known kind = says_stable (says_or (says_equal kind 1) (says_or (says_equal kind 2) (says_equal kind 3)))
 
 -- a sum or a product of which 36 does not hold names lines above it
-above : (i kind first second : ℕ) → ¬ NotAbove i kind first second → (kind ≡ 2) ⊎ (kind ≡ 3) → (first < i) × (second < i)
+pub above : (i kind first second : ℕ) → ¬ NotAbove i kind first second → (kind ≡ 2) ⊎ (kind ≡ 3) → (first < i) × (second < i)
 above i kind first second none joins =
     let one : ¬ (i ≤ first) = λ l. none (joins, inl l) in
     let two : ¬ (i ≤ second) = λ l. none (joins, inr l) in
@@ -65,7 +65,7 @@ module _ (base : Base) where
   )
 
   -- it cannot fail to be one
-  element : (x : ℕ) → ¬ (¬ Element (product_header base) x) → InGroup base x
+  pub element : (x : ℕ) → ¬ (¬ Element (product_header base) x) → InGroup base x
   element x n = (in_group x).0 (says_stable (says_element (product_header base) x) n)
 
   -- no condition holds exactly if what the lines share is right
@@ -103,32 +103,6 @@ module _ (base : Base) where
     LineClear = (¬ UnknownKind line.kind) × (¬ NotAbove i line.kind line.first line.second) × (¬ BadElements base line)
         × (¬ HighChallenge base line.kind line.challenge) × (¬ HighResponse base line)
 
-    pub clear_line : LineClear → RightLine base i line
-    clear_line (kinds, names, elements, challenge, response) = elim (known line.kind kinds) [
-      | inl one ↦ inl (one, element line.commitment (λ n. elements (inl (inl one, n))))
-      | inr (inl two) ↦
-          let (first, second) = above i line.kind line.first line.second names (inl two) in
-          inr (inl (two, first, second))
-      | inr (inr three) ↦
-          let (first, second) = above i line.kind line.first line.second names (inr three) in
-          let c : ¬ (base.challenges ≤ line.challenge) = λ l. challenge (three, l) in
-          let r0 : ¬ (base.order ≤ get_or line.response 0 0) = λ l. response (three, inl l) in
-          let r1 : ¬ (base.order ≤ get_or line.response 1 0) = λ l. response (three, inr (inl l)) in
-          let r2 : ¬ (base.order ≤ get_or line.response 2 0) = λ l. response (three, inr (inr l)) in
-          inr (inr (
-            three,
-            first,
-            second,
-            element line.commitment (λ n. elements (inl (inr three, n))),
-            element (get_or line.t 0 0) (λ n. elements (inr (three, inl n))),
-            element (get_or line.t 1 0) (λ n. elements (inr (three, inr n))),
-            omega (arith, c),
-            omega (arith, r0),
-            omega (arith, r1),
-            omega (arith, r2),
-          ))
-    ]
-
     pub line_clear : RightLine base i line → LineClear
     line_clear (inl (one, c)) = (
       λ n. n (inl one),
@@ -165,34 +139,6 @@ module _ (base : Base) where
     EntryClear = (¬ UnknownKind e.kind) × (¬ NotAbove i e.kind e.first e.second)
         × (¬ HighChallenge base e.kind e.challenge) × (¬ HighNumber base e)
 
-    pub clear_entry : EntryClear → RightEntry base i e
-    clear_entry (kinds, names, challenge, numbers) = elim (known e.kind kinds) [
-      | inl one ↦
-          let v : ¬ (base.order ≤ e.value) = λ l. numbers (inl (one, inl l)) in
-          let ρ : ¬ (base.order ≤ e.blinding) = λ l. numbers (inl (one, inr l)) in
-          inl (one, omega (arith, v), omega (arith, ρ))
-      | inr (inl two) ↦
-          let (first, second) = above i e.kind e.first e.second names (inl two) in
-          inr (inl (two, first, second))
-      | inr (inr three) ↦
-          let (first, second) = above i e.kind e.first e.second names (inr three) in
-          let c : ¬ (base.challenges ≤ e.challenge) = λ l. challenge (three, l) in
-          let ρ : ¬ (base.order ≤ e.blinding) = λ l. numbers (inr (three, inl l)) in
-          let k0 : ¬ (base.order ≤ get_or e.nonce 0 0) = λ l. numbers (inr (three, inr (inl l))) in
-          let k1 : ¬ (base.order ≤ get_or e.nonce 1 0) = λ l. numbers (inr (three, inr (inr (inl l)))) in
-          let k2 : ¬ (base.order ≤ get_or e.nonce 2 0) = λ l. numbers (inr (three, inr (inr (inr l)))) in
-          inr (inr (
-            three,
-            first,
-            second,
-            omega (arith, ρ),
-            omega (arith, c),
-            omega (arith, k0),
-            omega (arith, k1),
-            omega (arith, k2),
-          ))
-    ]
-
     pub entry_clear : RightEntry base i e → EntryClear
     entry_clear (inl (one, v, ρ)) = (
       λ n. n (inl one),
@@ -220,71 +166,3 @@ module _ (base : Base) where
           (⊎_elim (λ (l : base.order ≤ get_or e.nonce 1 0). omega (arith, k1, l))
           (λ (l : base.order ≤ get_or e.nonce 2 0). omega (arith, k2, l)))) high),
     )
-
-  -- ---- all lines and entries
-
-  pub ledger_right : (ledger : Ledger) → NoneHold (check_conditions base ledger)
-      ↔ (RightBase base × (ledger.count ≤ 64) × ((i : ℕ) → i < ledger.count → RightLine base i (line_at ledger i)))
-  ledger_right ledger = (
-    λ (a, (b, (c, (d, (many, (kinds, (names, (elements, (challenges, (responses, none)))))))))). (
-      base_right.0 (a, (b, (c, (d, tt)))),
-      omega (arith, many),
-      λ i inside.
-          clear_line i (line_at ledger i) (
-            λ x. kinds (i, inside, x),
-            λ x. names (i, inside, x),
-            λ x. elements (i, inside, x),
-            λ x. challenges (i, inside, x),
-            λ x. responses (i, inside, x),
-          ),
-    ),
-    λ (shared, few, lines).
-        let clear : (i : ℕ) → i < ledger.count → LineClear i (line_at ledger i) =
-        λ i inside. line_clear i (line_at ledger i) (lines i inside) in
-        let (a, (b, (c, (d, none)))) = base_right.1 shared in
-        let rest : NoneHold (drop 4 (check_conditions base ledger)) = (
-          λ many. omega (arith, few, many),
-          (
-            λ (i, inside, x). (clear i inside).0 x,
-            (
-              λ (i, inside, x). (clear i inside).1 x,
-              (
-                λ (i, inside, x). (clear i inside).2 x,
-                (λ (i, inside, x). (clear i inside).3 x, (λ (i, inside, x). (clear i inside).4 x, tt)),
-              ),
-            ),
-          ),
-        ) in
-        (a, (b, (c, (d, rest)))),
-  )
-
-  pub entries_right : (entries : Entries) → NoneHold (write_conditions base entries)
-      ↔ (RightBase base × (entries.count ≤ 64) × ((i : ℕ) → i < entries.count → RightEntry base i (entry_at entries i)))
-  entries_right entries = (
-    λ (a, (b, (c, (d, (many, (kinds, (names, (challenges, (numbers, none))))))))). (
-      base_right.0 (a, (b, (c, (d, tt)))),
-      omega (arith, many),
-      λ i inside.
-          clear_entry i (entry_at entries i) (
-            λ x. kinds (i, inside, x),
-            λ x. names (i, inside, x),
-            λ x. challenges (i, inside, x),
-            λ x. numbers (i, inside, x),
-          ),
-    ),
-    λ (shared, few, lines).
-        let clear : (i : ℕ) → i < entries.count → EntryClear i (entry_at entries i) =
-        λ i inside. entry_clear i (entry_at entries i) (lines i inside) in
-        let (a, (b, (c, (d, none)))) = base_right.1 shared in
-        let rest : NoneHold (drop 4 (write_conditions base entries)) = (
-          λ many. omega (arith, few, many),
-          (
-            λ (i, inside, x). (clear i inside).0 x,
-            (
-              λ (i, inside, x). (clear i inside).1 x,
-              (λ (i, inside, x). (clear i inside).2 x, (λ (i, inside, x). (clear i inside).3 x, tt)),
-            ),
-          ),
-        ) in
-        (a, (b, (c, (d, rest)))),
-  )

@@ -14,7 +14,7 @@ use Rattle.ledgers.specs.declared.Base.{Base}
 use Rattle.ledgers.specs.declared.Entries.{Entries}
 use Rattle.ledgers.specs.declared.Ledger.{Ledger}
 use Rattle.ledgers.proofs.LedgerRefusals.{ledger_refusals}
-use Rattle.ledgers.proofs.Right.{entries_right, ledger_right}
+use Rattle.ledgers.proofs.AllRight.{entries_right, ledger_right}
 
 -- checking
 pub checks_where : (base : Base) (ledger : Ledger) → ((check_ledger base ledger).refusal ≡ 0)

@@ -13,13 +13,12 @@ returns-then-order-p-eq0 c =
     walk_found _ _ _ _ _ _ (omega arith) c.loop-left.invariant.2 c.next_number-p.ensures.0 c.if-order-p-eq0.true
 
 pub loop-left-preserved : goal.loop-left-preserved
-loop-left-preserved c =
-    (
-      omega (arith, c.loop-left.invariant.0),
-      omega (arith, c.loop-left.invariant.1, c.next_number-p.ensures.1),
-      walk_on _ _ _ _ _ _ (omega arith) c.loop-left.invariant.2 c.next_number-p.ensures.0
-          (λ whole. c.if-order-p-eq0.false (mod-eq-zero_of_dvd _ whole)),
-    )
+loop-left-preserved c = (
+  omega (arith, c.loop-left.invariant.0),
+  omega (arith, c.loop-left.invariant.1, c.next_number-p.ensures.1),
+  walk_on _ _ _ _ _ _ (omega arith) c.loop-left.invariant.2 c.next_number-p.ensures.0
+      (λ whole. c.if-order-p-eq0.false (mod-eq-zero_of_dvd _ whole)),
+)
 
 pub returns : goal.returns
 returns c = walk_end _ _ _ _ _ (omega arith) c.loop-left.invariant.2
