@@ -8,9 +8,12 @@ use Prim.Native.Nat.{ℕ, ◌-◌, ◌<◌}
 use native.Mathlib.Omega.{arith}
 use lib.Dec.{T}
 use lib.IntN.{pos, neg_ℤ}
+use denote.Enum.Declared.{tag_of}
+use types.Run.{OneOf, miss}
 use Rattle.types.specs.declared.Round.{Round}
 use Rattle.types.specs.declared.Verdict.{Verdict}
 use Rattle.types.specs.declared.Verdict.TheVariants.{Accepted}
+use Rattle.types.specs.contracts.Verdict.{the_type}
 use Rattle.lists.specs.Places.{places, pad8, zeros8}
 use Rattle.lists.proofs.Each.{each_length}
 use Rattle.numbers.specs.Inverse.{inverse}
@@ -42,6 +45,10 @@ judged_round inst round =
     verdict inst (places inst.header.rows round.commitment) round.challenge (places inst.header.columns round.response)
 
 -- ---- refused
+
+-- a verdict with the tag of one of the other two cases is not accepted
+pub not_accepted : (v : Verdict) → OneOf (1 ∷ 2 ∷ []) (tag_of the_type v) → v ≢ Accepted
+not_accepted v told same = miss (1 ∷ 2 ∷ []) 0 tt (rw same at told)
 
 module _ (inst : Instance) (first second : Round) where
   -- the rule of the two verdicts

@@ -7,6 +7,8 @@ use mathlib.Core.Bool.{Bool, false, not, true, ◌&&◌, ◌||◌, or-true, true
 use mathlib.Core.List.{List, [], ◌∷◌, ◌++◌}
 use mathlib.Core.Logic.{◌≢◌}
 use native.Mathlib.Omega.{arith}
+use denote.Enum.Declared.{tag_of}
+use types.Run.{OneOf, miss}
 use borrow.Author.Tests.{eq-eqb, ne_eqb}
 use Rattle.types.specs.declared.Computed.{Computed}
 use Rattle.types.specs.declared.Verdict.{Verdict}
@@ -26,6 +28,7 @@ use Rattle.sigma.proofs.Passed.{challenge_passes}
 use Rattle.disjunctions.specs.declared.OrRound.{OrRound}
 use Rattle.disjunctions.specs.declared.OrVerdict.{OrVerdict}
 use Rattle.disjunctions.specs.declared.OrVerdict.TheVariants.{OrAccepted, OrRefused, OrRejected}
+use Rattle.disjunctions.specs.contracts.OrVerdict.{the_type}
 use Rattle.disjunctions.specs.Extractor.{extracted_of, extracted_or, extracted_side, extracting_or, is_or_accepted}
 use Rattle.disjunctions.specs.Judge.{bad_challenges, bad_commitments, bad_responses, combined, verdict_or}
 use Rattle.disjunctions.specs.Round.{first_round, other_challenge, read_or, second_round}
@@ -36,6 +39,10 @@ use Rattle.or_extractor.specs.Rounds.{NotRefused, rounds_rules}
 use Rattle.or_extractor.proofs.RoundsTests.{both_below}
 
 -- ---- refused
+
+-- a verdict with the tag of one of the other two cases is not accepted
+pub not_or_accepted : (v : OrVerdict) → OneOf (1 ∷ 2 ∷ []) (tag_of the_type v) → v ≢ OrAccepted
+not_or_accepted v told same = miss (1 ∷ 2 ∷ []) 0 tt (rw same at told)
 
 -- a verdict that is not accepted says so
 is_not_accepted : (v : OrVerdict) → v ≢ OrAccepted → is_or_accepted v ≡ false
