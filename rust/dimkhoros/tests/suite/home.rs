@@ -16,6 +16,13 @@ const PROGRAMS: [&str; 3] = ["marker", "reason", "game"];
 /// The folder, and the name of the script that stands in it.
 pub struct Home(pub PathBuf, &'static str);
 
+/// The list of crates goes when the test is over, since the prover takes no second one in the repository.
+impl Drop for Home {
+    fn drop(&mut self) {
+        let _ = fs::remove_file(self.0.join("crates.txt"));
+    }
+}
+
 /// How a command ended, and what it wrote.
 #[derive(Debug, PartialEq)]
 pub struct Ended {
