@@ -2,6 +2,7 @@
 //! but the tools that the script needs, so that no test starts the prover.
 
 use crate::cc;
+use crate::outside::outside;
 
 use std::env;
 use std::fs::{self, File, Permissions};
@@ -16,13 +17,6 @@ const PROGRAMS: [&str; 3] = ["marker", "reason", "game"];
 /// The folder, and the name of the script that stands in it.
 pub struct Home(pub PathBuf, &'static str);
 
-/// The list of crates goes when the test is over, since the prover takes no second one in the repository.
-impl Drop for Home {
-    fn drop(&mut self) {
-        let _ = fs::remove_file(self.0.join("crates.txt"));
-    }
-}
-
 /// How a command ended, and what it wrote.
 #[derive(Debug, PartialEq)]
 pub struct Ended {
@@ -34,7 +28,7 @@ pub struct Ended {
 impl Home {
     /// Makes the folder anew for a test of this name, with the script and what it reads, these tools and this list of crates.
     pub fn new(script: &'static str, test: &str, tools: &[&str], crates: &str) -> Home {
-        let home = Path::new(env!("CARGO_TARGET_TMPDIR")).join(script).join(test);
+        let home = outside().join(script).join(test);
         if home.exists() {
             fs::remove_dir_all(&home).unwrap();
         }

@@ -19,6 +19,8 @@ mod links;
 mod marks;
 mod or_rounds;
 mod or_sessions;
+#[path = "../../../sys/tests/suite/outside.rs"]
+mod outside;
 mod pages;
 mod patterns;
 mod python;

@@ -1,5 +1,7 @@
 //! A fresh folder in which the program is on PATH, and transcripts: lines `$ command`, each with what it prints below it.
 
+use crate::outside::outside;
+
 use std::env;
 use std::fs;
 use std::path::{Path, PathBuf};
@@ -14,7 +16,7 @@ pub struct Desk {
 impl Desk {
     /// Makes the folder anew.
     pub fn new(name: &str) -> Desk {
-        let folder = Path::new(env!("CARGO_TARGET_TMPDIR")).join("desk").join(name);
+        let folder = outside().join("desk").join(name);
         if folder.exists() {
             fs::remove_dir_all(&folder).unwrap();
         }

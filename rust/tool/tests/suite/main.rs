@@ -14,6 +14,8 @@ mod lines;
 mod marks;
 mod markup;
 mod material;
+#[path = "../../../sys/tests/suite/outside.rs"]
+mod outside;
 mod pages;
 mod play;
 mod random;
