@@ -96,6 +96,12 @@ module _ (inst : Instance) (t : List ℕ) where
       → {k : ℕ} → k ≡ first_answer inst t c → Fitted m x (line_at inst.header c k) p y → Fitted l 0 (lines_below inst t (c + 1)) p y
   line_fitted c lines is_first line = rw (add-one c, lines_suc c, ← is_first) (fitted_then lines line)
 
+  -- a challenge that has no accepting response has no line
+  pub line_passed : {l m : List ℕ} {x : ℕ} (c : ℕ) → Fitted l 0 (lines_below inst t c) m x
+      → candidates inst.header ≤ first_answer inst t c → Fitted l 0 (lines_below inst t (c + 1)) m x
+  line_passed c lines none =
+      line_fitted c lines refl (rw (no_line inst.header c (first_answer inst t c) none) (fitted_none _ _))
+
   -- ---- all lines, or `none`
 
   -- the lines of all challenges

@@ -1,20 +1,21 @@
 // The lines of the game (02, card 12) on loaded values. Each function stores the bytes that have room, leaves out the others, changes
 // no other byte and answers the index after what it stored.
+// Arrays have eight places whatever n is: memory is fixed, and the structs that C reads have them so.
 #![tactic(auto)]
 
-ghost use Rattle.std.specs.Prelude.{◌≤◌, false, ◌≡◌};
+ghost use Rattle.std.specs.Prelude.{◌≤◌, ◌<◌, false, ◌≡◌};
 ghost use mathlib.Core.List.{flatten, map};
 ghost use Rattle.lists.specs.Places.{places};
 ghost use Rattle.encoding.specs.Placed.{Fitted};
 ghost use Rattle.runs.specs.Marker.{row_word};
-ghost use Rattle.sigma.specs.Instance.{instance_with};
 ghost use Rattle.sigma.specs.Round.{bad_commitment};
-ghost use Rattle.sigma.specs.Valid.{Valid};
-ghost use Rattle.games.specs.Text.{answer_lines};
+ghost use Rattle.games.specs.Text.{answer_lines, candidates};
+ghost use Rattle.instance.specs.Values.{values_of};
 ghost use Rattle.solver.specs.Small.{Small};
 ghost use Rattle.answer_lines.specs.Lines.{line_at};
 
-use solver::{count_of, first_answer, response_at, table_of};
+use instance::Sheet;
+use solver::{first_answer, response_at, table_of};
 use text::{write_decimal, write_numbered, write_word};
 use types::Header;
 
@@ -31,51 +32,40 @@ fn write_slots(text: &mut [u8], at: usize, values: [u32; 8], n: usize) -> usize
     ensures { Fitted text.old at (flatten (map row_word (places n values))) text.new result }
 {
     let mut next = at;
-    for j in 0..n {
-        next = write_slot(text, next, values[j]);
+    for value in &values[..n] {
+        next = write_slot(text, next, *value);
     }
     next
 }
 
-// Stores the line of a challenge that candidate k answers, the challenge and the slots of the candidate; nothing if k is beyond
-// the candidates.
+// Stores the line of a challenge that candidate k answers, the challenge and the slots of the candidate.
 fn write_answer(text: &mut [u8], at: usize, h: Header, c: u32, k: u32) -> usize
     requires small { Small h }
+    requires found { k < candidates h }
     ensures { Fitted text.old at (line_at h c k) text.new result }
 {
-    if k >= count_of(h) {
-        return at;
-    }
     let response = response_at(h, k);
-    let columns = h.columns as usize;
     let next = write_decimal(text, at, c as u64);
-    let end = write_slots(text, next, response, columns);
+    let end = write_slots(text, next, response, h.columns as usize);
     write_word(text, end, b"\n")
 }
 
 // Stores the text on a commitment at the start: a line for each challenge that has an accepting response, with the smallest one,
 // or `none`. The table of the sheet is made once.
-pub fn write_answers(
-    text: &mut [u8],
-    h: Header,
-    entries: [[u32; 8]; 8],
-    statement: [u32; 8],
-    t: [u32; 8],
-) -> usize
-    requires valid { Valid (instance_with h entries statement) }
-    requires small { Small h }
-    requires elements { bad_commitment (instance_with h entries statement) t ≡ false }
-    ensures { Fitted text.old 0 (answer_lines (instance_with h entries statement) t) text.new result }
+pub fn write_answers(text: &mut [u8], sheet: &Sheet, t: [u32; 8]) -> usize
+    requires small { Small sheet.now.header }
+    requires elements { bad_commitment (values_of sheet.now) t ≡ false }
+    ensures { Fitted text.old 0 (answer_lines (values_of sheet.now) t) text.new result }
 {
+    let h = sheet.header;
+    let statement = sheet.statement;
     let mut table = [0u32; 32768];
-    table_of(h, entries, &mut table);
-    let last = h.challenges - 1;
+    table_of(h, sheet.entries, &mut table);
     let mut next = 0;
-    let mut c = 0;
-    while c <= last {
-        let k = first_answer(h, statement, t, c, &table);
-        next = write_answer(text, next, h, c, k);
-        c += 1;
+    for c in 0..h.challenges {
+        if let Some(k) = first_answer(h, statement, t, c, &table) {
+            next = write_answer(text, next, h, c, k);
+        }
     }
     if next == 0 {
         return write_word(text, 0, b"none\n");

@@ -2,3 +2,4 @@
 pub mod Turns
 pub mod TeamNumber
 pub mod SheetNumber
+pub mod Rows

@@ -26,6 +26,7 @@ use Rattle.sigma.specs.Instance.{Instance}
 use Rattle.formats.specs.Load.{load_refusal, load_rules, shape_rules}
 use Rattle.formats.specs.Sheet.{instance_of}
 use Rattle.products.specs.Team.{bad_images, bad_team, team_rules}
+use Rattle.combiner.proofs.TeamNumber.{few_players}
 
 -- a rule before others whose numbers are at most 9
 at_most : (n : ℕ) (b : Bool) (rules : List Rule) → n ≤ 9 → lowest rules ≤ 9 → lowest ((n when b) ∷ rules) ≤ 9
@@ -139,10 +140,9 @@ module _ (s : List ℕ) where
             (lowest_append_zero (shape_rules s) ((27 when bad_team count) ∷ element_rules (instance_of s)) tt tt).0 (sym number ∙ none) in
             (shape, (team, lowest_clear (element_rules (instance_of s)) elements))
 
-        -- so the sheet loads
-        pub sized_loads : load_refusal s ≡ 0
-        unfolding load_refusal load_rules
-        sized_loads = let (shape, (team, elements)) = sized_passes in behind_shape _ shape ∙ elements
+        -- so they are eight at most
+        pub sized_few : count ≤ 8
+        sized_few = few_players count sized_passes.1.0
 
         -- and a call is the call on its values
         pub sized_call : (call : Instance → Call Computed) {inst : Instance} → inst ≡ instance_of s → {result : Computed}

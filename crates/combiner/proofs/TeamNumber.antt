@@ -1,7 +1,7 @@
 -- The numbers of a team, test by test, and the answers that they give.
 -- Assumes nothing.
 use Prim.Native.Nat.{ℕ, ◌<◌, ◌≤◌}
-use mathlib.Core.Path.{◌≡◌, sym, ap, ◌∙◌}
+use mathlib.Core.Path.{◌≡◌, sym, ◌∙◌}
 use mathlib.Core.Bool.{Bool, false, true, or-eq-true_iff}
 use mathlib.Core.List.{List, [], ◌∷◌, ◌++◌}
 use mathlib.Core.Logic.Or
@@ -9,19 +9,18 @@ use mathlib.Core.Logic.{◌≢◌}
 use native.Mathlib.Omega.{arith}
 use lib.Dec.{ltb}
 use borrow.Author.Tests.{le-ltb, lt-ltb, ltb-false}
-use Rattle.types.specs.declared.Computed.{Computed}
 use Rattle.lists.specs.Places.{pad8}
 use Rattle.lists.proofs.Places.{get_d_pad8}
 use Rattle.numbers.specs.Search.{any}
 use Rattle.numbers.proofs.Search.{any_agree}
-use Rattle.rules.specs.Call.{Call, answer, number_of}
 use Rattle.rules.specs.Rule.{Rule, ◌when◌, lowest}
-use Rattle.rules.proofs.Call.{answer_refused, answer_value}
 use Rattle.rules.proofs.Lowest.{clear_lowest, lowest_clear, lowest_earlier, lowest_later_zero, pass, stop}
 use Rattle.sigma.specs.Admission.{bad_statement, element_rules}
 use Rattle.sigma.specs.Comparison.{differ, first_difference}
 use Rattle.sigma.specs.Instance.{Instance}
+use Rattle.sigma.specs.Valid.{Valid}
 use Rattle.sigma.proofs.Calculus.{both_fail}
+use Rattle.sigma.proofs.Valid.{clear_valid}
 use Rattle.combiner.specs.Parts.{non_element_part}
 use Rattle.products.specs.Team.{bad_images, bad_product, bad_team, multiply_all, team_rules}
 
@@ -49,6 +48,10 @@ module _ (count : ℕ) where
   pub team_right : 2 ≤ count → count ≤ 8 → 0 ≡ lowest size
   unfolding bad_team
   team_right some few = sym (lowest_clear _ (rw (le-ltb count 2 some, le-ltb 8 count few), tt))
+
+-- no rule of the elements applies to a sheet that is Valid
+pub valid_elements : (inst : Instance) → Valid inst → lowest (element_rules inst) ≡ 0
+valid_elements inst valid = lowest_clear (element_rules inst) ((clear_valid inst).1 valid).1
 
 module _ (inst : Instance) (count : ℕ) (images : List (List ℕ)) where
   module _ (team : bad_team count ≡ false) (elements : lowest (element_rules inst) ≡ 0) where
@@ -102,14 +105,3 @@ module _ (inst : Instance) (count : ℕ) (images : List (List ℕ)) where
         -- and then nothing
         pub all_right : parts ≡ false → whole ≡ false → 0 ≡ lowest (team_rules inst count images ++ rest)
         all_right good right = sym (passed ∙ lowest_clear rest (good, (right, tt)))
-
--- ---- the answer of a call, by its number
-
-module _ (call : Call Computed) {n : ℕ} (is_number : n ≡ number_of call) {result : Computed} where
-  -- a number above 0: what a refused call gives with it
-  pub number_answer : n ≢ 0 → result ≡ call.refused n → result ≡ answer call
-  number_answer other is_result = is_result ∙ ap call.refused is_number ∙ sym (answer_refused call (omega (arith, is_number)))
-
-  -- 0: the value
-  pub values_answer : n ≡ 0 → result ≡ call.value → result ≡ answer call
-  values_answer none is_result = is_result ∙ sym (answer_value call (sym is_number ∙ none))

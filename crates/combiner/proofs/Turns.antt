@@ -1,4 +1,4 @@
--- A product and a sum over the players of a team, a player a turn, and a slot that they make.
+-- A product over the players of a team, a player a turn, and a slot that they make.
 -- Assumes nothing.
 use Prim.Native.Nat.{ℕ, ◌+◌, ◌*◌, ◌%◌}
 use mathlib.Core.Path.{◌≡◌, sym, ap}
@@ -9,7 +9,7 @@ use borrow.Author.Tests.{eq-eqb, ne_eqb}
 use Rattle.types.specs.declared.Header.{Header}
 use Rattle.numbers.specs.Product.{product, sum}
 use Rattle.numbers.proofs.Congruence.{mod_mul_left}
-use Rattle.numbers.proofs.Product.{product_suc, product_zero, sum_suc, sum_zero}
+use Rattle.numbers.proofs.Product.{product_suc, product_zero}
 use Rattle.sigma.specs.Instance.{is_exponent}
 use Rattle.combiner.specs.Parts.{joined_slot, place_of}
 
@@ -21,14 +21,6 @@ module _ (f : ℕ → ℕ) where
   -- one factor more
   pub product_turn : (m p : ℕ) {value next : ℕ} → value ≡ product p f % m → next ≡ value * f p % m → next ≡ product (p + 1) f % m
   product_turn m p is_value is_next = rw (is_next, is_value, add-one p, product_suc p f) (mod_mul_left m _ _)
-
-  -- no term yet
-  pub sum_start : 0 ≡ sum 0 f
-  sum_start = sym (sum_zero f)
-
-  -- one term more
-  pub sum_turn : (p : ℕ) {total : ℕ} → total ≡ sum p f → total + f p ≡ sum (p + 1) f
-  sum_turn p is_total = rw (is_total, add-one p, sum_suc p f)
 
 module _ (h : Header) (count : ℕ) (parts : List (List ℕ)) (j : ℕ) where
   -- in kind 1 the sum mod q

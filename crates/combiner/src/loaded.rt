@@ -1,59 +1,45 @@
 // Multiplying a team's commitments and joining its responses, on loaded values and for a team of two to eight (02, card 6).
-ghost use Rattle.std.specs.Prelude.{◌≡◌, false, List, ℕ, ◌≤◌, ◌<◌};
+ghost use Rattle.std.specs.Prelude.{◌≡◌, false, List, ℕ, ◌≤◌, ◌<◌, length};
 ghost use Rattle.rules.specs.Call.{answer};
-ghost use Rattle.rules.specs.Rule.{lowest};
-ghost use Rattle.sigma.specs.Admission.{element_rules};
-ghost use Rattle.sigma.specs.Instance.{instance_with};
+ghost use Rattle.refusals.specs.Number.{computed};
+ghost use Rattle.instance.specs.Values.{values_of};
 ghost use Rattle.products.specs.Team.{bad_team, joining, multiplying};
 
 use crate::joining::{join_all, multiply_all};
-use crate::testing::{commitments_refusal, responses_refusal};
-use image::refused;
-use types::{Computed, Header};
+use crate::parts::{some_non_coordinate_part, some_non_element_part};
+use crate::testing::test_team;
+use instance::Sheet;
+use refusals::Refusal;
 
-// The players' commitments multiplied, or the number of 11, 14 and 28 that is refused with, beside zeros.
+// The players' commitments multiplied, refused with 11, then with 14 for a value of any player's commitment, then with 28.
 pub fn multiply_loaded(
-    h: Header,
-    statement: [u32; 8],
-    count: u32,
-    images: [[u32; 8]; 8],
-    parts: [[u32; 8]; 8],
-) -> Computed
-    requires { (0 < h.modulus) × (h.rows ≤ 8) × (h.columns ≤ 8) × (count ≤ 8) }
-    ensures { (entries : List (List ℕ)) → bad_team count ≡ false → lowest (element_rules (instance_with h entries statement)) ≡ 0
-        → result ≡ answer (multiplying (instance_with h entries statement) count images parts) }
+    sheet: &Sheet,
+    images: &[[u32; 8]],
+    parts: &[[u32; 8]],
+) -> Result<[u32; 8], Refusal>
+    requires { length parts.now ≡ length images.now }
+    ensures { bad_team (length images.now) ≡ false
+        → computed result ≡ answer (multiplying (values_of sheet.now) (length images.now) images.now parts.now) }
 {
-    let refusal = commitments_refusal(h, statement, count, images, parts);
-    if refusal != 0 {
-        return refused(refusal);
-    }
-    let players = count as usize;
-    Computed {
-        values: multiply_all(h, parts, players),
-        refusal: 0,
-    }
+    let h = sheet.header;
+    let bad = some_non_element_part(h, parts);
+    test_team(sheet, images, bad, Refusal::Commitment)?;
+    Ok(multiply_all(h, parts))
 }
 
-// The players' responses joined, or the number of 11, 16 and 28 that is refused with, beside zeros.
+// The players' responses joined, refused with 11, then with 16 for a slot of any player's response, then with 28.
+// It is no one function with `multiply_loaded`: a test, a refusal and what is computed differ, and handing on all three is no plainer.
 pub fn join_loaded(
-    h: Header,
-    statement: [u32; 8],
-    count: u32,
-    images: [[u32; 8]; 8],
-    parts: [[u32; 8]; 8],
-) -> Computed
-    requires fields { (0 < h.modulus) × (h.rows ≤ 8) × (h.columns ≤ 8) × (count ≤ 8) }
-    requires order { 0 < h.order }
-    ensures { (entries : List (List ℕ)) → bad_team count ≡ false → lowest (element_rules (instance_with h entries statement)) ≡ 0
-        → result ≡ answer (joining (instance_with h entries statement) count images parts) }
+    sheet: &Sheet,
+    images: &[[u32; 8]],
+    parts: &[[u32; 8]],
+) -> Result<[u32; 8], Refusal>
+    requires { (length images.now ≤ 8) × (length parts.now ≡ length images.now) }
+    ensures { bad_team (length images.now) ≡ false
+        → computed result ≡ answer (joining (values_of sheet.now) (length images.now) images.now parts.now) }
 {
-    let refusal = responses_refusal(h, statement, count, images, parts);
-    if refusal != 0 {
-        return refused(refusal);
-    }
-    let players = count as usize;
-    Computed {
-        values: join_all(h, parts, players),
-        refusal: 0,
-    }
+    let h = sheet.header;
+    let bad = some_non_coordinate_part(h, parts);
+    test_team(sheet, images, bad, Refusal::Slot)?;
+    Ok(join_all(h, parts))
 }

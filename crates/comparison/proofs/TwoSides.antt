@@ -32,5 +32,6 @@ module _ (n : ℕ) (xs ys : List ℕ) where
   differ_here i below other (within, kept) = sym (find_to_here _ i n below (ap not (ne_eqb _ _ other))) ∙ kept
 
   -- and so does the last place
-  pub differ_none : (i : ℕ) → n ≤ i → Agreed i → i ≡ first_difference n xs ys
-  differ_none i past (within, kept) = sym (find_to_end _ i n past) ∙ kept
+  pub differ_none : {i : ℕ} → n ≤ i → Agreed i → n ≡ first_difference n xs ys
+  differ_none {i} past (within, kept) =
+      let all : n ≡ i = omega arith in all ∙ sym (find_to_end _ i n past) ∙ kept

@@ -1,4 +1,5 @@
 // The places of arrays that are read, and where two arrays differ (01, "A round").
+// Arrays have eight places whatever n is: memory is fixed, and the structs that C reads have them so.
 #![tactic(auto)]
 
 ghost use Rattle.std.specs.Prelude.{◌≡◌, cond, not, ◌+◌, ◌^◌, ◌≤◌, ◌<◌, eqb};
@@ -14,9 +15,7 @@ pub fn first_places(values: [u32; 8], n: usize) -> [u32; 8]
     ensures { result ≡ pad8 0 (places n values) }
 {
     let mut kept = [0u32; 8];
-    for i in 0..n {
-        kept[i] = values[i];
-    }
+    kept[..n].copy_from_slice(&values[..n]);
     kept
 }
 
@@ -26,14 +25,13 @@ pub fn first_difference(xs: [u32; 8], ys: [u32; 8], n: usize) -> usize
     ensures value { result ≡ first_difference n xs ys }
     ensures within { result ≤ n }
 {
-    let mut i: usize = 0;
-    while i < n {
+    // By index: a chain over two slices is no plainer, since n stands for none.
+    for i in 0..n {
         if xs[i] != ys[i] {
             return i;
         }
-        i += 1;
     }
-    i
+    n
 }
 
 // Whether xs and ys differ at some place below n.

@@ -1,19 +1,24 @@
--- The records of a round file one by one: the test of a challenge, and one record more in the other version.
+-- The records of a round file one by one: the test of their challenges, and one record more in the other version.
 -- Assumes nothing.
-use Prim.Native.Nat.{ℕ, suc, ◌+◌, ◌-◌, ◌*◌, ◌<◌, ◌≤◌}
-use mathlib.Core.Path.{◌≡◌, refl, ap, ◌∙◌}
-use mathlib.Core.Bool.{Bool}
+use Prim.Native.Nat.{ℕ, suc, ◌+◌, ◌-◌, ◌<◌, ◌≤◌}
+use mathlib.Core.Path.{◌≡◌, refl, sym, ap, ◌∙◌}
+use mathlib.Core.Bool.{Bool, true, false}
 use mathlib.Core.List.{List, [], ◌∷◌, ◌++◌, append-nil, flatten, map, map-append}
 use native.Mathlib.Numerals.{add-one}
 use native.Mathlib.Omega.{arith}
+use Rattle.std.proofs.Common.{zero-add}
+use Rattle.std.specs.Bool.{MatchBool}
+use Rattle.std.specs.List.{AllWithin, HoldsAt, range_with_len}
+use Rattle.std.proofs.lemmas.List.FromFn.{get_or-range_with_len, length-range_with_len}
 use lib.ListN.{length, take, drop}
 use lib.Seq.{length-sets, sets}
 use Rattle.types.specs.declared.Header.{Header}
 use Rattle.types.specs.declared.Round.{Round}
-use Rattle.encoding.specs.Bytes.{number_at}
 use Rattle.encoding.specs.Placed.{Placed}
 use Rattle.encoding.proofs.Placed.{placed_behind}
 use Rattle.encoding.proofs.Replaced.{part_replaced_front}
+use Rattle.numbers.specs.Search.{any}
+use Rattle.numbers.proofs.Search.{any_false, any_of}
 use Rattle.lists.specs.Places.{items_at, tabulate}
 use Rattle.lists.proofs.Places.{tabulate_suc}
 use Rattle.lists.proofs.Rows.{flatten_append}
@@ -30,6 +35,19 @@ use Rattle.converter.specs.Records.{other_records, other_width}
 pub same_size : {l xs m : List ℕ} {at next : ℕ} → Placed l at xs m next → length m ≡ length l
 same_size {l} {xs} {at = at} placed = ap length placed.stored ∙ length-sets l at xs
 
+-- what was answered of the places below n one by one, by `true` where some test passes, is whether one does
+pub any_told : (p : ℕ → Bool) {n size : ℕ} → n ≡ size → {told : Bool}
+    → MatchBool told ((k : ℕ) × (k < length (range_with_len 0 n)) × HoldsAt (λ k. p k ≡ true) (range_with_len 0 n) k)
+    (AllWithin (λ k. p k ≡ false) (range_with_len 0 n) 0 (length (range_with_len 0 n)))
+    → told ≡ any size p
+any_told p {n} same {told = true} (k, within, holds) =
+    let less : k < n = rw length-range_with_len at within in
+    sym (any_of _ p k (omega arith) (rw (get_or-range_with_len 0 n k 0 less, zero-add) at (holds 0)))
+any_told p {n} same {told = false} all =
+    sym ((any_false _ p).1 (λ k below.
+    let less : k < n = omega arith in
+    rw (get_or-range_with_len 0 n k 0 less, zero-add) at (all k 0 (omega arith) (rw length-range_with_len less))))
+
 module _ (h : Header) (f : List ℕ) where
   -- the values of record k
   abbrev pub round_of : ℕ → Round
@@ -43,12 +61,6 @@ module _ (h : Header) (f : List ℕ) where
     -- a record lies inside its file
     pub record_there : IsRoundFile h f → k < count_field f → start + record_length from h ≤ length f
     record_there file inside = rw (is_start, is_from) (record_inside file k inside)
-
-    -- the test of its challenge
-    pub wide_tested : {version challenge : ℕ} {wide : Bool} → version ≡ other_version (file_version f)
-        → challenge ≡ number_at from f (start + 4 * h.rows) → wide ≡ wide_challenge version challenge → wide_at k ≡ wide
-    unfolding round_at
-    wide_tested is_version is_challenge tested = rw (tested, is_challenge, is_version, is_start, is_from)
 
     -- the values that are read of it
     pub round_read : {round : Round} → round ≡ round_at from h f start → round ≡ round_of k

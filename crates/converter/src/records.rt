@@ -1,9 +1,17 @@
 // The records of a round file (02, card 7): whether the other version can hold them, and storing them over its width.
-ghost use Rattle.std.specs.Prelude.{◌≤◌, ◌≡◌, length};
+// These read fixed fields alone, so they take a `Header` with its bounds, and not a whole `Sheet`.
+ghost use Rattle.std.specs.Prelude.{◌<◌, ◌≤◌, ◌≡◌, length};
 ghost use Rattle.std.proofs.lemmas.List.Edits.{sets};
 ghost use Rattle.formats.specs.Convert.{other_version, wide_record};
 ghost use Rattle.formats.specs.Meaning.{IsRoundFile};
-ghost use Rattle.formats.specs.RoundFile.{count_field, file_version, record_start};
+ghost use Rattle.formats.specs.RoundFile.{
+  challenge_width,
+  count_field,
+  file_version,
+  record_start,
+  round_at,
+};
+ghost use Rattle.round_layout.specs.Width.{IsWidth};
 ghost use Rattle.converter.specs.Records.{other_records, other_width};
 
 use fields::read_u16;
@@ -17,10 +25,21 @@ pub fn other_version(file: &[u8]) -> u32
     requires long { 7 ≤ length file.now }
     ensures { result ≡ other_version (file_version file.now) }
 {
-    if read_u16(file, 3) == 1 {
-        return 2;
-    }
-    1
+    if read_u16(file, 3) == 1 { 2 } else { 1 }
+}
+
+// The challenge of record k of a file whose challenges have width bytes.
+fn stored_challenge(h: Header, file: &[u8], width: usize, k: usize) -> u32
+    requires rows { h.rows ≤ 8 }
+    requires columns { h.columns ≤ 8 }
+    requires file { IsRoundFile h file.now }
+    requires width { width ≡ challenge_width file.now }
+    requires known { IsWidth width }
+    requires number { k < count_field file.now }
+    ensures { result ≡ (round_at width h file.now (record_start width h k)).challenge }
+{
+    let at = record_start(h, width, k);
+    challenge_at(file, width, at + 4 * h.rows as usize)
 }
 
 // Whether some record of a file has a challenge that the other version cannot hold.
@@ -33,14 +52,7 @@ pub fn wide_record(h: Header, file: &[u8]) -> bool
     let version = other_version(file);
     let width = file_width(file);
     let count = read_u16(file, 5) as usize;
-    for k in 0..count {
-        let at = record_start(h, width, k);
-        let challenge = challenge_at(file, width, at + 4 * h.rows as usize);
-        if wide_challenge(version, challenge) {
-            return true;
-        }
-    }
-    false
+    (0..count).any(|k| wide_challenge(version, stored_challenge(h, file, width, k)))
 }
 
 // Stores the rounds of a file as records of the other version in buffer, behind the seven bytes before them, and changes no other

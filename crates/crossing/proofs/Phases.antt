@@ -1,10 +1,20 @@
--- A state by its number: each number below four has its own state, and every other number the last one.
+-- A state by its number: each number below four has its own state, and every other number the last one. A state's place in its enum is
+-- its number.
 -- Assumes nothing.
 use Prim.Native.Nat.{ℕ, zero, suc, ◌≤◌, ◌<◌}
-use mathlib.Core.Path.{◌≡◌}
+use mathlib.Core.Path.{◌≡◌, refl}
 use mathlib.Core.Logic.{◌≢◌}
 use native.Mathlib.Omega.{arith}
 use borrow.Author.Tests.{ne_eqb}
+use denote.Enum.Declared.{tag_of}
+use Rattle.types.specs.contracts.ProverPhase as peggy
+use Rattle.types.specs.contracts.VerifierPhase as vic
+use Rattle.types.specs.declared.ProverPhase.{ProverPhase}
+use Rattle.types.specs.declared.ProverPhase.TheVariants.{New, Committed, Answered, Dropped}
+use Rattle.types.specs.declared.VerifierPhase.{VerifierPhase}
+use Rattle.types.specs.declared.VerifierPhase.TheVariants.{Waiting, Holding, Asked, Judged}
+use Rattle.runs.specs.Prover.{prover_state}
+use Rattle.runs.specs.Verifier.{verifier_state}
 use Rattle.crossing.specs.OfFour.{of_four}
 
 module _ {A : Type 0} (a b c d : A) where
@@ -26,3 +36,19 @@ module _ {A : Type 0} (a b c d : A) where
   of_four_number number x y z w (suc (suc zero)) few = z
   of_four_number number x y z w (suc (suc (suc zero))) few = w
   of_four_number number x y z w (suc (suc (suc (suc n)))) few = absurd (omega arith)
+
+-- each state of Peggy's session stands in its enum at the place that is its number
+pub prover_placed : (phase : ProverPhase) → tag_of peggy.the_type phase ≡ prover_state phase
+unfolding prover_state
+prover_placed New = refl
+prover_placed Committed = refl
+prover_placed Answered = refl
+prover_placed Dropped = refl
+
+-- so does each state of Vic's
+pub verifier_placed : (phase : VerifierPhase) → tag_of vic.the_type phase ≡ verifier_state phase
+unfolding verifier_state
+verifier_placed Waiting = refl
+verifier_placed Holding = refl
+verifier_placed Asked = refl
+verifier_placed Judged = refl

@@ -10,7 +10,6 @@ use Rattle.types.specs.declared.Prover.{Prover}
 use Rattle.types.specs.declared.ProverPhase.{ProverPhase}
 use Rattle.types.specs.declared.ProverPhase.TheVariants.{New, Committed, Answered, Dropped}
 use Rattle.lists.specs.Places.{zeros8}
-use Rattle.rules.proofs.Answer.{unless_refused_positive}
 use Rattle.runs.specs.Ours.{call_prover, prover_after, prover_trace}
 use Rattle.runs.specs.Prover.{prover_state}
 use Rattle.runs.specs.ProverCalls.{ProverCall, challenges_of, Ended, NoneReturns}

@@ -10,7 +10,6 @@ use Rattle.types.specs.declared.VerifierPhase.{VerifierPhase}
 use Rattle.types.specs.declared.VerifierPhase.TheVariants.{Waiting, Holding, Asked, Judged}
 use Rattle.types.specs.declared.VerifierStep.{VerifierStep}
 use Rattle.rules.specs.Answer.{unless_refused}
-use Rattle.rules.proofs.Answer.{unless_refused_positive}
 use Rattle.runs.specs.Ours.{call_verifier, verifier_after, verifier_trace}
 use Rattle.runs.specs.Run.{session_after}
 use Rattle.runs.specs.Verifier.{verifier_state}

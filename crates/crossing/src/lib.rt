@@ -8,8 +8,7 @@ mod verifiers; // verifiers.rt: Vic's session
 
 pub use provers::{prover_phase, prover_state};
 use types::Memory;
-pub use verdicts::judgement_of;
-pub use verifiers::{verifier_answer, verifier_judgement, verifier_of, verifier_session};
+pub use verifiers::{verifier_answer, verifier_judgement};
 
 // A verdict: accepted is 1, rejected is 0 with the mask of the rows that differ, bit i for row i, and refused is the number beside
 // zeros.

@@ -6,6 +6,7 @@ ghost use Rattle.runs.specs.Saving.{prover_phase};
 use types::ProverPhase;
 
 // The state of a number; a number that is no state's is taken as Dropped.
+// A function and no From: From and the enum belong to other crates.
 pub fn prover_phase(number: u32) -> ProverPhase
     ensures { result ≡ prover_phase number }
 {
@@ -21,10 +22,5 @@ pub fn prover_phase(number: u32) -> ProverPhase
 pub fn prover_state(phase: ProverPhase) -> u32
     ensures { result ≡ prover_state phase }
 {
-    match phase {
-        ProverPhase::New => 0,
-        ProverPhase::Committed => 1,
-        ProverPhase::Answered => 2,
-        ProverPhase::Dropped => 3,
-    }
+    phase as u32
 }

@@ -5,25 +5,27 @@ ghost use Rattle.crossing.specs.Verdicts.{judgement};
 use crate::Judgement;
 use types::Verdict;
 
-// The three numbers of a verdict.
-pub fn judgement_of(verdict: Verdict) -> Judgement
-    ensures { result ≡ judgement verdict }
-{
-    match verdict {
-        Verdict::Accepted => Judgement {
-            accepted: 1,
-            rows: 0,
-            refusal: 0,
-        },
-        Verdict::Rejected(rows) => Judgement {
-            accepted: 0,
-            rows,
-            refusal: 0,
-        },
-        Verdict::Refused(number) => Judgement {
-            accepted: 0,
-            rows: 0,
-            refusal: number,
-        },
+impl From<Verdict> for Judgement {
+    ghost from_gives = { λ verdict told. told ≡ judgement verdict };
+
+    // The three numbers of a verdict.
+    fn from(verdict: Verdict) -> Judgement {
+        match verdict {
+            Verdict::Accepted => Judgement {
+                accepted: 1,
+                rows: 0,
+                refusal: 0,
+            },
+            Verdict::Rejected(rows) => Judgement {
+                accepted: 0,
+                rows,
+                refusal: 0,
+            },
+            Verdict::Refused(number) => Judgement {
+                accepted: 0,
+                rows: 0,
+                refusal: number,
+            },
+        }
     }
 }

@@ -1,13 +1,12 @@
 // Vic's session with its state as a number.
 ghost use Rattle.std.specs.Prelude.{◌≡◌};
-ghost use Rattle.runs.specs.Verifier.{verifier_state};
 ghost use Rattle.crossing.specs.Verifiers.{verifier_phase, verifier_of, verifier_session, verifier_answer, verifier_judgement};
 
-use crate::verdicts::judgement_of;
-use crate::{VerifierAnswer, VerifierJudgement, VerifierSession};
+use crate::{Judgement, VerifierAnswer, VerifierJudgement, VerifierSession};
 use types::{Verifier, VerifierPhase, VerifierStep, VerifierVerdict};
 
 // The state of a number; a number that is no state's is taken as Judged, which allows no call.
+// A function and no From: From and the enum belong to other crates, and each enum has a function of its own.
 fn verifier_phase(number: u32) -> VerifierPhase
     ensures { result ≡ verifier_phase number }
 {
@@ -19,40 +18,32 @@ fn verifier_phase(number: u32) -> VerifierPhase
     }
 }
 
-// The number of a state: its place in 01's sentence, from 0.
-fn verifier_state(phase: VerifierPhase) -> u32
-    ensures { result ≡ verifier_state phase }
-{
-    match phase {
-        VerifierPhase::Waiting => 0,
-        VerifierPhase::Holding => 1,
-        VerifierPhase::Asked => 2,
-        VerifierPhase::Judged => 3,
+impl From<VerifierSession> for Verifier {
+    ghost from_gives = { λ session held. held ≡ verifier_of session };
+
+    // The session that a caller hands in.
+    fn from(session: VerifierSession) -> Verifier {
+        let commitment = session.commitment;
+        Verifier {
+            commitment,
+            challenge: session.challenge,
+            phase: verifier_phase(session.phase),
+        }
     }
 }
 
-// The session that a caller hands in.
-pub fn verifier_of(session: VerifierSession) -> Verifier
-    ensures { result ≡ verifier_of session }
-{
-    let commitment = session.commitment;
-    Verifier {
-        commitment,
-        challenge: session.challenge,
-        phase: verifier_phase(session.phase),
-    }
-}
+impl From<Verifier> for VerifierSession {
+    ghost from_gives = { λ held session. session ≡ verifier_session held };
 
-// The session as it is handed out.
-pub fn verifier_session(session: Verifier) -> VerifierSession
-    ensures { result ≡ verifier_session session }
-{
-    let commitment = session.commitment;
-    let phase = session.phase;
-    VerifierSession {
-        commitment,
-        challenge: session.challenge,
-        phase: verifier_state(phase),
+    // The session as it is handed out.
+    fn from(session: Verifier) -> VerifierSession {
+        let commitment = session.commitment;
+        let phase = session.phase;
+        VerifierSession {
+            commitment,
+            challenge: session.challenge,
+            phase: phase as u32,
+        }
     }
 }
 
@@ -70,7 +61,7 @@ pub fn verifier_answer(given: VerifierSession, step: VerifierStep) -> VerifierAn
     }
     let session = step.session;
     VerifierAnswer {
-        session: verifier_session(session),
+        session: VerifierSession::from(session),
         refusal,
     }
 }
@@ -81,7 +72,7 @@ pub fn verifier_judgement(given: VerifierSession, told: VerifierVerdict) -> Veri
     ensures { result ≡ verifier_judgement given told }
 {
     let answer = told.verdict;
-    let verdict = judgement_of(answer);
+    let verdict = Judgement::from(answer);
     if verdict.refusal != 0 {
         return VerifierJudgement {
             verdict,
@@ -91,6 +82,6 @@ pub fn verifier_judgement(given: VerifierSession, told: VerifierVerdict) -> Veri
     let session = told.session;
     VerifierJudgement {
         verdict,
-        session: verifier_session(session),
+        session: VerifierSession::from(session),
     }
 }

@@ -6,7 +6,6 @@ use mathlib.Core.List.{List, [], ◌∷◌}
 use mathlib.Core.Logic.{◌≢◌}
 use native.Mathlib.Omega.{arith}
 use borrow.Author.Tests.{le-ltb, lt-ltb}
-use Rattle.types.specs.declared.Loaded.{Loaded}
 use Rattle.types.specs.declared.Round.{Round}
 use Rattle.types.specs.declared.Verdict.{Verdict}
 use Rattle.types.specs.declared.Verdict.TheVariants.{Accepted, Rejected, Refused}
@@ -14,15 +13,15 @@ use Rattle.rules.specs.Call.{answer, number_of}
 use Rattle.rules.proofs.Call.{answer_number as call_number, number_given}
 use Rattle.rules.proofs.Explains.{explain, explains_given, known, rising_first}
 use Rattle.sigma.specs.Image.{image}
-use Rattle.sigma.specs.Instance.{instance_with, table_of}
+use Rattle.sigma.specs.Instance.{Instance, table_of}
 use Rattle.sigma.specs.Judge.{judge_loaded}
 use Rattle.sigma.specs.Round.{expected_image}
-use Rattle.formats.specs.Load.{load, load_refusal}
+use Rattle.formats.specs.Load.{load_refusal}
 use Rattle.formats.specs.Meaning.{IsRoundFile}
 use Rattle.formats.specs.Refusals.{round_conditions}
 use Rattle.formats.specs.RoundCalls.{check_round, checking}
 use Rattle.formats.specs.RoundFile.{count_field}
-use Rattle.formats.specs.Sheet.{entries_of, header_of, instance_of}
+use Rattle.formats.specs.Sheet.{header_of, instance_of}
 use Rattle.formats.proofs.Files.{check_runs}
 use Rattle.formats.proofs.Loads.{loads}
 use Rattle.formats.proofs.OnSheet.{on_sheet_refused}
@@ -30,8 +29,10 @@ use Rattle.formats.proofs.Refusals.{round_tests}
 use Rattle.runs.specs.Marker.{verdict_on}
 use Rattle.runs.proofs.Loaded.{judge_loaded_law}
 use Rattle.runs.proofs.Marker.{round_refusal}
-use Rattle.instance.proofs.Answers.{answer_header, answer_instance, answer_number}
-use Rattle.instance.proofs.OnLoaded.{on_header}
+use Rattle.instance.proofs.SheetLoads.{loaded_header, on_fields}
+use Rattle.refusals.specs.declared.Refusal.{Refusal}
+use Rattle.refusals.specs.Number.{number}
+use Rattle.refusals.proofs.Positive.{number_positive}
 use Rattle.reasons.specs.declared.Spot.{Spot}
 use Rattle.reasons.specs.Lines.{refused_line}
 use Rattle.reasons.specs.Ours.{first_round}
@@ -100,28 +101,29 @@ check_line : (s f : List ℕ) (x y n : ℕ) → check_round s f 0 ≡ n → 0 < 
 check_line s f x y n same some told =
     line_refused s f x y n (checked_refused s f (omega arith) ∙ ap Refused same) ∙ ap (refused_line n) told
 
-module _ (s f : List ℕ) {loaded : Loaded} (is_load : loaded ≡ load s) where
+module _ (s f : List ℕ) where
   -- a refused sheet
-  pub sheet_line : loaded.refusal ≢ 0 → (x y : ℕ)
-      → reason_line s x f y ≡ refused_line loaded.refusal (sheet_spot s x loaded.refusal)
+  pub sheet_line : (refusal : Refusal) → number refusal ≡ load_refusal s → (x y : ℕ)
+      → reason_line s x f y ≡ refused_line (number refusal) (sheet_spot s x (number refusal))
   unfolding check_round checking
-  sheet_line some x y =
-      let n = loaded.refusal in
-      let number = answer_number s loaded is_load in
-      let check = on_sheet_refused s (checking (header_of s) f 0) (omega arith) ∙ sym number in
-      check_line s f x y n check (omega arith) (sheet_number s f x y n (refused_with_law s n (omega arith) number).high)
+  sheet_line refusal same x y =
+      let n = number refusal in
+      let some = number_positive refusal in
+      let check = on_sheet_refused s (checking (header_of s) f 0) (omega (arith, same, some)) ∙ sym same in
+      check_line s f x y n check some (sheet_number s f x y n (refused_with_law s n some same).high)
 
-  module _ (passed : loaded.refusal ≡ 0) {n : ℕ} (is_check : n ≡ answer (checking loaded.header f 0)) where
+  module _ (passed : 0 ≡ load_refusal s) {inst : Instance} (values : inst ≡ instance_of s) {n : ℕ}
+      (is_check : n ≡ answer (checking inst.header f 0)) where
     -- the check's number is that of the sheet and the file
     checks : n ≡ check_round s f 0
     unfolding check_round
-    checks = on_header s loaded is_load passed (λ h. checking h f 0) is_check
+    checks = on_fields s passed values (λ h. checking h f 0) is_check
 
     -- it is 0, 12 or 13
     file_range : n ≢ 0 → (11 < n) × (n < 14)
     unfolding checking
     file_range some =
-        let h = loaded.header in
+        let h = inst.header in
         let call = checking h f 0 in
         let number : n ≡ number_of call = is_check ∙ call_number call (λ k. k) refl (λ k. refl) in
         let Range : ℕ → Type 0 = λ k. (11 < k) × (k < 14) in
@@ -139,12 +141,11 @@ module _ (s f : List ℕ) {loaded : Loaded} (is_load : loaded ≡ load s) where
 
     module _ (reads : n ≡ 0) where
       -- the file is one of the sheet's and has a round
-      pub file_read : IsRoundFile loaded.header f × (0 < count_field f)
+      pub file_read : IsRoundFile inst.header f × (0 < count_field f)
       file_read =
           let (sheet, file, some) = (check_runs s f 0).0 (sym checks ∙ reads) in
-          rw (answer_header s loaded is_load passed).1 (file, some)
+          rw (loaded_header s passed values) (file, some)
 
       -- the line on round 0
-      pub judged_line_law : {entries : List (List ℕ)} → entries ≡ entries_of s loaded.header → (x y : ℕ)
-          → reason_line s x f y ≡ judged_line (instance_with loaded.header entries loaded.statement) f
-      judged_line_law read x y = rw (answer_instance s loaded is_load passed read) (record_line s f x y (sym checks ∙ reads))
+      pub judged_line_law : (x y : ℕ) → reason_line s x f y ≡ judged_line inst f
+      judged_line_law x y = rw values (record_line s f x y (sym checks ∙ reads))

@@ -8,8 +8,8 @@ ghost use Rattle.std.proofs.lemmas.List.Edits.{sets};
 ghost use Rattle.encoding.specs.Placed.{Placed};
 ghost use Rattle.reasons.specs.Reason.{reason_line, reason_text};
 
-use files::{CountedRounds, CountedSheet};
-use instance::{load, loaded_entries};
+use files::{Counted, ROUNDS, SHEET};
+use instance::Sheet;
 use judged::write_judged;
 use reason_lines::write_refused;
 use round_file::check_in;
@@ -32,21 +32,21 @@ fn write_reason(
         Placed text.old 0 (reason_line sheet.now sheet_length file.now file_length)
         text.new result }
 {
-    let loaded = load(sheet);
-    let refusal = loaded.refusal;
-    if refusal != 0 {
-        let spot = sheet_spot(sheet, sheet_length, refusal);
-        return write_refused(text, refusal, spot);
+    let values = match Sheet::load(sheet) {
+        Ok(values) => values,
+        Err(refusal) => {
+            let spot = sheet_spot(sheet, sheet_length, refusal);
+            return write_refused(text, refusal.number(), spot);
+        }
+    };
+    match check_in(values.header, file, 0) {
+        Ok(()) => write_judged(text, &values, file),
+        Err(refusal) => {
+            let number = refusal.number();
+            let spot = file_spot(file, file_length, number);
+            write_refused(text, number, spot)
+        }
     }
-    let h = loaded.header;
-    let refusal = check_in(h, file, 0);
-    if refusal != 0 {
-        let spot = file_spot(file, file_length, refusal);
-        return write_refused(text, refusal, spot);
-    }
-    let entries = loaded_entries(sheet, h);
-    let statement = loaded.statement;
-    write_judged(text, h, entries, statement, file)
 }
 
 // Stores the reason on a sheet and a round file at the start of text and answers its length; no byte behind it is changed. It
@@ -62,27 +62,25 @@ pub fn reason(sheet: &[u8], file: &[u8], text: &mut [u8; LONGEST]) -> usize
 
 // Stores the reason on two files and answers its length. Of the sheet its first 309 bytes were kept, of the round file its first
 // 34,824, or all of a shorter one, and each was counted to its end: it is the reason on the whole files, however long they are.
-pub fn reason_files(sheet: CountedSheet, rounds: CountedRounds, text: &mut [u8; LONGEST]) -> usize
-    requires sheet { sheet.count ≤ 309 }
-    requires rounds { rounds.count ≤ 34824 }
+pub fn reason_files(
+    sheet: &Counted<SHEET>,
+    rounds: &Counted<ROUNDS>,
+    text: &mut [u8; LONGEST],
+) -> usize
     ensures inside { result ≤ length text.new }
-    ensures room { (length sheet.bytes ≡ 309) × (length rounds.bytes ≡ 34824) }
+    ensures room { (length sheet.now.kept.bytes ≡ 309) × (length rounds.now.kept.bytes ≡ 34824) }
     ensures whole { (s f : List ℕ) →
-        take sheet.count sheet.bytes ≡ take (length sheet.bytes) s → length s ≡ sheet.length →
-        take rounds.count rounds.bytes ≡ take (length rounds.bytes) f → length f ≡ rounds.length →
+        take sheet.now.kept.count sheet.now.kept.bytes ≡ take (length sheet.now.kept.bytes) s →
+        length s ≡ sheet.now.length →
+        take rounds.now.kept.count rounds.now.kept.bytes ≡ take (length rounds.now.kept.bytes) f →
+        length f ≡ rounds.now.length →
         (result ≡ length (reason_text s f)) × (text.new ≡ sets text.old 0 (reason_text s f)) }
 {
-    let sheet_count = sheet.count();
-    let sheet_bytes = sheet.bytes();
-    let sheet_length = sheet.length();
-    let rounds_count = rounds.count();
-    let rounds_bytes = rounds.bytes();
-    let rounds_length = rounds.length();
     write_reason(
-        &sheet_bytes[..sheet_count],
-        sheet_length,
-        &rounds_bytes[..rounds_count],
-        rounds_length,
+        sheet.as_slice(),
+        sheet.length(),
+        rounds.as_slice(),
+        rounds.length(),
         text,
     )
 }

@@ -3,7 +3,7 @@ ghost use Rattle.std.specs.Prelude.{◌≡◌};
 ghost use Rattle.runs.specs.Calls.{judge_round, simulate_commitment, extract_witness};
 ghost use Rattle.crossing.specs.Verdicts.{judgement};
 
-use crossing::{Judgement, judgement_of};
+use crossing::Judgement;
 use types::{Computed, Round};
 
 // The verdict on a round: accepted, rejected with all rows whose two sides differ, or refused with 2 to 11 for the sheet or 14 to
@@ -12,7 +12,7 @@ use types::{Computed, Round};
 pub extern "C" fn dimkhoros_judge(sheet: &[u8], round: Round) -> Judgement
     ensures { result ≡ judgement (judge_round sheet.now round) }
 {
-    judgement_of(protocol::judge(sheet, round))
+    Judgement::from(protocol::judge(sheet, round))
 }
 
 // The simulated commitment for a challenge and a response; zeros beside the number, 2 to 11, 15 or 16, where it is refused.

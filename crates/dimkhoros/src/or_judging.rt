@@ -5,7 +5,7 @@ ghost use Rattle.disjunctions.specs.Judge.{judge_or};
 ghost use Rattle.or_crossing.specs.Verdicts.{or_judgement};
 
 use disjunctions::{OrExtracted, OrRound};
-use or_crossing::{OrJudgement, or_judgement_of};
+use or_crossing::OrJudgement;
 
 // The verdict on a round of two sheets: accepted, rejected with all rows of both whose two sides differ, none for one that is
 // accepted, or refused with 2 to 11 of either sheet, 26 for different challenge counts, or 14 to 16 for the round.
@@ -13,7 +13,7 @@ use or_crossing::{OrJudgement, or_judgement_of};
 pub extern "C" fn dimkhoros_or_judge(first: &[u8], second: &[u8], round: OrRound) -> OrJudgement
     ensures { result ≡ or_judgement (judge_or first.now second.now round) }
 {
-    or_judgement_of(or_judge::judge(first, second, round))
+    OrJudgement::from(or_judge::judge(first, second, round))
 }
 
 // The witness from two accepted rounds with the same commitments and different c, and the side that it is of: 0 where their c0

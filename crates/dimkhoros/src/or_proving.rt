@@ -3,14 +3,15 @@ ghost use Rattle.std.specs.Prelude.{◌≡◌};
 ghost use Rattle.disjunctions.specs.Prover.{new_or_prover, commit_or, respond_or, drop_or};
 ghost use Rattle.or_crossing.specs.Provers.{or_prover_of, or_session, or_answer};
 
-use or_crossing::{OrAnswer, OrSession, or_answer, or_prover_of, or_session_of};
+use disjunctions::OrProver;
+use or_crossing::{OrAnswer, OrSession, or_answer};
 
 // A new session: New, with zeros.
 #[unsafe(no_mangle)]
 pub extern "C" fn dimkhoros_or_prover_new() -> OrSession
     ensures { result ≡ or_session new_or_prover }
 {
-    or_session_of(or_session::new())
+    OrSession::from(or_session::new())
 }
 
 // Commits a New session to a nonce of the side that she knows, 0 or else 1, and to a simulated challenge and response of the
@@ -34,7 +35,7 @@ pub extern "C" fn dimkhoros_or_prover_commit(
         or_prover::commit(
             first,
             second,
-            or_prover_of(session),
+            OrProver::from(session),
             side,
             *nonce,
             challenge,
@@ -59,7 +60,7 @@ pub extern "C" fn dimkhoros_or_prover_respond(
 {
     or_answer(
         session,
-        or_prover::respond(first, second, or_prover_of(session), challenge, *witness),
+        or_prover::respond(first, second, OrProver::from(session), challenge, *witness),
     )
 }
 
@@ -69,5 +70,5 @@ pub extern "C" fn dimkhoros_or_prover_respond(
 pub extern "C" fn dimkhoros_or_prover_drop(session: OrSession) -> OrAnswer
     ensures { result ≡ or_answer session (drop_or (or_prover_of session)) }
 {
-    or_answer(session, or_session::drop_session(or_prover_of(session)))
+    or_answer(session, or_session::drop_session(OrProver::from(session)))
 }

@@ -5,15 +5,15 @@ ghost use Rattle.crossing.specs.Verifiers.{verifier_of, verifier_session, verifi
 
 use crossing::{
     VerifierAnswer, VerifierJudgement, VerifierSession, verifier_answer, verifier_judgement,
-    verifier_of, verifier_session,
 };
+use types::Verifier;
 
 // A new session: Waiting, with zeros.
 #[unsafe(no_mangle)]
 pub extern "C" fn dimkhoros_verifier_new() -> VerifierSession
     ensures { result ≡ verifier_session new_verifier }
 {
-    verifier_session(verifier::new())
+    VerifierSession::from(verifier::new())
 }
 
 // Brings a commitment, which leads from Waiting to Holding, or is refused with 2 to 11, 14 or 21.
@@ -28,7 +28,7 @@ pub extern "C" fn dimkhoros_verifier_commitment(
 {
     verifier_answer(
         session,
-        verifier::take_commitment(sheet, verifier_of(session), *commitment),
+        verifier::take_commitment(sheet, Verifier::from(session), *commitment),
     )
 }
 
@@ -43,7 +43,7 @@ pub extern "C" fn dimkhoros_verifier_challenge(
 {
     verifier_answer(
         session,
-        verifier::take_challenge(sheet, verifier_of(session), challenge),
+        verifier::take_challenge(sheet, Verifier::from(session), challenge),
     )
 }
 
@@ -59,6 +59,6 @@ pub extern "C" fn dimkhoros_verifier_response(
 {
     verifier_judgement(
         session,
-        verifier::take_response(sheet, verifier_of(session), *response),
+        verifier::take_response(sheet, Verifier::from(session), *response),
     )
 }

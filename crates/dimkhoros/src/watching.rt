@@ -4,7 +4,7 @@ ghost use Rattle.watches.specs.Watch.{open_watch, watch_round};
 ghost use Rattle.watch_crossing.specs.Answers.{watch_answer};
 
 use types::Round;
-use watch_crossing::{WatchAnswer, watch_answer};
+use watch_crossing::WatchAnswer;
 use watches::{Opened, Watch};
 
 // Opens a watch on a sheet. If the sheet is refused, with 2 to 11, the watch beside the number has no bytes and fits no sheet.
@@ -22,5 +22,5 @@ pub extern "C" fn dimkhoros_watch_open(sheet: &[u8]) -> Opened
 pub extern "C" fn dimkhoros_watch_round(sheet: &[u8], watch: Watch, round: Round) -> WatchAnswer
     ensures { result ≡ watch_answer (watch_round sheet.now watch round) }
 {
-    watch_answer(watch::hear(sheet, watch, round))
+    WatchAnswer::from(watch::hear(sheet, watch, round))
 }

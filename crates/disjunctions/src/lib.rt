@@ -17,7 +17,7 @@ pub struct OrRound {
 }
 
 // What judging a round answers: accepted, rejected with the differing rows of both sides, bit i of a mask for row i and 0 for a side
-// that is accepted, or refused with a number.
+// that is accepted, or refused with a number, of which `judge_or` and the laws under it speak.
 #[derive(Clone, Copy)]
 pub enum OrVerdict {
     OrAccepted,
@@ -25,7 +25,7 @@ pub enum OrVerdict {
     OrRefused(u32),
 }
 
-// What extracting answers: a witness, and the side that it is of.
+// What extracting answers: a witness, and the side that it is of. Sides are numbers, as C hands them in: any but 0 is side 1.
 #[repr(C)]
 #[derive(Clone, Copy)]
 pub struct OrExtracted {
@@ -47,7 +47,8 @@ pub struct OrProver {
     pub phase: ProverPhase,
 }
 
-// What a call on Peggy's session answers: the session handed back, and both commitments, or both responses with c0.
+// What a call on Peggy's session answers: the session handed back, and both commitments, or both responses with c0. The laws speak of
+// a refusal as its number.
 #[derive(Clone, Copy)]
 pub struct OrStep {
     pub session: OrProver,

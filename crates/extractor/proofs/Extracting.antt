@@ -35,6 +35,9 @@ use Rattle.sigma.proofs.Calls.{valid_judge_accepted, extract_refusal, valid_extr
 use Rattle.sigma.proofs.Extractor.{extraction}
 use Rattle.sigma.proofs.Tests.{says_accepted}
 use Rattle.sigma.proofs.Valid.{valid_modulus, valid_kind, valid_challenge}
+use Rattle.refusals.specs.Number.{number}
+use Rattle.refusals.specs.declared.Refusal.{Refusal}
+use Rattle.refusals.proofs.Positive.{number_positive}
 use Rattle.extractor.specs.Coefficients.{left_coefficient, WitnessFits}
 use Rattle.extractor.specs.Rules.{rules_of_pair}
 use Rattle.extractor.proofs.Coefficients.{coefficients_fit}
@@ -69,11 +72,11 @@ module _ (inst : Instance) (first second : Round) where
       rw (← is) (sym (answer_refused (extracting inst first second) (rw is some)))
 
   -- a rule before judging gives the answer
-  pub pair_refused : {n : ℕ} → n ≡ lowest (rules_of_pair inst first second) → n ≢ 0
-      → record { refusal = n; values = zeros8 } ≡ extract_loaded inst first second
-  pair_refused {n} is_lowest other =
-      let some : 0 < n = omega arith in
-      refused_with_law n some (refusal_split ∙ lowest_earlier _ _ (rw (sym is_lowest) some) ∙ sym is_lowest)
+  pub pair_refused : (refusal : Refusal) → number refusal ≡ lowest (rules_of_pair inst first second)
+      → record { refusal = number refusal; values = zeros8 } ≡ extract_loaded inst first second
+  pair_refused refusal is_lowest =
+      let some : 0 < number refusal = number_positive refusal in
+      refused_with_law (number refusal) some (refusal_split ∙ lowest_earlier _ _ (rw (sym is_lowest) some) ∙ sym is_lowest)
 
   -- the numbers of these rules are above 0
   pair_positive : T (all_positive (rules_of_pair inst first second))

@@ -1,27 +1,31 @@
 // Extracting a witness from two rounds on loaded values (01, "A round"; refusals 14 to 16 of both rounds, then 18 to 20).
+// These read fixed fields alone, so they take a `Header` with its bounds, and not a whole `Sheet`.
 ghost use Rattle.std.specs.Prelude.{◌≡◌, List, ℕ, ◌≤◌, ◌<◌, pos, neg_ℤ};
 ghost use Rattle.lists.specs.Places.{pad8};
 ghost use Rattle.numbers.specs.Inverse.{inverse};
 ghost use Rattle.rules.specs.Rule.{lowest};
 ghost use Rattle.sigma.specs.Extractor.{slot_formula, formula, extract_loaded};
-ghost use Rattle.sigma.specs.Valid.{Valid};
 ghost use Rattle.sigma.specs.Instance.{instance_with};
+ghost use Rattle.refusals.specs.Number.{computed, refused_with};
+ghost use Rattle.instance.specs.Values.{values_of};
 ghost use Rattle.extractor.specs.Coefficients.{left_coefficient, SlotFits, RootsFit, WitnessFits, slot_formulas};
 ghost use Rattle.extractor.specs.Rules.{rules_of_pair};
 
 use comparison::differ;
-use image::{refused, verdict};
+use image::verdict;
+use instance::Sheet;
 use modular::{inverse, mul_mod, pow_mod, some_non_coordinate, some_non_element, sub_mod};
 use negatives::{inverses, mul_negative_powers, negative_power};
 use powers::{powers, products, side_by_side};
-use types::{Computed, Header, Round, Verdict};
+use refusals::Refusal;
+use types::{Header, Round, Verdict};
 
-// The number of 14 to 16, 18 and 19 that two rounds are refused with, or 0. Each of 14 to 16 is asked of both rounds before
-// the next; 18 is for commitments that differ, 19 for equal challenges.
-fn pair_refusal(h: Header, first: Round, second: Round) -> u32
+// Tests two rounds, which are refused with 14 to 16, 18 or 19. Each of 14 to 16 is asked of both rounds before the next; 18 is for
+// commitments that differ, 19 for equal challenges.
+fn test_pair(h: Header, first: Round, second: Round) -> Result<(), Refusal>
     requires { (0 < h.modulus) × (h.rows ≤ 8) × (h.columns ≤ 8) }
     ensures { (entries : List (List ℕ)) (statement : List ℕ)
-        → result ≡ lowest (rules_of_pair (instance_with h entries statement) first second) }
+        → refused_with result ≡ lowest (rules_of_pair (instance_with h entries statement) first second) }
 {
     let t1 = first.commitment;
     let t2 = second.commitment;
@@ -30,30 +34,30 @@ fn pair_refusal(h: Header, first: Round, second: Round) -> u32
     let rows = h.rows as usize;
     let columns = h.columns as usize;
     if some_non_element(h, t1, rows) {
-        return 14;
+        return Err(Refusal::Commitment);
     }
     if some_non_element(h, t2, rows) {
-        return 14;
+        return Err(Refusal::Commitment);
     }
     if first.challenge >= h.challenges {
-        return 15;
+        return Err(Refusal::Challenge);
     }
     if second.challenge >= h.challenges {
-        return 15;
+        return Err(Refusal::Challenge);
     }
     if some_non_coordinate(h, r1, columns) {
-        return 16;
+        return Err(Refusal::Slot);
     }
     if some_non_coordinate(h, r2, columns) {
-        return 16;
+        return Err(Refusal::Slot);
     }
     if differ(t1, t2, rows) {
-        return 18;
+        return Err(Refusal::OtherCommitment);
     }
     if first.challenge == second.challenge {
-        return 19;
+        return Err(Refusal::SameChallenge);
     }
-    0
+    Ok(())
 }
 
 // A slot of the formula with the exponents -a and b: in kind 1 b (r - s) mod q, in kind 2 z^(-a) (r/s)^b mod m.
@@ -105,40 +109,26 @@ fn witness(h: Header, statement: [u32; 8], delta: u32, r: [u32; 8], s: [u32; 8])
     values
 }
 
-// The witness from two accepted rounds with one commitment and different challenges, or the number of a refusal and zeros;
-// a round that is not accepted is 20. The round with the larger challenge is taken first: the witness is the same.
-pub fn extract_loaded(
-    h: Header,
-    entries: [[u32; 8]; 8],
-    statement: [u32; 8],
-    first: Round,
-    second: Round,
-) -> Computed
-    requires { Valid (instance_with h entries statement) }
-    ensures { result ≡ extract_loaded (instance_with h entries statement) first second }
+// The witness from two accepted rounds with one commitment and different challenges, or the refusal; a round that is not accepted is
+// 20. The round with the larger challenge is taken first: the witness is the same.
+pub fn extract_loaded(sheet: &Sheet, first: Round, second: Round) -> Result<[u32; 8], Refusal>
+    ensures { computed result ≡ extract_loaded (values_of sheet.now) first second }
 {
-    let refusal = pair_refusal(h, first, second);
-    if refusal != 0 {
-        return refused(refusal);
-    }
+    let h = sheet.header;
+    test_pair(h, first, second)?;
     let t1 = first.commitment;
     let t2 = second.commitment;
     let r1 = first.response;
     let r2 = second.response;
-    let Verdict::Accepted = verdict(h, entries, statement, t1, first.challenge, r1) else {
-        return refused(20);
+    let Verdict::Accepted = verdict(sheet, t1, first.challenge, r1) else {
+        return Err(Refusal::Rejected);
     };
-    let Verdict::Accepted = verdict(h, entries, statement, t2, second.challenge, r2) else {
-        return refused(20);
+    let Verdict::Accepted = verdict(sheet, t2, second.challenge, r2) else {
+        return Err(Refusal::Rejected);
     };
+    let statement = sheet.statement;
     if first.challenge > second.challenge {
-        return Computed {
-            values: witness(h, statement, first.challenge - second.challenge, r1, r2),
-            refusal: 0,
-        };
+        return Ok(witness(h, statement, first.challenge - second.challenge, r1, r2));
     }
-    Computed {
-        values: witness(h, statement, second.challenge - first.challenge, r2, r1),
-        refusal: 0,
-    }
+    Ok(witness(h, statement, second.challenge - first.challenge, r2, r1))
 }

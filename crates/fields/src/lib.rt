@@ -1,5 +1,6 @@
 // Fields of a slice of bytes, high byte first: a number of 8, 16 or 32 bits, a run of at most eight 32-bit numbers, and
 // a mark of three bytes. Each function asks that its field lies within the slice.
+// Arrays have eight places whatever n is: memory is fixed, and the structs that C reads have them so.
 #![tactic(auto)]
 
 ghost use Rattle.std.specs.Prelude.{◌+◌, ◌*◌, ◌≤◌, ◌<◌, ◌≡◌, length};
@@ -23,9 +24,7 @@ pub fn read_u16(s: &[u8], at: usize) -> u32
     ensures value { result ≡ number_at 2 s.now at }
     ensures small { result < 65536 }
 {
-    let high = read_u8(s, at);
-    let low = read_u8(s, at + 1);
-    high * 256 + low
+    u32::from(u16::from_be_bytes([s[at], s[at + 1]]))
 }
 
 // The number in the four bytes of s from index at on.
@@ -33,9 +32,7 @@ pub fn read_u32(s: &[u8], at: usize) -> u32
     requires within { at + 4 ≤ length s.now }
     ensures value { result ≡ number_at 4 s.now at }
 {
-    let high = read_u16(s, at);
-    let low = read_u16(s, at + 2);
-    high * 65536 + low
+    u32::from_be_bytes([s[at], s[at + 1], s[at + 2], s[at + 3]])
 }
 
 // The n numbers in the 4 n bytes of s from index at on, and 0 in the places beyond them.
@@ -64,8 +61,8 @@ pub fn write_u16(s: &mut [u8], at: usize, v: u32)
     requires room { at + 2 ≤ length s.old }
     ensures stored { s.new ≡ sets s.old at (bytes_of 2 v) }
 {
-    write_u8(s, at, v / 256);
-    write_u8(s, at + 1, v);
+    let low = (v % 65536) as u16;
+    s[at..at + 2].copy_from_slice(&low.to_be_bytes());
 }
 
 // Stores the four bytes of v in s from index at on, and changes no other byte.
@@ -73,8 +70,7 @@ pub fn write_u32(s: &mut [u8], at: usize, v: u32)
     requires room { at + 4 ≤ length s.old }
     ensures stored { s.new ≡ sets s.old at (bytes_of 4 v) }
 {
-    write_u16(s, at, v / 65536);
-    write_u16(s, at + 2, v);
+    s[at..at + 4].copy_from_slice(&v.to_be_bytes());
 }
 
 // Stores the first n of the words in s from index at on, four bytes each, and changes no other byte.
@@ -93,13 +89,7 @@ pub fn has_mark(s: &[u8], mark: [u8; 3]) -> bool
     requires within { 3 ≤ length s.now }
     ensures value { result ≡ has_mark s.now mark }
 {
-    if s[0] != mark[0] {
-        return false;
-    }
-    if s[1] != mark[1] {
-        return false;
-    }
-    s[2] == mark[2]
+    s.starts_with(&mark)
 }
 
 // Stores the mark at the start of s, and changes no other byte.
@@ -107,7 +97,5 @@ pub fn write_mark(s: &mut [u8], mark: [u8; 3])
     requires room { 3 ≤ length s.old }
     ensures stored { s.new ≡ sets s.old 0 mark }
 {
-    s[0] = mark[0];
-    s[1] = mark[1];
-    s[2] = mark[2];
+    s[..3].copy_from_slice(&mark);
 }

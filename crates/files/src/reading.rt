@@ -56,12 +56,10 @@ fn count_on<F: Read>(file: &mut F, done: usize) -> usize
     loop {
         match file.read(&mut scratch) {
             Ok(0) => return total,
-            Ok(more) => {
-                if more > usize::MAX - total {
-                    return total;
-                }
-                total += more;
-            }
+            Ok(more) => match total.checked_add(more) {
+                Some(sum) => total = sum,
+                None => return total,
+            },
             Err(_) => return total,
         }
     }

@@ -4,22 +4,15 @@
 // A reader that has gone away is told nothing, and the exit status is 1.
 #![tactic(auto)]
 
-use files::{read_rounds, read_sheet};
+use files::{print_text, read_rounds, read_sheet};
 use game_lines::{LONGEST, game_files};
-use std::io::ErrorKind;
 use std::process::ExitCode;
 
+// Alike to that of `reason`: what a program reads and hands on stands in its own main.
 fn main(rt: HostRuntime) -> ExitCode {
     let mut text = [0u8; LONGEST];
     let sheet = read_sheet(&rt);
     let rounds = read_rounds(&rt);
-    let length = game_files(sheet, rounds, &mut text);
-    match rt.write_all(&text[..length]) {
-        Ok(()) => ExitCode::SUCCESS,
-        Err(error) if error.kind() == ErrorKind::BrokenPipe => ExitCode::FAILURE,
-        Err(_) => {
-            let _ = eprintln!(rt; "game: the text cannot be written whole");
-            ExitCode::SUCCESS
-        }
-    }
+    let length = game_files(&sheet, &rounds, &mut text);
+    print_text(&rt, "game", &text[..length])
 }

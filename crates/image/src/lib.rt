@@ -1,18 +1,17 @@
 // The values of a round on loaded values (01, "A round"): the image, the verifier's two sides and the verdict on them, and the
 // response. Nothing is refused here.
+// The bounds of fixed fields are clauses and no type, since a `Sheet` would ask more of callers.
 #![tactic(auto)]
-
-mod answer; // answer.rt: the answer of a refused call
 
 ghost use Rattle.std.specs.Prelude.{◌≡◌, List, [], ℕ, ◌≤◌, ◌<◌, get_or};
 ghost use Rattle.lists.specs.Places.{places, pad8};
 ghost use Rattle.sigma.specs.Image.{row_image, image};
 ghost use Rattle.sigma.specs.Round.{response_coordinate, response, expected_image, verdict};
-ghost use Rattle.sigma.specs.Valid.{Valid};
 ghost use Rattle.sigma.specs.Instance.{table_with, instance_with};
+ghost use Rattle.instance.specs.Values.{values_of};
 
-pub use answer::refused;
 use comparison::{compare, first_places, marked, verdict_of};
+use instance::Sheet;
 use modular::{mul_mod, pow_mod};
 use powers::{mul_powers, powers, side_by_side};
 use straus::multi_powers;
@@ -98,22 +97,17 @@ pub fn expected_image(h: Header, statement: [u32; 8], t: [u32; 8], c: u32) -> [u
 
 // The verdict on a commitment t, a challenge c and a response r: accepted where the two sides agree in every row, else rejected
 // with all rows in which they differ. What computes rows side by side is handed copies. Else there are three rows at most, each
-// taken at its own index and compared as a number, so that neither entries nor h are copied. A row that is alone makes no mask,
+// taken at its own index and compared as a number, so that the sheet is not copied. A row that is alone makes no mask,
 // so that what reads the verdict need not wait for the two numbers.
-pub fn verdict(
-    h: Header,
-    entries: [[u32; 8]; 8],
-    statement: [u32; 8],
-    t: [u32; 8],
-    c: u32,
-    r: [u32; 8],
-) -> Verdict
-    requires { Valid (instance_with h entries statement) }
-    ensures { result ≡ verdict (instance_with h entries statement) (places h.rows t) c (places h.columns r) }
+pub fn verdict(sheet: &Sheet, t: [u32; 8], c: u32, r: [u32; 8]) -> Verdict
+    ensures { result ≡ verdict (values_of sheet.now) (places sheet.now.header.rows t) c (places sheet.now.header.columns r) }
 {
+    let h = sheet.header;
     let rows = h.rows as usize;
     if side_by_side(rows, h.modulus) {
         let copy = h;
+        let entries = sheet.entries;
+        let statement = sheet.statement;
         let response = r;
         return compare(
             image(copy, entries, response),
@@ -121,9 +115,9 @@ pub fn verdict(
             rows,
         );
     }
-    let row = entries[0];
+    let row = sheet.entries[0];
     let left = row_product(h, row, r, 0);
-    let right = mul_mod(t[0], pow_mod(statement[0], c, h.modulus), h.modulus);
+    let right = mul_mod(t[0], pow_mod(sheet.statement[0], c, h.modulus), h.modulus);
     if rows == 1 {
         if left != right {
             return Verdict::Rejected(1);
@@ -131,16 +125,16 @@ pub fn verdict(
         return Verdict::Accepted;
     }
     let first = marked(0, 1, left, right);
-    let row = entries[1];
+    let row = sheet.entries[1];
     let left = row_product(h, row, r, 1);
-    let right = mul_mod(t[1], pow_mod(statement[1], c, h.modulus), h.modulus);
+    let right = mul_mod(t[1], pow_mod(sheet.statement[1], c, h.modulus), h.modulus);
     let second = marked(first, 2, left, right);
     if rows == 2 {
         return verdict_of(second);
     }
-    let row = entries[2];
+    let row = sheet.entries[2];
     let left = row_product(h, row, r, 2);
-    let right = mul_mod(t[2], pow_mod(statement[2], c, h.modulus), h.modulus);
+    let right = mul_mod(t[2], pow_mod(sheet.statement[2], c, h.modulus), h.modulus);
     verdict_of(marked(second, 4, left, right))
 }
 

@@ -6,3 +6,4 @@ pub mod ElementNumber
 pub mod LoadSteps
 pub mod Answers
 pub mod OnLoaded
+pub mod SheetLoads

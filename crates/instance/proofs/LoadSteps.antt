@@ -2,19 +2,17 @@
 -- sheet that has passed the first step.
 -- Assumes nothing.
 use Prim.Native.Nat.{ℕ, ◌≤◌, ◌<◌}
-use mathlib.Core.Path.{◌≡◌, sym, ap, ◌∙◌}
+use mathlib.Core.Path.{◌≡◌, refl, sym, ap, ◌∙◌}
 use mathlib.Core.List.{List}
-use native.Mathlib.Omega.{arith}
-use lib.ListN.{length}
 use Rattle.types.specs.declared.Header.{Header}
 use Rattle.lists.specs.Places.{zeros8}
 use Rattle.rules.specs.Rule.{lowest}
-use Rattle.rules.proofs.Lowest.{lowest_earlier, lowest_later_zero, lowest_append_zero}
+use Rattle.rules.proofs.Lowest.{lowest_earlier, lowest_later_zero}
 use Rattle.sigma.specs.Admission.{header_rules, element_rules}
 use Rattle.sigma.specs.Instance.{instance_with}
 use Rattle.formats.specs.Sheet.{header_of, sheet_length, entries_of, statement_of, instance_of}
-use Rattle.formats.specs.Load.{shape_rules, load_rules, load_refusal, no_header, load, load_entries}
-use Rattle.formats.proofs.Loads.{sheet_long, load_given, entries_given, load_refused}
+use Rattle.formats.specs.Load.{shape_rules, load_rules, load_refusal, no_header, load}
+use Rattle.formats.proofs.Loads.{load_refused}
 use Rattle.instance.specs.Shaped.{Shaped}
 use Rattle.instance.proofs.FixedFields.{header_passes}
 use Rattle.instance.proofs.ShapeNumber.{shape_passes}
@@ -24,15 +22,6 @@ module _ (s : List ℕ) where
   pub shape_first : 0 < lowest (shape_rules s) → lowest (shape_rules s) ≡ load_refusal s
   unfolding load_refusal load_rules
   shape_first refused = sym (lowest_earlier (shape_rules s) (element_rules (instance_of s)) refused)
-
-  -- a sheet that loads has the shape of one
-  pub load_shape : load_refusal s ≡ 0 → lowest (shape_rules s) ≡ 0
-  unfolding load_refusal load_rules shape_rules header_rules element_rules
-  load_shape e = ((lowest_append_zero (shape_rules s) (element_rules (instance_of s)) tt tt).0 e).0
-
-  -- a sheet that has the shape of one holds the fixed fields
-  pub shape_long : lowest (shape_rules s) ≡ 0 → 20 ≤ length s
-  shape_long passed = omega (arith, (shape_passes s passed).1, sheet_long (header_of s))
 
   module _ (h : Header) (same : h ≡ header_of s) (passed : lowest (shape_rules s) ≡ 0) where
     -- its fixed fields have a positive modulus and at most eight rows and columns
@@ -54,16 +43,11 @@ module _ (s : List ℕ) where
     elements_next read_entries read_statement passed =
         rw (read_entries, read_statement, same) (sym (lowest_later_zero (shape_rules s) (element_rules (instance_of s)) tt passed))
 
-    -- the answer to a sheet that loads
-    pub load_answer : {statement : List ℕ} → statement ≡ statement_of s h → load_refusal s ≡ 0
-        → record { refusal = 0; header = h; statement = statement } ≡ load s
+    -- and what is read makes up the sheet's instance
+    pub values_loaded : {entries : List (List ℕ)} {statement : List ℕ} → entries ≡ entries_of s h → statement ≡ statement_of s h
+        → instance_with h entries statement ≡ instance_of s
     unfolding instance_of
-    load_answer read passed = rw (read, same) (sym (load_given s passed))
-
-    -- and its entries
-    pub entries_answer : load_refusal s ≡ 0 → entries_of s h ≡ load_entries s
-    unfolding instance_of
-    entries_answer passed = rw same (sym (entries_given s passed))
+    values_loaded read_entries read_statement = rw (read_entries, read_statement, same) refl
 
   -- the answer to a refused sheet
   pub refused_answer : {refusal : ℕ} → refusal ≡ load_refusal s → 0 < refusal

@@ -1,5 +1,7 @@
 // The group elements of a sheet: its entries, row by row, and its statement (01, "Turned back", 10 and 11).
+// The bounds of fixed fields are clauses and no type, since a `Sheet` would ask more of callers.
 ghost use Rattle.std.specs.Prelude.{◌+◌, ◌*◌, ◌≤◌, ◌<◌, ◌≡◌, length};
+ghost use Rattle.refusals.specs.Number.{refused_with};
 ghost use Rattle.rules.specs.Rule.{lowest};
 ghost use Rattle.sigma.specs.Admission.{element_rules};
 ghost use Rattle.sigma.specs.Instance.{instance_with};
@@ -10,6 +12,7 @@ ghost use Rattle.instance.specs.Rows.{rows_at, some_bad_entry};
 use crate::shape::{FIXED_FIELDS, entry_count};
 use fields::read_words;
 use modular::some_non_element;
+use refusals::Refusal;
 use types::Header;
 
 // The first n rows of a sheet's entries, each of so many columns, and 0 in the places beyond them.
@@ -52,34 +55,32 @@ fn some_bad_entry(h: Header, entries: [[u32; 8]; 8]) -> bool
     requires columns { h.columns ≤ 8 }
     ensures { result ≡ some_bad_entry h entries }
 {
-    let rows = h.rows as usize;
-    let columns = h.columns as usize;
     if h.kind != 1 {
         return false;
     }
-    let mut i: usize = 0;
-    while i < rows {
+    let rows = h.rows as usize;
+    let columns = h.columns as usize;
+    for i in 0..rows {
         let row = entries[i];
         if some_non_element(h, row, columns) {
             return true;
         }
-        i += 1;
     }
     false
 }
 
-// The number that entries and a statement are refused with, 10 or 11, or 0.
-pub fn element_refusal(h: Header, entries: [[u32; 8]; 8], statement: [u32; 8]) -> u32
+// Tests entries and a statement, which are refused with 10 or 11.
+pub fn test_elements(h: Header, entries: [[u32; 8]; 8], statement: [u32; 8]) -> Result<(), Refusal>
     requires modulus { 0 < h.modulus }
     requires rows { h.rows ≤ 8 }
     requires columns { h.columns ≤ 8 }
-    ensures { result ≡ lowest (element_rules (instance_with h entries statement)) }
+    ensures { refused_with result ≡ lowest (element_rules (instance_with h entries statement)) }
 {
     if some_bad_entry(h, entries) {
-        return 10;
+        return Err(Refusal::Entry);
     }
     if some_non_element(h, statement, h.rows as usize) {
-        return 11;
+        return Err(Refusal::Statement);
     }
-    0
+    Ok(())
 }

@@ -4,7 +4,9 @@
 mod elements; // elements.rt: the entries and the statement
 mod loading; // loading.rt: the calls
 mod shape; // shape.rt: the mark, the fixed fields and the length
+mod sheet; // sheet.rt: the values of a sheet that loads
 
-pub use elements::element_refusal;
-pub use loading::{entries, load, loaded_entries};
-pub use shape::{FIXED_FIELDS, MARK, entry_count, header, header_refusal, sheet_length};
+pub use elements::test_elements;
+pub use loading::{entries, load};
+pub use shape::{FIXED_FIELDS, MARK, entry_count, header, sheet_length, test_header};
+pub use sheet::Sheet;

@@ -1,16 +1,39 @@
-// The calls that load a sheet: its shape is tested first, then its group elements, and a refused one gives zeros.
-ghost use Rattle.std.specs.Prelude.{◌≡◌};
+// The calls that load a sheet: its shape is tested first, then its group elements.
+// C reads the answers, so a refusal stands in them as a number.
+ghost use Rattle.std.specs.Prelude.{◌≡◌, IfOk};
+ghost use Rattle.refusals.specs.Number.{number, refused_with};
 ghost use Rattle.lists.specs.Places.{zeros8};
-ghost use Rattle.formats.specs.Sheet.{header_of, entries_of};
+ghost use Rattle.formats.specs.Sheet.{instance_of};
 ghost use Rattle.formats.specs.Load.{load_refusal, no_header, load, load_entries};
+ghost use Rattle.instance.specs.Values.{values_of};
 
-use crate::elements::{element_refusal, read_entries, read_statement};
-use crate::shape::{header, shape_refusal};
+use crate::elements::{read_entries, read_statement, test_elements};
+use crate::shape::test_shape;
+use crate::sheet::Sheet;
+use refusals::Refusal;
 use types::{Header, Loaded};
 
+impl Sheet {
+    // Loads a sheet: its values, or why it is refused.
+    pub fn load(sheet: &[u8]) -> Result<Sheet, Refusal>
+        ensures number { refused_with result ≡ load_refusal sheet.now }
+        ensures values { IfOk result (λ values. values_of values ≡ instance_of sheet.now) }
+    {
+        let header = test_shape(sheet)?;
+        let entries = read_entries(sheet, header);
+        let statement = read_statement(sheet, header);
+        test_elements(header, entries, statement)?;
+        Ok(Sheet {
+            header,
+            entries,
+            statement,
+        })
+    }
+}
+
 // The answer to a refused sheet: the number and zeros.
-fn refused(refusal: u32) -> Loaded
-    ensures { result ≡ record { refusal = refusal; header = no_header; statement = zeros8 } }
+fn refused(refusal: Refusal) -> Loaded
+    ensures { result ≡ record { refusal = number refusal; header = no_header; statement = zeros8 } }
 {
     Loaded {
         header: Header {
@@ -22,7 +45,7 @@ fn refused(refusal: u32) -> Loaded
             columns: 0,
         },
         statement: [0u32; 8],
-        refusal,
+        refusal: refusal.number(),
     }
 }
 
@@ -30,41 +53,26 @@ fn refused(refusal: u32) -> Loaded
 pub fn load(sheet: &[u8]) -> Loaded
     ensures { result ≡ load sheet.now }
 {
-    let shape = shape_refusal(sheet);
-    if shape != 0 {
-        return refused(shape);
+    match Sheet::load(sheet) {
+        Ok(values) => {
+            let header = values.header;
+            let statement = values.statement;
+            Loaded {
+                header,
+                statement,
+                refusal: 0,
+            }
+        }
+        Err(refusal) => refused(refusal),
     }
-    let h = header(sheet);
-    let entries = read_entries(sheet, h);
-    let statement = read_statement(sheet, h);
-    let elements = element_refusal(h, entries, statement);
-    if elements != 0 {
-        return refused(elements);
-    }
-    Loaded {
-        header: h,
-        statement,
-        refusal: 0,
-    }
-}
-
-// The entries of a sheet that loads and whose fixed fields are h.
-pub fn loaded_entries(sheet: &[u8], h: Header) -> [[u32; 8]; 8]
-    requires loads { load_refusal sheet.now ≡ 0 }
-    requires header { h ≡ header_of sheet.now }
-    ensures { result ≡ entries_of sheet.now h }
-{
-    read_entries(sheet, h)
 }
 
 // The entries of a sheet, and zeros for one that is refused; `load` of the same bytes gives the number.
 pub fn entries(sheet: &[u8]) -> [[u32; 8]; 8]
     ensures { result ≡ load_entries sheet.now }
 {
-    let loaded = load(sheet);
-    if loaded.refusal != 0 {
-        return [[0u32; 8]; 8];
+    match Sheet::load(sheet) {
+        Ok(values) => values.entries,
+        Err(_) => [[0u32; 8]; 8],
     }
-    let h = loaded.header;
-    loaded_entries(sheet, h)
 }

@@ -1,13 +1,15 @@
 // The shape of a sheet: its mark, its version, its fixed fields and its length (01, "Turned back", 2 to 9).
-ghost use Rattle.std.specs.Prelude.{◌≤◌, ◌≡◌, length};
+// The bounds of fixed fields are clauses and no type, since a `Sheet` would ask more of callers.
+ghost use Rattle.std.specs.Prelude.{◌≤◌, ◌≡◌, length, IfOk};
+ghost use Rattle.refusals.specs.Number.{refused_with};
 ghost use Rattle.rules.specs.Rule.{lowest};
 ghost use Rattle.sigma.specs.Admission.{bad_kind, bad_size, bad_count, header_rules};
 ghost use Rattle.formats.specs.Sheet.{header_of, entry_count, sheet_length};
 ghost use Rattle.formats.specs.Load.{shape_rules};
 
 use fields::{has_mark, read_u8, read_u16, read_u32};
-use modular::Divisor;
 use primes::first_divisor;
+use refusals::Refusal;
 use types::Header;
 
 // The three bytes that a sheet begins with.
@@ -76,32 +78,29 @@ fn bad_count(h: Header) -> bool
     if h.challenges > MOST_CHALLENGES {
         return true;
     }
-    match first_divisor(h.order, h.challenges) {
-        Divisor::Found(_) => true,
-        Divisor::Nothing => false,
-    }
+    first_divisor(h.order, h.challenges).is_some()
 }
 
-// The number that fixed fields are refused with, from 4 to 8, or 0.
-pub fn header_refusal(h: Header) -> u32
-    ensures { result ≡ lowest (header_rules h) }
+// Tests fixed fields, which are refused with 4 to 8.
+pub fn test_header(h: Header) -> Result<(), Refusal>
+    ensures { refused_with result ≡ lowest (header_rules h) }
 {
     if bad_kind(h) {
-        return 4;
+        return Err(Refusal::Kind);
     }
     if h.modulus < 3 {
-        return 5;
+        return Err(Refusal::Modulus);
     }
     if h.order < 2 {
-        return 6;
+        return Err(Refusal::Order);
     }
     if bad_size(h) {
-        return 7;
+        return Err(Refusal::Size);
     }
     if bad_count(h) {
-        return 8;
+        return Err(Refusal::Count);
     }
-    0
+    Ok(())
 }
 
 // How many entries a sheet has: rows times columns in kind 1, none in kind 2.
@@ -127,26 +126,24 @@ pub fn sheet_length(h: Header) -> usize
     FIXED_FIELDS + 4 * entry_count(h) + 4 * h.rows as usize
 }
 
-// The number that a sheet's shape is refused with, from 2 to 9, or 0.
-pub fn shape_refusal(sheet: &[u8]) -> u32
-    ensures { result ≡ lowest (shape_rules sheet.now) }
+// Tests a sheet's shape, which is refused with 2 to 9, and reads its fixed fields.
+pub fn test_shape(sheet: &[u8]) -> Result<Header, Refusal>
+    ensures number { refused_with result ≡ lowest (shape_rules sheet.now) }
+    ensures fields { IfOk result (λ h. h ≡ header_of sheet.now) }
 {
     if sheet.len() < FIXED_FIELDS {
-        return 2;
+        return Err(Refusal::Start);
     }
     if !has_mark(sheet, MARK) {
-        return 2;
+        return Err(Refusal::Start);
     }
     if read_u16(sheet, 3) != 1 {
-        return 3;
+        return Err(Refusal::Version);
     }
     let h = header(sheet);
-    let refusal = header_refusal(h);
-    if refusal != 0 {
-        return refusal;
-    }
+    test_header(h)?;
     if sheet.len() != sheet_length(h) {
-        return 9;
+        return Err(Refusal::Length);
     }
-    0
+    Ok(h)
 }

@@ -57,7 +57,7 @@ rejected_by base above line v three judged = rw (eq-eqb line.kind 3 three) (ap (
 
 -- the array keeps a list of commitments
 abbrev pub Keeps : List ℕ → List ℕ → Type 0
-Keeps array xs = Kept 0 (λ x. x) array xs
+Keeps array xs = Kept 0 0 (λ (x : ℕ). x) array xs
 
 module _ (array xs : List ℕ) (kept : Keeps array xs) where
   -- a line has the same commitment
@@ -80,7 +80,7 @@ module _ (array xs : List ℕ) (kept : Keeps array xs) where
 -- before the first line
 pub keeps_start : (m : ℕ) (ledger : Ledger) → Keeps (replicate 64 0) (commitments m ledger 0)
 unfolding commitments
-keeps_start m ledger = kept_start 0 (λ x. x) refl
+keeps_start m ledger = kept_start 0 0 (λ (x : ℕ). x) refl
 
 -- a line more
 pub keeps_turn : (m : ℕ) (ledger : Ledger) (i : ℕ) (array : List ℕ) (value : ℕ) → Keeps array (commitments m ledger i) → i < 64
@@ -88,7 +88,7 @@ pub keeps_turn : (m : ℕ) (ledger : Ledger) (i : ℕ) (array : List ℕ) (value
 unfolding commitments
 keeps_turn m ledger i array value kept inside is =
     rw (add-one i)
-    (kept_turn 0 (λ x. x) array (commitments m ledger i) i kept (length_commitments m ledger i) inside _ value
+    (kept_turn 0 0 (λ (x : ℕ). x) array (commitments m ledger i) i kept (length_commitments m ledger i) inside _ value
     (is ∙ commitment_kept array (commitments m ledger i) kept m (line_at ledger i)))
 
 -- ---- lines of a ledger that is not refused

@@ -1,2 +1,3 @@
--- The parts of a ledger.
+-- The parts of a ledger, and what checking gives.
+pub mod Outcome
 pub mod Parts

@@ -1,21 +1,22 @@
 // The call that checks a ledger.
+// C reads the answers, so a refusal stands in them as a number.
 ghost use Rattle.std.specs.Prelude.{◌≡◌};
 ghost use Rattle.ledgers.specs.Check.{check_ledger};
+ghost use Rattle.ledger.specs.Outcome.{checked};
 
 use crate::judging::first_rejected;
-use crate::searches::lines_refusal;
-use ledger_lines::base_refusal;
+use crate::searches::test_lines;
+use ledger_lines::test_base;
 use ledgers::{Base, Checked, Ledger};
+use refusals::Refusal;
 
-// A refusal's number beside zeros.
-fn refused(refusal: u32) -> Checked
-    ensures { result ≡ record { accepted = 0; line = 0; refusal = refusal } }
+// The first product line whose round is rejected, if there is one, or why the ledger is refused.
+fn rejected_line(base: Base, ledger: Ledger) -> Result<Option<u32>, Refusal>
+    ensures { checked result ≡ check_ledger base ledger }
 {
-    Checked {
-        accepted: 0,
-        line: 0,
-        refusal,
-    }
+    test_base(base)?;
+    test_lines(base, ledger)?;
+    Ok(first_rejected(base, ledger))
 }
 
 // Checks a ledger: accepted is 1, or 0 with the first product line whose round is rejected; zeros beside the number, 5, 6, 8, 10, 37,
@@ -23,26 +24,21 @@ fn refused(refusal: u32) -> Checked
 pub fn check(base: Base, ledger: Ledger) -> Checked
     ensures { result ≡ check_ledger base ledger }
 {
-    let shared = base_refusal(base);
-    if shared != 0 {
-        return refused(shared);
-    }
-    let lines = ledger.lines;
-    let asked = lines_refusal(base, lines, ledger.count);
-    if asked != 0 {
-        return refused(asked);
-    }
-    let line = first_rejected(base, lines, ledger.count);
-    if line < ledger.count {
-        return Checked {
+    match rejected_line(base, ledger) {
+        Ok(None) => Checked {
+            accepted: 1,
+            line: 0,
+            refusal: 0,
+        },
+        Ok(Some(line)) => Checked {
             accepted: 0,
             line,
             refusal: 0,
-        };
-    }
-    Checked {
-        accepted: 1,
-        line: 0,
-        refusal: 0,
+        },
+        Err(refusal) => Checked {
+            accepted: 0,
+            line: 0,
+            refusal: refusal.number(),
+        },
     }
 }

@@ -3,4 +3,4 @@
 
 mod asked; // asked.rt: what is asked of the entries
 
-pub use asked::entries_refusal;
+pub use asked::test_entries;

@@ -11,7 +11,7 @@ use native.Mathlib.Decide.{dec_lt}
 use native.Mathlib.Omega.{arith}
 use borrow.Author.Tests.{le-leb, le-ltb, lt-leb, lt-ltb, ne_eqb}
 use Rattle.numbers.specs.Search.{any}
-use Rattle.numbers.proofs.Search.{any_start, any_suc}
+use Rattle.numbers.proofs.Search.{any_agree, any_start, any_suc}
 use Rattle.sigma.specs.Element.{is_coordinate, is_element, some_non_coordinate, some_non_element}
 use Rattle.sigma.specs.Instance.{is_exponent}
 use Rattle.types.specs.declared.Header.{Header}
@@ -47,13 +47,11 @@ not_below a b = elim (dec_lt a b) [
   | no past ↦ rw (le-ltb a b (omega arith)) (sym (le-leb b a (omega arith)))
 ]
 
--- three slots of a product
-pub three_slots : (base : Base) (xs : List ℕ)
-    → some_non_coordinate (product_header base) 3 xs
-    ≡ leb base.order (get_or xs 0 0) || (leb base.order (get_or xs 1 0) || leb base.order (get_or xs 2 0))
+-- the slots of a product
+pub high_slots : (base : Base) (xs : List ℕ)
+    → any 3 (λ i. leb base.order (get_or xs i 0)) ≡ some_non_coordinate (product_header base) 3 xs
 unfolding some_non_coordinate is_coordinate is_exponent
-three_slots base xs =
-    any_three _ ∙ rw (not_below (get_or xs 0 0) base.order, not_below (get_or xs 1 0) base.order, not_below (get_or xs 2 0) base.order)
+high_slots base xs = any_agree 3 _ _ (λ i inside. sym (not_below (get_or xs i 0) base.order))
 
 -- ---- 14 by kinds
 

@@ -1,28 +1,22 @@
 // The commitment of a line, and the entries of the product statement.
-ghost use Rattle.std.specs.Prelude.{◌≡◌, ℕ, ◌*◌, ◌%◌, ◌<◌, get_or};
+// That the modulus is above 0 is a clause and no type: C hands in a `Base` of any numbers.
+ghost use Rattle.std.specs.Prelude.{◌≡◌, ℕ, ◌<◌};
 ghost use Rattle.ledgers.specs.Ledger.{line_commitment, product_of};
 
+use crate::kinds::Kind;
 use ledgers::{Base, Line};
 use modular::mul_mod;
 
-// The numbers of two lines, multiplied modulo m.
-pub fn product_of_two(numbers: [u32; 64], first: u32, second: u32, m: u32) -> u32
-    requires { (first < 64) × (second < 64) × (0 < m) }
-    ensures { result ≡ get_or numbers first 0 * get_or numbers second 0 % m }
-{
-    mul_mod(numbers[first as usize], numbers[second as usize], m)
-}
-
 // The commitment of a line, of those of the lines above it: two of these multiplied for a sum, else its own.
-pub fn line_commitment(m: u32, above: [u32; 64], line: Line) -> u32
+pub fn line_commitment(m: u32, above: &[u32; 64], line: &Line) -> u32
     requires modulus { 0 < m }
-    requires names { line.kind ≡ 2 → (line.first < 64) × (line.second < 64) }
-    ensures { result ≡ line_commitment m above line }
+    requires names { line.now.kind ≡ 2 → (line.now.first < 64) × (line.now.second < 64) }
+    ensures { result ≡ line_commitment m above.now line.now }
 {
-    if line.kind == 2 {
-        return product_of_two(above, line.first, line.second, m);
+    match Kind::try_from(line.kind) {
+        Ok(Kind::Sum) => mul_mod(above[line.first as usize], above[line.second as usize], m),
+        _ => line.commitment,
     }
-    line.commitment
 }
 
 // The entries of the product statement whose second factor has the commitment b: the rows (g h 1) and (b 1 h).

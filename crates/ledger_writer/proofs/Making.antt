@@ -79,45 +79,39 @@ line_with e commitment t r =
       response = r;
     }
 
-module _ (base : Base) (a α b β : ℕ) (e : Entry) (above : List Opening)
-    (one : opening_at above e.first ≡ opening a α) (two : opening_at above e.second ≡ opening b β) where
-  -- what the product opens to
-  abbrev own : Opening
-  own = opening (a * b % base.order) e.blinding
-
+module _ (base : Base) (one two own : Opening) (e : Entry) (above : List Opening)
+    (first : opening_at above e.first ≡ one) (second : opening_at above e.second ≡ two) where
   -- its line by the definition
   made_is : made_product base above own e
       ≡ line_with e (commit_to base own)
-      (image (table_of (product_of base (commit_to base (opening a α)) (commit_to base (opening b β)) (commit_to base own))) e.nonce)
-      (response (product_of base (commit_to base (opening a α)) (commit_to base (opening b β)) (commit_to base own)).header e.nonce
-      e.challenge (product_witness base.order (opening a α) (opening b β) e.blinding))
+      (image (table_of (product_of base (commit_to base one) (commit_to base two) (commit_to base own))) e.nonce)
+      (response (product_of base (commit_to base one) (commit_to base two) (commit_to base own)).header e.nonce
+      e.challenge (product_witness base.order one two e.blinding))
   unfolding made_product line_with
-  made_is = rw (one, two)
+  made_is = rw (first, second)
 
   -- and by what the code computes
-  pub product_made : (h : Header) (entries : List (List ℕ)) (second value commitment : ℕ) (t x r : List ℕ)
-      → h ≡ product_header base → second ≡ commit_to base (opening b β)
-      → ((A E : ℕ) → entries ≡ (product_of base A second E).entries)
+  pub product_made : (h : Header) (entries : List (List ℕ)) (B commitment : ℕ) (t x r : List ℕ)
+      → h ≡ product_header base → B ≡ commit_to base two
+      → ((A E : ℕ) → entries ≡ (product_of base A B E).entries)
       → t ≡ pad8 0 (image (table_with h entries) (eight_of e.nonce))
-      → x ≡ pad8 0 (product_witness base.order (opening a α) (opening b β) e.blinding)
+      → x ≡ pad8 0 (product_witness base.order one two e.blinding)
       → r ≡ pad8 0 (response h (eight_of e.nonce) e.challenge x)
-      → value ≡ a * b % base.order → commitment ≡ commit_to base (opening value e.blinding)
+      → commitment ≡ commit_to base own
       → line_with e commitment (get_or t 0 0 ∷ get_or t 1 0 ∷ []) (get_or r 0 0 ∷ get_or r 1 0 ∷ get_or r 2 0 ∷ []) ≡ made_product base above own e
-  product_made h entries second value commitment t x r fields is_second table is_t is_x is_r is_value is_own =
-      let A = commit_to base (opening a α) in
-      let B = commit_to base (opening b β) in
+  product_made h entries B commitment t x r fields is_second table is_t is_x is_r is_own =
+      let A = commit_to base one in
+      let C = commit_to base two in
       let E = commit_to base own in
-      let tables : table_with h entries ≡ table_of (product_of base A B E) =
-      table_is base A B E h entries fields (table A E ∙ ap (λ (k : ℕ). (product_of base A k E).entries) is_second) in
-      let image_is : get_or t 0 0 ∷ get_or t 1 0 ∷ [] ≡ image (table_of (product_of base A B E)) e.nonce =
+      let tables : table_with h entries ≡ table_of (product_of base A C E) =
+      table_is base A C E h entries fields (table A E ∙ ap (λ (k : ℕ). (product_of base A k E).entries) is_second) in
+      let image_is : get_or t 0 0 ∷ get_or t 1 0 ∷ [] ≡ image (table_of (product_of base A C E)) e.nonce =
       ap (λ (l : List ℕ). get_or l 0 0 ∷ get_or l 1 0 ∷ [])
-      (is_t ∙ ap (λ (k : Table). pad8 0 (image k (eight_of e.nonce))) tables) ∙ image_two base A B E e.nonce in
+      (is_t ∙ ap (λ (k : Table). pad8 0 (image k (eight_of e.nonce))) tables) ∙ image_two base A C E e.nonce in
       let response_is : get_or r 0 0 ∷ get_or r 1 0 ∷ get_or r 2 0 ∷ []
-      ≡ response (product_of base A B E).header e.nonce e.challenge
-      (product_witness base.order (opening a α) (opening b β) e.blinding) =
+      ≡ response (product_of base A C E).header e.nonce e.challenge (product_witness base.order one two e.blinding) =
       ap (λ (l : List ℕ). get_or l 0 0 ∷ get_or l 1 0 ∷ get_or l 2 0 ∷ [])
       (is_r ∙ ap₂ (λ (k : Header) (y : List ℕ). pad8 0 (response k (eight_of e.nonce) e.challenge y)) fields is_x)
-      ∙ response_three base A B E e.nonce e.challenge base.order (opening a α) (opening b β) e.blinding in
-      let own_is : commitment ≡ E = is_own ∙ ap (λ (v : ℕ). commit_to base (opening v e.blinding)) is_value in
-      ap (λ (k : ℕ). line_with e k (get_or t 0 0 ∷ get_or t 1 0 ∷ []) (get_or r 0 0 ∷ get_or r 1 0 ∷ get_or r 2 0 ∷ [])) own_is
+      ∙ response_three base A C E e.nonce e.challenge base.order one two e.blinding in
+      ap (λ (k : ℕ). line_with e k (get_or t 0 0 ∷ get_or t 1 0 ∷ []) (get_or r 0 0 ∷ get_or r 1 0 ∷ get_or r 2 0 ∷ [])) is_own
       ∙ ap₂ (line_with e E) image_is response_is ∙ sym made_is

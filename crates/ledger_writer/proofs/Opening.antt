@@ -1,12 +1,11 @@
--- What an entry opens to, and its line, of arrays that keep the values and the blinding numbers of the lines above.
+-- What an entry opens to, and its line, of an array that keeps what the lines above open to.
 -- Assumes nothing.
 use Prim.Native.Nat.{ℕ, ◌+◌, ◌*◌, ◌%◌, ◌<◌}
-use mathlib.Core.Path.{◌≡◌, sym, ap, ap₂, ◌∙◌}
+use mathlib.Core.Path.{◌≡◌, refl, sym, ap, ap₂, ◌∙◌}
 use mathlib.Core.Logic.{◌≢◌}
 use mathlib.Core.List.{List}
-use native.Mathlib.Decide.{ℕ_discrete}
 use native.Mathlib.Numerals.{add-one}
-use borrow.Author.Tests.{eq-eqb, ne_eqb}
+use borrow.Author.Tests.{ne_eqb}
 use lib.ListN.{get_or, replicate, set}
 use Rattle.ledger_lines.proofs.Kept.{Kept, kept_start, kept_turn}
 use Rattle.ledgers.specs.Lines.{entry_at}
@@ -25,8 +24,9 @@ use Rattle.ledgers.specs.declared.Base.{Base}
 use Rattle.ledgers.specs.declared.Entries.{Entries}
 use Rattle.ledgers.specs.declared.Entry.{Entry}
 use Rattle.ledgers.proofs.Made.{made_product_law}
-use Rattle.ledgers.proofs.Openings.{length_openings, opening_product}
-use Rattle.ledger_writer.specs.Parts.{plain_line}
+use Rattle.ledgers.proofs.Openings.{length_openings}
+use Rattle.ledger_writer.specs.Parts.{Keeps, none_opened, opening, plain_line}
+use Rattle.ledger_writer.specs.declared.opened.Opened.{Opened}
 
 -- ---- a loop that keeps the openings
 
@@ -34,57 +34,62 @@ use Rattle.ledger_writer.specs.Parts.{plain_line}
 abbrev pub no_opening : Opening
 no_opening = record { value = 0; blinding = 0 }
 
-module _ (f : Opening → ℕ) (q : ℕ) (entries : Entries) where
+-- an opening as it is kept
+abbrev pub opened : Opening → Opened
+opened o = record { value = o.value; blinding = o.blinding }
+
+-- an array keeps a list of openings
+abbrev pub KeptOpenings : List Opened → List Opening → Type 0
+KeptOpenings array above = Kept no_opening none_opened opened array above
+
+module _ (q : ℕ) (entries : Entries) where
   -- before the first entry
-  pub openings_start : f no_opening ≡ 0 → Kept no_opening f (replicate 64 0) (openings q entries 0)
+  pub openings_start : KeptOpenings (replicate 64 none_opened) (openings q entries 0)
   unfolding openings
-  openings_start none = kept_start no_opening f none
+  openings_start = kept_start no_opening none_opened opened refl
 
   -- an entry more
-  pub openings_turn : (i : ℕ) (array : List ℕ) (value : ℕ) → Kept no_opening f array (openings q entries i) → i < 64
-      → value ≡ f (opening_of q (openings q entries i) (entry_at entries i)) → Kept no_opening f (set array i value) (openings q entries (i + 1))
+  pub openings_turn : (i : ℕ) (array : List Opened) (own : Opened) → KeptOpenings array (openings q entries i) → i < 64
+      → opening own ≡ opening_of q (openings q entries i) (entry_at entries i)
+      → KeptOpenings (set array i own) (openings q entries (i + 1))
   unfolding openings
-  openings_turn i array value kept inside is =
-      rw (add-one i) (kept_turn no_opening f array (openings q entries i) i kept (length_openings q entries i) inside _ value is)
+  openings_turn i array own kept inside is =
+      rw (add-one i)
+      (kept_turn no_opening none_opened opened array (openings q entries i) i kept (length_openings q entries i) inside _ own (ap opened is))
 
-  -- what is read of the array
-  pub openings_read : (i : ℕ) (array : List ℕ) → Kept no_opening f array (openings q entries i) → (k : ℕ)
-      → get_or array k 0 ≡ f (opening_at (openings q entries i) k)
-  unfolding opening_at
-  openings_read i array kept k = kept.read k
+-- what is read of the array
+pub openings_read : (array : List Opened) (above : List Opening) → KeptOpenings array above → Keeps array above
+unfolding opening_at
+openings_read array above kept k = ap opening (kept.read k)
 
 -- ---- an entry, by its kind
 
-module _ (q : ℕ) (above : List Opening) (e : Entry) where
-  module _ (values : List ℕ) (read : (k : ℕ) → get_or values k 0 ≡ (opening_at above k).value) where
-    -- the value of a sum
-    pub value_sum : e.kind ≡ 2 → (get_or values e.first 0 + get_or values e.second 0) % q ≡ (opening_of q above e).value
-    unfolding opening_of
-    value_sum two = rw two (ap₂ (λ (x y : ℕ). (x + y) % q) (read e.first) (read e.second))
-
-    -- of a product
-    pub value_product : e.kind ≡ 3 → get_or values e.first 0 * get_or values e.second 0 % q ≡ (opening_of q above e).value
-    unfolding opening_of
-    value_product three = rw three (ap₂ (λ (x y : ℕ). x * y % q) (read e.first) (read e.second))
-
-  -- and of a commitment
-  pub value_given : e.kind ≢ 2 → e.kind ≢ 3 → e.value ≡ (opening_of q above e).value
+module _ (q : ℕ) (above : List Opening) (e : Entry) (array : List Opened) (keeps : Keeps array above) where
+  -- the opening of a sum
+  pub sum_opening : e.kind ≡ 2 → (own : Opened)
+      → own.value ≡ ((get_or array e.first none_opened).value + (get_or array e.second none_opened).value) % q
+      → own.blinding ≡ ((get_or array e.first none_opened).blinding + (get_or array e.second none_opened).blinding) % q
+      → opening own ≡ opening_of q above e
   unfolding opening_of
-  value_given other last = rw (ne_eqb _ _ other, ne_eqb _ _ last)
+  sum_opening two own value blinding =
+      rw two (ap₂ {C = Opening} (λ (v ρ : ℕ). record { value = v; blinding = ρ })
+      (value ∙ ap₂ (λ (x y : Opening). (x.value + y.value) % q) (keeps e.first) (keeps e.second))
+      (blinding ∙ ap₂ (λ (x y : Opening). (x.blinding + y.blinding) % q) (keeps e.first) (keeps e.second)))
 
-  -- the blinding number of a sum
-  pub blinding_sum : (blindings : List ℕ) → ((k : ℕ) → get_or blindings k 0 ≡ (opening_at above k).blinding) → e.kind ≡ 2
-      → (get_or blindings e.first 0 + get_or blindings e.second 0) % q ≡ (opening_of q above e).blinding
+  -- of a product
+  pub product_opening : e.kind ≡ 3 → (value : ℕ)
+      → value ≡ (get_or array e.first none_opened).value * (get_or array e.second none_opened).value % q
+      → opening (record { value = value; blinding = e.blinding }) ≡ opening_of q above e
   unfolding opening_of
-  blinding_sum blindings read two = rw two (ap₂ (λ (x y : ℕ). (x + y) % q) (read e.first) (read e.second))
+  product_opening three value is =
+      rw three (ap {B = Opening} (λ (v : ℕ). record { value = v; blinding = e.blinding })
+      (is ∙ ap₂ (λ (x y : Opening). x.value * y.value % q) (keeps e.first) (keeps e.second)))
 
-  -- and of every other
-  pub blinding_given : e.kind ≢ 2 → e.blinding ≡ (opening_of q above e).blinding
-  unfolding opening_of
-  blinding_given other = elim (ℕ_discrete e.kind 3) [
-    | yes three ↦ rw (ne_eqb _ _ other, eq-eqb e.kind 3 three)
-    | no last ↦ rw (ne_eqb _ _ other, ne_eqb e.kind 3 last)
-  ]
+-- and of a commitment
+pub given_opening : (q : ℕ) (above : List Opening) (e : Entry) → e.kind ≢ 2 → e.kind ≢ 3
+    → opening (record { value = e.value; blinding = e.blinding }) ≡ opening_of q above e
+unfolding opening_of
+given_opening q above e other last = rw (ne_eqb _ _ other, ne_eqb _ _ last)
 
 module _ (base : Base) (above : List Opening) (e : Entry) where
   -- the line of a sum
@@ -92,26 +97,13 @@ module _ (base : Base) (above : List Opening) (e : Entry) where
   unfolding line_of made_sum
   line_sum two = rw two
 
-  -- of a commitment
-  pub line_given : e.kind ≢ 2 → e.kind ≢ 3 → (commitment : ℕ)
-      → commitment ≡ commit_to base (record { value = e.value; blinding = e.blinding }) → plain_line 1 0 0 commitment ≡ line_of base above e
-  unfolding line_of opening_of made_commitment
-  line_given other last commitment is = rw (ne_eqb _ _ other, ne_eqb _ _ last, is)
+  module _ (own : Opened) (is : opening own ≡ opening_of base.order above e) where
+    -- of a commitment
+    pub line_given : e.kind ≢ 2 → e.kind ≢ 3 → (commitment : ℕ) → commitment ≡ commit_to base (opening own)
+        → plain_line 1 0 0 commitment ≡ line_of base above e
+    unfolding line_of made_commitment
+    line_given other last commitment made = rw (ne_eqb _ _ other, ne_eqb _ _ last, made, is)
 
-  module _ (values blindings : List ℕ) (value_read : (k : ℕ) → get_or values k 0 ≡ (opening_at above k).value)
-      (blinding_read : (k : ℕ) → get_or blindings k 0 ≡ (opening_at above k).blinding) where
-    -- an opening above, of the two arrays
-    pub opening_held : (k : ℕ) → opening_at above k ≡ record { value = get_or values k 0; blinding = get_or blindings k 0 }
-    opening_held k =
-        ap₂ {C = Opening} (λ (v ρ : ℕ). record { value = v; blinding = ρ }) (sym (value_read k)) (sym (blinding_read k))
-
-    -- the line of a product
-    pub line_product : e.kind ≡ 3
-        → made_product base above
-        (record { value = get_or values e.first 0 * get_or values e.second 0 % base.order; blinding = e.blinding }) e
-        ≡ line_of base above e
-    line_product three =
-        ap (λ (o : Opening). made_product base above o e)
-        (ap₂ {C = Opening} (λ (x y : ℕ). record { value = x * y % base.order; blinding = e.blinding }) (value_read e.first)
-        (value_read e.second) ∙ sym (opening_product base.order above e three))
-        ∙ sym (made_product_law base above e three)
+    -- of a product
+    pub line_product : e.kind ≡ 3 → made_product base above (opening own) e ≡ line_of base above e
+    line_product three = ap (λ (o : Opening). made_product base above o e) is ∙ sym (made_product_law base above e three)

@@ -1,2 +1,3 @@
--- The lines that are made.
+-- The lines that are made, and what writing gives.
+pub mod Outcome
 pub mod Parts

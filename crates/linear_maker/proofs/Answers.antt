@@ -1,7 +1,7 @@
 -- What the linear maker answers and leaves in the buffer, return by return: after its tests of the plan it is the second writer on the
 -- plan's values, since 4 cannot apply and the entries are group elements.
 -- Assumes nothing.
-use Prim.Native.Nat.{ℕ, ◌<◌}
+use Prim.Native.Nat.{ℕ}
 use mathlib.Core.Path.{◌≡◌, refl, sym, subst, ◌∙◌}
 use mathlib.Core.Bool.{false}
 use mathlib.Core.List.{List, [], ◌∷◌, ◌++◌}
@@ -9,6 +9,10 @@ use mathlib.Core.Logic.{inl}
 use native.Mathlib.Omega.{arith}
 use lib.Dec.{T}
 use lib.ListN.{get_or, length}
+use Rattle.std.specs.Prelude.{Err}
+use Rattle.refusals.specs.declared.Refusal.{Refusal}
+use Rattle.refusals.specs.Number.{number, written}
+use Rattle.refusals.proofs.Positive.{number_positive}
 use Rattle.types.specs.declared.Written.{Written}
 use Rattle.lists.specs.Places.{eight_by_eight, pad8}
 use Rattle.rules.specs.Call.{number_of}
@@ -31,7 +35,7 @@ use Rattle.linear_forms.specs.Linear.{coefficient, linear_entry, linear_instance
 use Rattle.linear_forms.specs.LinearPlan.{LinearPlan}
 use Rattle.linear_forms.specs.Refusals.{linear_header}
 use Rattle.linear_forms.proofs.OfPlan.{linear_entry_law}
-use Rattle.writer.proofs.Answers.{refused_with, start_refused}
+use Rattle.writer.proofs.Answers.{start_refused}
 use Rattle.linear_maker.specs.Plan.{plan_of, plan_rules}
 use Rattle.linear_maker.proofs.PlanTests.{fields_pass, plan_passes}
 
@@ -70,12 +74,12 @@ module _ (p : LinearPlan) where
     in_front = sym (pass 4 _ ((kind_passes (linear_header p)).1 (inl refl)))
 
     -- the fixed fields are refused
-    pub fields_refused : {n : ℕ} {answer : Written} → answer ≡ refused_with n → n ≡ lowest (header_rules (linear_header p)) → 0 < n
-        → Leaves answer buffer (make_linear p buffer)
+    pub fields_refused : (refusal : Refusal) → number refusal ≡ lowest (header_rules (linear_header p))
+        → Leaves (written (Err refusal)) buffer (make_linear p buffer)
     unfolding make_linear
-    fields_refused {n} answered e some =
-        let first = in_front ∙ lowest_earlier (header_rules (linear_header p)) _ (omega arith) in
-        start_refused n _ (sheet_of (linear_instance p)) buffer answered (e ∙ sym first) some
+    fields_refused refusal e =
+        let first = in_front ∙ lowest_earlier (header_rules (linear_header p)) _ (omega (arith, e, number_positive refusal)) in
+        start_refused refusal _ (sheet_of (linear_instance p)) buffer (e ∙ sym first)
 
     module _ (fields : lowest (header_rules (linear_header p)) ≡ 0) where
       -- where they are not, the other rules decide
@@ -83,12 +87,12 @@ module _ (p : LinearPlan) where
       behind_fields = in_front ∙ lowest_later_zero (header_rules (linear_header p)) _ (header_positive (linear_header p)) fields
 
       -- the plan is refused
-      pub plan_refused : {n : ℕ} {answer : Written} → answer ≡ refused_with n → n ≡ lowest own_rules → 0 < n
-          → Leaves answer buffer (make_linear p buffer)
+      pub plan_refused : (refusal : Refusal) → number refusal ≡ lowest own_rules
+          → Leaves (written (Err refusal)) buffer (make_linear p buffer)
       unfolding make_linear
-      plan_refused {n} answered e some =
-          let first = behind_fields ∙ lowest_earlier own_rules last (omega arith) in
-          start_refused n _ (sheet_of (linear_instance p)) buffer answered (e ∙ sym first) some
+      plan_refused refusal e =
+          let first = behind_fields ∙ lowest_earlier own_rules last (omega (arith, e, number_positive refusal)) in
+          start_refused refusal _ (sheet_of (linear_instance p)) buffer (e ∙ sym first)
 
       module _ (own : lowest own_rules ≡ 0) where
         -- where it is not either, the maker is the second writer on the plan's values

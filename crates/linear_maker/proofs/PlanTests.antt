@@ -1,21 +1,19 @@
 -- The tests of a plan, test by test: the number that its counts, its coefficients and its generators give, and what holds where they
 -- give none.
 -- Assumes nothing.
-use Prim.Native.Nat.{ℕ, ◌+◌, ◌*◌, ◌≤◌, ◌<◌}
+use Prim.Native.Nat.{ℕ, ◌*◌, ◌≤◌, ◌<◌}
 use mathlib.Core.Path.{◌≡◌, sym, ◌∙◌}
-use mathlib.Core.Bool.{Bool, true, false, not}
+use mathlib.Core.Bool.{true, false, not}
 use mathlib.Core.List.{List, []}
 use mathlib.Core.Logic.{inl, inr}
 use native.Mathlib.Nat.{mul-le-mul}
 use native.Mathlib.Omega.{arith}
-use lib.Dec.{eqb, leb}
-use lib.ListN.{get_or, length}
-use borrow.Author.Tests.{eq-eqb, le-leb, le-ltb, lt-leb}
+use lib.Dec.{eqb}
+use lib.ListN.{length}
+use borrow.Author.Tests.{eq-eqb, le-ltb}
 use Rattle.types.specs.declared.Header.{Header}
 use Rattle.lists.specs.Places.{pad8}
 use Rattle.lists.proofs.Places.{get_d_pad8}
-use Rattle.numbers.specs.Search.{any}
-use Rattle.numbers.proofs.Search.{any_end, any_here, any_on}
 use Rattle.rules.specs.Rule.{lowest}
 use Rattle.rules.proofs.Lowest.{clear_lowest, lowest_clear, pass, stop}
 use Rattle.rules.proofs.Says.{says_equal, says_false}
@@ -62,30 +60,6 @@ module _ (p : LinearPlan) where
         says_stable (says_equal _ _) (λ other. none (inr (inr (inl other)))),
         says_stable (says_equal _ _) (λ other. none (inr (inr (inr other)))),
       )
-
--- ---- the coefficients
-
-module _ (h : Header) (coefficients : List ℕ) where
-  -- coefficient k is q or more
-  pub is_large : ℕ → Bool
-  is_large k = leb h.order (get_or coefficients k 0)
-
-  module _ (k : ℕ) where
-    -- such a coefficient is met
-    pub coefficient_large : k < length coefficients → h.order ≤ get_or coefficients k 0 → true ≡ bad_coefficient (plan_of h [] coefficients [])
-    unfolding is_large bad_coefficient
-    coefficient_large inside large = any_here is_large k _ inside (le-leb _ _ large)
-
-    -- a coefficient more that is below q
-    pub coefficient_small : any k is_large ≡ false → get_or coefficients k 0 < h.order → any (k + 1) is_large ≡ false
-    unfolding is_large
-    coefficient_small before small = any_on is_large k before (lt-leb _ _ small)
-
-    -- after the last there was none
-    pub coefficients_small : k ≤ length coefficients → length coefficients ≤ k → any k is_large ≡ false
-        → false ≡ bad_coefficient (plan_of h [] coefficients [])
-    unfolding is_large bad_coefficient
-    coefficients_small within past none = any_end is_large k _ within past none
 
 -- ---- the numbers
 

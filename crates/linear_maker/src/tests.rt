@@ -1,11 +1,14 @@
 // The tests of a plan (02, card 10): its counts (29), its coefficients (30) and its generators (10).
+// These read fixed fields alone, so they take a `Header` with its bounds, and not a whole `Sheet`.
 ghost use Rattle.std.specs.Prelude.{◌≤◌, [], ◌≡◌};
+ghost use Rattle.refusals.specs.Number.{refused_with};
 ghost use Rattle.rules.specs.Rule.{lowest};
 ghost use Rattle.sigma.specs.Admission.{header_rules};
 ghost use Rattle.linear_forms.specs.Linear.{bad_coefficient, bad_counts};
 ghost use Rattle.linear_maker.specs.Plan.{plan_of, plan_rules};
 
 use modular::some_non_element;
+use refusals::Refusal;
 use types::Header;
 use writer::eight_of;
 
@@ -34,29 +37,27 @@ fn bad_counts(h: Header, generators: &[u32], coefficients: &[u32], statement: &[
 fn bad_coefficient(h: Header, coefficients: &[u32]) -> bool
     ensures { result ≡ bad_coefficient (plan_of h [] coefficients.now []) }
 {
-    let mut k: usize = 0;
-    while k < coefficients.len() {
-        if coefficients[k] >= h.order {
-            return true;
-        }
-        k += 1;
-    }
-    false
+    coefficients.iter().any(|c| *c >= h.order)
 }
 
-// The number that a plan with fixed fields that are not refused is refused with, 29, 30 or 10, or 0.
-pub fn plan_refusal(h: Header, generators: &[u32], coefficients: &[u32], statement: &[u32]) -> u32
+// Tests a plan with fixed fields that are not refused, which is refused with 29, 30 or 10.
+pub fn test_plan(
+    h: Header,
+    generators: &[u32],
+    coefficients: &[u32],
+    statement: &[u32],
+) -> Result<(), Refusal>
     requires { lowest (header_rules h) ≡ 0 }
-    ensures { result ≡ lowest (plan_rules h generators.now coefficients.now statement.now) }
+    ensures { refused_with result ≡ lowest (plan_rules h generators.now coefficients.now statement.now) }
 {
     if bad_counts(h, generators, coefficients, statement) {
-        return 29;
+        return Err(Refusal::Plan);
     }
     if bad_coefficient(h, coefficients) {
-        return 30;
+        return Err(Refusal::Coefficient);
     }
     if some_non_element(h, eight_of(generators), generators.len()) {
-        return 10;
+        return Err(Refusal::Entry);
     }
-    0
+    Ok(())
 }

@@ -2,16 +2,13 @@
 
 // The first n bytes, or all where there are fewer.
 pub fn front(bytes: &[u8], n: usize) -> &[u8] {
-    if bytes.len() <= n {
-        return bytes;
-    }
-    &bytes[0..n]
+    &bytes[..n.min(bytes.len())]
 }
 
 // Stores a byte where there is room.
 pub fn store(bytes: &mut [u8], at: usize, value: u8) {
-    if at < bytes.len() {
-        bytes[at] = value;
+    if let Some(byte) = bytes.get_mut(at) {
+        *byte = value;
     }
 }
 

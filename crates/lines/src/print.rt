@@ -1,4 +1,5 @@
 // Lines on standard output: a label, and then what a call answered. An error is that of a write.
+// Arrays have eight places whatever n is: memory is fixed, and the structs that C reads have them so.
 use instance::load;
 use std::io;
 use types::Verdict;
@@ -83,6 +84,6 @@ pub fn verdict(rt: &impl Print, label: &[u8], verdict: Verdict) -> io::Result<()
             print_rows(rt, mask)?;
             println!(rt;)
         }
-        Verdict::Refused(number) => line(rt, b"refused ", number),
+        Verdict::Refused(number) => println!(rt; "refused {number}"),
     }
 }

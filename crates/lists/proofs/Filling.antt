@@ -1,14 +1,14 @@
--- A loop that fills a list from the front with a function's values, one store a turn; the places beyond are as they were.
+-- A list filled from the front: by a loop with a function's values, one store a turn, or by a copy in one step. The places beyond are as they were.
 -- Assumes nothing.
-use Prim.Native.Nat.{ℕ, ◌+◌, ◌-◌, ◌*◌, ◌≤◌, ◌<◌}
+use Prim.Native.Nat.{ℕ, zero, suc, ◌+◌, ◌-◌, ◌*◌, ◌≤◌, ◌<◌}
 use mathlib.Core.Path.{◌≡◌, refl, sym, ap, ◌∙◌}
-use mathlib.Core.List.{List, ◌++◌, append-nil}
+use mathlib.Core.List.{List, [], ◌∷◌, ◌++◌, append-nil}
 use native.Mathlib.Numerals.{add-one}
 use native.Mathlib.Omega.{arith}
-use lib.ListN.{length, drop, set, replicate, length-replicate, replicate-append-replicate, drop_of_length-le}
-use lib.Seq.{append_snoc, drop_at, drop-cons, set_at}
-use Rattle.lists.specs.Places.{items_at, tabulate, pad8}
-use Rattle.lists.proofs.Places.{items_at_tabulate, length_tabulate, tabulate_suc}
+use lib.ListN.{length, get_or, take, drop, set, replicate, length-replicate, replicate-append-replicate, drop_of_length-le}
+use lib.Seq.{append_snoc, drop_at, drop-cons, set_at, take-suc}
+use Rattle.lists.specs.Places.{items_at, tabulate, places, pad8}
+use Rattle.lists.proofs.Places.{items_at_tabulate, length_tabulate, tabulate_suc, length_places, places_suc}
 
 -- the first i of the n values that are to be stored stand in the list
 pub record Filled {A : Type 0} (start : List A) (n : ℕ) (f : ℕ → A) (l : List A) (i : ℕ) : Type 0 where
@@ -70,3 +70,23 @@ module _ {A : Type 0} {d : A} {n : ℕ} {l : List A} {i : ℕ} where
   pub filled_items : (f : ℕ → A) (at step : ℕ) → Filled (replicate 8 d) n (λ j. f (at + step * j)) l i → n ≤ i
       → l ≡ pad8 d (items_at f at step n)
   filled_items f at step filled past = filled_eight filled past ∙ ap (pad8 d) (sym (items_at_tabulate f at step n))
+
+-- ---- a copy to the front, in one step
+
+-- the front of a list is its first places
+pub take_places : (n : ℕ) (xs : List ℕ) → n ≤ length xs → take n xs ≡ places n xs
+unfolding places tabulate items_at
+take_places zero xs inside = refl
+take_places (suc n) xs inside =
+    take-suc xs n 0 inside ∙ ap (λ (ys : List ℕ). ys ++ get_or xs n 0 ∷ []) (take_places n xs (omega arith)) ∙ sym (places_suc n xs)
+
+-- a list copied to the front of eight copies of d
+pub copied_eight : {A : Type 0} (d : A) (n : ℕ) (xs : List A) → length xs ≡ n → n ≤ 8 → xs ++ drop n (replicate 8 d) ≡ pad8 d xs
+unfolding pad8
+copied_eight d n xs long few = rw long (ap (λ (ys : List _). xs ++ ys) (copies_left d 8 n few))
+
+-- the first places of a list copied to the front of eight zeros
+pub copied_places : (n : ℕ) (xs ys : List ℕ) → n ≤ length xs → n ≤ 8 → ys ≡ take n xs → ys ++ drop n (replicate 8 0) ≡ pad8 0 (places n xs)
+copied_places n xs ys inside few copied =
+    let front = copied ∙ take_places n xs inside in
+    copied_eight 0 n ys (ap length front ∙ length_places n xs) few ∙ ap (pad8 0) front

@@ -7,6 +7,11 @@ use mathlib.Core.List.{List, [], ◌∷◌}
 use native.Mathlib.Omega.{arith}
 use lib.ListN.{length}
 use borrow.Author.Tests.{ne_eqb}
+use Rattle.std.specs.Prelude.{Err}
+use Rattle.refusals.specs.declared.Refusal.{Refusal}
+use Rattle.refusals.specs.declared.Refusal.TheVariants.{Pattern}
+use Rattle.refusals.specs.Number.{number as number_of_refusal, written}
+use Rattle.refusals.proofs.Positive.{number_positive}
 use Rattle.types.specs.declared.Written.{Written}
 use Rattle.lists.specs.Places.{pad8}
 use Rattle.rules.specs.Rule.{◌when◌, lowest}
@@ -23,15 +28,15 @@ use Rattle.patterns.proofs.Maker.{maker_encodes}
 use Rattle.patterns.proofs.Tests.{says_asked}
 use Rattle.pattern_file.specs.declared.layout.Sizes.{Sizes}
 use Rattle.pattern_file.specs.Walk.{sizes_at}
-use Rattle.writer.proofs.Answers.{refused_with, start_refused}
+use Rattle.writer.proofs.Answers.{start_refused}
 use Rattle.maker.specs.Passes.{Passes}
 use Rattle.maker.specs.Rows.{Stands}
 use Rattle.maker.proofs.RowDigits.{pattern_stands, sizes_read}
 
 -- a file that gives no number passes
-pub file_passes : (f : List ℕ) {n : ℕ} → n ≡ lowest ((23 when bad_pattern_file f) ∷ (24 when bad_digits f) ∷ []) → n ≡ 0 → Passes f
-file_passes f e none =
-    let clear = clear_lowest ((23 when bad_pattern_file f) ∷ (24 when bad_digits f) ∷ []) tt (sym e ∙ none) in
+pub file_passes : (f : List ℕ) → 0 ≡ lowest ((23 when bad_pattern_file f) ∷ (24 when bad_digits f) ∷ []) → Passes f
+file_passes f e =
+    let clear = clear_lowest ((23 when bad_pattern_file f) ∷ (24 when bad_digits f) ∷ []) tt (sym e) in
     (clear.0, clear.1.0)
 
 module _ (f : List ℕ) (number modulus order challenges : ℕ) (values statement : List ℕ) where
@@ -39,28 +44,27 @@ module _ (f : List ℕ) (number modulus order challenges : ℕ) (values statemen
   abbrev inst : Instance
   inst = asked f number modulus order challenges values statement
 
-  module _ (buffer : List ℕ) {answer : Written} where
+  module _ (buffer : List ℕ) where
     -- the file is refused
-    pub file_refused : {n : ℕ} → answer ≡ refused_with n → n ≡ lowest ((23 when bad_pattern_file f) ∷ (24 when bad_digits f) ∷ []) → 0 < n
-        → Leaves answer buffer (make_from f number modulus order challenges values statement buffer)
+    pub file_refused : (refusal : Refusal) → number_of_refusal refusal ≡ lowest ((23 when bad_pattern_file f) ∷ (24 when bad_digits f) ∷ [])
+        → Leaves (written (Err refusal)) buffer (make_from f number modulus order challenges values statement buffer)
     unfolding make_from make_rules
-    file_refused {n} answered e some =
+    file_refused refusal e =
         let rest = (1 when bad_asked f number values statement) ∷ made_rules values inst buffer in
-        let first = lowest_earlier ((23 when bad_pattern_file f) ∷ (24 when bad_digits f) ∷ []) rest (omega arith) in
-        start_refused n _ (sheet_of inst) buffer answered (e ∙ sym first) some
+        let first = lowest_earlier ((23 when bad_pattern_file f) ∷ (24 when bad_digits f) ∷ []) rest (omega (arith, e, number_positive refusal)) in
+        start_refused refusal _ (sheet_of inst) buffer (e ∙ sym first)
 
     module _ (passes : Passes f) where
       -- the number or a count is wrong
-      pub asked_refused : answer ≡ refused_with 1
-          → (pattern_count f < number) ⊎ (length values ≢ (asked_pattern f number).values) ⊎ (length statement ≢ (asked_pattern f number).rows)
-          → Leaves answer buffer (make_from f number modulus order challenges values statement buffer)
+      pub asked_refused : (pattern_count f < number) ⊎ (length values ≢ (asked_pattern f number).values) ⊎ (length statement ≢ (asked_pattern f number).rows)
+          → Leaves (written (Err Pattern)) buffer (make_from f number modulus order challenges values statement buffer)
       unfolding make_from make_rules
-      asked_refused answered bad =
+      asked_refused bad =
           let first = pass 23 _ passes.0 ∙ pass 24 _ passes.1 ∙ stop 1 _ ((says_asked f number values statement).complete bad) in
-          start_refused 1 _ (sheet_of inst) buffer answered (sym first) (omega arith)
+          start_refused Pattern _ (sheet_of inst) buffer (sym first)
 
       -- they are right, and what is behind them is the second writer's
-      pub asked_written : {given : Instance} {after : List ℕ} → number ≤ pattern_count f
+      pub asked_written : {given : Instance} {answer : Written} {after : List ℕ} → number ≤ pattern_count f
           → length values ≡ (asked_pattern f number).values → length statement ≡ (asked_pattern f number).rows
           → given ≡ inst → Leaves answer after (encode given buffer)
           → Leaves answer after (make_from f number modulus order challenges values statement buffer)
@@ -80,12 +84,11 @@ module _ (modulus order challenges : ℕ) (values statement buffer : List ℕ) w
       × ((f : List ℕ) → Passes f → after ≡ (make_from f 0 modulus order challenges values statement buffer).buffer)
 
   -- a count is wrong
-  pub root_refused : {answer : Written} → answer ≡ refused_with 1 → (length values ≢ 0) ⊎ (length statement ≢ 1)
-      → RootLeaves answer buffer
+  pub root_refused : (length values ≢ 0) ⊎ (length statement ≢ 1) → RootLeaves (written (Err Pattern)) buffer
   unfolding asked_pattern root
-  root_refused answered bad = (
-    λ f passes. (asked_refused f 0 modulus order challenges values statement buffer passes answered (inr bad)).0,
-    λ f passes. (asked_refused f 0 modulus order challenges values statement buffer passes answered (inr bad)).1,
+  root_refused bad = (
+    λ f passes. (asked_refused f 0 modulus order challenges values statement buffer passes (inr bad)).0,
+    λ f passes. (asked_refused f 0 modulus order challenges values statement buffer passes (inr bad)).1,
   )
 
   -- the root's sheet is written
@@ -127,16 +130,16 @@ module _ (f : List ℕ) (number : ℕ) (some : 1 ≤ number) where
     listed_stands passes few values counted =
         pattern_stands f (number - 1) values here passes (omega arith) (counted ∙ rw asked_listed at listed_sizes.2)
 
-    module _ (modulus order challenges : ℕ) (values statement buffer : List ℕ) {answer : Written} (passes : Passes f) where
+    module _ (modulus order challenges : ℕ) (values statement buffer : List ℕ) (passes : Passes f) where
       -- a count is wrong
-      pub listed_refused : answer ≡ refused_with 1 → (length values ≢ p.values) ⊎ (length statement ≢ p.rows)
-          → Leaves answer buffer (make_from f number modulus order challenges values statement buffer)
-      listed_refused answered bad =
+      pub listed_refused : (length values ≢ p.values) ⊎ (length statement ≢ p.rows)
+          → Leaves (written (Err Pattern)) buffer (make_from f number modulus order challenges values statement buffer)
+      listed_refused bad =
           let (rows, _, count) = listed_sizes in
-          asked_refused f number modulus order challenges values statement buffer passes answered (inr (rw (count, rows) at bad))
+          asked_refused f number modulus order challenges values statement buffer passes (inr (rw (count, rows) at bad))
 
       -- its sheet is written
-      pub listed_written : {entries : List (List ℕ)} {eight after : List ℕ} → number ≤ pattern_count f
+      pub listed_written : {answer : Written} {entries : List (List ℕ)} {eight after : List ℕ} → number ≤ pattern_count f
           → length values ≡ p.values → length statement ≡ p.rows
           → entries ≡ pattern_entries (pattern_from f at) values → eight ≡ pad8 0 statement
           → Leaves answer after (encode (instance_with (record {

@@ -3,9 +3,8 @@
 // A reader that has gone away is told nothing, and the exit status is 1.
 #![tactic(auto)]
 
-use files::{read_level, read_rounds, read_sheet};
+use files::{print_text, read_level, read_rounds, read_sheet};
 use report::{LONGEST, mark_files};
-use std::io::ErrorKind;
 use std::process::ExitCode;
 
 fn main(rt: HostRuntime) -> ExitCode {
@@ -13,13 +12,6 @@ fn main(rt: HostRuntime) -> ExitCode {
     let sheet = read_sheet(&rt);
     let rounds = read_rounds(&rt);
     let level = read_level(&rt);
-    let length = mark_files(sheet, rounds, level, &mut text);
-    match rt.write_all(&text[..length]) {
-        Ok(()) => ExitCode::SUCCESS,
-        Err(error) if error.kind() == ErrorKind::BrokenPipe => ExitCode::FAILURE,
-        Err(_) => {
-            let _ = eprintln!(rt; "marker: the text cannot be written whole");
-            ExitCode::SUCCESS
-        }
-    }
+    let length = mark_files(&sheet, &rounds, &level, &mut text);
+    print_text(&rt, "marker", &text[..length])
 }

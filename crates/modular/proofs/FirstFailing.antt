@@ -1,41 +1,29 @@
--- The search for the first value that fails a test: how a loop keeps it, and sigma's tests over several values are this search.
+-- The search for the first value that fails a test: where it ends, and sigma's tests over several values are this search.
 -- Assumes nothing.
-use mathlib.Core.Path.{◌≡◌, refl, sym, ◌∙◌, ap}
+use mathlib.Core.Path.{◌≡◌, refl, sym, ap}
 use mathlib.Core.Bool.{Bool, true, false, not}
 use mathlib.Core.List.{List}
 use mathlib.Core.Logic.{◌≢◌}
-use Prim.Native.Nat.{ℕ, ◌+◌, ◌-◌, ◌≤◌, ◌<◌}
+use Prim.Native.Nat.{ℕ, ◌≤◌, ◌<◌}
+use native.Mathlib.Decide.{dec_lt}
 use native.Mathlib.Omega.{arith}
 use lib.Dec.{ltb}
 use lib.ListN.{get_or}
 use Rattle.types.specs.declared.Header.{Header}
-use Rattle.numbers.specs.Search.{find, any}
-use Rattle.numbers.proofs.Search.{find_to_start, find_to_end, find_to_here, find_to_on, find_agree}
+use Rattle.numbers.specs.Search.{any}
+use Rattle.numbers.proofs.Search.{find_is, find_none, find_agree}
 use Rattle.sigma.specs.Element.{is_element, is_coordinate, some_non_element, some_non_coordinate}
 use Rattle.modular.specs.FirstFailing.{first_failing}
 use Rattle.modular.proofs.ElementTest.{coordinate_root}
 
-module _ (test : ℕ → Bool) (n : ℕ) (vs : List ℕ) where
-  -- the search that has come to i gives what the whole search gives
-  abbrev pub Passed : ℕ → Type 0
-  Passed i = (i ≤ n) × (find (λ j. not (test (get_or vs j 0))) i (n - i) ≡ first_failing test n vs)
-
-  -- before the first value
-  pub passed_none : Passed 0
-  unfolding first_failing
-  passed_none = (omega arith, find_to_start _ n)
-
-  -- a value that passes leaves the search to the next one
-  pub passed_on : (i : ℕ) → i < n → test (get_or vs i 0) ≡ true → Passed i → Passed (i + 1)
-  passed_on i below passes (within, kept) = (omega arith, find_to_on _ i n below (ap not passes) ∙ kept)
-
-  -- a value that fails ends it
-  pub failing_here : (i : ℕ) → i < n → test (get_or vs i 0) ≡ false → Passed i → (i ≡ first_failing test n vs) × (i ≤ n)
-  failing_here i below fails (within, kept) = (sym (find_to_here _ i n below (ap not fails)) ∙ kept, within)
-
-  -- and so does the end of the values
-  pub failing_none : (i : ℕ) → n ≤ i → Passed i → (i ≡ first_failing test n vs) × (i ≤ n)
-  failing_none i past (within, kept) = (sym (find_to_end _ i n past) ∙ kept, within)
+-- where a test passes at each value before r, and fails at the value at r or there is none, the search ends at r
+pub failing_is : (test : ℕ → Bool) (n : ℕ) (vs : List ℕ) (r : ℕ) → r ≤ n → ((i : ℕ) → i < r → test (get_or vs i 0) ≡ true)
+    → (r < n → test (get_or vs r 0) ≡ false) → r ≡ first_failing test n vs
+unfolding first_failing
+failing_is test n vs r within passed failed = elim (dec_lt r n) [
+  | yes below ↦ sym (find_is _ 0 n r (omega arith) (omega arith) (ap not (failed below)) (λ i from before. ap not (passed i before)))
+  | no past ↦ omega (arith, (find_none (λ i. not (test (get_or vs i 0))) 0 n).0 (λ i from below. ap not (passed i (omega arith))))
+]
 
 -- some value among the first n is no group element exactly if the search ends before n
 pub some_non_element_first : (h : Header) (n : ℕ) (vs : List ℕ) → some_non_element h n vs ≡ ltb (first_failing (is_element h) n vs) n

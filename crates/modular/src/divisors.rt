@@ -3,13 +3,6 @@ ghost use Rattle.std.specs.Prelude.{◌≡◌, ◌<◌};
 ghost use Rattle.std.specs.Int.{◌∣◌};
 ghost use Rattle.modular.specs.Divisor.{divisor_of, divisor_outcome, Candidate};
 
-// What a search for a divisor finds.
-#[derive(Clone, Copy)]
-pub enum Divisor {
-    Found(u32),
-    Nothing,
-}
-
 // The number to try after d, where no number from 2 to d divides order. Multiples of 2 and 3 are left out and, above the
 // square root, every number but order: any other divisor there would have its cofactor below the root. Where order is 1 it is
 // the largest number, which no challenge count is above.
@@ -33,17 +26,17 @@ fn next_candidate(order: u32, d: u32) -> u32
     d + 2
 }
 
-// The first d with 2 ≤ d < challenges that divides order, or nothing where there is none.
-pub fn first_divisor(order: u32, challenges: u32) -> Divisor
+// The first d with 2 ≤ d < challenges that divides order, if there is one.
+pub fn first_divisor(order: u32, challenges: u32) -> Option<u32>
     ensures { divisor_outcome result ≡ divisor_outcome (divisor_of order challenges) }
 {
     let mut d: u32 = 2;
     loop {
         if d >= challenges {
-            break Divisor::Nothing;
+            break None;
         }
         if order % d == 0 {
-            break Divisor::Found(d);
+            break Some(d);
         }
         d = next_candidate(order, d);
     }

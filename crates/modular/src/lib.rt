@@ -1,17 +1,18 @@
 // Arithmetic modulo a 32-bit number, with products in 64 bits, and the tests of 01 that need it.
+// Arrays have eight places whatever n is: memory is fixed, and the structs that C reads have them so.
 #![tactic(auto)]
 
 mod divisors; // divisors.rt: the search for a divisor of an order
 mod orders; // orders.rt: the test of kind 1 on several values
 mod several; // several.rt: the test of several group elements
 
-ghost use Rattle.std.specs.Prelude.{◌≡◌, ◌+◌, ◌-◌, ◌*◌, ◌%◌, ◌^◌, ◌≤◌, ◌<◌};
+ghost use Rattle.std.specs.Prelude.{◌≡◌, ℕ, true, false, ◌+◌, ◌-◌, ◌*◌, ◌%◌, ◌^◌, ◌≤◌, ◌<◌};
 ghost use Rattle.numbers.specs.Gcd.{gcd};
 ghost use Rattle.numbers.specs.Inverse.{inverse};
 ghost use Rattle.sigma.specs.Element.{is_element, is_coordinate, some_non_element, some_non_coordinate};
 ghost use Rattle.modular.specs.FirstFailing.{first_failing};
 
-pub use divisors::{Divisor, first_divisor};
+pub use divisors::first_divisor;
 use powers::side_by_side;
 use several::first_of_several;
 use types::Header;
@@ -128,6 +129,21 @@ fn is_coordinate(h: Header, x: u32) -> bool
     is_element(h, x)
 }
 
+// The first index below n at which the test fails, or n if it passes at each.
+fn first_failing<F: Fn(usize) -> bool>(n: usize, test: F) -> usize
+    requires { (i : ℕ) → i < n → F.pre test i }
+    ensures within { result ≤ n }
+    ensures passed { (i : ℕ) → i < result → F.post test i true }
+    ensures failed { result < n → F.post test result false }
+{
+    for i in 0..n {
+        if !test(i) {
+            return i;
+        }
+    }
+    n
+}
+
 // The first index below n at which values holds no group element, or n where there is none. What tests several is handed a copy
 // of h, so that a few are tested on h as it comes and need not wait for a copy.
 pub fn first_non_element(h: Header, values: [u32; 8], n: usize) -> usize
@@ -139,14 +155,7 @@ pub fn first_non_element(h: Header, values: [u32; 8], n: usize) -> usize
         let copy = h;
         return first_of_several(copy, values, n);
     }
-    let mut i: usize = 0;
-    while i < n {
-        if !is_element(h, values[i]) {
-            return i;
-        }
-        i += 1;
-    }
-    i
+    first_failing(n, |i| is_element(h, values[i]))
 }
 
 // The first index below n at which values holds no coordinate of the domain, or n where there is none.
@@ -160,14 +169,7 @@ pub fn first_non_coordinate(h: Header, values: [u32; 8], n: usize) -> usize
             return first_of_several(h, values, n);
         }
     }
-    let mut i: usize = 0;
-    while i < n {
-        if !is_coordinate(h, values[i]) {
-            return i;
-        }
-        i += 1;
-    }
-    i
+    first_failing(n, |i| is_coordinate(h, values[i]))
 }
 
 // Whether some value among the first n is no group element.

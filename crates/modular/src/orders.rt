@@ -1,8 +1,10 @@
 // The test of a group element of kind 1 on several values, whose powers by q are computed side by side.
+// Arrays have eight places whatever n is: memory is fixed, and the structs that C reads have them so.
 ghost use Rattle.std.specs.Prelude.{◌≡◌, ◌%◌, ◌^◌, ◌≤◌, ◌<◌};
 ghost use Rattle.sigma.specs.Element.{is_element};
 ghost use Rattle.modular.specs.FirstFailing.{first_failing};
 
+use crate::first_failing;
 use powers::powers;
 use types::Header;
 
@@ -27,12 +29,5 @@ pub fn first_without_order(h: Header, values: [u32; 8], n: usize) -> usize
     ensures within { result ≤ n }
 {
     let raised = powers(values, n, h.order, h.modulus);
-    let mut i: usize = 0;
-    while i < n {
-        if !has_order(h, values[i], raised[i]) {
-            return i;
-        }
-        i += 1;
-    }
-    i
+    first_failing(n, |i| has_order(h, values[i], raised[i]))
 }

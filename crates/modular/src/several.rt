@@ -1,10 +1,11 @@
 // The test of several group elements, in kind 1 by their powers side by side, in kind 2 by one gcd of their product.
+// Arrays have eight places whatever n is: memory is fixed, and the structs that C reads have them so.
 ghost use Rattle.std.specs.Prelude.{◌≡◌, not, ◌≢◌, ◌≤◌, ◌<◌};
 ghost use Rattle.sigma.specs.Element.{is_element, some_non_element};
 ghost use Rattle.modular.specs.FirstFailing.{first_failing};
 
 use crate::orders::first_without_order;
-use crate::{gcd, is_element, mul_mod};
+use crate::{first_failing, gcd, is_element, mul_mod};
 use types::Header;
 
 // Whether the first n values are all group elements of kind 2: each is from 1 to m - 1, and their product has no divisor in
@@ -40,12 +41,5 @@ pub fn first_of_several(h: Header, values: [u32; 8], n: usize) -> usize
     if all_units(h, values, n) {
         return n;
     }
-    let mut i: usize = 0;
-    while i < n {
-        if !is_element(h, values[i]) {
-            return i;
-        }
-        i += 1;
-    }
-    i
+    first_failing(n, |i| is_element(h, values[i]))
 }

@@ -1,4 +1,5 @@
 // Inverses and powers by negative exponents modulo a 32-bit number: of one group element, and of the first places of an array.
+// Arrays have eight places whatever n is: memory is fixed, and the structs that C reads have them so.
 #![tactic(auto)]
 
 ghost use Rattle.std.specs.Prelude.{◌≡◌, ℕ, ◌≤◌, ◌<◌, pos, neg_ℤ, get_or};

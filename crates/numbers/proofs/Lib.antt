@@ -1,5 +1,6 @@
 -- Laws of numbers, by topic.
 pub mod Search
+pub mod Listed
 pub mod Congruence
 pub mod Powers
 pub mod Difference

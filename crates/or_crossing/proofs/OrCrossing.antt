@@ -8,7 +8,6 @@ use native.Mathlib.Omega.{arith}
 use lib.ListN.{length}
 use Rattle.types.specs.declared.ProverPhase.TheVariants.{Dropped}
 use Rattle.lists.specs.Places.{zeros8}
-use Rattle.rules.proofs.Answer.{unless_refused_positive}
 use Rattle.runs.specs.Run.{session_after, answered}
 use Rattle.runs.proofs.Run.{refused_unmoved}
 use Rattle.runs.specs.ProverCalls.{Ended}

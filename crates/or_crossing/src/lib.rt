@@ -5,8 +5,7 @@
 mod provers; // provers.rt: Peggy's session
 mod verdicts; // verdicts.rt: what judging answers
 
-pub use provers::{or_answer, or_prover_of, or_session_of};
-pub use verdicts::or_judgement_of;
+pub use provers::or_answer;
 
 // A verdict: accepted is 1, rejected is 0 with the masks of both sides' rows that differ, bit i for row i, 0 for a side that is
 // accepted, and refused is the number beside zeros.

@@ -6,42 +6,46 @@ use crate::{OrAnswer, OrSession};
 use crossing::{prover_phase, prover_state};
 use disjunctions::{OrProver, OrStep};
 
-// The session that a caller hands in; a number that is no state's is taken as Dropped, which allows no call.
-pub fn or_prover_of(session: OrSession) -> OrProver
-    ensures { result ≡ or_prover_of session }
-{
-    let nonce = session.nonce;
-    let response = session.response;
-    let commitment0 = session.commitment0;
-    let commitment1 = session.commitment1;
-    OrProver {
-        nonce,
-        response,
-        commitment0,
-        commitment1,
-        challenge: session.challenge,
-        side: session.side,
-        phase: prover_phase(session.phase),
+impl From<OrSession> for OrProver {
+    ghost from_gives = { λ session held. held ≡ or_prover_of session };
+
+    // The session that a caller hands in; a number that is no state's is taken as Dropped, which allows no call.
+    fn from(session: OrSession) -> OrProver {
+        let nonce = session.nonce;
+        let response = session.response;
+        let commitment0 = session.commitment0;
+        let commitment1 = session.commitment1;
+        OrProver {
+            nonce,
+            response,
+            commitment0,
+            commitment1,
+            challenge: session.challenge,
+            side: session.side,
+            phase: prover_phase(session.phase),
+        }
     }
 }
 
-// The session as it is handed out.
-pub fn or_session_of(session: OrProver) -> OrSession
-    ensures { result ≡ or_session session }
-{
-    let nonce = session.nonce;
-    let response = session.response;
-    let commitment0 = session.commitment0;
-    let commitment1 = session.commitment1;
-    let phase = session.phase;
-    OrSession {
-        nonce,
-        response,
-        commitment0,
-        commitment1,
-        challenge: session.challenge,
-        side: session.side,
-        phase: prover_state(phase),
+impl From<OrProver> for OrSession {
+    ghost from_gives = { λ held session. session ≡ or_session held };
+
+    // The session as it is handed out.
+    fn from(session: OrProver) -> OrSession {
+        let nonce = session.nonce;
+        let response = session.response;
+        let commitment0 = session.commitment0;
+        let commitment1 = session.commitment1;
+        let phase = session.phase;
+        OrSession {
+            nonce,
+            response,
+            commitment0,
+            commitment1,
+            challenge: session.challenge,
+            side: session.side,
+            phase: prover_state(phase),
+        }
     }
 }
 
@@ -64,7 +68,7 @@ pub fn or_answer(given: OrSession, step: OrStep) -> OrAnswer
     }
     let session = step.session;
     OrAnswer {
-        session: or_session_of(session),
+        session: OrSession::from(session),
         values0,
         values1,
         challenge0,

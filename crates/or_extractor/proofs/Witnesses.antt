@@ -12,11 +12,11 @@ use types.Run.{OneOf, miss}
 use borrow.Author.Tests.{eq-eqb, ne_eqb}
 use Rattle.types.specs.declared.Computed.{Computed}
 use Rattle.types.specs.declared.Verdict.{Verdict}
-use Rattle.lists.specs.Places.{pad8, places, zeros8}
+use Rattle.lists.specs.Places.{pad8, zeros8}
 use Rattle.rules.specs.Call.{answer, number_of}
 use Rattle.rules.specs.Rule.{Clear, Rule, ◌when◌, lowest}
 use Rattle.rules.proofs.Call.{number_clear, answer_clear, answer_refused}
-use Rattle.rules.proofs.Lowest.{clear_append, clear_lowest, lowest_clear, lowest_earlier, lowest_later, stop}
+use Rattle.rules.proofs.Lowest.{clear_append, clear_lowest, lowest_earlier, lowest_later, stop}
 use Rattle.sigma.specs.Answer.{is_accepted}
 use Rattle.sigma.specs.Comparison.{differ}
 use Rattle.sigma.specs.Extractor.{extracting, extract_loaded}
@@ -198,7 +198,13 @@ module _ {i j : Instance} (fit : FitTogether i j) (a b : OrRound) (none : NotRef
       )
 
   module _ {witness : Computed} where
-    -- so where the c0 differ, the witness of side 0 is the answer
+    -- so where the c0 differ, the witness of side 0 is not refused
+    pub first_runs : a.challenge0 ≢ b.challenge0 → witness ≡ extract_loaded i (first_round a) (first_round b) → witness.refusal ≡ 0
+    first_runs apart is_witness =
+        ap (λ (given : Computed). given.refusal) is_witness ∙ extract_refusal i (first_round a) (first_round b)
+        ∙ number_clear _ (first_clear apart)
+
+    -- and is the answer
     pub first_side : a.challenge0 ≢ b.challenge0 → witness ≡ extract_loaded i (first_round a) (first_round b)
         → record { values = witness.values; side = 0; refusal = 0 } ≡ answer (extracting_or i j a b)
     unfolding first_round extracted_or extracted_side extracted_of read_or
@@ -208,7 +214,15 @@ module _ {i j : Instance} (fit : FitTogether i j) (a b : OrRound) (none : NotRef
         let values = ap (λ (given : Computed). given.values) whole in
         sym (given ∙ rw (ne_eqb a.challenge0 b.challenge0 apart, values))
 
-    -- else that of side 1
+    -- else that of side 1 is not refused
+    pub second_runs : a.challenge0 ≡ b.challenge0
+        → witness ≡ extract_loaded j (second_round i.header.challenges a) (second_round i.header.challenges b) → witness.refusal ≡ 0
+    second_runs same is_witness =
+        let K = i.header.challenges in
+        ap (λ (given : Computed). given.refusal) is_witness ∙ extract_refusal j (second_round K a) (second_round K b)
+        ∙ number_clear _ (second_clear same)
+
+    -- and is the answer
     pub second_side : a.challenge0 ≡ b.challenge0
         → witness ≡ extract_loaded j (second_round i.header.challenges a) (second_round i.header.challenges b)
         → record { values = witness.values; side = 1; refusal = 0 } ≡ answer (extracting_or i j a b)

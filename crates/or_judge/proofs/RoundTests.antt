@@ -4,7 +4,7 @@ use Prim.Native.Nat.{◌<◌, ◌≤◌}
 use mathlib.Core.Path.{◌≡◌, ap₂}
 use mathlib.Core.Bool.{◌||◌, false, true, or-eq-true_iff}
 use mathlib.Core.Logic.Or
-use mathlib.Core.Logic.{◌↔◌}
+use mathlib.Core.Logic.{◌↔◌, ◌⊎◌, inl, inr}
 use Rattle.image.proofs.Tested.{commitment_read, coordinates_read}
 use Rattle.sigma.specs.Element.{some_non_coordinate, some_non_element}
 use Rattle.sigma.specs.Instance.{Instance}
@@ -34,13 +34,13 @@ module _ (i j : Instance) where
       let taken = challenge_passes i round.challenge0 in
       (λ e. (whole.0 (both.0 e).0, taken.0 (both.0 e).1), λ (a, b). both.1 (whole.1 a, taken.1 b))
 
-  pub challenge_stops : (round : OrRound) → i.header.challenges ≤ round.challenge → bad_challenges i (read_or i j round) ≡ true
+  pub challenges_stop : (round : OrRound)
+      → (i.header.challenges ≤ round.challenge) ⊎ ((round.challenge < i.header.challenges) × (i.header.challenges ≤ round.challenge0))
+      → bad_challenges i (read_or i j round) ≡ true
   unfolding bad_challenges read_or
-  challenge_stops round h = (or-eq-true_iff _ _).1 (Or.inl ((says_bad_challenge i _).complete h))
-
-  pub challenge0_stops : (round : OrRound) → i.header.challenges ≤ round.challenge0 → bad_challenges i (read_or i j round) ≡ true
-  unfolding bad_challenges read_or
-  challenge0_stops round h = (or-eq-true_iff (bad_challenge i round.challenge) _).1 (Or.inr ((says_bad_challenge i _).complete h))
+  challenges_stop round (inl large) = (or-eq-true_iff _ _).1 (Or.inl ((says_bad_challenge i _).complete large))
+  challenges_stop round (inr (small, large)) =
+      (or-eq-true_iff (bad_challenge i round.challenge) _).1 (Or.inr ((says_bad_challenge i _).complete large))
 
   -- 16
   pub responses_read : (round : OrRound)

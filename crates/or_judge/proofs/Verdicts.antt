@@ -15,12 +15,18 @@ use Rattle.disjunctions.specs.declared.OrVerdict.{OrVerdict}
 use Rattle.disjunctions.specs.declared.OrVerdict.TheVariants.{OrRefused}
 use Rattle.disjunctions.specs.Judge.{judging_or, verdict_or}
 use Rattle.disjunctions.specs.Round.{read_or}
-use Rattle.or_judge.specs.Values.{FewPlaces}
+use Rattle.pairs.specs.declared.Pair.{Pair}
+use Rattle.instance.specs.Values.{values_of}
+use Rattle.or_judge.specs.Values.{FewPlaces, FitTogether}
 use Rattle.or_judge.proofs.RoundTests.{challenges_pass}
 
 -- the fixed fields of a Valid instance have a modulus and at most eight rows and columns
 pub valid_few : {inst : Instance} → Valid inst → FewPlaces inst.header
 valid_few v = (omega (arith, valid_modulus v.table), v.table.few_rows, v.table.few_columns)
+
+-- two sheets that are loaded together fit
+pub pair_fits : (pair : Pair) → FitTogether (values_of pair.first) (values_of pair.second)
+pair_fits pair = record { first = pair.first.valid; second = pair.second.valid; one_count = pair.one_count }
 
 module _ (i j : Instance) (round : OrRound) {n : ℕ} (is_number : n ≡ number_of (judging_or i j round)) where
   -- a number above 0 is the whole answer

@@ -2,29 +2,21 @@
 ghost use Rattle.std.specs.Prelude.{◌≡◌};
 ghost use Rattle.disjunctions.specs.Judge.{judge_or};
 
-use crate::rounds::round_refusal;
+use crate::rounds::test_round;
 use crate::sides::verdict_or;
 use disjunctions::{OrRound, OrVerdict};
-use instance::loaded_entries;
-use pairs::load_pair;
+use pairs::Pair;
 
 // The verdict on a round of two sheets: accepted, rejected with all rows of both whose two sides differ, none for one that is
 // accepted, or refused with 2 to 11 of either sheet, 26 for different challenge counts, or 14 to 16 for the round.
 pub fn judge(first: &[u8], second: &[u8], round: OrRound) -> OrVerdict
     ensures { result ≡ judge_or first.now second.now round }
 {
-    let pair = load_pair(first, second);
-    let refusal = pair.refusal;
-    if refusal != 0 {
-        return OrVerdict::OrRefused(refusal);
+    match Pair::load(first, second) {
+        Ok(pair) => match test_round(pair.first.header, pair.second.header, round) {
+            Ok(()) => verdict_or(&pair, round),
+            Err(refusal) => OrVerdict::OrRefused(refusal.number()),
+        },
+        Err(refusal) => OrVerdict::OrRefused(refusal.number()),
     }
-    let left = pair.first;
-    let right = pair.second;
-    let refusal = round_refusal(left, right, round);
-    if refusal != 0 {
-        return OrVerdict::OrRefused(refusal);
-    }
-    let entries0 = loaded_entries(first, left.header);
-    let entries1 = loaded_entries(second, right.header);
-    verdict_or(left, entries0, right, entries1, round)
 }

@@ -7,5 +7,5 @@ mod rounds; // rounds.rt: the tests of a round
 mod sides; // sides.rt: the verdict on both sides of a round
 
 pub use calls::judge;
-pub use rounds::round_refusal;
+pub use rounds::test_round;
 pub use sides::verdict_or;

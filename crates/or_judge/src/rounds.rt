@@ -1,13 +1,18 @@
-// The tests of a round of the OR proof on loaded values (02, card 4; refusals 14 to 16).
+// The tests of a round of the OR proof, by the fixed fields of both sheets (02, card 4; refusals 14 to 16).
+// The tests of commitments and of responses are alike and stay two, since each is one sentence over a definition of its own.
+// The bounds of fixed fields are clauses and no type, since a `Sheet` would ask more of callers.
 ghost use Rattle.std.specs.Prelude.{◌≡◌, ◌||◌, List, ℕ};
 ghost use Rattle.rules.specs.Call.{number_of};
 ghost use Rattle.sigma.specs.Element.{some_non_coordinate, some_non_element};
 ghost use Rattle.disjunctions.specs.Judge.{judging_or};
-ghost use Rattle.or_judge.specs.Values.{FewPlaces, instance_from};
+ghost use Rattle.sigma.specs.Instance.{instance_with};
+ghost use Rattle.refusals.specs.Number.{refused_with};
+ghost use Rattle.or_judge.specs.Values.{FewPlaces};
 
 use disjunctions::OrRound;
 use modular::{some_non_coordinate, some_non_element};
-use types::{Header, Loaded};
+use refusals::Refusal;
+use types::Header;
 
 // Whether some value of one of a round's commitments is no group element of its sheet.
 fn bad_commitments(first: Header, second: Header, round: OrRound) -> bool
@@ -15,12 +20,8 @@ fn bad_commitments(first: Header, second: Header, round: OrRound) -> bool
     ensures { result ≡ (some_non_element first first.rows round.commitment0
         || some_non_element second second.rows round.commitment1) }
 {
-    let t0 = round.commitment0;
-    let t1 = round.commitment1;
-    if some_non_element(first, t0, first.rows as usize) {
-        return true;
-    }
-    some_non_element(second, t1, second.rows as usize)
+    some_non_element(first, round.commitment0, first.rows as usize)
+        || some_non_element(second, round.commitment1, second.rows as usize)
 }
 
 // Whether some slot of one of a round's responses is no domain slot of its sheet.
@@ -29,33 +30,25 @@ fn bad_responses(first: Header, second: Header, round: OrRound) -> bool
     ensures { result ≡ (some_non_coordinate first first.columns round.response0
         || some_non_coordinate second second.columns round.response1) }
 {
-    let r0 = round.response0;
-    let r1 = round.response1;
-    if some_non_coordinate(first, r0, first.columns as usize) {
-        return true;
-    }
-    some_non_coordinate(second, r1, second.columns as usize)
+    some_non_coordinate(first, round.response0, first.columns as usize)
+        || some_non_coordinate(second, round.response1, second.columns as usize)
 }
 
-// The number that a round is refused with, or 0: 14 for its commitments, 15 where c or c0 is K or more, 16 for its responses.
-pub fn round_refusal(first: Loaded, second: Loaded, round: OrRound) -> u32
-    requires { FewPlaces first.header × FewPlaces second.header }
-    ensures { (entries entries' : List (List ℕ))
-        → result ≡ number_of (judging_or (instance_from first entries) (instance_from second entries') round) }
+// Tests a round, which is refused with 14 for its commitments, 15 where c or c0 is K or more, 16 for its responses.
+pub fn test_round(first: Header, second: Header, round: OrRound) -> Result<(), Refusal>
+    requires { FewPlaces first × FewPlaces second }
+    ensures { (entries entries' : List (List ℕ)) (z z' : List ℕ)
+        → refused_with result
+        ≡ number_of (judging_or (instance_with first entries z) (instance_with second entries' z') round) }
 {
-    let left = first.header;
-    let right = second.header;
-    if bad_commitments(left, right, round) {
-        return 14;
+    if bad_commitments(first, second, round) {
+        return Err(Refusal::Commitment);
     }
-    if round.challenge >= left.challenges {
-        return 15;
+    if round.challenge >= first.challenges || round.challenge0 >= first.challenges {
+        return Err(Refusal::Challenge);
     }
-    if round.challenge0 >= left.challenges {
-        return 15;
+    if bad_responses(first, second, round) {
+        return Err(Refusal::Slot);
     }
-    if bad_responses(left, right, round) {
-        return 16;
-    }
-    0
+    Ok(())
 }

@@ -2,6 +2,6 @@
 #![tactic(auto)]
 
 mod calls; // calls.rt: the calls on two sheets' bytes
-mod loaded; // loaded.rt: committing and responding on loaded values
+mod loaded; // loaded.rt: committing and responding on two sheets that have loaded
 
 pub use calls::{commit, respond};

@@ -1,15 +1,17 @@
-// Peggy's session of the OR proof where no sheet is taken (02, card 4): a new session, the answer of a refused call, a wiped
+// Peggy's session of the OR proof where no sheet is taken (02, card 4): a new session, the answer of a call, a wiped
 // session, and dropping.
+// The records are those that the laws speak of, in which a refusal is its number.
 ghost use Rattle.std.specs.Prelude.{◌≡◌};
-ghost use Rattle.lists.specs.Places.{zeros8};
 ghost use Rattle.disjunctions.specs.Prover.{drop_or, new_or_prover, wiped_or};
+ghost use Rattle.or_session.specs.Sides.{refused_step, stepped};
 
 use disjunctions::{OrProver, OrStep};
+use refusals::Refusal;
 use types::ProverPhase;
 
 // The answer of a refused call: the number, the session as it was and zeros.
-pub fn refused(session: OrProver, number: u32) -> OrStep
-    ensures { result ≡ record { session = session; values0 = zeros8; values1 = zeros8; challenge0 = 0; refusal = number } }
+fn refused(session: OrProver, refusal: Refusal) -> OrStep
+    ensures { result ≡ refused_step session refusal }
 {
     let zeros = [0u32; 8];
     OrStep {
@@ -17,7 +19,17 @@ pub fn refused(session: OrProver, number: u32) -> OrStep
         values0: zeros,
         values1: zeros,
         challenge0: 0,
-        refusal: number,
+        refusal: refusal.number(),
+    }
+}
+
+// The answer of a call on a session: the step that it takes, or that of a refused call.
+pub fn stepped(session: OrProver, outcome: Result<OrStep, Refusal>) -> OrStep
+    ensures { result ≡ stepped session outcome }
+{
+    match outcome {
+        Ok(step) => step,
+        Err(refusal) => refused(session, refusal),
     }
 }
 
@@ -25,16 +37,16 @@ pub fn refused(session: OrProver, number: u32) -> OrStep
 pub fn wiped(session: OrProver, phase: ProverPhase) -> OrProver
     ensures { result ≡ wiped_or phase session.commitment0 session.commitment1 }
 {
-    let commitment0 = session.commitment0;
-    let commitment1 = session.commitment1;
-    OrProver {
-        nonce: [0u32; 8],
-        response: [0u32; 8],
+    let OrProver {
         commitment0,
         commitment1,
-        challenge: 0,
-        side: 0,
+        ..
+    } = session;
+    OrProver {
+        commitment0,
+        commitment1,
         phase,
+        ..new()
     }
 }
 
@@ -69,6 +81,6 @@ pub fn drop_session(session: OrProver) -> OrStep
             challenge0: 0,
             refusal: 0,
         },
-        ProverPhase::Answered | ProverPhase::Dropped => refused(session, 21),
+        ProverPhase::Answered | ProverPhase::Dropped => refused(session, Refusal::Session),
     }
 }

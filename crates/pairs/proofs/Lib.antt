@@ -1,3 +1,4 @@
--- Laws that the proofs of the functions cite, by topic.
+-- Laws that the proofs of the functions, and callers, cite.
+pub mod LowerNumber
 pub mod PairNumber
-pub mod PairAnswers
+pub mod PairLoads

@@ -8,15 +8,15 @@ use mathlib.Core.Logic.{◌≢◌}
 use native.Mathlib.Decide.{dec_lt, ℕ_discrete}
 use native.Mathlib.Omega.{arith}
 use borrow.Author.Tests.{eq-eqb, ne_eqb, lt-ltb, le-ltb}
-use Rattle.types.specs.declared.Loaded.{Loaded}
 use Rattle.rules.specs.Either.{either_rules}
 use Rattle.rules.specs.Rule.{Clear, lowest}
 use Rattle.rules.proofs.Either.{Rising, clear_either, lower_of, lowest_either}
 use Rattle.rules.proofs.Lowest.{lowest_clear, lowest_earlier, lowest_later, stop}
 use Rattle.sigma.specs.Admission.{element_rules, header_rules}
-use Rattle.formats.specs.Load.{load, load_refusal, load_rules, shape_rules}
+use Rattle.sigma.specs.Instance.{Instance}
+use Rattle.formats.specs.Load.{load_refusal, load_rules, shape_rules}
 use Rattle.formats.specs.Sheet.{instance_of}
-use Rattle.formats.proofs.Loads.{load_clear, load_given, loads}
+use Rattle.formats.proofs.Loads.{load_clear, loads}
 use Rattle.disjunctions.specs.Judge.{pair_rules}
 use Rattle.disjunctions.proofs.OnPair.{load_numbers}
 
@@ -60,11 +60,10 @@ module _ (s s' : List ℕ) where
   unfolding load_refusal
   sheets_number = lowest_either 1 (load_rules s) (load_rules s') (load_numbers s s') (load_rising s) (load_rising s')
 
-  module _ {a b : Loaded} (same : a ≡ load s) (same' : b ≡ load s') {n : ℕ} (is_lower : n ≡ lower_of a.refusal b.refusal) where
-    -- the lower number of the answers is that of the sheets
+  module _ {a b : ℕ} (is_first : a ≡ load_refusal s) (is_second : b ≡ load_refusal s') {n : ℕ} (is_lower : n ≡ lower_of a b) where
+    -- the lower number of what loading each gives is that of the sheets
     is_sheets : n ≡ lower_of (load_refusal s) (load_refusal s')
-    unfolding load
-    is_sheets = is_lower ∙ ap₂ lower_of (ap (λ (l : Loaded). l.refusal) same) (ap (λ (l : Loaded). l.refusal) same')
+    is_sheets = is_lower ∙ ap₂ lower_of is_first is_second
 
     -- above 0 it is that of both sheets together
     pub pair_lower : n ≢ 0 → n ≡ lowest (pair_rules s s')
@@ -78,30 +77,28 @@ module _ (s s' : List ℕ) where
       both_load : (load_refusal s ≡ 0) × (load_refusal s' ≡ 0)
       both_load = lower_zero _ _ (sym is_sheets ∙ none)
 
-      -- the answers have the sheets' challenge counts
-      counts : (a.header.challenges ≡ (instance_of s).header.challenges) × (b.header.challenges ≡ (instance_of s').header.challenges)
-      counts = (
-        ap (λ (l : Loaded). l.header.challenges) (same ∙ load_given s both_load.0),
-        ap (λ (l : Loaded). l.header.challenges) (same' ∙ load_given s' both_load.1),
-      )
-
       -- no rule of 2 to 11 applies
       sheets_clear : Clear (either_rules (load_rules s) (load_rules s'))
       sheets_clear =
           (clear_either (load_rules s) (load_rules s') (load_numbers s s')).1
           ((load_clear s).1 ((loads s).0 both_load.0), (load_clear s').1 ((loads s').0 both_load.1))
 
-      -- different counts are 26
-      pub pair_counts : a.header.challenges ≢ b.header.challenges → 26 ≡ lowest (pair_rules s s')
-      unfolding pair_rules
-      pair_counts other =
-          let differ = ne_eqb _ _ (λ (e : (instance_of s).header.challenges ≡ (instance_of s').header.challenges).
-          other (counts.0 ∙ e ∙ sym counts.1)) in
-          sym (lowest_later (either_rules (load_rules s) (load_rules s')) _ sheets_clear ∙ stop 26 [] (ap not differ))
+      module _ {i j : Instance} (values : i ≡ instance_of s) (values' : j ≡ instance_of s') where
+        -- what loads has the sheets' challenge counts
+        counts : (i.header.challenges ≡ (instance_of s).header.challenges) × (j.header.challenges ≡ (instance_of s').header.challenges)
+        counts = (ap (λ (k : Instance). k.header.challenges) values, ap (λ (k : Instance). k.header.challenges) values')
 
-      -- one count is none
-      pub pair_passed : a.header.challenges ≡ b.header.challenges → 0 ≡ lowest (pair_rules s s')
-      unfolding pair_rules
-      pair_passed one =
-          let equal = eq-eqb _ _ (sym counts.0 ∙ one ∙ counts.1) in
-          sym (lowest_later (either_rules (load_rules s) (load_rules s')) _ sheets_clear ∙ lowest_clear _ (ap not equal, tt))
+        -- different counts are 26
+        pub pair_counts : i.header.challenges ≢ j.header.challenges → 26 ≡ lowest (pair_rules s s')
+        unfolding pair_rules
+        pair_counts other =
+            let differ = ne_eqb _ _ (λ (e : (instance_of s).header.challenges ≡ (instance_of s').header.challenges).
+            other (counts.0 ∙ e ∙ sym counts.1)) in
+            sym (lowest_later (either_rules (load_rules s) (load_rules s')) _ sheets_clear ∙ stop 26 [] (ap not differ))
+
+        -- one count is none
+        pub pair_passed : i.header.challenges ≡ j.header.challenges → 0 ≡ lowest (pair_rules s s')
+        unfolding pair_rules
+        pair_passed one =
+            let equal = eq-eqb _ _ (sym counts.0 ∙ one ∙ counts.1) in
+            sym (lowest_later (either_rules (load_rules s) (load_rules s')) _ sheets_clear ∙ lowest_clear _ (ap not equal, tt))

@@ -1,66 +1,70 @@
 // Two sheets that are loaded together (02, card 4; refusals 2 to 11 of either, then 26), and what is left of a challenge.
 #![tactic(auto)]
 
-ghost use Rattle.std.specs.Prelude.{◌≡◌, List, ℕ, ◌≤◌, ◌<◌};
+ghost use Rattle.std.specs.Prelude.{◌≡◌, ◌≤◌, ◌<◌, Ok, IfOk};
 ghost use Rattle.rules.specs.Rule.{lowest};
 ghost use Rattle.rules.proofs.Either.{lower_of};
-ghost use Rattle.formats.specs.Load.{load};
+ghost use Rattle.refusals.specs.Number.{number, refused_with};
+ghost use Rattle.formats.specs.Sheet.{instance_of};
+ghost use Rattle.instance.specs.Values.{values_of};
 ghost use Rattle.disjunctions.specs.Judge.{pair_rules};
 ghost use Rattle.disjunctions.specs.Round.{other_challenge};
-ghost use Rattle.pairs.specs.Pair.{load_pair};
 
-use instance::load;
-use types::Loaded;
+use instance::Sheet;
+use refusals::Refusal;
 
-// What loading two sheets answers: what loading each answers, and the number that both together are refused with.
+// Two sheets that load and have one challenge count.
 #[derive(Clone, Copy)]
-pub struct LoadedPair {
-    pub first: Loaded,
-    pub second: Loaded,
-    pub refusal: u32,
+pub struct Pair {
+    pub first: Sheet,
+    pub second: Sheet,
+    pub ghost one_count: { first.header.challenges ≡ second.header.challenges },
 }
 
-// Of two numbers the lower that is not 0.
-pub fn lower(a: u32, b: u32) -> u32
-    ensures { result ≡ lower_of a b }
+// Of two refusals the one with the lower number. By numbers, of which the clause speaks.
+fn lower(one: Refusal, other: Refusal) -> Refusal
+    ensures { number result ≡ lower_of (number one) (number other) }
 {
-    if a == 0 {
-        return b;
+    if other.number() < one.number() {
+        other
+    } else {
+        one
     }
-    if b == 0 {
-        return a;
-    }
-    if b < a {
-        return b;
-    }
-    a
 }
 
-// The number that two sheets are refused with, or 0: the lower one of 2 to 11, then 26 for different challenge counts.
-fn pair_refusal(first: Loaded, second: Loaded) -> u32
-    ensures { (s s' : List ℕ) → first ≡ load s → second ≡ load s' → result ≡ lowest (pair_rules s s') }
+// What two results hold, or why one of them is refused: where both are, the refusal with the lower number.
+pub fn both<A: Copy, B: Copy>(
+    a: Result<A, Refusal>,
+    b: Result<B, Refusal>,
+) -> Result<(A, B), Refusal>
+    ensures number { refused_with result ≡ lower_of (refused_with a) (refused_with b) }
+    ensures values { IfOk result (λ held. (a ≡ Ok held.0) × (b ≡ Ok held.1)) }
 {
-    let refusal = lower(first.refusal, second.refusal);
-    if refusal != 0 {
-        return refusal;
+    match a {
+        Ok(first) => match b {
+            Ok(second) => Ok((first, second)),
+            Err(refusal) => Err(refusal),
+        },
+        Err(refusal) => match b {
+            Ok(_) => Err(refusal),
+            Err(other) => Err(lower(refusal, other)),
+        },
     }
-    if first.header.challenges != second.header.challenges {
-        return 26;
-    }
-    0
 }
 
-// Loads two sheets, each once.
-pub fn load_pair(first: &[u8], second: &[u8]) -> LoadedPair
-    ensures { result ≡ load_pair first.now second.now }
-{
-    let a = load(first);
-    let b = load(second);
-    let refusal = pair_refusal(a, b);
-    LoadedPair {
-        first: a,
-        second: b,
-        refusal,
+impl Pair {
+    // Loads two sheets, each once: their values, or why they are refused, with the lower one of 2 to 11, then 26 for different
+    // challenge counts.
+    pub fn load(first: &[u8], second: &[u8]) -> Result<Pair, Refusal>
+        ensures number { refused_with result ≡ lowest (pair_rules first.now second.now) }
+        ensures values { IfOk result (λ pair. (values_of pair.first ≡ instance_of first.now)
+            × (values_of pair.second ≡ instance_of second.now)) }
+    {
+        let (first, second) = both(Sheet::load(first), Sheet::load(second))?;
+        if first.header.challenges != second.header.challenges {
+            return Err(Refusal::OtherCount);
+        }
+        Ok(Pair { first, second })
     }
 }
 

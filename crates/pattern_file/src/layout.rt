@@ -68,8 +68,7 @@ fn bad_patterns(file: &[u8], count: usize) -> bool
     ensures { result ≡ bad_patterns file.now count }
 {
     let mut at: usize = START;
-    let mut k: usize = 0;
-    while k < count {
+    for _ in 0..count {
         if file.len() - at < 3 {
             return true;
         }
@@ -81,7 +80,6 @@ fn bad_patterns(file: &[u8], count: usize) -> bool
             return true;
         }
         at += 3 + p.digits;
-        k += 1;
     }
     file.len() != at
 }
@@ -116,11 +114,9 @@ pub fn start_of(file: &[u8], k: usize) -> usize
     ensures { result ≡ pattern_start file.now k }
 {
     let mut at: usize = START;
-    let mut i: usize = 0;
-    while i < k {
+    for _ in 0..k {
         let p = sizes_at(file, at);
         at += 3 + p.digits;
-        i += 1;
     }
     at
 }

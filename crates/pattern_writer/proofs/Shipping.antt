@@ -12,6 +12,9 @@ use Rattle.encoding.specs.Placed.{Fitted, Placed}
 use Rattle.encoding.specs.Text.{ascii}
 use Rattle.encoding.proofs.Fitted.{fitted_none, fitted_then, fitted_whole}
 use Rattle.encoding.proofs.Placed.{placed_behind, placed_number}
+use Rattle.std.specs.Prelude.{Ok, Err}
+use Rattle.refusals.specs.declared.Refusal.TheVariants.{Buffer}
+use Rattle.refusals.specs.Number.{written}
 use Rattle.lists.specs.Places.{items_at, tabulate}
 use Rattle.rules.specs.Call.{number_of}
 use Rattle.rules.proofs.Call.{tested_refused, tested_value}
@@ -84,7 +87,7 @@ length_patterns = refl
 
 module _ (buffer : List ℕ) where
   -- the buffer is too short
-  pub shipped_none : length buffer < 34 → Leaves (record { refusal = 22; length = 0 }) buffer (write_shipped buffer)
+  pub shipped_none : length buffer < 34 → Leaves (written (Err Buffer)) buffer (write_shipped buffer)
   unfolding write_shipped short number_of
   shipped_none less =
       let few = lt-ltb (length buffer) (length shipped) (omega (arith, length_shipped)) in
@@ -94,7 +97,7 @@ module _ (buffer : List ℕ) where
   pub shipped_made : {marked versioned counted after : List ℕ} {used : ℕ} → 34 ≤ length buffer → marked ≡ sets buffer 0 pattern_mark
       → versioned ≡ sets marked 3 (bytes_of 2 1) → counted ≡ sets versioned 5 (bytes_of 1 5)
       → length counted ≡ length buffer → Fitted counted 6 (stored_patterns 5) after used
-      → Leaves (record { refusal = 0; length = used }) after (write_shipped buffer)
+      → Leaves (written (Ok used)) after (write_shipped buffer)
   unfolding write_shipped short number_of pattern_mark ascii
   shipped_made {marked} {used = used} room mark version count size fitted =
       let start : Placed buffer 0 pattern_mark marked 3 = record { stored = mark; behind = refl } in

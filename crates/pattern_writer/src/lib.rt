@@ -1,13 +1,16 @@
 // The pattern file that is shipped (02, card 2), written from 01's patterns 1 to 5 as a constant table.
+// C reads the answers, so a refusal stands in them as a number.
 #![tactic(auto)]
 
 ghost use Rattle.std.specs.Prelude.{◌*◌, ◌≤◌, ◌<◌, ◌≡◌, length};
 ghost use Rattle.encoding.specs.Placed.{Fitted};
+ghost use Rattle.refusals.specs.Number.{written};
 ghost use Rattle.patterns.specs.Table.{write_shipped};
-ghost use Rattle.pattern_writer.specs.Stored.{stored_pattern, table_at};
+ghost use Rattle.pattern_writer.specs.Stored.{stored_pattern};
 
 use fields::{write_mark, write_u8, write_u16};
 use pattern_file::{MARK, START};
+use refusals::{Refusal, written};
 use text::write_word;
 use types::Written;
 
@@ -57,14 +60,6 @@ const PATTERNS: [Pattern; 5] = [
 // How many bytes the shipped file has.
 const LENGTH: usize = 34;
 
-// The pattern at a place of the table, the first being place 0.
-fn pattern_at(k: usize) -> Pattern
-    requires { k < 5 }
-    ensures { result ≡ table_at k }
-{
-    PATTERNS[k]
-}
-
 // Stores the bytes of a pattern of the table that have room from index at on, changes no other byte and answers the index after what
 // it stored.
 fn write_pattern(buffer: &mut [u8], at: usize, p: Pattern) -> usize
@@ -78,27 +73,29 @@ fn write_pattern(buffer: &mut [u8], at: usize, p: Pattern) -> usize
     write_word(buffer, start, &digits[0..count])
 }
 
+// Puts the shipped file at the start of buffer and gives its length, or why it is refused.
+fn try_write_shipped(buffer: &mut [u8]) -> Result<usize, Refusal>
+    ensures answer { written result ≡ (write_shipped buffer.old).answer }
+    ensures bytes { buffer.new ≡ (write_shipped buffer.old).buffer }
+{
+    if buffer.len() < LENGTH {
+        return Err(Refusal::Buffer);
+    }
+    write_mark(buffer, MARK);
+    write_u16(buffer, 3, 1);
+    write_u8(buffer, 5, 5);
+    let mut at: usize = START;
+    for p in &PATTERNS {
+        at = write_pattern(buffer, at, *p);
+    }
+    Ok(at)
+}
+
 // Puts the shipped file at the start of buffer and answers its length. No byte behind it is changed, and a buffer that is shorter,
 // 22, keeps its bytes.
 pub fn write_shipped(buffer: &mut [u8]) -> Written
     ensures answer { result ≡ (write_shipped buffer.old).answer }
     ensures bytes { buffer.new ≡ (write_shipped buffer.old).buffer }
 {
-    if buffer.len() < LENGTH {
-        return Written {
-            length: 0,
-            refusal: 22,
-        };
-    }
-    write_mark(buffer, MARK);
-    write_u16(buffer, 3, 1);
-    write_u8(buffer, 5, 5);
-    let mut at: usize = START;
-    for k in 0..5 {
-        at = write_pattern(buffer, at, pattern_at(k));
-    }
-    Written {
-        length: at,
-        refusal: 0,
-    }
+    written(try_write_shipped(buffer))
 }

@@ -48,16 +48,14 @@ powers_mul {m} {i} {j} {xs} r is_p is_q is_r = record {
 }
 
 -- the table that the turns read
-pub first_powers : (m : ℕ) (x p₁ p₂ p₃ : Four)
-    → lanes p₁ ≡ products_of m 4 (lanes (record { a = 1 % m; b = 1 % m; c = 1 % m; d = 1 % m })) (lanes x)
-    → lanes p₂ ≡ products_of m 4 (lanes p₁) (lanes p₁) → lanes p₃ ≡ products_of m 4 (lanes p₂) (lanes p₁)
-    → FirstPowers m x (record { a = 1 % m; b = 1 % m; c = 1 % m; d = 1 % m } ∷ p₁ ∷ p₂ ∷ p₃ ∷ [])
-first_powers m x p₁ p₂ p₃ is_first is_second is_third =
-    let first = powers_first m (lanes x) p₁ is_first in
+pub first_powers : (m : ℕ) (x p₀ p₁ p₂ p₃ : Four) → p₀ ≡ record { a = 1 % m; b = 1 % m; c = 1 % m; d = 1 % m }
+    → lanes p₁ ≡ products_of m 4 (lanes p₀) (lanes x) → lanes p₂ ≡ products_of m 4 (lanes p₁) (lanes p₁)
+    → lanes p₃ ≡ products_of m 4 (lanes p₂) (lanes p₁) → FirstPowers m x (p₀ ∷ p₁ ∷ p₂ ∷ p₃ ∷ [])
+first_powers m x p₀ p₁ p₂ p₃ are_ones is_first is_second is_third =
+    let first = powers_first m (lanes x) p₁ (rw are_ones at is_first) in
     let second = powers_mul p₂ first first is_second in
-    record {
-      each = four_cases _ (powers_none m (lanes x)).are first.are second.are (powers_mul p₃ second first is_third).are;
-    }
+    let none : Powers m 0 (lanes x) p₀ = rw are_ones (powers_none m (lanes x)) in
+    record { each = four_cases _ none.are first.are second.are (powers_mul p₃ second first is_third).are }
 
 -- by a digit k of the exponent e, which the table has in place d
 module _ (m e k d : ℕ) (x : Four) (fours : List Four) (table : FirstPowers m x fours) (is_d : d ≡ e / 4 ^ k % 4) where

@@ -17,24 +17,37 @@ fn high_product(u: u64, v: u64) -> u64
     u1 * v1 + middle / 4294967296 + next / 4294967296
 }
 
-// The reciprocal of m for mul_barrett: how often m goes into 2^64 - 1.
-pub fn reciprocal(m: u32) -> u64
-    requires { 0 < m }
-    ensures { result ≡ reciprocal_of m }
-{
-    18446744073709551615 / m as u64
+// A modulus with its reciprocal, made once for many products.
+#[derive(Clone, Copy)]
+pub struct Barrett {
+    pub modulus: u32,
+    reciprocal: u64,
+    pub ghost some: { 0 < modulus },
+    ghost exact: { reciprocal ≡ reciprocal_of modulus },
 }
 
-// The product of a and b modulo m, by the reciprocal of m. The quotient that it gives is right or one too small.
-pub fn mul_barrett(a: u32, b: u32, m: u32, reciprocal: u64) -> u32
-    requires { (0 < m) × (reciprocal ≡ reciprocal_of m) }
-    ensures { result ≡ a * b % m }
-{
-    let product = a as u64 * b as u64;
-    let quotient = high_product(product, reciprocal);
-    let rest = product - quotient * m as u64;
-    if rest >= m as u64 {
-        return (rest - m as u64) as u32;
+impl Barrett {
+    // The modulus with how often it goes into 2^64 - 1.
+    pub fn new(modulus: u32) -> Barrett
+        requires { 0 < modulus }
+        ensures { result.modulus ≡ modulus }
+    {
+        Barrett {
+            modulus,
+            reciprocal: u64::MAX / modulus as u64,
+        }
     }
-    rest as u32
+
+    // The product of a and b by the modulus. The quotient that the reciprocal gives is right or one too small.
+    pub fn mul(self, a: u32, b: u32) -> u32
+        ensures { result ≡ a * b % self.modulus }
+    {
+        let product = a as u64 * b as u64;
+        let quotient = high_product(product, self.reciprocal);
+        let rest = product - quotient * self.modulus as u64;
+        if rest >= self.modulus as u64 {
+            return (rest - self.modulus as u64) as u32;
+        }
+        rest as u32
+    }
 }

@@ -15,13 +15,11 @@ pub fn power_exceeds(base: u32, exponent: u32, bound: u64) -> bool
     }
     let most = bound / base as u64;
     let mut power: u64 = 1;
-    let mut left = exponent;
-    while left > 0 {
+    for _ in 0..exponent {
         if power > most {
             return true;
         }
         power = power * base as u64;
-        left -= 1;
     }
     bound < power
 }
@@ -31,11 +29,8 @@ pub fn power_of_two_less_one(exponent: u32) -> u64
     requires { exponent ≤ 64 }
     ensures { result + 1 ≡ 2 ^ exponent }
 {
-    let mut value: u64 = 0;
-    let mut done: u32 = 0;
-    while done < exponent {
-        value = 2 * value + 1;
-        done += 1;
+    if exponent == 0 {
+        return 0;
     }
-    value
+    u64::MAX >> (64 - exponent)
 }

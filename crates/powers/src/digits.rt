@@ -5,18 +5,14 @@ ghost use Rattle.std.specs.Prelude.{◌≡◌, ◌+◌, ◌/◌, ◌%◌, ◌^�
 pub fn bit_length(v: u32) -> u32
     ensures { (result ≤ 32) × (v < 2 ^ result) }
 {
-    32 - u32::leading_zeros(v)
+    32 - v.leading_zeros()
 }
 
 // The index of a digit above which every digit is 0: that of the highest digit that is not 0, or 0.
 pub fn top_digit(exponent: u32) -> u32
     ensures { (result < 16) × (exponent < 4 ^ (result + 1)) }
 {
-    let bits = bit_length(exponent);
-    if bits == 0 {
-        return 0;
-    }
-    (bits - 1) / 2
+    bit_length(exponent).saturating_sub(1) / 2
 }
 
 // Digit k of an exponent.

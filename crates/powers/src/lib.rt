@@ -3,14 +3,14 @@
 #![tactic(auto)]
 
 mod arrays; // arrays.rt: powers and products of the places of an array
-mod barrett; // barrett.rt: one product
+mod barrett; // barrett.rt: a modulus with its reciprocal, and one product
 mod bound; // bound.rt: whether a power is above a bound
 mod digits; // digits.rt: the digits of an exponent
 mod eight; // eight.rt: eight powers
 mod four; // four.rt: four products and four powers
 
 pub use arrays::{mul_powers, powers, products};
-pub use barrett::reciprocal;
+pub use barrett::Barrett;
 pub use bound::{power_exceeds, power_of_two_less_one};
 pub use digits::bit_length;
-pub use four::{Four, mul_four, side_by_side};
+pub use four::{Four, side_by_side};

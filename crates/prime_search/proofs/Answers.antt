@@ -7,10 +7,10 @@ use native.Mathlib.Nat.{dvd_refl, dvd_of_mod-eq-zero, mod-eq-zero_of_dvd}
 use native.Mathlib.Decide.{dec_lt}
 use native.Mathlib.Omega.{arith}
 use borrow.Author.Tests.{lt-ltb, le-ltb}
+use Rattle.std.specs.Prelude.{Option, Some, None}
 use Rattle.numbers.specs.Divisors.{NoDivisorBelow}
 use Rattle.numbers.proofs.Divisors.{no_divisor_next, no_divisor_above_root}
 use Rattle.modular.specs.Divisor.{divisor_of}
-use Rattle.modular.specs.declared.divisors.Divisor.TheVariants.{Nothing}
 use Rattle.modular.proofs.FirstDivisor.{divisor_found, divisor_nothing}
 use Rattle.prime_words.specs.Words.{Table, before}
 use Rattle.prime_words.proofs.Rule.{Clear, rule_end}
@@ -45,10 +45,10 @@ module _ (n k : ℕ) where
   answer_three odd whole = within_first 3 (omega arith) (dvd_of_mod-eq-zero 3 whole) (none_below_three n odd)
 
   -- a divisor that a word has
-  pub answer_found : (b r : ℕ) → ¬ (r ≡ 0) → Searched n b r → within_of r k ≡ divisor_of n k
-  answer_found b r some s =
-      let first = s.found (omega arith) in
-      within_first r first.large first.whole first.none
+  pub answer_found : (b d : ℕ) {r : Option ℕ} → r ≡ Some d → Searched n b r → within_of d k ≡ divisor_of n k
+  answer_found b d is_d s =
+      let first = s.found d is_d in
+      within_first d first.large first.whole first.none
 
   -- a number that nothing up to its square root divides
   pub answer_root : (b : ℕ) → 2 ≤ n → 2 ≤ b → n / b < b → NoDivisorBelow n (suc b) → within_of n k ≡ divisor_of n k
@@ -58,7 +58,7 @@ module _ (n k : ℕ) where
       (no_divisor_above_root n b below (omega arith) root))
 
   -- K is not above the numbers tried
-  pub answer_past : (b : ℕ) → k ≤ b → NoDivisorBelow n (suc b) → Nothing ≡ divisor_of n k
+  pub answer_past : (b : ℕ) → k ≤ b → NoDivisorBelow n (suc b) → None ≡ divisor_of n k
   answer_past b past none = divisor_nothing n k (suc b) (omega arith) none
 
 -- after the last word no number up to 65,536 is left

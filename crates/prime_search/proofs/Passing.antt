@@ -13,7 +13,8 @@ use Rattle.numbers.specs.Divisors.{NoDivisorBelow}
 use Rattle.numbers.proofs.Divisors.{no_divisor_next}
 use Rattle.prime_words.specs.Words.{next, last, all_clear, Table, before, Good}
 use Rattle.prime_words.proofs.Rule.{Clear, clear_next, clear_later, rule_at, before_next}
-use Rattle.prime_search.specs.Search.{Searched}
+use Rattle.std.specs.Prelude.{Some, None}
+use Rattle.prime_search.specs.Search.{FirstIs, Searched}
 
 -- ---- one number
 
@@ -63,17 +64,19 @@ pub walk_start : (n a e : ℕ) → Good a e → 3 ≤ a → NoDivisorBelow n (su
 walk_start n a e good large none = record { large = large; clears = good.clears; ends = refl; none = none }
 
 -- the number p after a divides: it is the first divisor
-pub walk_found : (n k a gaps b p : ℕ) → 0 < k → Walk n k a gaps b → p ≡ next a gaps → n % p ≡ 0 → Searched n b p
+pub walk_found : (n k a gaps b p : ℕ) → 0 < k → Walk n k a gaps b → p ≡ next a gaps → n % p ≡ 0 → Searched n b (Some p)
 walk_found n zero a gaps b p some w same whole = absurd (omega arith)
 walk_found n (suc k) a gaps b p some w same whole =
     let large : 3 ≤ p = omega (arith, w.large, next_rises a gaps) in
     record {
-      nothing = λ z. absurd (omega arith);
-      found = λ positive. record {
-        large = omega arith;
-        whole = dvd_of_mod-eq-zero p whole;
-        none = subst (NoDivisorBelow n) (sym same) (none_next n k a gaps w.clears w.none);
-      };
+      nothing = λ z. absurd cc;
+      found = λ d is_d.
+          let same_d : p ≡ d = cc in
+          subst (FirstIs n) same_d (record {
+            large = omega arith;
+            whole = dvd_of_mod-eq-zero p whole;
+            none = subst (NoDivisorBelow n) (sym same) (none_next n k a gaps w.clears w.none);
+          });
     }
 
 -- it does not: the walk goes on
@@ -92,10 +95,10 @@ walk_on n (suc k) a gaps b p some w same fails =
     }))
 
 -- no number is left
-pub walk_end : (n k a gaps b : ℕ) → k ≡ 0 → Walk n k a gaps b → Searched n b 0
+pub walk_end : (n k a gaps b : ℕ) → k ≡ 0 → Walk n k a gaps b → Searched n b None
 unfolding last
 walk_end n zero a gaps b z w =
-    record { nothing = λ e. subst (λ (x : ℕ). NoDivisorBelow n (suc x)) w.ends w.none; found = λ some. absurd (omega arith) }
+    record { nothing = λ e. subst (λ (x : ℕ). NoDivisorBelow n (suc x)) w.ends w.none; found = λ d is_d. absurd cc }
 walk_end n (suc k) a gaps b z w = absurd (omega arith)
 
 -- ---- the words of a table

@@ -1,10 +1,8 @@
 -- What the search by words of primes has found, and what it answers.
 -- Assumes nothing.
-use Rattle.std.specs.Prelude.{ℕ, suc, ◌*◌, ◌/◌, ◌%◌, ◌≤◌, ◌<◌, ◌≡◌, cond, ltb}
+use Rattle.std.specs.Prelude.{ℕ, Option, Some, None, suc, ◌*◌, ◌/◌, ◌%◌, ◌≤◌, ◌<◌, ◌≡◌, cond, ltb}
 use Rattle.std.specs.Int.{◌∣◌}
 use Rattle.numbers.specs.Divisors.{NoDivisorBelow}
-use Rattle.modular.specs.declared.divisors.Divisor.{Divisor}
-use Rattle.modular.specs.declared.divisors.Divisor.TheVariants.{Found, Nothing}
 use Rattle.prime_words.specs.Words.{next}
 use Rattle.prime_search.specs.declared.Five.{Five}
 
@@ -35,11 +33,11 @@ pub record FirstIs (n d : ℕ) : Type 0 where
   pub whole : d ∣ n
   pub none : NoDivisorBelow n d
 
--- a search up to b found r, or nothing if r is 0
-pub record Searched (n b r : ℕ) : Type 0 where
-  pub nothing : r ≡ 0 → NoDivisorBelow n (suc b)
-  pub found : 0 < r → FirstIs n r
+-- a search up to b answered r: the first divisor, or none where there is none up to b
+pub record Searched (n b : ℕ) (r : Option ℕ) : Type 0 where
+  pub nothing : r ≡ None → NoDivisorBelow n (suc b)
+  pub found : (d : ℕ) → r ≡ Some d → FirstIs n d
 
--- d if it is below K, else nothing
-unfoldable pub within_of : ℕ → ℕ → Divisor
-within_of d challenges = cond (ltb d challenges) (Found d) Nothing
+-- d if it is below K
+unfoldable pub within_of : ℕ → ℕ → Option ℕ
+within_of d challenges = cond (ltb d challenges) (Some d) None

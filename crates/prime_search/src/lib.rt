@@ -7,11 +7,6 @@ ghost use Rattle.modular.specs.Divisor.{divisor_of, divisor_outcome};
 ghost use Rattle.prime_words.specs.Words.{next, last, Table, Good};
 ghost use Rattle.prime_search.specs.Search.{OfWord, low, SharesAbove, Searched, within_of};
 
-use modular::Divisor;
-
-// How many words the table has.
-const COUNT: usize = 1308;
-
 // How many words are searched with one quotient.
 const BLOCK: usize = 16;
 
@@ -63,10 +58,7 @@ fn unpack(a: u32, e: u64) -> Five
 fn pair_above(share: u32, p: u32, q: u32, most: u32) -> bool
     ensures { result ≡ true → (most < low share q) × (most < low share p) }
 {
-    if low_product(share, q) <= most {
-        return false;
-    }
-    low_product(share, p) > most
+    low_product(share, q) > most && low_product(share, p) > most
 }
 
 // Whether the shares of five numbers are above `most`, by the inverse of their product.
@@ -77,42 +69,36 @@ fn shares_above(order: u32, inverse: u32, five: Five, most: u32) -> bool
     let four = low_product(all, five.fifth);
     let front = low_product(five.first, five.second);
     let back = low_product(five.third, five.fourth);
-    if !pair_above(low_product(four, back), five.first, five.second, most) {
-        return false;
-    }
-    if !pair_above(low_product(four, front), five.third, five.fourth, most) {
-        return false;
-    }
-    low_product(low_product(all, front), back) > most
+    pair_above(low_product(four, back), five.first, five.second, most)
+        && pair_above(low_product(four, front), five.third, five.fourth, most)
+        && low_product(low_product(all, front), back) > most
 }
 
-// The first of the five numbers of the word e after a that divides order, or 0, by a division for each.
-fn divide(order: u32, a: u32, e: u64) -> u32
+// The first of the five numbers of the word e after a that divides order, if one does, by a division for each.
+fn divide(order: u32, a: u32, e: u64) -> Option<u32>
     requires { Good a e × (3 ≤ a) × (a ≤ 65535) × NoDivisorBelow order (suc a) }
     ensures { Searched order (last 5 a e) result }
 {
-    let mut left: u32 = 5;
     let mut p = a;
     let mut gaps = e;
-    while left > 0 {
+    for _ in 0..5u32 {
         p = next_number(p, gaps);
         if order % p == 0 {
-            return p;
+            return Some(p);
         }
         gaps = gaps / 64;
-        left -= 1;
     }
-    0
+    None
 }
 
-// The first of the five numbers of the word e after a that divides order, or 0. The share of a number that divides is the quotient,
+// The first of the five numbers of the word e after a that divides order, if one does. The share of a number that divides is the quotient,
 // and no quotient is above `most`: so shares above it rule all five out without a division.
-fn in_word(order: u32, a: u32, e: u64, five: Five, most: u32) -> u32
+fn in_word(order: u32, a: u32, e: u64, five: Five, most: u32) -> Option<u32>
     requires { Good a e × (3 ≤ a) × (a ≤ 65535) × OfWord a e five × (order / a ≤ most) × NoDivisorBelow order (suc a) }
     ensures { Searched order (last 5 a e) result }
 {
     if shares_above(order, (e / 4294967296) as u32, five, most) {
-        return 0;
+        return None;
     }
     divide(order, a, e)
 }
@@ -128,43 +114,33 @@ fn bound(order: u32, a: u32, most: u32, i: usize) -> u32
     most
 }
 
-// d if it is below the count of challenges, else nothing.
-pub fn within(d: u32, challenges: u32) -> Divisor
+// d if it is below the count of challenges.
+pub fn within(d: u32, challenges: u32) -> Option<u32>
     ensures { result ≡ within_of d challenges }
 {
-    if d < challenges {
-        return Divisor::Found(d);
-    }
-    Divisor::Nothing
+    (d < challenges).then_some(d)
 }
 
-// The first d with 2 ≤ d < challenges that divides order, or nothing if there is none. The order is at least 2, and neither 2 nor 3
-// divides it.
-pub fn search(table: &[u64; 1308], order: u32, challenges: u32) -> Divisor
+// The first d with 2 ≤ d < challenges that divides order, if there is one. The order is at least 2, and neither 2 nor 3 divides it.
+pub fn search(table: &[u64; 1308], order: u32, challenges: u32) -> Option<u32>
     requires { Table table.now × (2 ≤ order) × NoDivisorBelow order 4 }
     ensures { divisor_outcome result ≡ divisor_outcome (divisor_of order challenges) }
 {
-    let mut i: usize = 0;
     let mut a: u32 = 3;
     let mut most = order;
-    loop {
-        if i >= COUNT {
-            break within(order, challenges);
-        }
+    for (i, e) in table.iter().enumerate() {
         if challenges <= a {
-            break Divisor::Nothing;
+            return None;
         }
         most = bound(order, a, most, i);
         if most < a {
-            break within(order, challenges);
+            return within(order, challenges);
         }
-        let e = table[i];
-        let five = unpack(a, e);
-        let d = in_word(order, a, e, five, most);
-        if d != 0 {
-            break within(d, challenges);
+        let five = unpack(a, *e);
+        if let Some(d) = in_word(order, a, *e, five, most) {
+            return within(d, challenges);
         }
         a = five.fifth;
-        i += 1;
     }
+    within(order, challenges)
 }

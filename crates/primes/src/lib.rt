@@ -6,23 +6,17 @@ mod words; // words.rt: the table of primes
 ghost use Rattle.std.specs.Prelude.{◌≡◌};
 ghost use Rattle.modular.specs.Divisor.{divisor_of, divisor_outcome};
 
-use modular::Divisor;
 use prime_search::{search, within};
 use words::WORDS;
 
 // Up to here the numbers are tried one after the other: a table that is not in the cache would take longer.
 const FEW: u32 = 4096;
 
-const FEW_SQUARED: u32 = 16777216;
-
-// The first d with 2 ≤ d < challenges that divides order, or nothing if there is none.
-pub fn first_divisor(order: u32, challenges: u32) -> Divisor
+// The first d with 2 ≤ d < challenges that divides order, if there is one.
+pub fn first_divisor(order: u32, challenges: u32) -> Option<u32>
     ensures { divisor_outcome result ≡ divisor_outcome (divisor_of order challenges) }
 {
-    if challenges <= FEW {
-        return modular::first_divisor(order, challenges);
-    }
-    if order < FEW_SQUARED {
+    if challenges <= FEW || order < FEW * FEW {
         return modular::first_divisor(order, challenges);
     }
     if order % 2 == 0 {
@@ -31,6 +25,5 @@ pub fn first_divisor(order: u32, challenges: u32) -> Divisor
     if order % 3 == 0 {
         return within(3, challenges);
     }
-    let table = WORDS;
-    search(&table, order, challenges)
+    search(&WORDS, order, challenges)
 }

@@ -1,6 +1,6 @@
 // The primes from 5 to 65,521, five to a word. Each has 6 bits, the first the lowest: half of how far it is from the prime before it,
 // and the first of all from 3. The high 32 bits have the inverse of the product of the five modulo 2^32.
-pub const WORDS: [u64; 1308] = [
+pub static WORDS: [u64; 1308] = [
     9269226022568730689,
     712798214218330241,
     6288125154128830530,

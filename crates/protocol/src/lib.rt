@@ -6,4 +6,4 @@ mod calls; // calls.rt: the calls on a sheet's bytes
 mod loaded; // loaded.rt: judging, its tests, and simulating, on loaded values
 
 pub use calls::{judge, simulate};
-pub use loaded::{judge_loaded, round_refusal, simulated};
+pub use loaded::{judge_loaded, simulated, test_round};

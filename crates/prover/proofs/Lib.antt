@@ -1,4 +1,4 @@
 -- Laws that the proofs of the functions cite, by topic.
-pub mod States
-pub mod Steps
 pub mod Fits
+pub mod Listing
+pub mod States

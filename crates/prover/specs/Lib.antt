@@ -1,2 +1,3 @@
 -- Peggy's calls by the parts of her session.
+pub mod Entries
 pub mod Parts

@@ -1,8 +1,9 @@
-// Committing and responding (01, "Sessions") by the parts of Peggy's session that they read. The whole session stands in
+// Committing and responding (01, "Sessions"; 02, card 13) by the parts of Peggy's session that they read. The whole session stands in
 // prover_session.
 #![tactic(auto)]
 
 mod calls; // calls.rt: the calls on a sheet's bytes
+mod list; // list.rt: the list of answered commitments
 mod loaded; // loaded.rt: the same on loaded values
 
 pub use calls::{commit, respond};
@@ -16,10 +17,9 @@ pub struct Held {
     pub phase: ProverPhase,
 }
 
-// What committing gives: the nonce and the commitment that the session then holds, or a number beside zeros.
+// What committing gives: the nonce and the commitment that the session then holds.
 #[derive(Clone, Copy)]
 pub struct Committing {
     pub nonce: [u32; 8],
     pub commitment: [u32; 8],
-    pub refusal: u32,
 }

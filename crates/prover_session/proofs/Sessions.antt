@@ -34,11 +34,11 @@ module _ (s : ProverSession) {phase : ProverPhase} (same : phase ≡ prover_phas
   session_ended told = not_started (prover_of s) (rw same at told)
 
 -- the session that responding hands back
-pub listed_session : (s : ProverSession)
+pub listed_session : (s : ProverSession) {k : ℕ} → k ≡ prover_state Answered
     → record {
       nonce = zeros8;
       commitment = s.commitment;
-      phase = 2;
+      phase = k;
       memory =
           record {
             saved = s.memory.saved;
@@ -53,8 +53,8 @@ pub listed_session : (s : ProverSession)
       commitment = (prover_of s).commitment;
       memory = listing (prover_of s).commitment (prover_of s).memory;
     })
-unfolding prover_session prover_of prover_state listing
-listed_session s = rw (add-one s.memory.count)
+unfolding prover_session prover_of listing
+listed_session s is_state = rw (is_state, add-one s.memory.count)
 
 -- the session that saving hands back
 pub saved_session : (s : ProverSession) (name : ℕ) {k : ℕ} → k ≡ prover_state (prover_phase s.phase)

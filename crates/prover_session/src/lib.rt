@@ -2,7 +2,6 @@
 #![tactic(auto)]
 
 mod committing; // committing.rt: committing
-mod list; // list.rt: the list of answered commitments
 mod responding; // responding.rt: responding
 mod saving; // saving.rt: saving under a name and returning
 mod session; // session.rt: a new session, and dropping one

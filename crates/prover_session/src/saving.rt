@@ -1,10 +1,12 @@
 // Saving Peggy's session under a name and returning to it (02, card 13; refusal 34). A refused call hands back the session as it was
 // handed in. No values are answered, zeros stand there.
+// C reads the answers, so a refusal stands in them as a number.
 ghost use Rattle.std.specs.Prelude.{◌≡◌};
 ghost use Rattle.runs.specs.Saving.{return_to, save};
 ghost use Rattle.crossing.specs.Provers.{prover_of, prover_answer};
 
 use crossing::{ProverAnswer, ProverSession, prover_phase, prover_state};
+use refusals::Refusal;
 use types::Saved;
 
 // Saves the state, nonce and commitment of a session under a name, in place of what was saved there. Refused with 34 for a name of 8
@@ -17,7 +19,7 @@ pub fn save(mut session: ProverSession, name: u32) -> ProverAnswer
         return ProverAnswer {
             session,
             values,
-            refusal: 34,
+            refusal: Refusal::Name.number(),
         };
     }
     let nonce = session.nonce;
@@ -49,7 +51,7 @@ pub fn return_to(mut session: ProverSession, name: u32) -> ProverAnswer
         return ProverAnswer {
             session,
             values,
-            refusal: 34,
+            refusal: Refusal::Name.number(),
         };
     }
     let memory = session.memory;
@@ -58,7 +60,7 @@ pub fn return_to(mut session: ProverSession, name: u32) -> ProverAnswer
         return ProverAnswer {
             session,
             values,
-            refusal: 34,
+            refusal: Refusal::Name.number(),
         };
     }
     let nonce = saved.nonce;

@@ -1,9 +1,11 @@
 // A new session, and dropping one.
+// C reads the answers, so a refusal stands in them as a number.
 ghost use Rattle.std.specs.Prelude.{◌≡◌};
 ghost use Rattle.runs.specs.Prover.{new_prover, drop_session};
 ghost use Rattle.crossing.specs.Provers.{prover_of, prover_session, prover_answer};
 
 use crossing::{ProverAnswer, ProverSession, prover_phase, prover_state};
+use refusals::Refusal;
 use types::{Listed, Memory, ProverPhase, Saved};
 
 // A new session: it is New, holds zeros, and has saved and listed nothing.
@@ -43,7 +45,7 @@ pub fn drop_session(mut session: ProverSession) -> ProverAnswer
     match phase {
         ProverPhase::New | ProverPhase::Committed => {
             session.nonce = [0u32; 8];
-            session.phase = 3;
+            session.phase = prover_state(ProverPhase::Dropped);
             ProverAnswer {
                 session,
                 values,
@@ -53,7 +55,7 @@ pub fn drop_session(mut session: ProverSession) -> ProverAnswer
         ProverPhase::Answered | ProverPhase::Dropped => ProverAnswer {
             session,
             values,
-            refusal: 21,
+            refusal: Refusal::Session.number(),
         },
     }
 }

@@ -4,21 +4,14 @@
 #![tactic(auto)]
 
 use diagnosis::{LONGEST, reason_files};
-use files::{count_rounds, count_sheet};
-use std::io::ErrorKind;
+use files::{count_rounds, count_sheet, print_text};
 use std::process::ExitCode;
 
+// Alike to that of `game`: what a program reads and hands on stands in its own main.
 fn main(rt: HostRuntime) -> ExitCode {
     let mut text = [0u8; LONGEST];
     let sheet = count_sheet(&rt);
     let rounds = count_rounds(&rt);
-    let length = reason_files(sheet, rounds, &mut text);
-    match rt.write_all(&text[..length]) {
-        Ok(()) => ExitCode::SUCCESS,
-        Err(error) if error.kind() == ErrorKind::BrokenPipe => ExitCode::FAILURE,
-        Err(_) => {
-            let _ = eprintln!(rt; "reason: the text cannot be written whole");
-            ExitCode::SUCCESS
-        }
-    }
+    let length = reason_files(&sheet, &rounds, &mut text);
+    print_text(&rt, "reason", &text[..length])
 }

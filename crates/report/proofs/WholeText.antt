@@ -1,15 +1,14 @@
 -- The whole text (01, "The marker's lines"; 02, card 3) by what loading the sheet, counting the file and testing the level answer.
 -- Assumes nothing.
 use Prim.Native.Nat.{ℕ, ◌≤◌, ◌<◌}
-use mathlib.Core.Path.{◌≡◌, sym, ap, ◌∙◌}
-use mathlib.Core.Logic.{◌≢◌}
+use mathlib.Core.Path.{◌≡◌, refl, sym, ap, ◌∙◌}
 use mathlib.Core.Bool.{Bool, false, not, ◌||◌}
 use mathlib.Core.List.{List, [], ◌∷◌, ◌++◌, flatten}
 use native.Mathlib.Omega.{arith}
+use Rattle.std.specs.Prelude.{Ok, Err}
 use lib.ListN.{length}
 use lib.Seq.{sets}
 use Rattle.types.specs.declared.Counted.{Counted}
-use Rattle.types.specs.declared.Loaded.{Loaded}
 use Rattle.types.specs.declared.Verdict.{Verdict}
 use Rattle.numbers.specs.Search.{any}
 use Rattle.numbers.proofs.Search.{any_agree}
@@ -21,20 +20,23 @@ use Rattle.encoding.specs.Text.{ascii}
 use Rattle.rules.specs.Call.{answer}
 use Rattle.rules.specs.Rule.{◌when◌, lowest}
 use Rattle.sigma.specs.Answer.{is_accepted}
-use Rattle.formats.specs.Load.{load}
+use Rattle.formats.specs.Load.{load_refusal}
 use Rattle.formats.specs.Meaning.{IsRoundFile}
 use Rattle.formats.specs.RoundCalls.{count_rounds, counting}
 use Rattle.formats.specs.RoundFile.{count_field}
-use Rattle.formats.specs.Sheet.{entries_of, header_of, instance_of}
+use Rattle.formats.specs.Sheet.{header_of, instance_of}
 use Rattle.formats.proofs.Files.{count_given, count_runs}
 use Rattle.runs.specs.Level.{bad_level, level_of, strong_enough}
 use Rattle.runs.specs.Marker.{fails_at, marker_text, result_line, round_line, round_lines, verdict_line, verdict_on, word_line}
 use Rattle.runs.proofs.Marker.{round_lines_law, verdict_on_record}
 use Rattle.runs.proofs.MarkerLength.{text_short}
 use Rattle.runs.proofs.MarkerRefusal.{file_line, file_refusal, level_line, sheet_line}
-use Rattle.instance.proofs.Answers.{answer_number, answer_header, answer_instance}
-use Rattle.instance.proofs.OnLoaded.{on_header}
-use Rattle.sigma.specs.Instance.{instance_with}
+use Rattle.instance.proofs.SheetLoads.{loaded_header, on_fields}
+use Rattle.refusals.specs.declared.Refusal.{Refusal}
+use Rattle.refusals.specs.Number.{number}
+use Rattle.refusals.proofs.Positive.{number_positive}
+use Rattle.round_file.specs.Results.{counted}
+use Rattle.sigma.specs.Instance.{Instance}
 use Rattle.round_lines.specs.Lines.{fails_in, lines_in, verdict_in}
 use Rattle.report.proofs.AtLevel.{level_bad, level_good}
 
@@ -72,64 +74,57 @@ module _ (s f : List ℕ) (e : (count_rounds s f).refusal ≡ 0) where
   unfolding round_lines fails_at
   rounds_same level good = round_lines_law s f level e good ∙ rw (lines_same, fails_same)
 
-module _ (s f : List ℕ) {loaded : Loaded} (is_load : loaded ≡ load s) where
+module _ (s f : List ℕ) where
   -- ---- one line
 
   -- a refused sheet
-  pub sheet_text : (level : List ℕ) → loaded.refusal ≢ 0 → marker_text s f level ≡ word_line (ascii "sheet") loaded.refusal
-  sheet_text level some =
-      let number = answer_number s loaded is_load in
-      rw number (sheet_line s f level (omega arith))
+  pub sheet_text : (level : List ℕ) (refusal : Refusal) → number refusal ≡ load_refusal s → {n : ℕ} → n ≡ number refusal
+      → marker_text s f level ≡ word_line (ascii "sheet") n
+  sheet_text level refusal is_number told =
+      rw (told, is_number) (sheet_line s f level (omega (arith, is_number, number_positive refusal)))
 
-  module _ (passed : loaded.refusal ≡ 0) {counted : Counted} (is_count : counted ≡ answer (counting loaded.header f)) where
+  module _ (passed : 0 ≡ load_refusal s) {inst : Instance} (values : inst ≡ instance_of s) where
     -- counting answers the sheet's and the file's number
-    counts : counted ≡ count_rounds s f
+    counts : {told : Counted} → told ≡ answer (counting inst.header f) → told ≡ count_rounds s f
     unfolding count_rounds
-    counts = on_header s loaded is_load passed (λ h. counting h f) is_count
+    counts is_count = on_fields s passed values (λ h. counting h f) is_count
 
     -- a refused file
-    pub file_text : (level : List ℕ) → counted.refusal ≢ 0 → marker_text s f level ≡ word_line (ascii "file") counted.refusal
-    file_text level some =
-        let same : counted.refusal ≡ (count_rounds s f).refusal = ap (λ (c : Counted). c.refusal) counts in
-        let loads = (answer_header s loaded is_load passed).0 in
-        let refused : 0 < (count_rounds s f).refusal = omega arith in
-        rw (same, file_refusal s f loads refused) (file_line s f level loads refused)
+    pub file_text : (level : List ℕ) (refusal : Refusal) → counted (Err refusal) ≡ answer (counting inst.header f)
+        → {n : ℕ} → n ≡ number refusal → marker_text s f level ≡ word_line (ascii "file") n
+    file_text level refusal is_count told =
+        let same : number refusal ≡ (count_rounds s f).refusal = ap (λ (c : Counted). c.refusal) (counts is_count) in
+        let loads = sym passed in
+        let refused : 0 < (count_rounds s f).refusal = omega (arith, same, number_positive refusal) in
+        rw (told, same, file_refusal s f loads refused) (file_line s f level loads refused)
 
-    module _ (reads : counted.refusal ≡ 0) where
+    module _ {count : ℕ} (is_count : counted (Ok count) ≡ answer (counting inst.header f)) where
       -- nothing is refused of the sheet and the file
       counted_zero : (count_rounds s f).refusal ≡ 0
-      counted_zero = ap (λ (c : Counted). c.refusal) (sym counts) ∙ reads
+      counted_zero = ap (λ (c : Counted). c.refusal) (sym (counts is_count))
 
       -- the file is a round file of the sheet, and the count is its own
-      pub file_reads : (IsRoundFile loaded.header f) × (counted.count ≡ count_field f)
+      pub file_reads : (IsRoundFile inst.header f) × (count ≡ count_field f)
       file_reads = (
-        rw (answer_header s loaded is_load passed).1 ((count_runs s f).0 counted_zero).1,
-        ap (λ (c : Counted). c.count) (counts ∙ count_given s f counted_zero),
+        rw (loaded_header s passed values) ((count_runs s f).0 counted_zero).1,
+        ap (λ (c : Counted). c.count) (counts is_count ∙ count_given s f counted_zero),
       )
 
-      module _ (level : List ℕ) {number : ℕ} (is_number : number ≡ lowest ((25 when bad_level level) ∷ [])) where
-        -- a refused level
-        pub level_text : number ≢ 0 → marker_text s f level ≡ word_line (ascii "level") number
-        level_text some =
-            let (bad, same) = level_bad level is_number some in
-            rw same (level_line s f level counted_zero bad)
+      -- a refused level
+      pub level_text : (level : List ℕ) (refusal : Refusal) → number refusal ≡ lowest ((25 when bad_level level) ∷ [])
+          → {n : ℕ} → n ≡ number refusal → marker_text s f level ≡ word_line (ascii "level") n
+      level_text level refusal is_number told =
+          let (bad, same) = level_bad level is_number (λ e. omega (arith, e, number_positive refusal)) in
+          rw (told, same) (level_line s f level counted_zero bad)
 
-        -- ---- a line for each round
+      -- ---- a line for each round
 
-        module _ (given : number ≡ 0) {entries : List (List ℕ)} (is_entries : entries ≡ entries_of s loaded.header) where
-          -- the whole text
-          pub rounds_text : {round_failed failed : Bool}
-              → round_failed ≡ fails_in (instance_with loaded.header entries loaded.statement) f counted.count
-              → failed ≡ round_failed || not (strong_enough loaded.header.challenges counted.count (level_of level))
-              → marker_text s f level
-              ≡ word_line (ascii "rounds") counted.count
-              ++ lines_in (instance_with loaded.header entries loaded.statement) f counted.count ++ result_line failed
-          rounds_text is_round is_failed =
-              rw (
-                is_failed,
-                is_round,
-                answer_instance s loaded is_load passed is_entries,
-                (answer_header s loaded is_load passed).1,
-                file_reads.1,
-              )
-              (rounds_same s f counted_zero level (level_good level is_number given))
+      -- the whole text
+      pub rounds_text : (level : List ℕ) → 0 ≡ lowest ((25 when bad_level level) ∷ []) → {w : ℕ} → w ≡ level_of level
+          → {round_failed failed : Bool} → round_failed ≡ fails_in inst f count
+          → failed ≡ round_failed || not (strong_enough inst.header.challenges count w)
+          → marker_text s f level ≡ word_line (ascii "rounds") count ++ lines_in inst f count ++ result_line failed
+      unfolding instance_of
+      rounds_text level given is_level is_round is_failed =
+          rw (is_failed, is_level, is_round, loaded_header s passed values, values, file_reads.1)
+          (rounds_same s f counted_zero level (level_good level given refl))

@@ -1,67 +1,56 @@
 // Reading a round file for a sheet whose fixed fields are loaded (01, "A round" and refusals 12 and 13; 02, card 7).
+// The bounds of fixed fields are clauses and no type, since a `Sheet` would ask more of callers.
 ghost use Rattle.std.specs.Prelude.{◌+◌, ◌*◌, ◌≤◌, ◌≡◌, length};
 ghost use Rattle.lists.specs.Places.{pad8};
 ghost use Rattle.encoding.specs.Bytes.{number_at, words_at};
 ghost use Rattle.rules.specs.Call.{answer};
+ghost use Rattle.refusals.specs.Number.{refused_with};
 ghost use Rattle.formats.specs.RoundFile.{record_length, round_at};
-ghost use Rattle.formats.specs.RoundCalls.{no_round, counting, checking, locating, fetching};
+ghost use Rattle.formats.specs.RoundCalls.{counting, checking, locating, fetching};
 ghost use Rattle.round_layout.specs.Width.{IsWidth};
+ghost use Rattle.round_file.specs.Results.{counted, fetched, located};
 
 use fields::{read_u16, read_u32, read_words};
-use round_layout::{file_refusal, file_width, record_length, record_start};
-use types::{Counted, Fetched, Header, Part, Round};
+use refusals::Refusal;
+use round_layout::{file_width, record_length, record_start, test_file};
+use types::{Header, Part, Round};
 
-// How many rounds a file has; 0 beside the number where it is refused.
-pub fn count_in(h: Header, file: &[u8]) -> Counted
+// How many rounds a file has.
+pub fn count_in(h: Header, file: &[u8]) -> Result<u32, Refusal>
     requires rows { h.rows ≤ 8 }
     requires columns { h.columns ≤ 8 }
-    ensures { result ≡ answer (counting h file.now) }
+    ensures { counted result ≡ answer (counting h file.now) }
 {
-    let refusal = file_refusal(h, file);
-    if refusal != 0 {
-        return Counted { count: 0, refusal };
-    }
-    Counted {
-        count: read_u16(file, 5),
-        refusal: 0,
-    }
+    test_file(h, file)?;
+    Ok(read_u16(file, 5))
 }
 
-// The number that round k of a file is refused with, 12, 13 or 0.
-pub fn check_in(h: Header, file: &[u8], k: usize) -> u32
+// Tests whether a file has a round k (refusals 12 and 13).
+pub fn check_in(h: Header, file: &[u8], k: usize) -> Result<(), Refusal>
     requires rows { h.rows ≤ 8 }
     requires columns { h.columns ≤ 8 }
-    ensures { result ≡ answer (checking h file.now k) }
+    ensures { refused_with result ≡ answer (checking h file.now k) }
 {
-    let refusal = file_refusal(h, file);
-    if refusal != 0 {
-        return refusal;
-    }
-    let count = read_u16(file, 5);
+    let count = count_in(h, file)?;
     if count as usize <= k {
-        return 13;
+        return Err(Refusal::Round);
     }
-    0
+    Ok(())
 }
 
-// Where round k stands in a file, 0 and 0 where it is refused.
-pub fn locate_in(h: Header, file: &[u8], k: usize) -> Part
+// Where round k stands in a file.
+pub fn locate_in(h: Header, file: &[u8], k: usize) -> Result<Part, Refusal>
     requires rows { h.rows ≤ 8 }
     requires columns { h.columns ≤ 8 }
-    ensures { result ≡ answer (locating h file.now k) }
+    ensures number { refused_with result ≡ answer (checking h file.now k) }
+    ensures place { located result ≡ answer (locating h file.now k) }
 {
-    let refusal = check_in(h, file, k);
-    if refusal != 0 {
-        return Part {
-            offset: 0,
-            length: 0,
-        };
-    }
+    check_in(h, file, k)?;
     let width = file_width(file);
-    Part {
+    Ok(Part {
         offset: record_start(h, width, k),
         length: record_length(h, width),
-    }
+    })
 }
 
 // The n numbers in the 4 n bytes of a file from index at on, and 0 in the places beyond them. A number that is alone stands in
@@ -109,32 +98,13 @@ pub fn round_at(h: Header, width: usize, file: &[u8], at: usize) -> Round
     }
 }
 
-// A round of zeros.
-pub fn no_round() -> Round
-    ensures { result ≡ no_round }
-{
-    let zeros = [0u32; 8];
-    Round {
-        commitment: zeros,
-        challenge: 0,
-        response: zeros,
-    }
-}
-
-// The values of round k of a file, which are not tested; zeros beside the number where it is refused.
-pub fn read_in(h: Header, file: &[u8], k: usize) -> Fetched
+// The values of round k of a file, which are not tested.
+pub fn read_in(h: Header, file: &[u8], k: usize) -> Result<Round, Refusal>
     requires rows { h.rows ≤ 8 }
     requires columns { h.columns ≤ 8 }
-    ensures { result ≡ answer (fetching h file.now k) }
+    ensures { fetched result ≡ answer (fetching h file.now k) }
 {
-    let refusal = check_in(h, file, k);
-    if refusal != 0 {
-        return Fetched {
-            round: no_round(),
-            refusal,
-        };
-    }
+    check_in(h, file, k)?;
     let width = file_width(file);
-    let round = round_at(h, width, file, record_start(h, width, k));
-    Fetched { round, refusal: 0 }
+    Ok(round_at(h, width, file, record_start(h, width, k)))
 }

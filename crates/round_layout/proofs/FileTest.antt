@@ -4,6 +4,7 @@ use Prim.Native.Nat.{ℕ, ◌≤◌}
 use mathlib.Core.Path.{◌≡◌, sym, ap, ◌∙◌}
 use mathlib.Core.Bool.{Bool, true, false, not, false≢true, not-eq-not}
 use mathlib.Core.List.{List, []}
+use native.Mathlib.Omega.{arith}
 use lib.ListN.{length, take}
 use borrow.Author.Tests.{not-true, not-false}
 use Rattle.types.specs.declared.Header.{Header}
@@ -13,6 +14,9 @@ use Rattle.rules.specs.Rule.{lowest}
 use Rattle.rules.specs.Says.{Says}
 use Rattle.rules.proofs.Lowest.{clear_lowest, stop}
 use Rattle.sigma.proofs.Comparison.{differ_false}
+use Rattle.refusals.specs.declared.Refusal.{Refusal}
+use Rattle.refusals.specs.Number.{number}
+use Rattle.refusals.proofs.Positive.{number_positive}
 use Rattle.formats.specs.Meaning.{IsRoundFile, IsVersion}
 use Rattle.formats.specs.RoundCalls.{counting}
 use Rattle.formats.specs.RoundFile.{challenge_width, count_field, file_version, record_start, round_mark, unknown_version}
@@ -43,14 +47,20 @@ module _ (h : Header) (f : List ℕ) where
   unfolding counting number_of lowest
   file_taken r = rw ((file_passes h f).1 r)
 
+  -- what it is refused with is 12
+  pub file_number : (refusal : Refusal) → number refusal ≡ number_of (counting h f) → (number refusal ≡ 12) × (¬ IsRoundFile h f)
+  file_number refusal tested =
+      let other : ¬ IsRoundFile h f = λ r. omega (arith, tested, file_taken r, number_positive refusal) in
+      (tested ∙ sym (file_refused other), other)
+
   -- a file that is not refused is a round file of the sheet
-  pub file_clear : {n : ℕ} → n ≡ number_of (counting h f) → n ≡ 0 → IsRoundFile h f
+  pub file_clear : 0 ≡ number_of (counting h f) → IsRoundFile h f
   unfolding counting number_of
-  file_clear tested e = (file_passes h f).0 (clear_lowest (counting h f).refusals tt (sym tested ∙ e)).0
+  file_clear tested = (file_passes h f).0 (clear_lowest (counting h f).refusals tt (sym tested)).0
 
   -- and has the seven bytes before the records
-  pub seven_bytes : {n : ℕ} → n ≡ number_of (counting h f) → n ≡ 0 → 7 ≤ length f
-  seven_bytes tested e = file_long (file_clear tested e)
+  pub seven_bytes : 0 ≡ number_of (counting h f) → 7 ≤ length f
+  seven_bytes tested = file_long (file_clear tested)
 
   module _ {marked : Bool} (tested : marked ≡ has_mark f round_mark) (long : 3 ≤ length f) where
     -- a file that fails the test of the mark is refused

@@ -1,14 +1,17 @@
 // The layout of a round file (01, "A round"; 02, card 7): its versions and the widths of their challenges, the places of its
 // records, and the test of a file (refusal 12).
+// The bounds of fixed fields are clauses and no type, since a `Sheet` would ask more of callers.
 #![tactic(auto)]
 
 ghost use Rattle.std.specs.Prelude.{◌≤◌, ◌≡◌, length};
 ghost use Rattle.rules.specs.Call.{number_of};
+ghost use Rattle.refusals.specs.Number.{refused_with};
 ghost use Rattle.formats.specs.RoundFile.{challenge_width, record_length, record_start, unknown_version, width_of};
 ghost use Rattle.formats.specs.RoundCalls.{counting};
 ghost use Rattle.round_layout.specs.Width.{IsWidth};
 
 use fields::{has_mark, read_u16};
+use refusals::Refusal;
 use types::Header;
 
 // The three bytes that a round file begins with.
@@ -20,14 +23,14 @@ pub const START: usize = 7;
 // How many rounds a file can have.
 pub const MOST_ROUNDS: u32 = 512;
 
+// A version and a width are numbers and no enum of two: `unknown_version` and `width_of` take any number, and `record_length` and
+// `record_start` any width up to 4 (docs/promises/inner.md).
+
 // Whether a version is other than 1 and 2.
 pub fn unknown_version(version: u32) -> bool
     ensures { result ≡ unknown_version version }
 {
-    if version == 1 {
-        return false;
-    }
-    version != 2
+    version != 1 && version != 2
 }
 
 // How many bytes a challenge has in a file of a version: 2 in version 2, else 4.
@@ -36,10 +39,7 @@ pub fn width_of(version: u32) -> usize
     ensures small { result ≤ 4 }
     ensures known { IsWidth result }
 {
-    if version == 2 {
-        return 2;
-    }
-    4
+    if version == 2 { 2 } else { 4 }
 }
 
 // How many bytes each challenge of a file has.
@@ -75,27 +75,27 @@ pub fn record_start(h: Header, width: usize, k: usize) -> usize
     START + k * record_length(h, width)
 }
 
-// The number that a round file is refused with, 12 or 0.
-pub fn file_refusal(h: Header, file: &[u8]) -> u32
+// Tests whether a file is a round file of the sheet (refusal 12).
+pub fn test_file(h: Header, file: &[u8]) -> Result<(), Refusal>
     requires rows { h.rows ≤ 8 }
     requires columns { h.columns ≤ 8 }
-    ensures { result ≡ number_of (counting h file.now) }
+    ensures { refused_with result ≡ number_of (counting h file.now) }
 {
     if file.len() < START {
-        return 12;
+        return Err(Refusal::File);
     }
     if !has_mark(file, MARK) {
-        return 12;
+        return Err(Refusal::File);
     }
     if unknown_version(read_u16(file, 3)) {
-        return 12;
+        return Err(Refusal::File);
     }
     let count = read_u16(file, 5);
     if count > MOST_ROUNDS {
-        return 12;
+        return Err(Refusal::File);
     }
     if file.len() != record_start(h, file_width(file), count as usize) {
-        return 12;
+        return Err(Refusal::File);
     }
-    0
+    Ok(())
 }

@@ -45,7 +45,8 @@ pub fn write_result(text: &mut [u8], at: usize, failed: bool) -> usize
     ensures { Fitted text.old at (result_line failed) text.new result }
 {
     if failed {
-        return write_word(text, at, b"fail\n");
+        write_word(text, at, b"fail\n")
+    } else {
+        write_word(text, at, b"pass\n")
     }
-    write_word(text, at, b"pass\n")
 }

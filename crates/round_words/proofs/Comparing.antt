@@ -3,7 +3,7 @@
 use Prim.Native.Nat.{ℕ, ◌+◌, ◌*◌, ◌<◌, ◌≤◌}
 use mathlib.Core.Path.{◌≡◌, refl, sym, ap, ◌∙◌}
 use mathlib.Core.Bool.{Bool, true, false, cond, not}
-use mathlib.Core.Logic.{◌≢◌, ◌⊎◌}
+use mathlib.Core.Logic.{◌⊎◌}
 use mathlib.Core.List.{List, []}
 use native.Mathlib.Omega.{arith}
 use lib.Dec.{leb}
@@ -19,6 +19,9 @@ use Rattle.rules.proofs.Lowest.{lowest_clear, lowest_earlier, pass, stop}
 use Rattle.rules.proofs.Says.{says_at_most, says_or}
 use Rattle.sigma.specs.Comparison.{differ, first_difference}
 use Rattle.sigma.proofs.Calculus.{both_fail}
+use Rattle.refusals.specs.declared.Refusal.{Refusal}
+use Rattle.refusals.specs.Number.{number}
+use Rattle.refusals.proofs.Positive.{call_refused, number_positive}
 use Rattle.formats.specs.RoundCalls.{counting}
 use Rattle.formats.specs.RoundFile.{bad_file, challenge_width, count_field, record_length, record_start}
 use Rattle.formats.specs.SameCommitment.{commitment_bytes, comparing}
@@ -48,17 +51,19 @@ one_unless : (other : Bool) → ◌≡◌ {A = ℕ} (cond (not other) 1 0) (cond
 one_unless true = refl
 one_unless false = refl
 
-module _ (h : Header) (f : List ℕ) {n : ℕ} (tested : n ≡ number_of (counting h f)) where
+module _ (h : Header) (f : List ℕ) where
   -- a refused file's number is given
-  pub same_file : n ≢ 0 → (i j : ℕ) → record { same = 0; refusal = n } ≡ answer (comparing h f i j)
+  pub same_file : (refusal : Refusal) → number refusal ≡ number_of (counting h f) → (i j : ℕ)
+      → record { same = 0; refusal = number refusal } ≡ answer (comparing h f i j)
   unfolding counting comparing number_of
-  same_file some i j =
-      tested_refused (comparing h f i j) (tested ∙ sym (lowest_earlier (counting h f).refusals _ (omega (arith, tested)))) some
+  same_file refusal tested i j =
+      let some : 0 < number_of (counting h f) = omega (arith, tested, number_positive refusal) in
+      call_refused (comparing h f i j) refusal (tested ∙ sym (lowest_earlier (counting h f).refusals _ some))
 
-  module _ (passed : n ≡ 0) where
+  module _ (tested : 0 ≡ number_of (counting h f)) where
     -- a file that passes is a round file
     file_good : bad_file h f ≡ false
-    file_good = (file_passes h f).1 (file_clear h f tested passed)
+    file_good = (file_passes h f).1 (file_clear h f tested)
 
     -- 13 for either number at or beyond the count
     pub same_beyond : (i j : ℕ) → (count_field f ≤ i) ⊎ (count_field f ≤ j)
@@ -71,7 +76,7 @@ module _ (h : Header) (f : List ℕ) {n : ℕ} (tested : n ≡ number_of (counti
 
     -- a number below the count is below 512
     pub number_small : (k : ℕ) → k < count_field f → k < 512
-    number_small k inside = omega (arith, (file_clear h f tested passed).few)
+    number_small k inside = omega (arith, (file_clear h f tested).few)
 
     module _ {width : ℕ} (is_width : width ≡ challenge_width f) where
       -- and the commitment of its record lies inside the file
@@ -79,17 +84,17 @@ module _ (h : Header) (f : List ℕ) {n : ℕ} (tested : n ≡ number_of (counti
           → start + 4 * h.rows ≤ length f
       unfolding record_length
       commitment_fits k inside is_start =
-          omega (arith, record_inside (file_clear h f tested passed) k inside, rw is_width at is_start)
+          omega (arith, record_inside (file_clear h f tested) k inside, rw is_width at is_start)
 
       -- for two such numbers the answer is whether the commitments agree
       pub same_compared : (i j : ℕ) → i < count_field f → j < count_field f → {a b : ℕ} → a ≡ record_start width h i
-          → b ≡ record_start width h j → {agree told : Bool} → agree ≡ not (differ (4 * h.rows) (drop a f) (drop b f))
-          → agree ≡ told → record { same = cond told 1 0; refusal = 0 } ≡ answer (comparing h f i j)
+          → b ≡ record_start width h j → {agree : Bool} → agree ≡ not (differ (4 * h.rows) (drop a f) (drop b f))
+          → record { same = cond agree 1 0; refusal = 0 } ≡ answer (comparing h f i j)
       unfolding comparing number_of
-      same_compared i j first second is_first is_second {told = told} is_agree is_told =
+      same_compared i j first second is_first is_second {agree = agree} is_agree =
           let inside = (both_fail (leb (count_field f) i) (leb (count_field f) j)).1 ((number_passes f i).1 first, (number_passes f j).1 second) in
           let number = lowest_clear (comparing h f i j).refusals (file_good, (inside, tt)) in
-          let same : ◌≡◌ {A = ℕ} (cond told 1 0)
+          let same : ◌≡◌ {A = ℕ} (cond agree 1 0)
           (cond (differ (4 * h.rows) (commitment_bytes h f i) (commitment_bytes h f j)) 0 1) =
-          rw (commitments_differ h f i j, ← is_width, ← is_first, ← is_second, ← is_told, is_agree, one_unless) in
+          rw (commitments_differ h f i j, ← is_width, ← is_first, ← is_second, is_agree, one_unless) in
           ap (λ (k : ℕ). record { same = k; refusal = 0 }) same ∙ tested_value (comparing h f i j) (sym number) refl

@@ -4,7 +4,6 @@ use Prim.Native.Nat.{ℕ, ◌+◌, ◌-◌, ◌*◌, ◌≤◌, ◌<◌}
 use mathlib.Core.Path.{◌≡◌, refl, sym, ap, ◌∙◌}
 use mathlib.Core.Bool.{Bool, true, false, not-eq-not}
 use mathlib.Core.List.{List, [], ◌∷◌, ◌++◌}
-use mathlib.Core.Logic.{◌≢◌}
 use native.Mathlib.Omega.{arith}
 use lib.ListN.{length, take, drop}
 use lib.Seq.{sets}
@@ -22,6 +21,9 @@ use Rattle.rules.specs.Call.{answer, number_of}
 use Rattle.rules.specs.Rule.{◌when◌}
 use Rattle.rules.proofs.Call.{tested_refused, tested_value}
 use Rattle.rules.proofs.Lowest.{clear_lowest, lowest_clear, pass, stop}
+use Rattle.refusals.specs.declared.Refusal.{Refusal}
+use Rattle.refusals.specs.Number.{number}
+use Rattle.refusals.proofs.Positive.{call_answered, call_refused}
 use Rattle.formats.specs.Append.{appended, appending, empty_file, starting, wide_challenge}
 use Rattle.formats.specs.Meaning.{InUse}
 use Rattle.formats.specs.RoundFile.{
@@ -136,42 +138,43 @@ module _ (h : Header) (buffer : List ℕ) (used : ℕ) (round : Round) where
           let room = (short_passes buffer (used + record_length (width_in_use buffer used) h)).1 (rw (← is_width, ← is_size) fits) in
           sym (lowest_clear _ ((in_use_passes h buffer used).1 u, (sym wide_tested ∙ narrow, (room, tt))))
 
-  module _ {n : ℕ} (tested : n ≡ number_of (appending h buffer used round)) where
+  -- a refused call keeps the buffer
+  pub append_none : (refusal : Refusal) → number refusal ≡ number_of (appending h buffer used round)
+      → Leaves (record { refusal = number refusal; length = 0 }) buffer (answer (appending h buffer used round))
+  unfolding appending
+  append_none refusal tested = leaves (call_refused (appending h buffer used round) refusal tested)
+
+  module _ (tested : 0 ≡ number_of (appending h buffer used round)) where
     -- where nothing is refused, the bytes in use are a round file with room for a round
-    in_use_there : n ≡ 0 → InUse h buffer used
+    in_use_there : InUse h buffer used
     unfolding appending number_of
-    in_use_there e = (in_use_passes h buffer used).0 (clear_lowest (appending h buffer used round).refusals tt (sym tested ∙ e)).0
+    in_use_there = (in_use_passes h buffer used).0 (clear_lowest (appending h buffer used round).refusals tt (sym tested)).0
 
     -- the buffer then has the seven bytes before the records
-    pub seven_used : n ≡ 0 → 7 ≤ length buffer
-    seven_used e = let u = in_use_there e in omega (arith, in_use_long u, u.inside)
+    pub seven_used : 7 ≤ length buffer
+    seven_used = omega (arith, in_use_long in_use_there, in_use_there.inside)
 
     -- and room for the record
-    pub record_room : {width : ℕ} → n ≡ 0 → width ≡ challenge_width buffer → used + record_length width h ≤ length buffer
+    pub record_room : {width : ℕ} → width ≡ challenge_width buffer → used + record_length width h ≤ length buffer
     unfolding appending number_of
-    record_room e is_width =
-        let (file, (narrow, (room, none))) = clear_lowest (appending h buffer used round).refusals tt (sym tested ∙ e) in
-        rw (is_width, ← in_use_width (in_use_there e)) ((short_passes buffer _).0 room)
-
-    -- a refused call keeps the buffer
-    pub append_none : n ≢ 0 → Leaves (record { refusal = n; length = 0 }) buffer (answer (appending h buffer used round))
-    unfolding appending
-    append_none some = leaves (tested_refused (appending h buffer used round) tested some)
+    record_room is_width =
+        let (file, (narrow, (room, none))) = clear_lowest (appending h buffer used round).refusals tt (sym tested) in
+        rw (is_width, ← in_use_width in_use_there) ((short_passes buffer _).0 room)
 
     -- a call that is not refused answers the bytes in use and leaves the record and the raised count
     pub append_record : {count width size : ℕ} {part after : List ℕ}
-        → n ≡ 0 → count ≡ count_field buffer → width ≡ challenge_width buffer → size ≡ record_length width h
+        → count ≡ count_field buffer → width ≡ challenge_width buffer → size ≡ record_length width h
         → part ≡ sets (take (length buffer - used) (drop used buffer)) 0 (record_bytes width h round)
         → after ≡ sets (take used buffer ++ (part ++ drop (length buffer - used) (drop used buffer))) 5 (bytes_of 2 (count + 1))
         → Leaves (record { refusal = 0; length = used + size }) after (answer (appending h buffer used round))
     unfolding appending appended
-    append_record {width = width} {after = after} e is_count is_width is_size is_part is_after =
-        let same : width_in_use buffer used ≡ width = in_use_width (in_use_there e) ∙ sym is_width in
+    append_record {width = width} {after = after} is_count is_width is_size is_part is_after =
+        let same : width_in_use buffer used ≡ width = in_use_width in_use_there ∙ sym is_width in
         let bytes = record_bytes width h round in
-        let room : length bytes ≤ length buffer - used = omega (arith, length_record_bytes width h round, record_room e is_width) in
+        let room : length bytes ≤ length buffer - used = omega (arith, length_record_bytes width h round, record_room is_width) in
         let back = part_replaced_front used (length buffer - used) buffer bytes room in
         let stored : after ≡ appended h buffer used round = rw (same, is_after, is_part, is_count, back) in
-        let (answers, bytes_left) = leaves (tested_value (appending h buffer used round) tested e) in (
+        let (answers, bytes_left) = leaves (call_answered (appending h buffer used round) tested) in (
           ap (λ (n : ℕ). record { refusal = 0; length = used + n }) (is_size ∙ ap (λ (k : ℕ). record_length k h) (sym same)) ∙ answers,
           stored ∙ bytes_left,
         )

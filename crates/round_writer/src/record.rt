@@ -1,4 +1,6 @@
 // Storing one record of a round file, whose challenge has two or four bytes (01, "A round"; 02, card 7).
+// The bounds of fixed fields are clauses and no type, since a `Sheet` would ask more of callers.
+// Versions and widths are numbers, as in round_layout.
 ghost use Rattle.std.specs.Prelude.{◌+◌, ◌≤◌, ◌≡◌, length};
 ghost use Rattle.std.proofs.lemmas.List.Edits.{sets};
 ghost use Rattle.encoding.specs.Bytes.{bytes_of};
@@ -13,10 +15,7 @@ use types::{Header, Round};
 pub fn wide_challenge(version: u32, challenge: u32) -> bool
     ensures { result ≡ wide_challenge version challenge }
 {
-    if version != 2 {
-        return false;
-    }
-    challenge > 65535
+    version == 2 && challenge > 65535
 }
 
 // Stores the last width bytes of a challenge in part from index at on, and changes no other byte.
@@ -27,9 +26,9 @@ fn write_challenge(part: &mut [u8], at: usize, width: usize, challenge: u32)
 {
     if width == 2 {
         write_u16(part, at, challenge);
-        return;
+    } else {
+        write_u32(part, at, challenge);
     }
-    write_u32(part, at, challenge);
 }
 
 // Stores a round at the start of part: the commitment, the challenge in width bytes and the response. No byte behind them is

@@ -13,7 +13,7 @@ use Rattle.types.specs.declared.Header.{Header}
 use Rattle.lists.specs.Places.{pad8}
 use Rattle.lists.proofs.Places.{get_d_pad8}
 use Rattle.numbers.specs.Search.{any, find}
-use Rattle.numbers.proofs.Search.{any_agree, find_agree, find_is, find_none, find_within}
+use Rattle.numbers.proofs.Search.{any_agree, find_agree, find_is, find_none}
 use Rattle.rules.proofs.Says.{says_and, says_equal}
 use Rattle.sigma.specs.Comparison.{differ, first_difference}
 use Rattle.sigma.specs.Image.{image, row_image}
@@ -46,11 +46,6 @@ module _ (s : ℕ) (k i : ℕ) (inside : i < s) where
 pub images_room : (h : Header) → Small h → (count : ℕ) → count ≡ candidates h → count * h.rows ≤ 32768
 images_room h small count is_count =
     mul-le-mul {n₁ = count} {m₁ = h.rows} {n₂ = 4096} {m₂ = 8} (omega (arith, is_count, count_few h small)) small.few_rows
-
--- a search among them ends at their count at most
-pub match_within : (table : List ℕ) (count rows : ℕ) (expected : List ℕ) → first_match table count rows expected ≤ count
-unfolding first_match
-match_within table count rows expected = omega (arith, (find_within (λ k. rows_agree table (k * rows) rows expected) 0 count).1)
 
 -- what is expected in row 0 is below m
 pub expected_below : (h : Header) (statement t : List ℕ) (c : ℕ) → Small h → (expected : List ℕ)
@@ -106,7 +101,7 @@ module _ (inst : Instance) (small : Small inst.header) (valid : Valid inst) (t :
         ∙ sym (first_root inst valid t ((commitment_passes inst t).0 fine) c asked kind (small.one_row kind) (small.one_column kind))
 
     -- a root is below m
-    root_below : held ≢ 0 → held < inst.header.modulus
+    pub root_below : held ≢ 0 → held < inst.header.modulus
     unfolding is_root
     root_below some = ((says_and (says_element inst.header held) (says_equal _ (get_or expected 0 0))).sound (at.root some)).0.below
 

@@ -3,5 +3,7 @@ pub mod Sizes
 pub mod Counting
 pub mod Digits
 pub mod ImageTable
+pub mod ImageRows
+pub mod Found
 pub mod RootTable
 pub mod Answers

@@ -8,30 +8,12 @@ use mathlib.Core.List.{List}
 use native.Mathlib.Decide.{dec_lt, ℕ_discrete}
 use native.Mathlib.Omega.{arith}
 use borrow.Author.Tests.{eq-eqb, ne_eqb}
-use lib.ListN.{get_or, length, length-set, set}
+use lib.ListN.{get_or, length-set, set}
 use lib.Seq.{get_or-set_other, get_or-set_same}
 use Rattle.types.specs.declared.Header.{Header}
 use Rattle.sigma.specs.Element.{is_element}
 use Rattle.sigma.proofs.Tests.{says_element}
-use Rattle.solver.specs.Prepared.{RootAt, Roots, Zeros, is_root}
-
--- no place yet
-pub zeros_start : (table : List ℕ) → length table ≡ 32768 → Zeros 0 table
-zeros_start table size = record { size = size; each = λ v below. absurd (omega arith) }
-
--- one more zero
-pub zeros_turn : (n : ℕ) (table : List ℕ) → n < 32768 → Zeros n table → Zeros (n + 1) (set table n 0)
-zeros_turn n table room zeros = record {
-  size = length-set table n 0 ∙ zeros.size;
-  each = λ v below. elim (ℕ_discrete v n) [
-    | yes same ↦ ap (λ (k : ℕ). get_or (set table n 0) k 0) same ∙ get_or-set_same table n 0 0 (omega (arith, zeros.size))
-    | no other ↦ get_or-set_other table n v 0 0 other ∙ zeros.each v (omega (arith, other))
-  ];
-}
-
--- all of them
-pub zeros_all : (n v : ℕ) (table : List ℕ) → n ≤ v → Zeros v table → Zeros n table
-zeros_all n v table past zeros = record { size = zeros.size; each = λ w below. zeros.each w (omega arith) }
+use Rattle.solver.specs.Prepared.{RootAt, Roots, is_root}
 
 module _ (h : Header) where
   -- a number that is no group element is no root
@@ -52,17 +34,6 @@ module _ (h : Header) where
   own_power : (r : ℕ) → is_element h r ≡ true → is_root h (r ^ h.order % h.modulus) r ≡ true
   unfolding is_root
   own_power r passes = rw passes (eq-eqb (r ^ h.order % h.modulus) (r ^ h.order % h.modulus) refl)
-
-  -- no number is below 0
-  pub roots_start : (table : List ℕ) → Zeros h.modulus table → Roots h 0 table
-  roots_start table zeros = record {
-    size = zeros.size;
-    each = λ v b. record {
-      none = λ e r below. absurd (omega arith);
-      root = λ some. absurd (some (zeros.each v b));
-      least = λ some. absurd (some (zeros.each v b));
-    };
-  }
 
   -- what is held for v stays if the next number is no root of v, or if a root is held
   stays : (n v held : ℕ) → (held ≡ 0 → is_root h v n ≡ false) → RootAt h n v held → RootAt h (n + 1) v held

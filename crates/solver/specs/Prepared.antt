@@ -28,11 +28,6 @@ pub record Roots (h : Header) (n : ℕ) (table : List ℕ) : Type 0 where
   pub size : length table ≡ 32768
   pub each : (v : ℕ) → v < h.modulus → RootAt h n v (get_or table v 0)
 
--- the first n places hold 0
-pub record Zeros (n : ℕ) (table : List ℕ) : Type 0 where
-  pub size : length table ≡ 32768
-  pub each : (v : ℕ) → v < n → get_or table v 0 ≡ 0
-
 -- the table of a sheet
 pub record Prepared (h : Header) (entries : List (List ℕ)) (table : List ℕ) : Type 0 where
   pub size : length table ≡ 32768

@@ -1,4 +1,5 @@
 // The candidates for a response, in slot order, first slot leading: whether they are few enough, how many there are, and each of them.
+// That a game is small is a clause and no type, since its one caller tests it once.
 ghost use Rattle.std.specs.Prelude.{◌≡◌};
 ghost use Rattle.lists.specs.Places.{pad8};
 ghost use Rattle.games.specs.Text.{bad_game, candidate, candidates};
@@ -11,16 +12,11 @@ use types::Header;
 pub fn too_large(h: Header) -> bool
     ensures { result ≡ bad_game h }
 {
-    if h.kind == 1 {
-        return power_exceeds(h.order, h.columns, 4096);
+    match h.kind {
+        1 => power_exceeds(h.order, h.columns, 4096),
+        2 => h.modulus > 4096 || h.rows > 1,
+        _ => false,
     }
-    if h.kind != 2 {
-        return false;
-    }
-    if h.modulus > 4096 {
-        return true;
-    }
-    h.rows > 1
 }
 
 // How many candidates there are: q^n in kind 1, m in kind 2.
@@ -31,13 +27,7 @@ pub fn count_of(h: Header) -> u32
     if h.kind != 1 {
         return h.modulus;
     }
-    let mut count: u32 = 1;
-    let mut left = h.columns;
-    while left > 0 {
-        count = count * h.order;
-        left -= 1;
-    }
-    count
+    h.order.pow(h.columns)
 }
 
 // Candidate k, and zeros beyond its slots: in kind 1 the digits of k to base q, the first with the greatest weight, in kind 2 k

@@ -1,6 +1,6 @@
 // Kind 1: the images of all candidates, one after another, each with a value for each row, and the search for one of them.
-ghost use Rattle.std.specs.Prelude.{◌+◌, ◌*◌, ◌≤◌, ◌≡◌, length};
-ghost use Rattle.solver.specs.Match.{first_match, rows_agree};
+ghost use Rattle.std.specs.Prelude.{◌*◌, ◌≤◌, ◌≡◌, length};
+ghost use Rattle.solver.specs.Match.{first_match, found};
 ghost use Rattle.solver.specs.Prepared.{Images};
 ghost use Rattle.solver.specs.Small.{Small};
 
@@ -21,32 +21,16 @@ pub fn fill_images(h: Header, entries: [[u32; 8]; 8], table: &mut [u32])
     }
 }
 
-// Whether the values of the table from a start on are the expected ones, in so many rows.
-fn same_rows(table: &[u32; 32768], start: usize, rows: usize, expected: [u32; 8]) -> bool
-    requires { (rows ≤ 8) × (start + rows ≤ 32768) }
-    ensures { result ≡ rows_agree table.now start rows expected }
-{
-    for i in 0..rows {
-        if table[start + i] != expected[i] {
-            return false;
-        }
-    }
-    true
-}
-
-// The first of count candidates whose image in the table is the expected one, or count if there is none.
-pub fn first_match(table: &[u32; 32768], count: usize, rows: usize, expected: [u32; 8]) -> usize
+// The first of count candidates whose image in the table is the expected one, if there is one.
+pub fn first_match(table: &[u32; 32768], count: u32, rows: usize, expected: [u32; 8]) -> Option<u32>
     requires { (rows ≤ 8) × (count * rows ≤ 32768) }
-    ensures { result ≡ first_match table.now count rows expected }
+    ensures { result ≡ found count (first_match table.now count rows expected) }
 {
-    let mut k: usize = 0;
-    let mut start: usize = 0;
-    while k < count {
-        if same_rows(table, start, rows, expected) {
-            return k;
+    for k in 0..count {
+        let start = k as usize * rows;
+        if table[start..start + rows] == expected[..rows] {
+            return Some(k);
         }
-        k += 1;
-        start += rows;
     }
-    count
+    None
 }

@@ -2,3 +2,5 @@
 pub mod RefusedSheet
 pub mod FileFault
 pub mod RoundFault
+pub mod OneNumber
+pub mod BeyondEntry

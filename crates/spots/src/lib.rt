@@ -1,12 +1,14 @@
 // Where the first value that breaks a rule stands (02, card 1): its offset in the file that holds it, or the length found of a
 // file whose length breaks the rule. A length is handed in, since a file may be longer than the bytes at hand.
+// The bounds of fixed fields are clauses and no type, since a `Sheet` would ask more of callers.
 #![tactic(auto)]
 
-ghost use Rattle.std.specs.Prelude.{ℕ, ◌+◌, ◌*◌, ◌≤◌, ◌<◌, List, ◌↔◌, ◌≡◌, length};
+ghost use Rattle.std.specs.Prelude.{ℕ, ◌+◌, ◌*◌, ◌≤◌, ◌<◌, List, ◌↔◌, ◌≡◌, ◌≢◌, length};
 ghost use Rattle.formats.specs.Load.{load_refusal};
 ghost use Rattle.formats.specs.RoundFile.{challenge_width, record_length};
 ghost use Rattle.formats.specs.Sheet.{header_of};
 ghost use Rattle.instance.specs.Shaped.{Shaped};
+ghost use Rattle.refusals.specs.Number.{number};
 ghost use Rattle.reasons.specs.Reason.{file_spot, first_non_element, round_spot, sheet_spot};
 ghost use Rattle.reasons.specs.declared.Spot.TheVariants.{At};
 
@@ -14,6 +16,7 @@ use fields::{has_mark, read_u8, read_u16, read_u32, read_words};
 use instance::{FIXED_FIELDS, entry_count, header};
 use modular::{first_non_coordinate, is_element};
 use reasons::Spot;
+use refusals::Refusal;
 use round_layout::{MARK, MOST_ROUNDS, START, file_width, unknown_version};
 use types::Header;
 
@@ -24,14 +27,12 @@ fn first_non_element(h: Header, bytes: &[u8], start: usize, n: usize) -> usize
     ensures value { result ≡ first_non_element h bytes.now start n }
     ensures few { result ≤ n }
 {
-    let mut i: usize = 0;
-    while i < n {
+    for i in 0..n {
         if !is_element(h, read_u32(bytes, start + 4 * i)) {
             return i;
         }
-        i += 1;
     }
-    i
+    n
 }
 
 // The offset of the first of the n words of bytes from index start on that is no group element.
@@ -90,34 +91,10 @@ fn statement_spot(sheet: &[u8]) -> Spot
     element_spot(h, sheet, start, h.rows as usize)
 }
 
-// The spot of a sheet that is refused with the number, 2 to 11, and has so many bytes in all.
-pub fn sheet_spot(sheet: &[u8], found: usize, number: u32) -> Spot
-    requires some { 0 < number }
-    requires refused { number ≡ load_refusal sheet.now }
-    ensures { result ≡ sheet_spot sheet.now found number }
+// The spot of a round file that is refused with 12 and has so many bytes in all: under 7 exactly where the bytes at hand are.
+fn fault_spot(file: &[u8], found: usize) -> Spot
+    ensures { (n : ℕ) → n ≢ 13 → (found < 7) ↔ (length file.now < 7) → result ≡ file_spot file.now found n }
 {
-    match number {
-        2 => start_spot(found),
-        3 => Spot::At(3),
-        4 => Spot::At(5),
-        5 => Spot::At(6),
-        6 => Spot::At(10),
-        7 => size_spot(sheet),
-        8 => Spot::At(14),
-        9 => Spot::Length(found),
-        10 => entry_spot(sheet),
-        0 | 1 | 11..=u32::MAX => statement_spot(sheet),
-    }
-}
-
-// The spot of a round file that is refused with 12 or 13 and has so many bytes in all: under 7 exactly where the bytes at hand
-// are.
-pub fn file_spot(file: &[u8], found: usize, number: u32) -> Spot
-    ensures { (found < 7) ↔ (length file.now < 7) → result ≡ file_spot file.now found number }
-{
-    if number == 13 {
-        return Spot::At(5);
-    }
     if file.len() < START {
         return Spot::Length(found);
     }
@@ -133,7 +110,37 @@ pub fn file_spot(file: &[u8], found: usize, number: u32) -> Spot
     Spot::Length(found)
 }
 
-// The spot of a round that is refused with the number, 14 to 16, and stands first in a file.
+// The spot of a sheet that is refused and has so many bytes in all.
+pub fn sheet_spot(sheet: &[u8], found: usize, refusal: Refusal) -> Spot
+    requires { number refusal ≡ load_refusal sheet.now }
+    ensures { result ≡ sheet_spot sheet.now found (number refusal) }
+{
+    match refusal {
+        Refusal::Start => start_spot(found),
+        Refusal::Version => Spot::At(3),
+        Refusal::Kind => Spot::At(5),
+        Refusal::Modulus => Spot::At(6),
+        Refusal::Order => Spot::At(10),
+        Refusal::Size => size_spot(sheet),
+        Refusal::Count => Spot::At(14),
+        Refusal::Length => Spot::Length(found),
+        Refusal::Entry => entry_spot(sheet),
+        _ => statement_spot(sheet),
+    }
+}
+
+// The spot of a round file that is refused with 12 or 13 and has so many bytes in all: under 7 exactly where the bytes at hand are. By
+// number, since any number may be asked for.
+pub fn file_spot(file: &[u8], found: usize, number: u32) -> Spot
+    ensures { (found < 7) ↔ (length file.now < 7) → result ≡ file_spot file.now found number }
+{
+    if number == 13 {
+        return Spot::At(5);
+    }
+    fault_spot(file, found)
+}
+
+// The spot of a round that is refused with the number, 14 to 16, and stands first in a file. By number, since Verdict::Refused has one.
 pub fn round_spot(h: Header, file: &[u8], number: u32) -> Spot
     requires modulus { 0 < h.modulus }
     requires rows { h.rows ≤ 8 }

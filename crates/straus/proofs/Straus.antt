@@ -104,10 +104,12 @@ module _ (m n : ℕ) (entry : ℕ → ℕ → ℕ) (exponents : List ℕ) where
     pub each : (i : ℕ) → i < 4 → lane values i ≡ above m (entry i) (λ j. get_or exponents j 0) n k
 
   -- before the first turn
-  pub four_start : (k most : ℕ) → AtMost most n exponents → most < 2 ^ k
-      → FourAbove k (record { a = 1 % m; b = 1 % m; c = 1 % m; d = 1 % m })
-  four_start k most each_most short = record {
-    each = λ i inside. above_start m _ _ n k (λ j within. lt_of_le_of_lt (each_most.each j within) short) (lane_same _ i inside);
+  pub four_start : (k most : ℕ) {values : Four} → AtMost most n exponents → most < 2 ^ k
+      → values ≡ record { a = 1 % m; b = 1 % m; c = 1 % m; d = 1 % m } → FourAbove k values
+  four_start k most each_most short are_ones = record {
+    each = λ i inside.
+        above_start m _ _ n k (λ j within. lt_of_le_of_lt (each_most.each j within) short)
+        (ap (λ (x : Four). lane x i) are_ones ∙ lane_same _ i inside);
   }
 
   -- a turn

@@ -27,12 +27,12 @@ powers_equal : (m : ℕ) {p q x y : ℕ} → p ≡ x → q ≡ y → p * q % m �
 powers_equal m is_x is_y = ap₂ (λ (v w : ℕ). v * w % m) is_x is_y
 
 -- ones, each of them, and their product
-pub pairs_are : (m : ℕ) (x y p : Four) → lanes p ≡ products_of m 4 (lanes x) (lanes y)
-    → Choices m 4 (pair_of x y) (record { a = 1 % m; b = 1 % m; c = 1 % m; d = 1 % m } ∷ x ∷ y ∷ p ∷ [])
+pub pairs_are : (m : ℕ) (o x y p : Four) → o ≡ record { a = 1 % m; b = 1 % m; c = 1 % m; d = 1 % m }
+    → lanes p ≡ products_of m 4 (lanes x) (lanes y) → Choices m 4 (pair_of x y) (o ∷ x ∷ y ∷ p ∷ [])
 unfolding pair_of products_of
-pairs_are m x y p is_p = record {
+pairs_are m o x y p are_ones is_p = record {
   each = four_cases _
-      (λ i inside. ap (λ (v : ℕ). v % m) (lane_same _ i inside) ∙ mod-mod 1 m ∙ sym (powers_equal m (pow-zero _) (pow-zero _)))
+      (λ i inside. ap (λ (x : Four). lane x i % m) are_ones ∙ ap (λ (v : ℕ). v % m) (lane_same _ i inside) ∙ mod-mod 1 m ∙ sym (powers_equal m (pow-zero _) (pow-zero _)))
       (λ i inside. sym (powers_equal m (pow_one (lane x i)) (pow-zero _) ∙ ap (λ (v : ℕ). v % m) (mul-one _)))
       (λ i inside. sym (powers_equal m (pow-zero _) (pow_one (lane y i)) ∙ ap (λ (v : ℕ). v % m) (one-mul _)))
       (λ i inside.

@@ -11,10 +11,9 @@ fn store_word(s: &mut [u8], at: usize, word: &[u8]) -> usize
     requires room { at + length word.now ≤ length s.old }
     ensures { Placed s.old at word.now s.new result }
 {
-    for i in 0..word.len() {
-        s[at + i] = word[i];
-    }
-    at + word.len()
+    let end = at + word.len();
+    s[at..end].copy_from_slice(word);
+    end
 }
 
 // Stores the part that has room of a word that has not.

@@ -1,4 +1,5 @@
 // Page K of 01, and the largest sheet and round files.
+// Records and version numbers are those of the calls.
 use instance::load;
 use lines::{front, length, line, loading, store};
 use round_file::{check, count, read};

@@ -4,7 +4,7 @@
 // in four and the level's in two, high byte first, then the bytes of the three.
 #![tactic(auto)]
 
-ghost use Rattle.std.specs.Prelude.{◌≤◌, length, IfOk};
+ghost use Rattle.std.specs.Prelude.{◌<◌, length, IfSome};
 
 use fields::{read_u16, read_u32};
 use files::read_file;
@@ -17,45 +17,41 @@ const CASES: usize = 100000;
 // How many bytes the three lengths have that stand in front of a case.
 const LENGTHS: usize = 8;
 
-// Prints the marker's text on a sheet, a round file and a level.
-fn print_text(rt: &impl Print, sheet: &[u8], file: &[u8], level: &[u8]) -> io::Result<()> {
-    let mut text = [0u8; LONGEST];
-    let length = mark(sheet, file, level, &mut text);
-    rt.write_all(&text[..length])
+// A case: a sheet, a round file and a level.
+#[derive(Drop)]
+struct Case<'a> {
+    sheet: &'a [u8],
+    file: &'a [u8],
+    level: &'a [u8],
 }
 
-// Prints the text on the case that cases begins with, and answers how many bytes the case has, 0 where it is not whole. An
-// error is that of a write.
-fn print_first(rt: &impl Print, cases: &[u8]) -> io::Result<usize>
-    ensures { IfOk result (λ n. n ≤ length cases.now) }
+// The case that cases begins with and what stands behind it, where it is whole.
+fn first_case(cases: &[u8]) -> Option<(Case<'_>, &[u8])>
+    ensures { IfSome result (λ split. length split.1.now < length cases.now) }
 {
-    if cases.len() < LENGTHS {
-        return Ok(0);
-    }
-    let sheet_end = LENGTHS + read_u16(cases, 0) as usize;
-    let file_end = sheet_end + read_u32(cases, 2) as usize;
-    let level_end = file_end + read_u16(cases, 6) as usize;
-    if cases.len() < level_end {
-        return Ok(0);
-    }
-    print_text(
-        rt,
-        &cases[LENGTHS..sheet_end],
-        &cases[sheet_end..file_end],
-        &cases[file_end..level_end],
-    )?;
-    Ok(level_end)
+    let (lengths, rest) = cases.split_at_checked(LENGTHS)?;
+    let (sheet, rest) = rest.split_at_checked(read_u16(lengths, 0) as usize)?;
+    let (file, rest) = rest.split_at_checked(read_u32(lengths, 2) as usize)?;
+    let (level, rest) = rest.split_at_checked(read_u16(lengths, 6) as usize)?;
+    Some((Case { sheet, file, level }, rest))
+}
+
+// Prints the marker's text on a case.
+fn print_text(rt: &impl Print, case: Case) -> io::Result<()> {
+    let mut text = [0u8; LONGEST];
+    let length = mark(case.sheet, case.file, case.level, &mut text);
+    rt.write_all(&text[..length])
 }
 
 // Prints the text on each case. At a case that is not whole it prints a line that says so, and ends.
 fn print_all(rt: &impl Print, cases: &[u8]) -> io::Result<()> {
-    let mut done = 0;
-    while done < cases.len() {
-        let more = print_first(rt, &cases[done..])?;
-        if more == 0 {
+    let mut rest = cases;
+    while !rest.is_empty() {
+        let Some((case, behind)) = first_case(rest) else {
             return println!(rt; "cases.bin is damaged");
-        }
-        done += more;
+        };
+        print_text(rt, case)?;
+        rest = behind;
     }
     Ok(())
 }

@@ -18,7 +18,7 @@ fn asked(sheet: &[u8], commitment: [u32; 8], challenge: u32) -> Verifier {
 // commitment, the response and the verdict.
 fn run(
     rt: &impl Print,
-    label: &[u8],
+    label: &str,
     sheet: &[u8],
     witness: [u32; 8],
     nonce: [u32; 8],
@@ -31,7 +31,13 @@ fn run(
     let peggy = committed.session;
     let responded = prover_session::respond(sheet, peggy, c, witness);
     let r = responded.values;
-    answer(rt, label, committed.refusal, t, header.rows as usize)?;
+    answer(
+        rt,
+        label.as_bytes(),
+        committed.refusal,
+        t,
+        header.rows as usize,
+    )?;
     answer(rt, b", r", responded.refusal, r, header.columns as usize)?;
     let judged = verifier::take_response(sheet, vic, r).verdict;
     verdict(rt, b", ", judged)
@@ -40,7 +46,7 @@ fn run(
 // A run with a witness and a nonce of one slot.
 fn run_one(
     rt: &impl Print,
-    label: &[u8],
+    label: &str,
     sheet: &[u8],
     witness: u32,
     nonce: u32,
@@ -61,14 +67,14 @@ fn round_of(t: u32, c: u32, r: u32) -> Round {
 // Prints the witness of one slot that two rounds give, and that the same rounds give when swapped.
 fn both_ways(
     rt: &impl Print,
-    label: &[u8],
+    label: &str,
     sheet: &[u8],
     first: Round,
     second: Round,
 ) -> io::Result<()> {
     let given = extract(sheet, first, second);
     let witness = given.values;
-    answer(rt, label, given.refusal, witness, 1)?;
+    answer(rt, label.as_bytes(), given.refusal, witness, 1)?;
     let swapped = extract(sheet, second, first);
     let same = swapped.values;
     answer_line(rt, b", swapped", swapped.refusal, same, 1)
@@ -76,10 +82,10 @@ fn both_ways(
 
 // Pages A, B and C: a run, extracting either way round, and simulating.
 fn schnorr(rt: &impl Print, sheet: &[u8]) -> io::Result<()> {
-    run_one(rt, b"A: t", sheet, 7, 5, 3)?;
+    run_one(rt, "A: t", sheet, 7, 5, 3)?;
     both_ways(
         rt,
-        b"B: witness",
+        "B: witness",
         sheet,
         round_of(9, 3, 4),
         round_of(9, 1, 1),
@@ -89,86 +95,53 @@ fn schnorr(rt: &impl Print, sheet: &[u8]) -> io::Result<()> {
     answer_line(rt, b"C: t", simulated.refusal, t, 1)
 }
 
-// A run on the sheet of a pattern with m 23, q 11 and K 11.
-fn pattern_run(
-    rt: &impl Print,
-    label: &[u8],
+// The sheet of a pattern with m 23, q 11 and K 11, stored in the buffer.
+fn pattern_sheet<'a>(
     patterns: &[u8],
     number: u32,
     values: &[u32],
     statement: &[u32],
-    witness: [u32; 8],
-    nonce: [u32; 8],
-    c: u32,
-) -> io::Result<()> {
-    let mut buffer = [0u8; 64];
-    let made = make(patterns, number, 23, 11, 11, values, statement, &mut buffer);
-    run(rt, label, front(&buffer, made.length), witness, nonce, c)
+    buffer: &'a mut [u8],
+) -> &'a [u8] {
+    let made = make(patterns, number, 23, 11, 11, values, statement, buffer);
+    front(buffer, made.length)
 }
 
 // Page D: two witnesses whose rounds are the same.
 fn okamoto(rt: &impl Print, patterns: &[u8]) -> io::Result<()> {
-    pattern_run(
-        rt,
-        b"D, witness 1 2: t",
-        patterns,
-        2,
-        &[2u32, 3],
-        &[18u32],
-        three(1, 2, 99),
-        three(0, 0, 99),
-        1,
-    )?;
-    pattern_run(
-        rt,
-        b"D, witness 6 0: t",
-        patterns,
-        2,
-        &[2u32, 3],
-        &[18u32],
-        three(6, 0, 99),
-        three(6, 2, 99),
-        1,
-    )
+    let mut buffer = [0u8; 64];
+    let sheet = pattern_sheet(patterns, 2, &[2u32, 3], &[18u32], &mut buffer);
+    let zero = three(0, 0, 99);
+    run(rt, "D, witness 1 2: t", sheet, three(1, 2, 99), zero, 1)?;
+    let nonce = three(6, 2, 99);
+    run(rt, "D, witness 6 0: t", sheet, three(6, 0, 99), nonce, 1)
 }
 
-// Pages E and F: two rows, and an image as the commitment to a nonce, which is the witness here.
+// Page E: two rows.
 fn two_rows(rt: &impl Print, patterns: &[u8]) -> io::Result<()> {
-    pattern_run(
-        rt,
-        b"E: t",
-        patterns,
-        4,
-        &[2u32, 16],
-        &[13u32, 18],
-        one(7),
-        one(5),
-        3,
-    )?;
-    pattern_run(
-        rt,
-        b"F: t",
-        patterns,
-        5,
-        &[2u32, 3, 3],
-        &[12u32, 9],
-        three(2, 1, 0),
-        three(2, 1, 0),
-        1,
-    )
+    let mut buffer = [0u8; 64];
+    let sheet = pattern_sheet(patterns, 4, &[2u32, 16], &[13u32, 18], &mut buffer);
+    run_one(rt, "E: t", sheet, 7, 5, 3)
+}
+
+// Page F: two rows, and an image as the commitment to a nonce, which is the witness here.
+fn image(rt: &impl Print, patterns: &[u8]) -> io::Result<()> {
+    let mut buffer = [0u8; 64];
+    let sheet = pattern_sheet(patterns, 5, &[2u32, 3, 3], &[12u32, 9], &mut buffer);
+    let witness = three(2, 1, 0);
+    run(rt, "F: t", sheet, witness, witness, 1)
 }
 
 // Pages G and H: two runs in kind 2, and extracting from their rounds either way round.
 fn root(rt: &impl Print, patterns: &[u8]) -> io::Result<()> {
-    let none = [0u32; 8];
     let mut buffer = [0u8; 64];
-    let made = make(patterns, 0, 35, 5, 5, &none[0..0], &[32u32], &mut buffer);
+    let made = make(patterns, 0, 35, 5, 5, &[], &[32u32], &mut buffer);
     let sheet = front(&buffer, made.length);
-    run_one(rt, b"G, c 1: t", sheet, 2, 3, 1)?;
-    run_one(rt, b"G, c 3: t", sheet, 2, 3, 3)?;
+    run_one(rt, "G, c 1: t", sheet, 2, 3, 1)?;
+    run_one(rt, "G, c 3: t", sheet, 2, 3, 3)?;
     both_ways(
         rt,
-        b"H: witness",
+        "H: witness",
         sheet,
         round_of(33, 1, 6),
         round_of(33, 3, 24),
@@ -179,7 +152,7 @@ fn root(rt: &impl Print, patterns: &[u8]) -> io::Result<()> {
 // byte by byte, since no writer writes one that is refused.
 fn small_sheet(
     rt: &impl Print,
-    label: &[u8],
+    label: &str,
     modulus: u8,
     order: u8,
     challenges: u8,
@@ -190,15 +163,15 @@ fn small_sheet(
         0x48, 0x4F, 0x4D, 0, 1, 1, 0, 0, 0, modulus, 0, 0, 0, order, 0, 0, 0, challenges, 1, 1, 0,
         0, 0, entry, 0, 0, 0, statement,
     ];
-    loading(rt, label, &sheet)
+    loading(rt, label.as_bytes(), &sheet)
 }
 
 // Page I: the largest challenge count at a prime order, at one that is not prime, and the next count.
 fn challenge_counts(rt: &impl Print) -> io::Result<()> {
-    small_sheet(rt, b"I, q 11, K 11: ", 23, 11, 11, 2, 13)?;
-    small_sheet(rt, b"I, q 11, K 12: ", 23, 11, 12, 2, 13)?;
-    small_sheet(rt, b"I, q 15, K 3: ", 31, 15, 3, 1, 1)?;
-    small_sheet(rt, b"I, q 15, K 4: ", 31, 15, 4, 1, 1)
+    small_sheet(rt, "I, q 11, K 11: ", 23, 11, 11, 2, 13)?;
+    small_sheet(rt, "I, q 11, K 12: ", 23, 11, 12, 2, 13)?;
+    small_sheet(rt, "I, q 15, K 3: ", 31, 15, 3, 1, 1)?;
+    small_sheet(rt, "I, q 15, K 4: ", 31, 15, 4, 1, 1)
 }
 
 // Page J: a commitment that is no group element, a response that is a slot, so that the round is judged, and one that is none.
@@ -213,6 +186,7 @@ pub fn all(rt: &impl Print, patterns: &[u8], sheet: &[u8]) -> io::Result<()> {
     schnorr(rt, sheet)?;
     okamoto(rt, patterns)?;
     two_rows(rt, patterns)?;
+    image(rt, patterns)?;
     root(rt, patterns)?;
     challenge_counts(rt)?;
     tested_values(rt, sheet)

@@ -9,6 +9,8 @@ use native.Mathlib.Numerals.{add-one}
 use native.Mathlib.Omega.{arith}
 use borrow.Author.Tests.{lt-ltb, le-ltb}
 use lib.Dec.{ltb}
+use Rattle.std.specs.Prelude.{Result, Ok, Err}
+use Rattle.std.specs.Result.{result_unwrap_or}
 use Rattle.types.specs.declared.Computed.{Computed}
 use Rattle.types.specs.declared.Round.{Round}
 use Rattle.types.specs.declared.Verdict.{Verdict}
@@ -18,6 +20,8 @@ use Rattle.rules.specs.Call.{answer, number_of}
 use Rattle.rules.specs.Rule.{Rule, ◌when◌, lowest}
 use Rattle.rules.proofs.Lowest.{pass, stop, lowest_behind, lowest_earlier, lowest_later_zero}
 use Rattle.rules.proofs.Says.{says_false}
+use Rattle.refusals.specs.declared.Refusal.{Refusal}
+use Rattle.refusals.specs.Number.{computed}
 use Rattle.sigma.specs.Answer.{is_accepted, judged, outcome}
 use Rattle.sigma.specs.Extractor.{extract_loaded}
 use Rattle.sigma.specs.Instance.{Instance}
@@ -43,6 +47,11 @@ not_refused (Refused number) other = absurd (other number refl)
 -- a refusal is not accepted
 refused_other : (n : ℕ) → Refused n ≢ Accepted
 refused_other n e = let z : ◌≡◌ {A = ℕ} 0 1 = cc in omega arith
+
+-- the values of extracting, and zeros where it is refused, are those of the record
+pub values_or_zeros : (outcome : Result (List ℕ) Refusal) → result_unwrap_or outcome zeros8 ≡ (computed outcome).values
+values_or_zeros (Ok values) = refl
+values_or_zeros (Err refusal) = refl
 
 module _ (sheet : List ℕ) (inst : Instance) (w : Watch) (round : Round) where
   -- the refusals of the round

@@ -1,9 +1,10 @@
 // The calls on a sheet's bytes: each loads the sheet, and a refused sheet's number is its answer.
+// C reads the answers, so a refusal stands in them as a number.
 ghost use Rattle.std.specs.Prelude.{◌≡◌};
 ghost use Rattle.watches.specs.Watch.{open_watch, watch_round};
 
 use crate::loaded::hear_loaded;
-use instance::{load, loaded_entries};
+use instance::Sheet;
 use types::{Round, Verdict};
 use watch_parts::{behind, fresh, held_bytes, is_watched, one_more, padded};
 use watches::{Opened, Watch, Watched};
@@ -12,17 +13,15 @@ use watches::{Opened, Watch, Watched};
 pub fn open(sheet: &[u8]) -> Opened
     ensures { result ≡ open_watch sheet.now }
 {
-    let loaded = load(sheet);
-    let refusal = loaded.refusal;
-    if refusal != 0 {
-        return Opened {
+    match Sheet::load(sheet) {
+        Ok(_) => Opened {
+            watch: fresh(held_bytes(sheet), sheet.len() as u32),
+            refusal: 0,
+        },
+        Err(refusal) => Opened {
             watch: fresh([0u8; 308], 0),
-            refusal,
-        };
-    }
-    Opened {
-        watch: fresh(held_bytes(sheet), sheet.len() as u32),
-        refusal: 0,
+            refusal: refusal.number(),
+        },
     }
 }
 
@@ -32,27 +31,23 @@ pub fn open(sheet: &[u8]) -> Opened
 pub fn hear(sheet: &[u8], mut watch: Watch, round: Round) -> Watched
     ensures { result ≡ watch_round sheet.now watch round }
 {
-    let loaded = load(sheet);
-    let refusal = loaded.refusal;
-    if refusal != 0 {
-        return Watched {
-            watch,
-            witness: [0u32; 8],
-            back: 0,
-            verdict: Verdict::Refused(refusal),
-        };
-    }
-    let h = loaded.header;
-    let statement = loaded.statement;
-    let entries = loaded_entries(sheet, h);
-    let rounds = watch.rounds;
-    let held = watch.sheet;
-    let watched = is_watched(sheet, held, watch.length);
-    let told = hear_loaded(h, entries, statement, rounds, watch.count, watched, round);
+    let loaded = match Sheet::load(sheet) {
+        Ok(loaded) => loaded,
+        Err(refusal) => {
+            return Watched {
+                watch,
+                witness: [0u32; 8],
+                back: 0,
+                verdict: Verdict::Refused(refusal.number()),
+            };
+        }
+    };
+    let watched = is_watched(&watch, sheet);
+    let told = hear_loaded(&loaded, &watch, watched, round);
     let witness = told.witness;
     let verdict = told.verdict;
     if let Verdict::Accepted = verdict {
-        let next = behind(padded(h, round), rounds);
+        let next = behind(padded(loaded.header, round), &watch.rounds);
         watch.rounds = next;
         watch.count = one_more(watch.count);
     }

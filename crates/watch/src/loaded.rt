@@ -1,20 +1,22 @@
-// What is told of a round, on loaded values and the remembered rounds (refusals 14 to 16 and 21).
+// What is told of a round, on a sheet that has loaded (refusals 14 to 16 and 21).
 ghost use Rattle.std.specs.Prelude.{◌≡◌, true, List, [], ℕ, ◌≤◌};
 ghost use Rattle.types.specs.declared.Verdict.TheVariants.{Accepted};
 ghost use Rattle.lists.specs.Places.{zeros8};
-ghost use Rattle.sigma.specs.Instance.{instance_with};
 ghost use Rattle.sigma.specs.Judge.{judge_loaded};
-ghost use Rattle.sigma.specs.Valid.{Valid};
+ghost use Rattle.instance.specs.Values.{values_of};
 ghost use Rattle.watches.specs.Watch.{is_watched, watch_after};
-ghost use Rattle.watch_parts.specs.Parts.{watch_with};
 ghost use Rattle.watch.specs.Told.{told_of};
 
 use extractor::extract_loaded;
+use instance::Sheet;
 use protocol::judge_loaded;
-use types::{Header, Round, Verdict};
+use refusals::Refusal;
+use types::{Round, Verdict};
 use watch_parts::nearest;
+use watches::Watch;
 
 // What is told of a round: the verdict, by how many accepted rounds back the named round stands, 0 for none, and the witness.
+// As in `Watched`, of which the laws speak, back is 0 and the witness zeros if no round is named.
 #[derive(Clone, Copy)]
 pub struct Told {
     pub witness: [u32; 8],
@@ -35,66 +37,44 @@ fn unnamed(verdict: Verdict) -> Told
 
 // What is told of an accepted round by a watch of the sheet: the nearest remembered round with the same commitment and another
 // challenge and the witness of the two, 21 if that round is not accepted, and no round if there is none.
-fn named(
-    h: Header,
-    entries: [[u32; 8]; 8],
-    statement: [u32; 8],
-    rounds: [Round; 63],
-    count: u32,
-    round: Round,
-) -> Told
-    requires valid { Valid (instance_with h entries statement) }
-    requires few { count ≤ 63 }
-    ensures { (sheet held : List ℕ) (size : ℕ)
-        → is_watched (watch_with rounds held size count) sheet ≡ true
-        → judge_loaded (instance_with h entries statement) round ≡ Accepted
-        → result ≡ told_of (watch_after [] sheet (instance_with h entries statement) (watch_with rounds held size count) round) }
+fn named(sheet: &Sheet, watch: &Watch, round: Round) -> Told
+    requires { watch.now.count ≤ 63 }
+    ensures { (bytes : List ℕ) → is_watched watch.now bytes ≡ true → judge_loaded (values_of sheet.now) round ≡ Accepted
+        → result ≡ told_of (watch_after [] bytes (values_of sheet.now) watch.now round) }
 {
-    let i = nearest(h, rounds, count, round);
-    if i >= count {
+    let Some(i) = nearest(sheet.header, &watch.rounds, watch.count, round) else {
         return unnamed(Verdict::Accepted);
-    }
-    let other = rounds[i as usize];
-    let Verdict::Accepted = judge_loaded(h, entries, statement, other) else {
-        return unnamed(Verdict::Refused(21));
     };
-    let found = extract_loaded(h, entries, statement, round, other);
-    let witness = found.values;
+    let other = watch.rounds[i];
+    let Verdict::Accepted = judge_loaded(sheet, other) else {
+        return unnamed(Verdict::Refused(Refusal::Session.number()));
+    };
+    let witness = extract_loaded(sheet, round, other).unwrap_or([0u32; 8]);
     Told {
         witness,
-        back: i + 1,
+        back: i as u32 + 1,
         verdict: Verdict::Accepted,
     }
 }
 
 // What is told of a round: refused with 14 to 16, then with 21 by a watch of other bytes or of more than 63 rounds, else its verdict,
 // and what an accepted round names.
-pub fn hear_loaded(
-    h: Header,
-    entries: [[u32; 8]; 8],
-    statement: [u32; 8],
-    rounds: [Round; 63],
-    count: u32,
-    watched: bool,
-    round: Round,
-) -> Told
-    requires { Valid (instance_with h entries statement) }
-    ensures { (sheet held : List ℕ) (size : ℕ)
-        → watched ≡ is_watched (watch_with rounds held size count) sheet
-        → result ≡ told_of (watch_after [] sheet (instance_with h entries statement) (watch_with rounds held size count) round) }
+pub fn hear_loaded(sheet: &Sheet, watch: &Watch, watched: bool, round: Round) -> Told
+    ensures { (bytes : List ℕ) → watched ≡ is_watched watch.now bytes
+        → result ≡ told_of (watch_after [] bytes (values_of sheet.now) watch.now round) }
 {
-    let verdict = judge_loaded(h, entries, statement, round);
+    let verdict = judge_loaded(sheet, round);
     if let Verdict::Refused(number) = verdict {
         return unnamed(Verdict::Refused(number));
     }
     if !watched {
-        return unnamed(Verdict::Refused(21));
+        return unnamed(Verdict::Refused(Refusal::Session.number()));
     }
-    if count > 63 {
-        return unnamed(Verdict::Refused(21));
+    if watch.count > 63 {
+        return unnamed(Verdict::Refused(Refusal::Session.number()));
     }
     let Verdict::Accepted = verdict else {
         return unnamed(verdict);
     };
-    named(h, entries, statement, rounds, count, round)
+    named(sheet, watch, round)
 }

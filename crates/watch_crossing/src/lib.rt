@@ -5,7 +5,7 @@
 ghost use Rattle.std.specs.Prelude.{◌≡◌};
 ghost use Rattle.watch_crossing.specs.Answers.{watch_answer};
 
-use crossing::{Judgement, judgement_of};
+use crossing::Judgement;
 use watches::{Watch, Watched};
 
 // What a watch answers to a round: the watch handed back, the witness extracted from the round and the named one, by how many
@@ -19,17 +19,19 @@ pub struct WatchAnswer {
     pub verdict: Judgement,
 }
 
-// The answer as it is handed out: the verdict is three numbers, and the rest is as it is.
-pub fn watch_answer(told: Watched) -> WatchAnswer
-    ensures { result ≡ watch_answer told }
-{
-    let watch = told.watch;
-    let witness = told.witness;
-    let verdict = told.verdict;
-    WatchAnswer {
-        watch,
-        witness,
-        back: told.back,
-        verdict: judgement_of(verdict),
+impl From<Watched> for WatchAnswer {
+    ghost from_gives = { λ told answer. answer ≡ watch_answer told };
+
+    // The answer as it is handed out: the verdict is three numbers, and the rest is as it is.
+    fn from(told: Watched) -> WatchAnswer {
+        let watch = told.watch;
+        let witness = told.witness;
+        let verdict = told.verdict;
+        WatchAnswer {
+            watch,
+            witness,
+            back: told.back,
+            verdict: Judgement::from(verdict),
+        }
     }
 }

@@ -1,6 +1,6 @@
 // The sheet's bytes that a watch holds. A sheet that loads has 308 at most.
-ghost use Rattle.std.specs.Prelude.{◌≡◌, List, ◌++◌, ℕ, ◌-◌, ◌≤◌, length, replicate};
-ghost use Rattle.types.specs.declared.Round.{Round};
+// Bytes are an array and their number beside it, as C reads them in a `Watch`.
+ghost use Rattle.std.specs.Prelude.{◌≡◌, ◌++◌, ◌-◌, ◌≤◌, length, replicate};
 ghost use Rattle.watches.specs.Watch.{is_watched, zero_round};
 ghost use Rattle.watch_parts.specs.Parts.{watch_with};
 
@@ -13,9 +13,7 @@ pub fn held_bytes(sheet: &[u8]) -> [u8; 308]
     ensures { result ≡ sheet.now ++ replicate (308 - length sheet.now) 0 }
 {
     let mut held = [0u8; 308];
-    for i in 0..sheet.len() {
-        held[i] = sheet[i];
-    }
+    held[..sheet.len()].copy_from_slice(sheet);
     held
 }
 
@@ -38,21 +36,10 @@ pub fn fresh(held: [u8; 308], size: u32) -> Watch
 }
 
 // Whether a sheet's bytes are those that a watch holds: as many, and the same at each place.
-pub fn is_watched(sheet: &[u8], held: [u8; 308], size: u32) -> bool
+pub fn is_watched(watch: &Watch, sheet: &[u8]) -> bool
     requires { length sheet.now ≤ 308 }
-    ensures { (rounds : List Round) (count : ℕ)
-        → result ≡ is_watched (watch_with rounds held size count) sheet.now }
+    ensures { result ≡ is_watched watch.now sheet.now }
 {
-    let n = sheet.len();
-    if size as usize != n {
-        return false;
-    }
-    let mut i: usize = 0;
-    while i < n {
-        if held[i] != sheet[i] {
-            return false;
-        }
-        i += 1;
-    }
-    true
+    let size = watch.length as usize;
+    size == sheet.len() && sheet == &watch.sheet[..size]
 }

@@ -1,5 +1,6 @@
 // The rounds that a watch remembers: the nearest in which a nonce was used before, and one round more.
-ghost use Rattle.std.specs.Prelude.{◌≡◌, List, ◌∷◌, ℕ, suc, ◌≤◌, min, take};
+// The bounds of fixed fields are clauses and no type, since a `Sheet` would ask more of callers.
+ghost use Rattle.std.specs.Prelude.{◌≡◌, List, ◌∷◌, ℕ, suc, ◌≤◌, ◌<◌, min, take, unwrap_or, IfSome};
 ghost use Rattle.sigma.specs.Reads.{padded_round};
 ghost use Rattle.watches.specs.Watch.{reuses, nearest};
 ghost use Rattle.watch_parts.specs.Parts.{watch_with};
@@ -15,27 +16,20 @@ fn reuses(h: Header, round: Round, other: Round) -> bool
     let t = other.commitment;
     let u = round.commitment;
     let rows = h.rows as usize;
-    if differ(t, u, rows) {
-        return false;
-    }
-    other.challenge != round.challenge
+    !differ(t, u, rows) && other.challenge != round.challenge
 }
 
-// The nearest of the first count remembered rounds that has the same commitment as a round and another challenge, from 0, or
-// count if none has.
-pub fn nearest(h: Header, rounds: [Round; 63], count: u32, round: Round) -> u32
+// The nearest of the first count remembered rounds that has the same commitment as a round and another challenge, from 0, if there is
+// one.
+// The count stands beside the rounds, since how long a field behind a reference is is not told (goal `returns-clause-value`).
+pub fn nearest(h: Header, rounds: &[Round; 63], count: u32, round: Round) -> Option<usize>
     requires { (h.rows ≤ 8) × (count ≤ 63) }
-    ensures { (held : List ℕ) (size : ℕ) → result ≡ nearest h (watch_with rounds held size count) round }
+    ensures value { (held : List ℕ) (size : ℕ)
+        → unwrap_or result count ≡ nearest h (watch_with rounds.now held size count) round }
+    ensures within { IfSome result (λ i. i < count) }
 {
-    let mut i: u32 = 0;
-    while i < count {
-        let other = rounds[i as usize];
-        if reuses(h, round, other) {
-            return i;
-        }
-        i += 1;
-    }
-    i
+    let remembered = &rounds[..count as usize];
+    remembered.iter().position(|other| reuses(h, round, *other))
 }
 
 // What is read of a round, in eight places each, with 0 in those that are not read.
@@ -53,14 +47,11 @@ pub fn padded(h: Header, round: Round) -> Round
 }
 
 // The remembered rounds with a new one in front: each moves on by a place, and the last is forgotten.
-pub fn behind(newest: Round, rounds: [Round; 63]) -> [Round; 63]
-    ensures { result ≡ take 63 (newest ∷ rounds) }
+pub fn behind(newest: Round, rounds: &[Round; 63]) -> [Round; 63]
+    ensures { result ≡ take 63 (newest ∷ rounds.now) }
 {
     let mut next = [newest; 63];
-    for i in 0..62 {
-        let older = rounds[i];
-        next[i + 1] = older;
-    }
+    next[1..].copy_from_slice(&rounds[..62]);
     next
 }
 
@@ -68,8 +59,5 @@ pub fn behind(newest: Round, rounds: [Round; 63]) -> [Round; 63]
 pub fn one_more(count: u32) -> u32
     ensures { result ≡ min 63 (suc count) }
 {
-    if count >= 63 {
-        return 63;
-    }
-    count + 1
+    count.min(62) + 1
 }

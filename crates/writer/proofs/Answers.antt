@@ -7,10 +7,14 @@ use native.Mathlib.Omega.{arith}
 use lib.ListN.{length}
 use lib.Seq.{sets}
 use borrow.Author.Tests.{lt-ltb}
-use Rattle.types.specs.declared.Written.{Written}
+use Rattle.std.specs.Prelude.{Ok, Err}
+use Rattle.refusals.specs.declared.Refusal.{Refusal}
+use Rattle.refusals.specs.declared.Refusal.TheVariants.{Buffer}
+use Rattle.refusals.specs.Number.{number, written}
+use Rattle.refusals.proofs.Positive.{call_refused, number_positive}
 use Rattle.rules.specs.Call.{answer, number_of}
 use Rattle.rules.specs.Rule.{Rule, ◌when◌, lowest}
-use Rattle.rules.proofs.Call.{tested_refused, tested_value}
+use Rattle.rules.proofs.Call.{tested_value}
 use Rattle.rules.proofs.Lowest.{lowest_clear, lowest_earlier, lowest_later_zero, stop}
 use Rattle.sigma.specs.Admission.{element_rules, header_rules}
 use Rattle.sigma.specs.Instance.{Instance}
@@ -20,23 +24,17 @@ use Rattle.formats.specs.Sheet.{sheet_length}
 use Rattle.formats.specs.Write.{short, writing_at_start}
 use Rattle.formats.proofs.Writing.{Leaves, leaves, length_sheet_of, short_passes}
 
--- the answer of a refused call: the number, and length 0
-abbrev pub refused_with : ℕ → Written
-refused_with number = record { refusal = number; length = 0 }
-
--- a call with a refusal's number answers it and keeps the buffer
-pub start_refused : (n : ℕ) (refusals : List Rule) (bytes buffer : List ℕ) {given : Written} → given ≡ refused_with n
-    → n ≡ lowest refusals → 0 < n
-    → Leaves given buffer (answer (writing_at_start refusals bytes buffer))
+-- a call with a refusal answers its number and keeps the buffer
+pub start_refused : (refusal : Refusal) (refusals : List Rule) (bytes buffer : List ℕ) → number refusal ≡ lowest refusals
+    → Leaves (written (Err refusal)) buffer (answer (writing_at_start refusals bytes buffer))
 unfolding number_of
-start_refused n refusals bytes buffer answered e some =
-    rw answered (leaves (tested_refused (writing_at_start refusals bytes buffer) e (λ (z : n ≡ 0). omega arith)))
+start_refused refusal refusals bytes buffer e = leaves (call_refused (writing_at_start refusals bytes buffer) refusal e)
 
 -- a call that is not refused answers the length of its bytes and stores them at the buffer's start
 pub start_stored : (refusals : List Rule) (bytes buffer : List ℕ) {used : ℕ} {after : List ℕ} → lowest refusals ≡ 0
     → used ≡ length bytes
     → after ≡ sets buffer 0 bytes
-    → Leaves (record { refusal = 0; length = used }) after (answer (writing_at_start refusals bytes buffer))
+    → Leaves (written (Ok used)) after (answer (writing_at_start refusals bytes buffer))
 unfolding number_of
 start_stored refusals bytes buffer e size stored =
     rw (size, stored) (leaves (tested_value (writing_at_start refusals bytes buffer) (sym e) refl))
@@ -52,12 +50,13 @@ module _ (i : Instance) (buffer : List ℕ) where
   in_front = ap (λ (rules : List Rule). lowest rules) (append_assoc (header_rules i.header) (element_rules i) room)
 
   -- the fixed fields are refused
-  pub encode_fields : {n : ℕ} {given : Written} → given ≡ refused_with n → n ≡ lowest (header_rules i.header) → 0 < n
-      → Leaves given buffer (encode i buffer)
+  pub encode_fields : (refusal : Refusal) → number refusal ≡ lowest (header_rules i.header)
+      → Leaves (written (Err refusal)) buffer (encode i buffer)
   unfolding encode encoding
-  encode_fields {n} answered e some =
-      let number = in_front ∙ lowest_earlier (header_rules i.header) (element_rules i ++ room) (omega arith) in
-      start_refused n _ (sheet_of i) buffer answered (e ∙ sym number) some
+  encode_fields refusal e =
+      let first =
+      in_front ∙ lowest_earlier (header_rules i.header) (element_rules i ++ room) (omega (arith, e, number_positive refusal)) in
+      start_refused refusal _ (sheet_of i) buffer (e ∙ sym first)
 
   module _ (fields : lowest (header_rules i.header) ≡ 0) where
     -- where they are not, the entries, the statement and the room decide
@@ -65,12 +64,12 @@ module _ (i : Instance) (buffer : List ℕ) where
     behind_fields = in_front ∙ lowest_later_zero (header_rules i.header) _ (header_positive i.header) fields
 
     -- an entry or a statement value is no group element
-    pub encode_elements : {n : ℕ} {given : Written} → given ≡ refused_with n → n ≡ lowest (element_rules i) → 0 < n
-        → Leaves given buffer (encode i buffer)
+    pub encode_elements : (refusal : Refusal) → number refusal ≡ lowest (element_rules i)
+        → Leaves (written (Err refusal)) buffer (encode i buffer)
     unfolding encode encoding
-    encode_elements {n} answered e some =
-        let number = behind_fields ∙ lowest_earlier (element_rules i) room (omega arith) in
-        start_refused n _ (sheet_of i) buffer answered (e ∙ sym number) some
+    encode_elements refusal e =
+        let first = behind_fields ∙ lowest_earlier (element_rules i) room (omega (arith, e, number_positive refusal)) in
+        start_refused refusal _ (sheet_of i) buffer (e ∙ sym first)
 
     module _ (elements : lowest (element_rules i) ≡ 0) where
       -- where all are group elements, the room decides
@@ -78,18 +77,15 @@ module _ (i : Instance) (buffer : List ℕ) where
       behind_elements = behind_fields ∙ lowest_later_zero (element_rules i) room (element_positive i) elements
 
       -- the buffer is too short
-      pub encode_short : {given : Written} → given ≡ refused_with 22 → length buffer < sheet_length i.header
-          → Leaves given buffer (encode i buffer)
+      pub encode_short : length buffer < sheet_length i.header → Leaves (written (Err Buffer)) buffer (encode i buffer)
       unfolding encode encoding short
-      encode_short answered less =
-          let number = behind_elements ∙ stop 22 [] (lt-ltb _ _ less) in
-          start_refused 22 _ (sheet_of i) buffer answered (sym number) (omega arith)
+      encode_short less = start_refused Buffer _ (sheet_of i) buffer (sym (behind_elements ∙ stop 22 [] (lt-ltb _ _ less)))
 
       -- the sheet is written
       pub encode_written : {used : ℕ} {after : List ℕ} → used ≡ sheet_length i.header → used ≤ length buffer
-          → after ≡ sets buffer 0 (sheet_of i) → Leaves (record { refusal = 0; length = used }) after (encode i buffer)
+          → after ≡ sets buffer 0 (sheet_of i) → Leaves (written (Ok used)) after (encode i buffer)
       unfolding encode encoding
       encode_written size fits stored =
           let clear = (short_passes buffer (sheet_length i.header)).1 (omega arith) in
-          let number = behind_elements ∙ lowest_clear room (clear, tt) in
-          start_stored _ (sheet_of i) buffer number (size ∙ sym (length_sheet_of i)) stored
+          let none = behind_elements ∙ lowest_clear room (clear, tt) in
+          start_stored _ (sheet_of i) buffer none (size ∙ sym (length_sheet_of i)) stored

@@ -1,4 +1,5 @@
 // The bytes of a sheet, stored in a lent buffer part by part.
+// The values come in three parts, as C hands them in, and need not be those of a sheet that loads.
 ghost use Rattle.std.specs.Prelude.{◌+◌, ◌*◌, ◌≤◌, ◌≡◌, length};
 ghost use Rattle.std.proofs.lemmas.List.Edits.{sets};
 ghost use Rattle.sigma.specs.Instance.{instance_with};

@@ -8,8 +8,6 @@ pub fn eight_of(numbers: &[u32]) -> [u32; 8]
     ensures { result ≡ pad8 0 numbers.now }
 {
     let mut eight = [0u32; 8];
-    for i in 0..numbers.len() {
-        eight[i] = numbers[i];
-    }
+    eight[..numbers.len()].copy_from_slice(numbers);
     eight
 }

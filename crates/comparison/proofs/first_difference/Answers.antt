@@ -1,4 +1,3 @@
-use Prim.Native.Nat.{◌-◌}
 use Rattle.comparison.proofs.TwoSides.{agreed_none, agreed_on, differ_here, differ_none}
 use Rattle.comparison.proofs.first_difference.Goals as goal
 
@@ -13,4 +12,4 @@ pub loop-i-preserved : goal.loop-i-preserved
 loop-i-preserved c = agreed_on _ _ _ _ c.loop-i-test.true c.if-xs-i.false c.loop-i.invariant
 
 pub returns-clause-value : goal.returns-clause-value
-returns-clause-value c = let agreed = c.loop-i.invariant in differ_none _ _ _ _ c.loop-i-test.false agreed
+returns-clause-value c = differ_none _ _ _ c.loop-i-test.false c.loop-i.invariant

@@ -1,16 +1,8 @@
-use Prim.Native.Nat.{◌-◌}
-use mathlib.Core.Path.{refl}
+-- `comparison::first_places` meets its contract.
+-- Assumes nothing.
 use native.Mathlib.Omega.{arith}
-use Rattle.lists.specs.Places.{places}
-use Rattle.lists.proofs.Filling.{filled_start, filled_turn, filled_eight}
+use Rattle.lists.proofs.Filling.{copied_places}
 use Rattle.comparison.proofs.first_places.Goals as goal
 
-pub loop-i-init : goal.loop-i-init
-loop-i-init c = filled_start (omega arith)
-
-pub loop-i-preserved : goal.loop-i-preserved
-loop-i-preserved c = filled_turn c.loop-i.invariant (omega arith) refl
-
 pub returns : goal.returns
-unfolding places
-returns c = filled_eight c.loop-i.invariant (omega arith)
+returns c = copied_places _ c.args.values _ (omega arith) (omega arith) c.copy_from_slice.ensures.after

@@ -1,10 +1,8 @@
--- `fields::read_u16` meets its contract: two fields of one byte side by side are a field of two.
+-- `fields::read_u16` meets its contract.
 -- Assumes nothing.
 use native.Mathlib.Omega.{arith}
-use Rattle.encoding.proofs.Bytes.{number_at_join}
+use Rattle.fields.proofs.Laws.{number_two}
 use Rattle.fields.proofs.read_u16.Goals as goal
 
 pub returns-clause-value : goal.returns-clause-value
-returns-clause-value c =
-    let args = c.args in
-    omega (arith, number_at_join 1 1 args.s.now args.at)
+returns-clause-value c = omega (arith, c.from_be_bytes.ensures, number_two c.args.s.now c.args.at)

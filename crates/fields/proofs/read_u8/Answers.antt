@@ -6,5 +6,4 @@ use Rattle.fields.proofs.read_u8.Goals as goal
 
 pub returns-clause-value : goal.returns-clause-value
 returns-clause-value c =
-    let args = c.args in
-    omega (arith, c.shared_slice_known-1.given args.at, number_at_one args.s.now args.at)
+    omega (arith, number_at_one c.args.s.now c.args.at)

@@ -1,7 +1,9 @@
--- `fields::write_u16` meets its contract: two fields of one byte side by side are a field of two.
+-- `fields::write_u16` meets its contract.
 -- Assumes nothing.
-use Rattle.fields.proofs.Laws.{field_stored}
+use mathlib.Core.Path.{◌∙◌}
+use Rattle.fields.proofs.Laws.{bytes_two, field_copied}
 use Rattle.fields.proofs.write_u16.Goals as goal
 
 pub returns : goal.returns
-returns c = record { stored = rw (c.write_u8-2.ensures.stored, c.write_u8.ensures.stored) (field_stored 1 1 _ _ _) }
+returns c =
+    record { stored = field_copied 2 c.args.v _ _ c.args.at c.requires.room (c.copy_from_slice.ensures.after ∙ c.to_be_bytes.ensures ∙ bytes_two c.args.v) }

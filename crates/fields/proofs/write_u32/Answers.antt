@@ -1,7 +1,9 @@
--- `fields::write_u32` meets its contract: two fields of two bytes side by side are a field of four.
+-- `fields::write_u32` meets its contract.
 -- Assumes nothing.
-use Rattle.fields.proofs.Laws.{field_stored}
+use mathlib.Core.Path.{◌∙◌}
+use Rattle.fields.proofs.Laws.{bytes_four, field_copied}
 use Rattle.fields.proofs.write_u32.Goals as goal
 
 pub returns : goal.returns
-returns c = record { stored = rw (c.write_u16-2.ensures.stored, c.write_u16.ensures.stored) (field_stored 2 2 _ _ _) }
+returns c =
+    record { stored = field_copied 4 c.args.v _ _ c.args.at c.requires.room (c.copy_from_slice.ensures.after ∙ c.to_be_bytes.ensures ∙ bytes_four c.args.v) }

@@ -1,7 +1,6 @@
 -- `fields::write_words` meets its contract. The invariant: the bytes of the first k words are stored, and no other byte differs.
--- The measure: how many words are left.
 -- Assumes nothing.
-use Prim.Native.Nat.{◌≤◌, ◌-◌}
+use Prim.Native.Nat.{◌≤◌}
 use mathlib.Core.Path.{◌≡◌}
 use lib.ListN.{length}
 use lib.Seq.{sets}
@@ -11,6 +10,3 @@ use Rattle.fields.proofs.write_words.Given as goal
 
 abbrev pub invariant-loop-k : goal.invariant-loop-k
 invariant-loop-k l = (l.s ≡ sets l.initial.s l.at (bytes_of_each 4 (places l.k l.words))) × (l.k ≤ l.n) × (length l.s ≡ length l.initial.s)
-
-abbrev pub decreases-loop-k : goal.decreases-loop-k
-decreases-loop-k l = l.n - l.k

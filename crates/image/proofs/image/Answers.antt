@@ -1,5 +1,4 @@
 use mathlib.Core.Path.{refl}
-use Prim.Native.Nat.{◌-◌}
 use native.Mathlib.Omega.{arith}
 use Rattle.lists.proofs.Filling.{filled_start, filled_turn, filled_eight}
 use Rattle.sigma.specs.Image.{image}

@@ -1,7 +1,6 @@
-use Prim.Native.Nat.{◌-◌}
 use native.Mathlib.Omega.{arith}
 use Rattle.lists.proofs.Filling.{filled_start, filled_turn, filled_eight}
-use Rattle.sigma.specs.Round.{response_coordinate, response}
+use Rattle.sigma.specs.Round.{response}
 use Rattle.image.proofs.Several.{powers_response}
 use Rattle.image.proofs.response.Goals as goal
 

@@ -1,5 +1,4 @@
 use mathlib.Core.Path.{◌≡◌, ◌∙◌}
-use Prim.Native.Nat.{◌-◌}
 use native.Mathlib.Omega.{arith}
 use Rattle.image.proofs.RowImage.{row_start, row_turn, row_exponent, row_root}
 use Rattle.image.proofs.row_product.Goals as goal

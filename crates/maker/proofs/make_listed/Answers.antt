@@ -23,11 +23,11 @@ read_u8-requires c = omega (arith, ((passes_23 _).0 c.requires.file.0).long)
 
 pub returns-then-number-read_u8-clause-answer : goal.returns-then-number-read_u8-clause-answer
 unfolding pattern_count
-returns-then-number-read_u8-clause-answer c = (asked_refused _ _ _ _ _ _ _ _ c.requires.file c.refused.ensures (inl (omega arith))).0
+returns-then-number-read_u8-clause-answer c = (asked_refused _ _ _ _ _ _ _ _ c.requires.file (inl (omega arith))).0
 
 pub returns-then-number-read_u8-clause-left : goal.returns-then-number-read_u8-clause-left
 unfolding pattern_count
-returns-then-number-read_u8-clause-left c = (asked_refused _ _ _ _ _ _ _ _ c.requires.file c.refused.ensures (inl (omega arith))).1
+returns-then-number-read_u8-clause-left c = (asked_refused _ _ _ _ _ _ _ _ c.requires.file (inl (omega arith))).1
 
 pub start_of-at-requires : goal.start_of-at-requires
 start_of-at-requires c = record { listed = c.requires.file.0; number = omega (arith, few _ c.read_u8.ensures.value c.if-number-read_u8.false) }
@@ -42,28 +42,28 @@ pub returns-then-values-p-clause-answer : goal.returns-then-values-p-clause-answ
 returns-then-values-p-clause-answer c =
     let passes = c.requires.file in
     let some = c.requires.some in
-    (listed_refused _ _ some c.start_of-at.ensures c.sizes_at-p.ensures _ _ _ _ _ _ passes c.refused-then-values-p.ensures
+    (listed_refused _ _ some c.start_of-at.ensures c.sizes_at-p.ensures _ _ _ _ _ _ passes
     (inl c.if-values-p.true)).0
 
 pub returns-then-values-p-clause-left : goal.returns-then-values-p-clause-left
 returns-then-values-p-clause-left c =
     let passes = c.requires.file in
     let some = c.requires.some in
-    (listed_refused _ _ some c.start_of-at.ensures c.sizes_at-p.ensures _ _ _ _ _ _ passes c.refused-then-values-p.ensures
+    (listed_refused _ _ some c.start_of-at.ensures c.sizes_at-p.ensures _ _ _ _ _ _ passes
     (inl c.if-values-p.true)).1
 
 pub returns-then-statement-p-clause-answer : goal.returns-then-statement-p-clause-answer
 returns-then-statement-p-clause-answer c =
     let passes = c.requires.file in
     let some = c.requires.some in
-    (listed_refused _ _ some c.start_of-at.ensures c.sizes_at-p.ensures _ _ _ _ _ _ passes c.refused-then-statement-p.ensures
+    (listed_refused _ _ some c.start_of-at.ensures c.sizes_at-p.ensures _ _ _ _ _ _ passes
     (inr c.if-statement-p.true)).0
 
 pub returns-then-statement-p-clause-left : goal.returns-then-statement-p-clause-left
 returns-then-statement-p-clause-left c =
     let passes = c.requires.file in
     let some = c.requires.some in
-    (listed_refused _ _ some c.start_of-at.ensures c.sizes_at-p.ensures _ _ _ _ _ _ passes c.refused-then-statement-p.ensures
+    (listed_refused _ _ some c.start_of-at.ensures c.sizes_at-p.ensures _ _ _ _ _ _ passes
     (inr c.if-statement-p.true)).1
 
 pub entries_of-entries-requires : goal.entries_of-entries-requires
@@ -84,11 +84,11 @@ returns-clause-answer c =
     let passes = c.requires.file in
     let some = c.requires.some in
     (listed_written _ _ some c.start_of-at.ensures c.sizes_at-p.ensures _ _ _ _ _ _ passes (few _ c.read_u8.ensures.value c.if-number-read_u8.false)
-    c.if-values-p.false c.if-statement-p.false c.entries_of-entries.ensures c.eight_of.ensures (c.encode.ensures.answer, c.encode.ensures.left)).0
+    c.if-values-p.false c.if-statement-p.false c.entries_of-entries.ensures c.eight_of.ensures (c.try_encode.ensures.answer, c.try_encode.ensures.left)).0
 
 pub returns-clause-left : goal.returns-clause-left
 returns-clause-left c =
     let passes = c.requires.file in
     let some = c.requires.some in
     (listed_written _ _ some c.start_of-at.ensures c.sizes_at-p.ensures _ _ _ _ _ _ passes (few _ c.read_u8.ensures.value c.if-number-read_u8.false)
-    c.if-values-p.false c.if-statement-p.false c.entries_of-entries.ensures c.eight_of.ensures (c.encode.ensures.answer, c.encode.ensures.left)).1
+    c.if-values-p.false c.if-statement-p.false c.entries_of-entries.ensures c.eight_of.ensures (c.try_encode.ensures.answer, c.try_encode.ensures.left)).1

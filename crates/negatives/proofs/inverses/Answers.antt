@@ -1,7 +1,5 @@
-use Prim.Native.Nat.{◌-◌}
 use native.Mathlib.Omega.{arith}
 use Rattle.lists.proofs.Filling.{filled_start, filled_turn, filled_eight}
-use Rattle.numbers.specs.Inverse.{inverse}
 use Rattle.negatives.specs.Negative.{inverses_of}
 use Rattle.negatives.proofs.inverses.Goals as goal
 

@@ -1,13 +1,17 @@
 -- `prime_search::within` meets its contract.
 -- Assumes nothing.
-use borrow.Author.Tests.{lt-ltb, le-ltb}
+use mathlib.Core.Path.{◌≡◌, refl, ◌∙◌}
+use mathlib.Core.Bool.{Bool, true, false, cond}
+use Prim.Native.Nat.{ℕ}
+use Rattle.std.specs.Prelude.{Some, None}
+use Rattle.std.specs.Bool.{then_some}
 use Rattle.prime_search.specs.Search.{within_of}
 use Rattle.prime_search.proofs.within.Goals as goal
 
-pub returns-then-d-challenges : goal.returns-then-d-challenges
-unfolding within_of
-returns-then-d-challenges c = simp (lt-ltb _ _ c.if-d-challenges.true)
+some_if : (b : Bool) (d : ℕ) → then_some b d ≡ cond b (Some d) None
+some_if true d = refl
+some_if false d = refl
 
 pub returns : goal.returns
 unfolding within_of
-returns c = simp (le-ltb _ _ c.if-d-challenges.false)
+returns c = c.then_some.ensures ∙ some_if _ _

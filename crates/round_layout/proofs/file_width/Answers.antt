@@ -3,11 +3,6 @@
 use Rattle.formats.specs.RoundFile.{challenge_width, file_version}
 use Rattle.round_layout.proofs.file_width.Goals as goal
 
-pub returns : goal.returns
+pub returns-clause-value : goal.returns-clause-value
 unfolding challenge_width file_version
-returns c =
-    record {
-      value = rw (← c.read_u16.ensures.value) c.width_of.ensures.value;
-      small = c.width_of.ensures.small;
-      known = c.width_of.ensures.known;
-    }
+returns-clause-value c = rw (← c.read_u16.ensures.value) c.width_of.ensures.value

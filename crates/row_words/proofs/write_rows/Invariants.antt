@@ -1,7 +1,6 @@
 -- `row_words::write_rows` meets its contract. The invariant: the words of the rows before this one are stored, and the rest of the
--- mask has its bit lowest. The measure: how many rows are left.
+-- mask has its bit lowest.
 -- Assumes nothing.
-use Prim.Native.Nat.{◌-◌}
 use mathlib.Core.Path.{◌≡◌}
 use lib.ListN.{length}
 use Rattle.runs.specs.Marker.{row_word}
@@ -10,6 +9,3 @@ use Rattle.row_words.proofs.write_rows.Given as goal
 
 abbrev pub invariant-loop-row : goal.invariant-loop-row
 invariant-loop-row l = Told row_word l.mask l.initial.text l.at l.text l.next l.rest l.row × (length l.text ≡ length l.initial.text)
-
-abbrev pub decreases-loop-row : goal.decreases-loop-row
-decreases-loop-row l = 8 - l.row

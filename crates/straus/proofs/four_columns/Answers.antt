@@ -1,5 +1,4 @@
 use mathlib.Core.Path.{refl}
-use Prim.Native.Nat.{◌-◌}
 use native.Mathlib.Omega.{arith}
 use Rattle.lists.proofs.Filling.{filled_start, filled_turn, filled_eight}
 use Rattle.straus.proofs.four_columns.Goals as goal
@@ -11,4 +10,4 @@ pub loop-j-preserved : goal.loop-j-preserved
 loop-j-preserved c = filled_turn c.loop-j.invariant (omega arith) refl
 
 pub returns : goal.returns
-returns c = filled_eight c.loop-j.invariant (omega arith)
+returns c = rw c.splat-columns.ensures at (filled_eight c.loop-j.invariant (omega arith))

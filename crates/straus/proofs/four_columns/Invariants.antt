@@ -1,12 +1,8 @@
 -- `straus::four_columns` meets its contract. The invariant: the first j places hold the first j columns, and those beyond hold 1.
--- The measure: how many columns are left. Assumes nothing.
-use Prim.Native.Nat.{◌-◌}
+-- Assumes nothing.
 use Rattle.lists.proofs.Filling.{Filled}
 use Rattle.straus.specs.MultiPowers.{column_of}
 use Rattle.straus.proofs.four_columns.Given as goal
 
 abbrev pub invariant-loop-j : goal.invariant-loop-j
 invariant-loop-j l = Filled l.initial.columns l.n (column_of l.a l.b l.c l.d) l.columns l.j
-
-abbrev pub decreases-loop-j : goal.decreases-loop-j
-decreases-loop-j l = l.n - l.j

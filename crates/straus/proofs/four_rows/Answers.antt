@@ -7,9 +7,9 @@ use Rattle.straus.proofs.four_rows.Goals as goal
 pub returns-then-n-gt4 : goal.returns-then-n-gt4
 returns-then-n-gt4 c =
     c.multi_pow_eight.ensures
-    ∙ eight_rows_law _ _ _ _ _ _ _ _ c.four_columns-columns.ensures c.requires.1
+    ∙ eight_rows_law _ _ _ _ _ _ _ _ c.four_columns-columns.ensures c.requires
 
 pub returns : goal.returns
 returns c =
     c.multi_pow_four.ensures
-    ∙ columns_rows _ _ _ _ _ _ _ _ c.four_columns-columns.ensures c.requires.1
+    ∙ columns_rows _ _ _ _ _ _ _ _ c.four_columns-columns.ensures c.requires

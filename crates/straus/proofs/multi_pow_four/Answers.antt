@@ -5,7 +5,7 @@ use Rattle.straus.proofs.Straus.{four_start, four_turn, four_end}
 use Rattle.straus.proofs.multi_pow_four.Goals as goal
 
 pub loop-k-init : goal.loop-k-init
-loop-k-init c = let (short, holds) = c.bit_length-k.ensures in (short, four_start _ _ _ _ _ _ c.largest.ensures holds)
+loop-k-init c = let (short, holds) = c.bit_length-k.ensures in (short, four_start _ _ _ _ _ _ c.largest.ensures holds c.splat-values.ensures)
 
 pub loop-k-preserved : goal.loop-k-preserved
 loop-k-preserved c =

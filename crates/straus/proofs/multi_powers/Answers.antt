@@ -11,12 +11,12 @@ pub returns-then-rows-le4 : goal.returns-then-rows-le4
 unfolding multi_powers tabulate items_at
 returns-then-rows-le4 c =
     let args = c.args in
-    one_four _ _ _ c.if-rows-le4.true (c.four_rows-low.ensures ∙ rows_from args.m args.n 0 args.entries args.exponents)
+    one_four _ _ _ c.if-rows-le4.true ((simp c.new-by.ensures at c.four_rows-low.ensures) ∙ rows_from args.m args.n 0 args.entries args.exponents)
 
 pub returns : goal.returns
 unfolding multi_powers tabulate items_at
 returns c =
     let args = c.args in
     two_fours _ _ _ _ c.requires.1
-    (c.four_rows-low.ensures ∙ rows_from args.m args.n 0 args.entries args.exponents)
-    (c.four_rows-high.ensures ∙ rows_from args.m args.n 4 args.entries args.exponents)
+    ((simp c.new-by.ensures at c.four_rows-low.ensures) ∙ rows_from args.m args.n 0 args.entries args.exponents)
+    ((simp c.new-by.ensures at c.four_rows-high.ensures) ∙ rows_from args.m args.n 4 args.entries args.exponents)

@@ -1,9 +1,9 @@
-use Prim.Native.Nat.{◌-◌}
-use native.Mathlib.Omega.{arith}
-use lib.ListN.{length-set}
-use Rattle.text.proofs.Laws.{byte_stored}
+-- `text::store_word` meets its contract.
+-- Assumes nothing.
+use mathlib.Core.Path.{refl}
+use Rattle.text.proofs.Laws.{word_stored}
 use Rattle.text.proofs.store_word.Goals as goal
 
-pub loop-i-preserved : goal.loop-i-preserved
-loop-i-preserved c =
-    (rw c.loop-i.invariant.0 (byte_stored _ _ _ _ c.loop-i-test.true), omega arith, simp length-set (omega arith))
+pub returns : goal.returns
+returns c =
+    record { stored = word_stored _ _ _ c.args.at c.requires.room c.copy_from_slice.ensures.after; behind = refl }

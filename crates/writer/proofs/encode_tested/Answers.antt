@@ -1,28 +1,23 @@
--- `writer::encode_tested` meets its contract: the number of the first test that applies, or the sheet's length and bytes.
+-- `writer::encode_tested` meets its contract: why the first test that applies refuses, or the sheet's length and bytes.
 -- Assumes nothing.
-use mathlib.Core.Path.{◌≡◌}
+use mathlib.Core.Path.{sym}
 use native.Mathlib.Omega.{arith}
-use Rattle.rules.specs.Rule.{lowest}
-use Rattle.sigma.specs.Admission.{element_rules}
-use Rattle.sigma.specs.Instance.{instance_with}
+use Rattle.std.proofs.lemmas.Result.{err_from_is_err_and}
 use Rattle.instance.proofs.FixedFields.{header_passes}
 use Rattle.writer.proofs.Answers.{encode_elements, encode_short, encode_written}
 use Rattle.writer.proofs.encode_tested.Goals as goal
 
-pub element_refusal-elements-requires-clause-modulus : goal.element_refusal-elements-requires-clause-modulus
-element_refusal-elements-requires-clause-modulus c = (header_passes _ c.requires.fields).0
+pub test_elements-requires : goal.test_elements-requires
+test_elements-requires c =
+    let bounds = header_passes _ c.requires.fields in record { modulus = bounds.0; rows = bounds.1.0; columns = bounds.1.1 }
 
-pub element_refusal-elements-requires-clause-rows : goal.element_refusal-elements-requires-clause-rows
-element_refusal-elements-requires-clause-rows c = (header_passes _ c.requires.fields).1.0
+pub returns-in_err-test_elements-clause-answer : goal.returns-in_err-test_elements-clause-answer
+returns-in_err-test_elements-clause-answer c =
+    let passed_on = err_from_is_err_and c.from_residual.result c.from_residual.ensures.1 in
+    rw (passed_on.1, passed_on.2) (encode_elements _ _ c.requires.fields _ c.in_err-test_elements.ensures).0
 
-pub element_refusal-elements-requires-clause-columns : goal.element_refusal-elements-requires-clause-columns
-element_refusal-elements-requires-clause-columns c = (header_passes _ c.requires.fields).1.1
-
-pub returns-then-elements-ne0-clause-answer : goal.returns-then-elements-ne0-clause-answer
-returns-then-elements-ne0-clause-answer c = (encode_elements _ _ c.requires.fields c.refused.ensures c.element_refusal-elements.ensures (omega (arith, c.if-elements-ne0.true))).0
-
-pub returns-then-elements-ne0-clause-left : goal.returns-then-elements-ne0-clause-left
-returns-then-elements-ne0-clause-left c = (encode_elements _ _ c.requires.fields c.refused.ensures c.element_refusal-elements.ensures (omega (arith, c.if-elements-ne0.true))).1
+pub returns-in_err-test_elements-clause-left : goal.returns-in_err-test_elements-clause-left
+returns-in_err-test_elements-clause-left c = (encode_elements _ _ c.requires.fields _ c.in_err-test_elements.ensures).1
 
 pub sheet_length-length-requires : goal.sheet_length-length-requires
 sheet_length-length-requires c =
@@ -30,14 +25,12 @@ sheet_length-length-requires c =
 
 pub returns-then-buffer-length-clause-answer : goal.returns-then-buffer-length-clause-answer
 returns-then-buffer-length-clause-answer c =
-    let elements : lowest (element_rules (instance_with c.args.h c.args.entries c.args.statement)) ≡ 0 = omega arith in
-    (encode_short _ _ c.requires.fields elements c.refused-then-buffer-length.ensures
+    (encode_short _ _ c.requires.fields (sym c.in_ok-test_elements.ensures)
     (omega (arith, c.if-buffer-length.true, c.sheet_length-length.ensures.value))).0
 
 pub returns-then-buffer-length-clause-left : goal.returns-then-buffer-length-clause-left
 returns-then-buffer-length-clause-left c =
-    let elements : lowest (element_rules (instance_with c.args.h c.args.entries c.args.statement)) ≡ 0 = omega arith in
-    (encode_short _ _ c.requires.fields elements c.refused-then-buffer-length.ensures
+    (encode_short _ _ c.requires.fields (sym c.in_ok-test_elements.ensures)
     (omega (arith, c.if-buffer-length.true, c.sheet_length-length.ensures.value))).1
 
 pub write_sheet-requires-clause-rows_bound : goal.write_sheet-requires-clause-rows_bound
@@ -45,12 +38,10 @@ write_sheet-requires-clause-rows_bound c = (header_passes _ c.requires.fields).1
 
 pub returns-clause-answer : goal.returns-clause-answer
 returns-clause-answer c =
-    let elements : lowest (element_rules (instance_with c.args.h c.args.entries c.args.statement)) ≡ 0 = omega arith in
-    (encode_written _ _ c.requires.fields elements c.sheet_length-length.ensures.value
+    (encode_written _ _ c.requires.fields (sym c.in_ok-test_elements.ensures) c.sheet_length-length.ensures.value
     (omega (arith, c.if-buffer-length.false)) c.write_sheet.ensures).0
 
 pub returns-clause-left : goal.returns-clause-left
 returns-clause-left c =
-    let elements : lowest (element_rules (instance_with c.args.h c.args.entries c.args.statement)) ≡ 0 = omega arith in
-    (encode_written _ _ c.requires.fields elements c.sheet_length-length.ensures.value
+    (encode_written _ _ c.requires.fields (sym c.in_ok-test_elements.ensures) c.sheet_length-length.ensures.value
     (omega (arith, c.if-buffer-length.false)) c.write_sheet.ensures).1

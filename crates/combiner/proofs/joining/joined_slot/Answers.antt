@@ -6,7 +6,7 @@ use Rattle.combiner.proofs.joining.joined_slot.Goals as goal
 
 pub returns-then-h-eq1 : goal.returns-then-h-eq1
 returns-then-h-eq1 c =
-    slot_sum _ _ _ _ c.if-h-eq1.true c.sum_at.ensures
+    rw c.from.ensures (slot_sum c.args.h _ _ _ c.if-h-eq1.true c.sum_at.ensures)
 
 pub returns : goal.returns
 returns c = c.product_at.ensures ∙ slot_product _ _ _ _ c.if-h-eq1.false

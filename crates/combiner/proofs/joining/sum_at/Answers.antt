@@ -1,16 +1,18 @@
-use Prim.Native.Nat.{◌-◌}
+-- `combiner::joining::sum_at` meets its contract. Assumes nothing.
 use mathlib.Core.Path.{◌∙◌}
-use native.Mathlib.Omega.{arith}
+use mathlib.Core.List.{[]}
+use lib.ListN.{get_or}
+use Rattle.std.proofs.Common.{rules}
+use Rattle.std.proofs.lemmas.Iterator.{YieldsList-from_map, YieldsList-from_slice}
+use Rattle.std.proofs.lemmas.Iterator.Consumers.{sum_by_from_yields_List}
 use Rattle.combiner.specs.Parts.{place_of}
-use Rattle.combiner.proofs.Turns.{sum_start, sum_turn}
+use Rattle.combiner.proofs.Rows.{sum_rows}
 use Rattle.combiner.proofs.joining.sum_at.Goals as goal
 
-pub loop-p-init : goal.loop-p-init
-loop-p-init c = (omega arith, omega arith, sum_start _)
-
-pub loop-p-preserved : goal.loop-p-preserved
+pub returns : goal.returns
 unfolding place_of
-loop-p-preserved c =
-    let args = c.args in
-    let turned = sum_turn (place_of args.parts args.j) _ c.loop-p.invariant.2 in
-    (omega arith, omega arith, c.add-total.ensures.value ∙ turned)
+returns c =
+    let parts = c.args.parts.now in
+    sum_by_from_yields_List (λ part. get_or part c.args.j 0) parts c.map.result _ c.sum.ensures.ran
+    (YieldsList-from_map _ (λ part. get_or part c.args.j 0) (YieldsList-from_slice parts cc) c.map.ensures.closure (λ x r q k. search rules))
+    ∙ sum_rows [] (λ part. get_or part c.args.j 0) parts

@@ -1,20 +1,37 @@
--- `combiner::loaded::multiply_loaded` meets its contract: a number above 0 stands beside zeros, else the products are the answer.
+-- `combiner::loaded::multiply_loaded` meets its contract: the tests decide, else what is computed of the parts is the answer.
 -- Assumes nothing.
+use mathlib.Core.Path.{◌∙◌}
+use native.Mathlib.Omega.{arith}
+use lib.ListN.{length}
+use Rattle.std.proofs.lemmas.Result.{err_from_is_err_and}
+use Rattle.rules.specs.Call.{number_of}
+use Rattle.sigma.specs.Round.{bad_commitment}
+use Rattle.sigma.proofs.Valid.{valid_modulus}
+use Rattle.refusals.proofs.Positive.{call_answered, call_refused}
 use Rattle.products.specs.Team.{multiplying}
-use Rattle.combiner.proofs.TeamNumber.{number_answer, values_answer}
+use Rattle.combiner.specs.Parts.{non_element_part}
 use Rattle.combiner.proofs.loaded.multiply_loaded.Goals as goal
 
-pub returns-then-refusal-ne0 : goal.returns-then-refusal-ne0
-unfolding multiplying
-returns-then-refusal-ne0 c = λ entries team elements.
-    let args = c.args in
-    number_answer (multiplying _ args.count args.images args.parts)
-    (c.commitments_refusal-refusal.ensures entries team elements) c.if-refusal-ne0.true c.refused.ensures
+pub returns-in_err-test_team : goal.returns-in_err-test_team
+unfolding multiplying number_of bad_commitment non_element_part
+returns-in_err-test_team c = λ team.
+    let images = c.args.images.now in
+    let passed_on = err_from_is_err_and c.from_residual.result c.from_residual.ensures.1 in
+    let bad = rw c.requires at c.some_non_element_part-bad.ensures in
+    rw (passed_on.1, passed_on.2)
+    (call_refused (multiplying _ (length images) images c.args.parts.now) c.in_err-test_team.field-0.0
+    (rw bad at (c.in_err-test_team.ensures team)))
 
 pub returns : goal.returns
-unfolding multiplying
-returns c = λ entries team elements.
-    let args = c.args in
-    values_answer (multiplying _ args.count args.images args.parts)
-    (c.commitments_refusal-refusal.ensures entries team elements) c.if-refusal-ne0.false
-    (λ i. record { refusal = 0; values = c.multiply_all.ensures i })
+unfolding multiplying number_of bad_commitment non_element_part
+returns c = λ team.
+    let images = c.args.images.now in
+    let bad = rw c.requires at c.some_non_element_part-bad.ensures in
+    (λ i. record { refusal = 0; values = rw c.requires at (c.multiply_all.ensures) i })
+    ∙ call_answered (multiplying _ (length images) images c.args.parts.now) (rw bad at (c.in_ok-test_team.ensures team))
+
+pub some_non_element_part-bad-requires : goal.some_non_element_part-bad-requires
+some_non_element_part-bad-requires c = let valid = c.args.sheet.now.valid in omega (arith, valid_modulus valid.table, valid.table.few_rows)
+
+pub multiply_all-requires : goal.multiply_all-requires
+multiply_all-requires c = let valid = c.args.sheet.now.valid in omega (arith, valid_modulus valid.table, valid.table.few_rows)

@@ -1,20 +1,19 @@
-use Prim.Native.Nat.{◌-◌}
-use mathlib.Core.Path.{sym, ◌∙◌}
-use mathlib.Core.Bool.{false}
-use native.Mathlib.Omega.{arith}
-use Rattle.numbers.proofs.Search.{any_here, any_on, any_start}
+-- `combiner::parts::some_non_element_part` meets its contract. Assumes nothing.
+use mathlib.Core.Path.{◌≡◌}
+use mathlib.Core.Bool.{true, false}
+use mathlib.Core.List.{[]}
+use Rattle.std.proofs.Common.{rules, tests}
+use Rattle.std.proofs.lemmas.Iterator.{cases_from_any, YieldsList-from_slice}
+use Rattle.sigma.specs.Element.{some_non_element}
 use Rattle.combiner.specs.Parts.{non_element_part}
+use Rattle.combiner.proofs.Rows.{any_row}
 use Rattle.combiner.proofs.parts.some_non_element_part.Goals as goal
 
-pub loop-p-init : goal.loop-p-init
-loop-p-init c = (omega arith, any_start _)
-
-pub returns-then-some_non_element : goal.returns-then-some_non_element
+pub returns : goal.returns
 unfolding non_element_part
-returns-then-some_non_element c =
-    any_here _ _ _ c.loop-p-test.true (sym c.some_non_element.ensures ∙ c.if-some_non_element.true)
-
-pub loop-p-preserved : goal.loop-p-preserved
-unfolding non_element_part
-loop-p-preserved c =
-    (omega arith, any_on _ _ c.loop-p.invariant.1 (sym c.some_non_element.ensures ∙ c.if-some_non_element.false))
+returns c =
+    let h = c.args.h in
+    let parts = c.args.parts.now in
+    any_row [] (some_non_element h h.rows) parts _
+    (cases_from_any _ _ _ (λ x. some_non_element h h.rows x ≡ true) (λ x. some_non_element h h.rows x ≡ false) c.any.ensures.ran
+    (YieldsList-from_slice parts cc) (λ x q k. search (rules, tests)) (λ x q k. search (rules, tests)))

@@ -9,6 +9,6 @@ pub returns-then-read_u16-eq1 : goal.returns-then-read_u16-eq1
 unfolding other_version file_version
 returns-then-read_u16-eq1 c = rw (← c.read_u16.ensures.value, c.if-read_u16-eq1.true)
 
-pub returns : goal.returns
+pub returns-else-read_u16-eq1 : goal.returns-else-read_u16-eq1
 unfolding other_version file_version
-returns c = rw (← c.read_u16.ensures.value, ne_eqb _ _ c.if-read_u16-eq1.false)
+returns-else-read_u16-eq1 c = rw (← c.read_u16.ensures.value, ne_eqb _ _ c.if-read_u16-eq1.false)

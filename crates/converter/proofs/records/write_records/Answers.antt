@@ -1,8 +1,7 @@
-use Prim.Native.Nat.{◌-◌}
 use mathlib.Core.Path.{◌≡◌, refl, ap, ◌∙◌}
 use native.Mathlib.Omega.{arith}
 use lib.ListN.{length-take, length-drop}
-use Rattle.formats.specs.RoundFile.{count_field, record_start, width_of}
+use Rattle.formats.specs.RoundFile.{count_field, width_of}
 use Rattle.formats.proofs.Growing.{file_long}
 use Rattle.converter.proofs.RecordByRecord.{none_stored, record_room, record_stored, record_there, round_read, same_size}
 use Rattle.converter.proofs.records.write_records.Goals as goal

@@ -17,4 +17,4 @@ pub returns : goal.returns
 unfolding verifier_answer
 returns c =
     let passed : c.args.step.refusal ≡ 0 = omega arith in
-    rw (c.verifier_session.ensures, passed, unless_refused_zero)
+    rw (c.from.ensures, passed, unless_refused_zero)

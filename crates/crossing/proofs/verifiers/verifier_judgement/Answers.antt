@@ -13,7 +13,7 @@ use Rattle.crossing.proofs.verifiers.verifier_judgement.Goals as goal
 pub returns-then-verdict-ne0 : goal.returns-then-verdict-ne0
 unfolding verifier_judgement
 returns-then-verdict-ne0 c =
-    let judged = c.judgement_of-verdict.ensures in
+    let judged = c.from-verdict.ensures in
     let number = ap (λ (j : Judgement). j.refusal) judged ∙ judgement_number _ in
     let refused : 0 < (outcome c.args.told.verdict).number = omega arith in
     rw (judged, unless_refused_positive _ _ _ refused)
@@ -21,7 +21,7 @@ returns-then-verdict-ne0 c =
 pub returns : goal.returns
 unfolding verifier_judgement
 returns c =
-    let judged = c.judgement_of-verdict.ensures in
+    let judged = c.from-verdict.ensures in
     let number = ap (λ (j : Judgement). j.refusal) judged ∙ judgement_number _ in
     let passed : (outcome c.args.told.verdict).number ≡ 0 = omega arith in
-    rw (judged, c.verifier_session.ensures, passed, unless_refused_zero)
+    rw (judged, c.from.ensures, passed, unless_refused_zero)

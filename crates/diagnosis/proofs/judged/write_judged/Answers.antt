@@ -10,8 +10,8 @@ use Rattle.diagnosis.proofs.judged.write_judged.Goals as goal
 pub file_width-width-requires : goal.file_width-width-requires
 file_width-width-requires c = omega (arith, file_long c.requires.file)
 
-pub round_at-round-requires-clause-within : goal.round_at-round-requires-clause-within
-round_at-round-requires-clause-within c = rw c.file_width-width.ensures.value (first_inside c.requires.file c.requires.some)
+pub round_at-requires-clause-within : goal.round_at-requires-clause-within
+round_at-requires-clause-within c = rw c.file_width-width.ensures.value (first_inside c.requires.file c.requires.some)
 
 pub round_spot-requires-clause-within : goal.round_spot-requires-clause-within
 round_spot-requires-clause-within c = first_inside c.requires.file c.requires.some
@@ -24,7 +24,7 @@ returns-in-Accepted c =
 
 pub returns-in-Rejected : goal.returns-in-Rejected
 returns-in-Rejected c =
-    let round = rw c.file_width-width.ensures.value at c.round_at-round.ensures in
+    let round = rw c.file_width-width.ensures.value at c.round_at.ensures in
     let line = rejected_told _ _ c.in-Rejected.ensures round _ refl in
     rw line c.write_sides.ensures
 

@@ -1,6 +1,4 @@
-use Prim.Native.Nat.{◌-◌}
 use mathlib.Core.Path.{◌∙◌}
-use mathlib.Core.Bool.{false}
 use native.Mathlib.Omega.{arith}
 use Rattle.numbers.proofs.Search.{any_on, any_start}
 use Rattle.instance.proofs.ElementNumber.{entries_unread, row_found, row_test, rows_good}

@@ -1,11 +1,11 @@
--- `instance::shape::bad_count` meets its contract: a K within its bounds is bad where a divisor is found.
+-- `instance::shape::bad_count` meets its contract: a K within its bounds is bad exactly if a divisor is found.
 -- Assumes nothing.
-use mathlib.Core.Path.{sym, ◌∙◌}
+use mathlib.Core.Path.{◌∙◌}
 use native.Mathlib.Omega.{arith}
 use borrow.Author.Tests.{lt-ltb, le-ltb}
 use Rattle.sigma.specs.Admission.{bad_count}
 use Rattle.modular.proofs.FirstDivisor.{divisor_outcome_injective}
-use Rattle.instance.proofs.FixedFields.{count_divided, count_undivided}
+use Rattle.instance.proofs.FixedFields.{count_searched}
 use Rattle.instance.proofs.shape.bad_count.Goals as goal
 
 pub returns-then-h-lt2 : goal.returns-then-h-lt2
@@ -18,10 +18,6 @@ returns-then-h-gt-MOST_CHALLENGES c =
     let h = c.args.h in
     rw (le-ltb h.challenges 2 (omega arith), lt-ltb 65536 h.challenges (omega arith))
 
-pub returns-in-Found : goal.returns-in-Found
-returns-in-Found c =
-    count_divided _ (omega arith) (omega arith) (sym (divisor_outcome_injective _ _ c.first_divisor.ensures) ∙ c.in-Found.is)
-
-pub returns-in-Nothing : goal.returns-in-Nothing
-returns-in-Nothing c =
-    count_undivided _ (omega arith) (omega arith) (sym (divisor_outcome_injective _ _ c.first_divisor.ensures) ∙ c.in-Nothing.is)
+pub returns : goal.returns
+returns c =
+    c.is_some.ensures ∙ count_searched _ _ (omega arith) (omega arith) (divisor_outcome_injective _ _ c.first_divisor.ensures)

@@ -1,17 +1,9 @@
--- `ledger_lines::asked::bad_kind` meets its contract: the tests stand in the order of the definition.
+-- `ledger_lines::asked::bad_kind` meets its contract: three numbers stand for a kind.
 -- Assumes nothing.
-use borrow.Author.Tests.{eq-eqb, ne_eqb}
-use Rattle.ledgers.specs.Check.{bad_line_kind}
+use mathlib.Core.Path.{ap, ◌∙◌}
+use Rattle.std.specs.Result.{is_err}
+use Rattle.ledger_lines.proofs.KindOf.{is_unknown}
 use Rattle.ledger_lines.proofs.asked.bad_kind.Goals as goal
 
-pub returns-then-kind-eq1 : goal.returns-then-kind-eq1
-unfolding bad_line_kind
-returns-then-kind-eq1 c = rw (eq-eqb _ _ c.if-kind-eq1.true)
-
-pub returns-then-kind-eq2 : goal.returns-then-kind-eq2
-unfolding bad_line_kind
-returns-then-kind-eq2 c = rw (ne_eqb _ _ c.if-kind-eq1.false, eq-eqb _ _ c.if-kind-eq2.true)
-
 pub returns : goal.returns
-unfolding bad_line_kind
-returns c = rw (ne_eqb _ _ c.if-kind-eq1.false, ne_eqb _ _ c.if-kind-eq2.false)
+returns c = c.is_err.ensures.value ∙ ap is_err c.try_from.ensures ∙ is_unknown c.args.kind

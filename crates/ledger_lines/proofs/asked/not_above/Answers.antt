@@ -1,20 +1,27 @@
--- `ledger_lines::asked::not_above` meets its contract: the tests stand in the order of the definition.
+-- `ledger_lines::asked::not_above` meets its contract: only a sum's and a product's two lines are tested.
 -- Assumes nothing.
-use mathlib.Core.Path.{sym}
-use borrow.Author.Tests.{le-leb, lt-leb, not-false, not-true}
+use Rattle.std.proofs.Common.{rules}
+use borrow.Author.Tests.{le-leb, lt-leb, ne_eqb}
 use Rattle.ledgers.specs.Check.{not_above}
-use mathlib.Core.Path.{ap}
-use mathlib.Core.Bool.{not}
+use Rattle.ledger_lines.proofs.KindOf.{names_lines, names_none, no_kind}
 use Rattle.ledger_lines.proofs.asked.not_above.Goals as goal
-
-pub returns-then-not-names_lines : goal.returns-then-not-names_lines
-unfolding not_above
-returns-then-not-names_lines c = rw (sym c.names_lines.ensures, not-true c.names_lines.result (ap not c.if-not-names_lines.true))
 
 pub returns-then-first-i : goal.returns-then-first-i
 unfolding not_above
-returns-then-first-i c = rw (sym c.names_lines.ensures, not-false c.names_lines.result (ap not c.if-not-names_lines.false), le-leb _ _ c.if-first-i.true)
+returns-then-first-i c =
+    rw (names_lines c.args.kind c.try_from.ensures c.in-Ok-Sum.is (search rules), le-leb _ _ c.if-first-i.true)
 
-pub returns : goal.returns
+pub returns-else-first-i : goal.returns-else-first-i
 unfolding not_above
-returns c = rw (sym c.names_lines.ensures, not-false c.names_lines.result (ap not c.if-not-names_lines.false), lt-leb _ _ c.if-first-i.false)
+returns-else-first-i c =
+    rw (names_lines c.args.kind c.try_from.ensures c.in-Ok-Sum.is (search rules), lt-leb _ _ c.if-first-i.false)
+
+pub returns-in_default : goal.returns-in_default
+unfolding not_above
+returns-in_default c = rw (names_none c.args.kind c.try_from.ensures c.in_default.is (search rules) (search rules))
+
+pub returns-in_default-2 : goal.returns-in_default-2
+unfolding not_above
+returns-in_default-2 c =
+    let none = no_kind c.try_from.ensures c.in_default.is in
+    rw (ne_eqb c.args.kind 2 none.1, ne_eqb c.args.kind 3 none.2)

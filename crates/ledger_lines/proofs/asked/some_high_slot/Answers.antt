@@ -1,14 +1,18 @@
--- `ledger_lines::asked::some_high_slot` meets its contract: the slots are tested one by one.
+-- `ledger_lines::asked::some_high_slot` meets its contract: the three slots are searched.
 -- Assumes nothing.
-use borrow.Author.Tests.{le-leb, lt-leb}
-use Rattle.ledger_lines.proofs.Few.{three_slots}
+use Rattle.std.proofs.Common.{ℕ, arith, rules, tests}
+use Rattle.std.proofs.lemmas.Iterator.{YieldsList-from_slice}
+use Rattle.std.proofs.lemmas.Iterator.Search.{any_from_yields_List}
+use mathlib.Core.Path.{◌∙◌}
+use lib.Dec.{leb}
+use Rattle.ledger_lines.proofs.Any.{any_whole}
+use Rattle.ledger_lines.proofs.Few.{high_slots}
 use Rattle.ledger_lines.proofs.asked.some_high_slot.Goals as goal
 
-pub returns-then-slots-base : goal.returns-then-slots-base
-returns-then-slots-base c = rw (three_slots, le-leb _ _ c.if-slots-base.true)
-
-pub returns-then-slots-base-2 : goal.returns-then-slots-base-2
-returns-then-slots-base-2 c = rw (three_slots, lt-leb _ _ c.if-slots-base.false, le-leb _ _ c.if-slots-base-2.true)
-
 pub returns : goal.returns
-returns c = rw (three_slots, lt-leb _ _ c.if-slots-base.false, lt-leb _ _ c.if-slots-base-2.false)
+returns c =
+    let xs = c.args.slots in
+    let high = λ (slot : ℕ). leb c.args.base.order slot in
+    any_from_yields_List high _ _ _ c.any.ensures.ran (YieldsList-from_slice xs cc) (λ x b q k. search (rules, tests))
+    ∙ any_whole high 0 xs 3 (omega arith)
+    ∙ high_slots c.args.base xs

@@ -1,13 +1,31 @@
 -- `ledger_lines::values::line_commitment` meets its contract: a sum's two lines are inside the array.
 -- Assumes nothing.
+use Rattle.std.proofs.Common.{rules}
 use borrow.Author.Tests.{eq-eqb, ne_eqb}
 use Rattle.ledgers.specs.Ledger.{line_commitment}
+use Rattle.ledger_lines.specs.declared.kinds.Kind.TheVariants.{Sum}
+use Rattle.ledger_lines.proofs.KindOf.{kind_number, no_kind, other_number}
 use Rattle.ledger_lines.proofs.values.line_commitment.Goals as goal
+use Rattle.ledger_lines.proofs.values.line_commitment.Goals.{in_default-via-in-Ok+in_default, in_default-via-in_default}
 
-pub returns-then-line-eq2 : goal.returns-then-line-eq2
-unfolding line_commitment
-returns-then-line-eq2 c = rw (eq-eqb _ _ c.if-line-eq2.true) c.product_of_two.ensures
+pub bounds-above-line : goal.bounds-above-line
+bounds-above-line c =
+    (c.requires.names (kind_number c.try_from.ensures c.in-Ok-Sum.is c.in-Ok-Sum.field-0-is)).0
 
-pub returns : goal.returns
+pub bounds-above-line-in-Ok-Sum : goal.bounds-above-line-in-Ok-Sum
+bounds-above-line-in-Ok-Sum c =
+    (c.requires.names (kind_number c.try_from.ensures c.in-Ok-Sum.is c.in-Ok-Sum.field-0-is)).1
+
+pub returns-in-Ok-Sum : goal.returns-in-Ok-Sum
 unfolding line_commitment
-returns c = rw (ne_eqb _ _ c.if-line-eq2.false)
+returns-in-Ok-Sum c =
+    rw (eq-eqb c.args.line.now.kind 2 (kind_number c.try_from.ensures c.in-Ok-Sum.is c.in-Ok-Sum.field-0-is))
+    c.mul_mod.ensures.value
+
+pub returns-in_default : goal.returns-in_default
+unfolding line_commitment
+returns-in_default c = elim c.in_default.branch [
+  | in_default-via-in-Ok+in_default w ↦
+      rw (ne_eqb c.args.line.now.kind 2 (other_number c.try_from.ensures w.in_default.is {l = Sum} (search rules)))
+  | in_default-via-in_default w ↦ rw (ne_eqb c.args.line.now.kind 2 (no_kind c.try_from.ensures w.in_default.is).1)
+]

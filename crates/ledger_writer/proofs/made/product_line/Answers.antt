@@ -6,6 +6,6 @@ use Rattle.ledger_writer.proofs.made.product_line.Goals as goal
 pub returns : goal.returns
 unfolding line_with
 returns c = λ above one two.
-    product_made c.args.base _ _ _ _ c.args.entry above one two _ _ _ _ _ _ _ _ c.product_header-h.ensures
-    c.commit.ensures c.product_entries.ensures c.image-t.ensures (c.witness-x.ensures _)
-    c.response-r.ensures c.mul_mod.ensures.value c.commit-2.ensures
+    product_made c.args.base _ _ _ c.args.entry.now above one two _ _ _ _ _ _ _ c.product_header-h.ensures
+    c.commit.ensures c.product_entries.ensures c.image-t.ensures c.witness-x.ensures
+    c.response-r.ensures c.commit-2.ensures

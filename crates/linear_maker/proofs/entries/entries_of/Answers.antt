@@ -1,4 +1,3 @@
-use Prim.Native.Nat.{◌-◌}
 use native.Mathlib.Omega.{arith}
 use Rattle.lists.specs.Places.{eight_by_eight, zeros8}
 use Rattle.lists.proofs.Filling.{filled_start, filled_turn, filled_eight}

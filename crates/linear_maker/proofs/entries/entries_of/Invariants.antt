@@ -1,6 +1,4 @@
--- `linear_maker::entries::entries_of` meets its contract. The invariant: the first i rows are the plan's, and those beyond hold zeros.
--- The measure: how many rows are left. Assumes nothing.
-use Prim.Native.Nat.{◌-◌}
+-- `linear_maker::entries::entries_of` meets its contract. The invariant: the first i rows are the plan's, and those beyond hold zeros. Assumes nothing.
 use mathlib.Core.List.{[]}
 use Rattle.lists.proofs.Filling.{Filled}
 use Rattle.linear_maker.specs.Plan.{linear_row, plan_of}
@@ -9,6 +7,3 @@ use Rattle.linear_maker.proofs.entries.entries_of.Given as goal
 abbrev pub invariant-loop-i : goal.invariant-loop-i
 invariant-loop-i l =
     Filled l.initial.entries l.h.rows (linear_row (plan_of l.h l.generators l.coefficients [])) l.entries l.i
-
-abbrev pub decreases-loop-i : goal.decreases-loop-i
-decreases-loop-i l = l.h.rows - l.i

@@ -1,6 +1,5 @@
 -- `linear_maker::entries::row_of` meets its contract. The invariant: the first j places hold the row's first j entries, and those beyond
--- hold 0. The measure: how many columns are left. Assumes nothing.
-use Prim.Native.Nat.{◌-◌}
+-- hold 0. Assumes nothing.
 use mathlib.Core.List.{[]}
 use Rattle.lists.proofs.Filling.{Filled}
 use Rattle.linear_forms.specs.Linear.{linear_entry}
@@ -10,6 +9,3 @@ use Rattle.linear_maker.proofs.entries.row_of.Given as goal
 abbrev pub invariant-loop-j : goal.invariant-loop-j
 invariant-loop-j l =
     Filled l.initial.row l.h.columns (linear_entry (plan_of l.h l.generators l.coefficients []) l.i) l.row l.j
-
-abbrev pub decreases-loop-j : goal.decreases-loop-j
-decreases-loop-j l = l.h.columns - l.j

@@ -1,19 +1,16 @@
-use Prim.Native.Nat.{◌-◌}
-use mathlib.Core.Bool.{false}
-use native.Mathlib.Omega.{arith}
-use Rattle.numbers.proofs.Search.{any_start}
-use Rattle.linear_maker.proofs.PlanTests.{coefficient_large, coefficient_small, coefficients_small}
+-- `linear_maker::tests::bad_coefficient` meets its contract.
+-- Assumes nothing.
+use mathlib.Core.Path.{refl, ◌∙◌}
+use lib.Dec.{leb}
+use Rattle.std.proofs.Common.{rules, tests}
+use Rattle.std.proofs.lemmas.Iterator.{YieldsList-from_slice}
+use Rattle.std.proofs.lemmas.Iterator.Search.{any_from_yields_List}
+use Rattle.numbers.proofs.Listed.{any_listed}
+use Rattle.linear_forms.specs.Linear.{bad_coefficient}
 use Rattle.linear_maker.proofs.tests.bad_coefficient.Goals as goal
 
-pub loop-k-init : goal.loop-k-init
-loop-k-init c = (omega arith, any_start _)
-
-pub returns-then-coefficients-k : goal.returns-then-coefficients-k
-returns-then-coefficients-k c =
-    coefficient_large c.args.h _ _ c.loop-k-test.true (omega arith)
-
-pub loop-k-preserved : goal.loop-k-preserved
-loop-k-preserved c = (omega arith, coefficient_small _ _ _ c.loop-k.invariant.1 (omega arith))
-
 pub returns : goal.returns
-returns c = coefficients_small _ _ _ c.loop-k.invariant.0 c.loop-k-test.false c.loop-k.invariant.1
+unfolding bad_coefficient
+returns c =
+    any_from_yields_List (leb c.args.h.order) _ _ _ c.any.ensures.ran (YieldsList-from_slice _ cc) (λ x b q k. search (rules, tests))
+    ∙ any_listed (leb c.args.h.order) _ _ refl

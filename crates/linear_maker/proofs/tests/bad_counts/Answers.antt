@@ -1,6 +1,5 @@
 -- `linear_maker::tests::bad_counts` meets its contract: each count is tested in turn, and the product is formed of factors of at most 8.
 -- Assumes nothing.
-use Prim.Native.Nat.{◌*◌, ◌≤◌}
 use mathlib.Core.Logic.{inl, inr}
 use native.Mathlib.Omega.{arith}
 use lib.ListN.{length}

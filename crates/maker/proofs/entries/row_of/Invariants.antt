@@ -1,7 +1,5 @@
 -- `maker::entries::row_of` meets its contract. The invariant: the first j places hold the row's first j entries, and those beyond hold 0.
--- The measure: how many columns are left.
 -- Assumes nothing.
-use Prim.Native.Nat.{◌-◌}
 use Rattle.lists.proofs.Filling.{Filled}
 use Rattle.patterns.specs.Pattern.{digit, entry_of}
 use Rattle.patterns.specs.PatternFile.{pattern_from}
@@ -10,6 +8,3 @@ use Rattle.maker.proofs.entries.row_of.Given as goal
 abbrev pub invariant-loop-j : goal.invariant-loop-j
 invariant-loop-j l =
     Filled l.initial.row l.columns (λ k. entry_of l.values (digit (pattern_from l.file l.at) l.i k)) l.row l.j
-
-abbrev pub decreases-loop-j : goal.decreases-loop-j
-decreases-loop-j l = l.columns - l.j

@@ -1,5 +1,4 @@
 use mathlib.Core.Path.{ap}
-use Prim.Native.Nat.{◌-◌}
 use native.Mathlib.Nat.{mod-eq-zero_of_dvd}
 use native.Mathlib.Omega.{arith}
 use Rattle.modular.specs.Divisor.{divisor_outcome}

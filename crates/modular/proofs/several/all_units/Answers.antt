@@ -1,4 +1,3 @@
-use Prim.Native.Nat.{◌-◌}
 use native.Mathlib.Omega.{arith}
 use Rattle.modular.proofs.AllUnits.{units_start, units_on, units_out}
 use Rattle.modular.proofs.ElementTest.{element_low, element_high}

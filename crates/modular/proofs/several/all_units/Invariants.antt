@@ -1,8 +1,8 @@
 -- `modular::all_units` meets its contract. The invariant: the product is coprime to m exactly if the values before i are group
--- elements. The measure: how many values are left. Assumes nothing.
+-- elements. Assumes nothing.
 use mathlib.Core.Path.{◌≡◌}
 use mathlib.Core.Bool.{not}
-use Prim.Native.Nat.{◌-◌, ◌≤◌}
+use Prim.Native.Nat.{◌≤◌}
 use lib.Dec.{eqb}
 use Rattle.numbers.specs.Gcd.{gcd}
 use Rattle.sigma.specs.Element.{some_non_element}
@@ -10,6 +10,3 @@ use Rattle.modular.proofs.several.all_units.Given as goal
 
 abbrev pub invariant-loop-i : goal.invariant-loop-i
 invariant-loop-i l = (l.i ≤ l.n) × (eqb (gcd l.product l.h.modulus) 1 ≡ not (some_non_element l.h l.i l.values))
-
-abbrev pub decreases-loop-i : goal.decreases-loop-i
-decreases-loop-i l = l.n - l.i

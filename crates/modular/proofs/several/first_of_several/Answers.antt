@@ -1,27 +1,16 @@
 use mathlib.Core.Path.{sym, ◌∙◌}
-use Prim.Native.Nat.{◌-◌}
-use borrow.Author.Tests.{not-true, not-false}
-use Rattle.sigma.specs.Element.{is_element}
 use Rattle.modular.proofs.AllUnits.{units_all}
-use Rattle.modular.proofs.FirstFailing.{passed_none, passed_on, failing_here, failing_none}
+use Rattle.std.proofs.Common.{rules}
+use Rattle.sigma.specs.Element.{is_element}
+use Rattle.modular.proofs.FirstFailing.{failing_is}
 use Rattle.modular.proofs.several.first_of_several.Goals as goal
 
 pub returns-then-all_units-clause-value : goal.returns-then-all_units-clause-value
 returns-then-all_units-clause-value c = units_all _ _ _ (sym c.all_units.ensures ∙ c.if-all_units.true)
 
-pub loop-i-init : goal.loop-i-init
-loop-i-init c = passed_none _ _ _
-
-pub returns-then-not-is_element : goal.returns-then-not-is_element
-returns-then-not-is_element c =
-    let fails = sym c.is_element.ensures ∙ c.if-not-is_element.true in
-    let both = failing_here _ _ _ _ c.loop-i-test.true fails c.loop-i.invariant in record { value = both.0; within = both.1 }
-
-pub loop-i-preserved : goal.loop-i-preserved
-loop-i-preserved c =
-    let passes = sym c.is_element.ensures ∙ c.if-not-is_element.false in
-    passed_on _ _ _ _ c.loop-i-test.true passes c.loop-i.invariant
-
-pub returns : goal.returns
-returns c =
-    let both = failing_none _ _ _ _ c.loop-i-test.false c.loop-i.invariant in record { value = both.0; within = both.1 }
+pub returns-clause-value : goal.returns-clause-value
+returns-clause-value c =
+    let first = c.first_failing.ensures in
+    failing_is (is_element c.args.h) _ _ _ first.within
+    (λ i before. let passes = first.passed i before in search rules)
+    (λ below. let fails = first.failed below in search rules)

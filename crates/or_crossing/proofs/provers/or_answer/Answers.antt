@@ -17,4 +17,4 @@ pub returns : goal.returns
 unfolding or_answer
 returns c =
     let passed : c.args.step.refusal ≡ 0 = omega arith in
-    rw (c.or_session_of.ensures, passed, unless_refused_zero)
+    rw (c.from.ensures, passed, unless_refused_zero)

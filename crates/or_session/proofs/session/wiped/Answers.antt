@@ -1,10 +1,8 @@
--- `or_session::session::wiped` meets its contract: eight zeros are written out.
+-- `or_session::session::wiped` meets its contract: all but the commitments and the state is as in a new session.
 -- Assumes nothing.
-use mathlib.Core.Path.{refl}
-use Rattle.lists.specs.Places.{zeros8}
-use Rattle.disjunctions.specs.Prover.{wiped_or}
+use Rattle.disjunctions.specs.Prover.{new_or_prover, wiped_or}
 use Rattle.or_session.proofs.session.wiped.Goals as goal
 
 pub returns : goal.returns
-unfolding wiped_or zeros8
-returns c = refl
+unfolding new_or_prover wiped_or
+returns c = rw c.new.ensures

@@ -13,4 +13,4 @@ returns-then-known c = rw c.if-known.true c.image.ensures
 pub returns : goal.returns
 unfolding side_commitment
 returns c =
-    rw c.if-known.false (c.simulated.ensures ∙ ap (pad8 0) (simulated_read c.requires.0 _ _))
+    rw c.if-known.false (c.simulated.ensures ∙ ap (pad8 0) (simulated_read c.args.sheet.now.valid _ _))

@@ -1,27 +1,16 @@
-use Prim.Native.Nat.{◌-◌}
+-- `pattern_file::digits::digit_above` meets its contract.
+-- Assumes nothing.
 use mathlib.Core.Path.{◌∙◌}
-use mathlib.Core.Bool.{false}
-use native.Mathlib.Omega.{arith}
-use borrow.Author.Tests.{lt-ltb, le-ltb}
-use Rattle.numbers.proofs.Search.{any_end, any_here, any_on, any_start}
-use Rattle.encoding.proofs.Bytes.{number_at_one}
+use lib.Dec.{ltb}
+use Rattle.std.proofs.Common.{rules, tests}
+use Rattle.std.proofs.lemmas.Iterator.{YieldsList-from_slice}
+use Rattle.std.proofs.lemmas.Iterator.Search.{any_from_yields_List}
 use Rattle.pattern_file.specs.Naming.{digit_above}
+use Rattle.pattern_file.proofs.Naming.{any_digit}
 use Rattle.pattern_file.proofs.digits.digit_above.Goals as goal
-
-pub loop-d-init : goal.loop-d-init
-loop-d-init c = (omega arith, any_start _)
-
-pub returns-then-read_u8-values : goal.returns-then-read_u8-values
-unfolding digit_above
-returns-then-read_u8-values c =
-    let read = c.read_u8.ensures.value ∙ number_at_one _ _ in
-    any_here _ _ _ c.loop-d-test.true (lt-ltb _ _ (rw read at c.if-read_u8-values.true))
-
-pub loop-d-preserved : goal.loop-d-preserved
-loop-d-preserved c =
-    let read = c.read_u8.ensures.value ∙ number_at_one _ _ in
-    (omega arith, any_on _ _ c.loop-d.invariant.1 (le-ltb _ _ (rw read at c.if-read_u8-values.false)))
 
 pub returns : goal.returns
 unfolding digit_above
-returns c = let (within, none) = c.loop-d.invariant in any_end _ _ _ within c.loop-d-test.false none
+returns c =
+    any_from_yields_List (ltb c.args.values) _ _ _ c.any.ensures.ran (YieldsList-from_slice _ cc) (λ x b q k. search (rules, tests))
+    ∙ any_digit _ _

@@ -1,6 +1,5 @@
 -- `powers::arrays::powers` meets its contract: the powers of eight, or of one four.
 -- Assumes nothing.
-use mathlib.Core.Path.{◌∙◌}
 use Rattle.lists.specs.Places.{items_at, tabulate}
 use Rattle.powers.specs.Places.{lanes, powers_of}
 use Rattle.powers.proofs.Lanes.{one_four}
@@ -8,4 +7,4 @@ use Rattle.powers.proofs.arrays.powers.Goals as goal
 
 pub returns : goal.returns
 unfolding lanes powers_of tabulate items_at
-returns c = one_four _ _ _ c.if-n-gt4.false (c.pow_four-low.ensures ∙ rw c.four_at.ensures)
+returns c = one_four _ _ _ c.if-n-gt4.false (simp (c.new-by.ensures, c.at.ensures) at c.pow-low.ensures)

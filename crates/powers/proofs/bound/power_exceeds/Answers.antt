@@ -13,5 +13,5 @@ returns-then-base-lt2 c =
 pub returns-then-power-most : goal.returns-then-power-most
 returns-then-power-most c =
     let args = c.args in
-    let above = above_early _ args.base _ _ c.loop-left.invariant c.loop-left-test.true args.bound (omega arith) in
+    let above = above_early args.base c.loop.counter args.exponent args.bound _ c.loop.invariant (omega arith) (omega arith) in
     sym (lt-ltb _ _ (above c.if-power-most.true))

@@ -5,4 +5,4 @@ use Rattle.powers.proofs.eight.first_powers.Goals as goal
 
 pub returns : goal.returns
 returns c =
-    first_powers _ _ _ _ _ c.mul_four-first.ensures c.mul_four-second.ensures c.mul_four-third.ensures
+    first_powers _ _ _ _ _ _ c.splat-ones.ensures c.mul-first.ensures c.mul-second.ensures c.mul-third.ensures

@@ -9,7 +9,7 @@ use Rattle.powers.proofs.eight.pow_eight.Goals as goal
 
 pub loop-k-init : goal.loop-k-init
 loop-k-init c =
-    let (short, holds) = c.top_digit-k.ensures in
+    let (short, holds) = c.top_digit-last.ensures in
     let digit = c.digit_at-top.ensures in (
       short,
       λ x table. powers_start _ _ _ _ x _ table digit holds,
@@ -23,11 +23,11 @@ loop-k-preserved c =
       omega arith,
       λ x table.
           powers_turn _ _ _ _ x _ table digit _ _ _ (rw one_less at (c.loop-k.invariant.1 x table))
-          c.mul_four-low.ensures c.mul_four-low-in-loop-k.ensures
-          c.mul_four-low-in-loop-k-2.ensures,
+          c.mul-low.ensures c.mul-low-in-loop-k.ensures
+          c.mul-low-in-loop-k-2.ensures,
       λ x table.
           powers_turn _ _ _ _ x _ table digit _ _ _ (rw one_less at (c.loop-k.invariant.2 x table))
-          c.mul_four-high.ensures c.mul_four-high-in-loop-k.ensures c.mul_four-high-in-loop-k-2.ensures,
+          c.mul-high.ensures c.mul-high-in-loop-k.ensures c.mul-high-in-loop-k-2.ensures,
     )
 
 pub returns : goal.returns
@@ -36,5 +36,5 @@ returns c =
     let none : c.loop-k.k ≡ 0 = omega arith in
     λ n most.
     two_fours _ n _ _ most
-    (powers_end _ _ _ _ (c.loop-k.invariant.1 _ c.first_powers-lows.ensures) none ∙ rw c.four_at.ensures)
-    (powers_end _ _ _ _ (c.loop-k.invariant.2 _ c.first_powers-highs.ensures) none ∙ rw c.four_at-2.ensures)
+    (powers_end _ _ _ _ (c.loop-k.invariant.1 _ c.first_powers-lows.ensures) none ∙ simp c.at.ensures)
+    (powers_end _ _ _ _ (c.loop-k.invariant.2 _ c.first_powers-highs.ensures) none ∙ simp c.at-2.ensures)

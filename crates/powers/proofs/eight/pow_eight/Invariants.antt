@@ -1,6 +1,6 @@
 -- `powers::eight::pow_eight` meets its contract. The invariant: each four is the powers by the exponent without its k low digits.
--- The measure: k. Assumes nothing.
-use Prim.Native.Nat.{◌-◌, ◌/◌, ◌^◌, ◌<◌}
+-- Assumes nothing.
+use Prim.Native.Nat.{◌/◌, ◌^◌, ◌<◌}
 use Rattle.powers.specs.declared.four.Four.{Four}
 use Rattle.powers.specs.Places.{FirstPowers, lanes}
 use Rattle.powers.proofs.Windows.{Powers}
@@ -8,8 +8,5 @@ use Rattle.powers.proofs.eight.pow_eight.Given as goal
 
 abbrev pub invariant-loop-k : goal.invariant-loop-k
 invariant-loop-k l =
-    (l.k < 16) × ((x : Four) → FirstPowers l.m x l.lows → Powers l.m (l.exponent / 4 ^ l.k) (lanes x) l.low)
-    × ((x : Four) → FirstPowers l.m x l.highs → Powers l.m (l.exponent / 4 ^ l.k) (lanes x) l.high)
-
-abbrev pub decreases-loop-k : goal.decreases-loop-k
-decreases-loop-k l = l.k
+    (l.k < 16) × ((x : Four) → FirstPowers l.by.modulus x l.lows → Powers l.by.modulus (l.exponent / 4 ^ l.k) (lanes x) l.low)
+    × ((x : Four) → FirstPowers l.by.modulus x l.highs → Powers l.by.modulus (l.exponent / 4 ^ l.k) (lanes x) l.high)

@@ -3,9 +3,8 @@
 use Rattle.protocol.proofs.Judging.{judge_number, judge_verdict}
 use Rattle.protocol.proofs.loaded.judge_loaded.Goals as goal
 
-pub returns-then-refusal-ne0 : goal.returns-then-refusal-ne0
-returns-then-refusal-ne0 c = judge_number _ _ _ (c.round_refusal-refusal.ensures _ _) c.if-refusal-ne0.true
+pub returns-in-Ok : goal.returns-in-Ok
+returns-in-Ok c = judge_verdict _ _ (c.in-Ok.ensures _ _) c.verdict.ensures
 
-pub returns : goal.returns
-returns c =
-    judge_verdict _ _ _ (c.round_refusal-refusal.ensures _ _) c.if-refusal-ne0.false c.verdict.ensures
+pub returns-in-Err : goal.returns-in-Err
+returns-in-Err c = rw c.number.ensures (judge_number _ _ c.in-Err.refusal (c.in-Err.ensures _ _))

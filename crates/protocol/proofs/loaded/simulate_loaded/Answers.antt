@@ -13,16 +13,14 @@ use Rattle.protocol.proofs.loaded.simulate_loaded.Goals as goal
 pub returns-then-c-h : goal.returns-then-c-h
 unfolding simulating
 returns-then-c-h c =
-    rw c.refused.ensures
-    (simulate_refused _ _ _ 15 (omega arith) (stop 15 _ ((says_bad_challenge _ _).complete c.if-c-h.true)))
+    simulate_refused _ _ _ 15 (omega arith) (stop 15 _ ((says_bad_challenge _ _).complete c.if-c-h.true))
 
 pub returns-then-some_non_coordinate : goal.returns-then-some_non_coordinate
 unfolding simulating
 returns-then-some_non_coordinate c =
-    rw c.refused-then-some_non_coordinate.ensures
-    (simulate_refused _ _ _ 16 (omega arith)
+    simulate_refused _ _ _ 16 (omega arith)
     (pass 15 _ ((challenge_passes _ _).1 c.if-c-h.false)
-    ∙ stop 16 _ (coordinates_read _ _ ∙ sym c.some_non_coordinate.ensures ∙ c.if-some_non_coordinate.true)))
+    ∙ stop 16 _ (coordinates_read _ _ ∙ sym c.some_non_coordinate.ensures ∙ c.if-some_non_coordinate.true))
 
 pub returns : goal.returns
 unfolding simulating

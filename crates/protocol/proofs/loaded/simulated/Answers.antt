@@ -1,4 +1,3 @@
-use Prim.Native.Nat.{◌-◌}
 use native.Mathlib.Omega.{arith}
 use Rattle.lists.proofs.Filling.{filled_start, filled_turn, filled_eight}
 use Rattle.sigma.specs.Instance.{statement_at}
@@ -9,17 +8,17 @@ use Rattle.protocol.proofs.loaded.simulated.Goals as goal
 pub mul_negative_powers-requires : goal.mul_negative_powers-requires
 unfolding statement_at
 mul_negative_powers-requires c =
-    let (valid, below) = c.requires in (
+    let valid = c.args.sheet.now.valid in (
       valid_modulus valid.table,
       valid_order valid.table,
-      omega (arith, valid_challenge valid.table _ below),
+      omega (arith, valid_challenge valid.table _ c.requires),
       omega arith,
       valid.statement,
     )
 
 pub returns-then-side_by_side : goal.returns-then-side_by_side
 returns-then-side_by_side c =
-    simulated_images _ c.requires.0 _ _ c.image.ensures c.mul_negative_powers.ensures
+    simulated_images _ c.args.sheet.now.valid _ _ c.image.ensures c.mul_negative_powers.ensures
 
 pub loop-i-init : goal.loop-i-init
 loop-i-init c = filled_start (omega arith)
@@ -27,9 +26,9 @@ loop-i-init c = filled_start (omega arith)
 pub negative_power-requires : goal.negative_power-requires
 unfolding statement_at
 negative_power-requires c =
-    let (valid, below) = c.requires in
+    let valid = c.args.sheet.now.valid in
     let inside = c.loop-i-test.true in
-    (valid_modulus valid.table, valid_order valid.table, omega (arith, valid_challenge valid.table _ below), valid.statement _ inside)
+    (valid_modulus valid.table, valid_order valid.table, omega (arith, valid_challenge valid.table _ c.requires), valid.statement _ inside)
 
 pub loop-i-preserved : goal.loop-i-preserved
 unfolding simulated_row statement_at
@@ -38,4 +37,4 @@ loop-i-preserved c =
 
 pub returns : goal.returns
 returns c =
-    rw (simulated_rows _ c.requires.0 _ _) (filled_eight c.loop-i.invariant (omega arith))
+    rw (simulated_rows _ c.args.sheet.now.valid _ _) (filled_eight c.loop-i.invariant (omega arith))

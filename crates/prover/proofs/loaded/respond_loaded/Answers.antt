@@ -1,26 +1,27 @@
--- `prover::loaded::respond_loaded` meets its contract: the number decides, and the response reads n places.
+-- `prover::loaded::respond_loaded` meets its contract: the test decides, and the response reads n places.
 -- Assumes nothing.
-use mathlib.Core.Path.{refl, sym, ap, ◌∙◌}
+use mathlib.Core.Path.{sym, ap, ◌∙◌}
 use mathlib.Core.List.{List}
 use Prim.Native.Nat.{ℕ}
+use Rattle.std.proofs.lemmas.Result.{err_from_is_err_and}
+use Rattle.std.specs.Prelude.{Ok}
 use Rattle.lists.specs.Places.{pad8}
-use Rattle.rules.proofs.Call.{tested_refused, tested_value}
+use Rattle.refusals.proofs.Positive.{call_answered, call_refused}
 use Rattle.runs.specs.Prover.{responding}
-use Rattle.prover.specs.Parts.{answered_step}
+use Rattle.prover.specs.Parts.{answered_step, prover_with}
 use Rattle.image.proofs.Unread.{response_places}
-use Rattle.prover.proofs.Steps.{step_refused, step_given}
 use Rattle.prover.proofs.loaded.respond_loaded.Goals as goal
 
-pub returns-then-refusal-ne0 : goal.returns-then-refusal-ne0
+pub returns-in_err-test_respond : goal.returns-in_err-test_respond
 unfolding responding answered_step
-returns-then-refusal-ne0 c = λ m bars.
-    let number = c.respond_refusal-refusal.ensures m bars in
-    rw c.not_answered.ensures
-    (step_refused _ _ c.if-refusal-ne0.true ∙ tested_refused (responding _ _ _ _) number c.if-refusal-ne0.true)
+returns-in_err-test_respond c =
+    let passed_on = err_from_is_err_and c.from_residual.result c.from_residual.ensures.1 in
+    rw (passed_on.1, passed_on.2)
+    (call_refused (responding _ _ _ _) c.in_err-test_respond.field-0.0 c.in_err-test_respond.ensures)
 
 pub returns : goal.returns
 unfolding responding answered_step
-returns c = λ m bars.
+returns c =
     let read = c.response.ensures ∙ ap (λ (xs : List ℕ). pad8 0 xs) (sym (response_places _ _ _ _)) in
-    step_given _ _ refl read
-    ∙ tested_value (responding _ _ _ _) (c.respond_refusal-refusal.ensures m bars) c.if-refusal-ne0.false
+    ap (λ (xs : List ℕ). answered_step (prover_with c.args.held c.args.memory.now) (Ok xs)) read
+    ∙ call_answered (responding _ _ _ _) c.in_ok-test_respond.ensures

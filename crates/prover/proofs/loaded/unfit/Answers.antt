@@ -11,11 +11,11 @@ use Rattle.prover.proofs.loaded.unfit.Goals as goal
 
 pub returns-then-some_non_coordinate : goal.returns-then-some_non_coordinate
 unfolding unfit_prover
-returns-then-some_non_coordinate c = λ statement m v.
+returns-then-some_non_coordinate c = λ m.
     sym ((or-eq-true_iff _ _).1 (Or.inl (coordinates_read _ _ ∙ sym c.some_non_coordinate.ensures ∙ c.if-some_non_coordinate.true)))
 
 pub returns : goal.returns
-returns c = λ statement m v.
+returns c = λ m.
     let held = c.args.held.commitment in
     let compared : c.differ.result ≡ differ 8 c.image.result held = c.differ.ensures in
-    compared ∙ unfit_commitment_law _ v _ (sym c.some_non_coordinate.ensures ∙ c.if-some_non_coordinate.false) c.image.ensures
+    compared ∙ unfit_commitment_law _ c.args.sheet.now.valid _ (sym c.some_non_coordinate.ensures ∙ c.if-some_non_coordinate.false) c.image.ensures

@@ -1,27 +1,31 @@
--- `prover_session::committing::commit` meets its contract: it is the call on the session's state, and where this gives no number the
+-- `prover_session::committing::commit` meets its contract: it is the call on what the session holds, and where this is carried out the
 -- nonce and the commitment are stored.
 -- Assumes nothing.
-use mathlib.Core.Path.{◌≡◌, refl, sym}
-use Rattle.runs.specs.Prover.{commit, prover_state}
+use Prim.Native.Nat.{ℕ}
+use mathlib.Core.Path.{◌≡◌, sym, ap}
+use Rattle.std.specs.Prelude.{Ok}
+use Rattle.lists.specs.Places.{zeros8}
+use Rattle.runs.specs.Prover.{commit}
 use Rattle.crossing.specs.Provers.{prover_of, prover_session}
 use Rattle.prover.specs.Parts.{committed_step}
 use Rattle.prover_session.proofs.Answers.{parts_given, parts_refused}
 use Rattle.prover_session.proofs.committing.commit.Goals as goal
-use Rattle.prover_session.proofs.committing.commit.Goals.{After-commit-told}
+use Rattle.prover_session.proofs.committing.commit.Goals.{In-Ok}
 
--- what that call gives is what committing the whole session answers
-told : (c : After-commit-told) →
+-- where the call is carried out, it is so in the whole session
+told : (c : In-Ok) →
     let args = c.args in
-    committed_step (prover_of args.session) c.commit-told.result ≡ commit args.sheet.now (prover_of args.session) args.nonce
+    committed_step (prover_of args.session) (Ok c.in-Ok.told) ≡ commit args.sheet.now (prover_of args.session) args.nonce
 unfolding prover_of
-told c =
-    let s = c.args.session in
-    rw (sym c.prover_phase.ensures) (c.commit-told.ensures s.memory)
+told c = rw (sym c.prover_phase.ensures) (c.in-Ok.ensures c.args.session.memory)
 
-pub returns-then-refusal-eq0 : goal.returns-then-refusal-eq0
-unfolding committed_step prover_session prover_of prover_state
-returns-then-refusal-eq0 c = parts_given _ _ _ _ (told (goal.at.returns-then-refusal-eq0 c).After-commit-told) c.if-refusal-eq0.true refl
+pub returns-in-Ok : goal.returns-in-Ok
+unfolding committed_step prover_session prover_of
+returns-in-Ok c = parts_given _ (told (goal.at.returns-in-Ok c).In-Ok) (ap (λ (k : ℕ). record { nonce = c.in-Ok.told.nonce; commitment = c.in-Ok.told.commitment; phase = k; memory = c.args.session.memory }) c.prover_state.ensures)
 
-pub returns-else-refusal-eq0 : goal.returns-else-refusal-eq0
-unfolding committed_step
-returns-else-refusal-eq0 c = parts_refused _ _ _ _ (told (goal.at.returns-else-refusal-eq0 c).After-commit-told) c.if-refusal-eq0.false
+pub returns-in-Err : goal.returns-in-Err
+unfolding committed_step prover_of zeros8
+returns-in-Err c =
+    rw c.number.ensures
+    (parts_refused _ (prover_of c.args.session) c.in-Err.refusal
+    (rw (sym c.prover_phase.ensures) (c.in-Err.ensures c.args.session.memory)))

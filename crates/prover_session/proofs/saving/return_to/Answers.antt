@@ -17,11 +17,15 @@ use Rattle.prover_session.proofs.saving.return_to.Goals as goal
 
 pub returns-then-name-ge8 : goal.returns-then-name-ge8
 unfolding return_to returning number_of zeros8
-returns-then-name-ge8 c = answer_refused _ (returning _ _) (sym (stop 34 _ (never_named _ _ c.if-name-ge8.true))) refl (omega arith)
+returns-then-name-ge8 c =
+    rw c.number.ensures
+    (answer_refused _ (returning _ _) (sym (stop 34 _ (never_named _ _ c.if-name-ge8.true))) refl (omega arith))
 
 pub returns-then-saved-eq0 : goal.returns-then-saved-eq0
 unfolding return_to returning number_of saved_at zeros8 prover_of
-returns-then-saved-eq0 c = answer_refused _ (returning _ _) (sym (stop 34 _ (never_kept _ _ c.if-saved-eq0.true))) refl (omega arith)
+returns-then-saved-eq0 c =
+    rw c.number-then-saved-eq0.ensures
+    (answer_refused _ (returning _ _) (sym (stop 34 _ (never_kept _ _ c.if-saved-eq0.true))) refl (omega arith))
 
 pub returns : goal.returns
 unfolding return_to returning number_of saved_at lowest zeros8 prover_of

@@ -19,7 +19,8 @@ pub returns-then-name-ge8 : goal.returns-then-name-ge8
 unfolding save saving number_of zeros8
 returns-then-name-ge8 c =
     let args = c.args in
-    answer_refused _ (saving (prover_of args.session) args.name) (sym (stop 34 _ (le-leb _ _ c.if-name-ge8.true))) refl (omega arith)
+    rw c.number.ensures
+    (answer_refused _ (saving (prover_of args.session) args.name) (sym (stop 34 _ (le-leb _ _ c.if-name-ge8.true))) refl (omega arith))
 
 pub returns : goal.returns
 unfolding save saving number_of lowest zeros8

@@ -16,10 +16,11 @@ use Rattle.prover_session.proofs.session.drop_session.Goals as goal
 pub returns-in-New : goal.returns-in-New
 unfolding drop_session dropping number_of lowest zeros8 prover_session prover_of prover_state
 returns-in-New c =
-    answer_given _ (dropping _) (sym (pass 21 [] (session_started _ c.prover_phase-phase.ensures c.in-New.is)))
-    refl refl refl
+    rw c.prover_state.ensures
+    (answer_given _ (dropping _) (sym (pass 21 [] (session_started _ c.prover_phase-phase.ensures c.in-New.is))) refl refl refl)
 
 pub returns-in-Answered : goal.returns-in-Answered
 unfolding drop_session dropping number_of zeros8
 returns-in-Answered c =
-    answer_refused _ (dropping _) (sym (stop 21 _ (session_ended _ c.prover_phase-phase.ensures c.in-Answered.is))) refl (omega arith)
+    rw c.number.ensures
+    (answer_refused _ (dropping _) (sym (stop 21 _ (session_ended _ c.prover_phase-phase.ensures c.in-Answered.is))) refl (omega arith))

@@ -8,6 +8,6 @@ pub returns-then-failed : goal.returns-then-failed
 unfolding result_line ascii newline
 returns-then-failed c = rw c.if-failed.true c.write_word.ensures
 
-pub returns : goal.returns
+pub returns-else-failed : goal.returns-else-failed
 unfolding result_line ascii newline
-returns c = rw c.if-failed.false c.write_word-2.ensures
+returns-else-failed c = rw c.if-failed.false c.write_word-else-failed.ensures

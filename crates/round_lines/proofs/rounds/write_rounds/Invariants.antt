@@ -5,14 +5,14 @@ use Prim.Native.Nat.{◌≤◌, ◌-◌}
 use mathlib.Core.Path.{◌≡◌}
 use lib.ListN.{length}
 use Rattle.encoding.specs.Placed.{Fitted}
-use Rattle.sigma.specs.Instance.{instance_with}
+use Rattle.instance.specs.Values.{values_of}
 use Rattle.round_lines.specs.Lines.{fails_in, lines_in}
 use Rattle.round_lines.proofs.rounds.write_rounds.Given as goal
 
 abbrev pub invariant-loop-k : goal.invariant-loop-k
 invariant-loop-k l =
-    Fitted l.initial.text l.at (lines_in (instance_with l.h l.entries l.statement) l.file l.k) l.text l.next
-    × (l.failed ≡ fails_in (instance_with l.h l.entries l.statement) l.file l.k)
+    Fitted l.initial.text l.at (lines_in (values_of l.sheet) l.file l.k) l.text l.next
+    × (l.failed ≡ fails_in (values_of l.sheet) l.file l.k)
     × (l.k ≤ l.count)
     × (length l.text ≡ length l.initial.text)
 

@@ -1,13 +1,13 @@
--- `round_writer::record::wide_challenge` meets its contract: only records of version 2 are narrow.
+-- `round_writer::record::wide_challenge` meets its contract: by the two tests of the definition.
 -- Assumes nothing.
 use borrow.Author.Tests.{ne_eqb}
 use Rattle.formats.specs.Append.{wide_challenge}
 use Rattle.round_writer.proofs.record.wide_challenge.Goals as goal
 
-pub returns-then-version-ne2 : goal.returns-then-version-ne2
+pub returns-then-version-eq2 : goal.returns-then-version-eq2
 unfolding wide_challenge
-returns-then-version-ne2 c = rw (ne_eqb _ _ c.if-version-ne2.true)
+returns-then-version-eq2 c = rw c.if-version-eq2.true
 
-pub returns : goal.returns
+pub returns-else-version-eq2 : goal.returns-else-version-eq2
 unfolding wide_challenge
-returns c = rw c.if-version-ne2.false
+returns-else-version-eq2 c = rw (ne_eqb _ _ c.if-version-eq2.false)

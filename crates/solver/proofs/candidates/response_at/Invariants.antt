@@ -1,6 +1,5 @@
 -- `solver::candidates::response_at` meets its contract. The invariant: the first j places hold the first j digits of k, and weight and
--- rest are those of the digits that are left. The measure: how many are left. Assumes nothing.
-use Prim.Native.Nat.{◌-◌}
+-- rest are those of the digits that are left. Assumes nothing.
 use Rattle.lists.proofs.Filling.{Filled}
 use Rattle.solver.proofs.Digits.{Left, digit}
 use Rattle.solver.proofs.candidates.response_at.Given as goal
@@ -8,6 +7,3 @@ use Rattle.solver.proofs.candidates.response_at.Given as goal
 abbrev pub invariant-loop-j : goal.invariant-loop-j
 invariant-loop-j l =
     Filled l.initial.slots l.columns (digit l.h.order l.columns l.k) l.slots l.j × Left l.h.order l.columns l.k l.j l.weight l.rest
-
-abbrev pub decreases-loop-j : goal.decreases-loop-j
-decreases-loop-j l = l.columns - l.j

@@ -1,19 +1,20 @@
 -- `solver::candidates::too_large` meets its contract. Assumes nothing.
 use borrow.Author.Tests.{le-ltb, lt-ltb}
 use mathlib.Core.Path.{◌∙◌}
+use native.Mathlib.Omega.{arith}
 use Rattle.solver.proofs.Sizes.{game_exponent, game_neither, game_root}
 use Rattle.solver.proofs.candidates.too_large.Goals as goal
 
-pub returns-then-h-eq1 : goal.returns-then-h-eq1
-returns-then-h-eq1 c = c.power_exceeds.ensures ∙ game_exponent _ c.if-h-eq1.true
+pub returns-in-1 : goal.returns-in-1
+returns-in-1 c = c.power_exceeds.ensures ∙ game_exponent _ c.in-1.is
 
-pub returns-then-h-ne2 : goal.returns-then-h-ne2
-returns-then-h-ne2 c = game_neither _ c.if-h-eq1.false c.if-h-ne2.true
+pub returns-in_default : goal.returns-in_default
+returns-in_default c = game_neither _ (omega arith) (omega arith)
 
 pub returns-then-h-gt4096 : goal.returns-then-h-gt4096
 returns-then-h-gt4096 c =
-    rw (lt-ltb _ _ c.if-h-gt4096.true) at (game_root c.args.h c.if-h-ne2.false)
+    lt-ltb _ _ c.if-h-gt4096.true ∙ (rw (lt-ltb _ _ c.if-h-gt4096.true) at (game_root c.args.h c.in-2.is))
 
-pub returns : goal.returns
-returns c =
-    rw (le-ltb _ _ c.if-h-gt4096.false) at (game_root c.args.h c.if-h-ne2.false)
+pub returns-else-h-gt4096 : goal.returns-else-h-gt4096
+returns-else-h-gt4096 c =
+    rw (le-ltb _ _ c.if-h-gt4096.false) at (game_root c.args.h c.in-2.is)

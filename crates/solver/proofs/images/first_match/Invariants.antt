@@ -1,5 +1,5 @@
 -- `solver::images::first_match` meets its contract. The invariant: the search from candidate k on gives what the whole search gives.
--- The measure: how many candidates are left. Assumes nothing.
+-- Assumes nothing.
 use Prim.Native.Nat.{◌*◌, ◌-◌, ◌≤◌}
 use mathlib.Core.Path.{◌≡◌}
 use Rattle.numbers.specs.Search.{find}
@@ -9,7 +9,4 @@ use Rattle.solver.proofs.images.first_match.Given as goal
 abbrev pub invariant-loop-k : goal.invariant-loop-k
 invariant-loop-k l =
     (find (λ j. rows_agree l.table (j * l.rows) l.rows l.expected) l.k (l.count - l.k) ≡ first_match l.table l.count l.rows l.expected)
-    × (l.k ≤ l.count) × (l.start ≡ l.k * l.rows)
-
-abbrev pub decreases-loop-k : goal.decreases-loop-k
-decreases-loop-k l = l.count - l.k
+    × (l.k ≤ l.count)

@@ -1,27 +1,21 @@
 use mathlib.Core.Path.{sym, ◌∙◌}
 use native.Mathlib.Omega.{arith}
 use Rattle.solver.proofs.RootTable.{roots_here, roots_kept, roots_on}
+use Rattle.solver.proofs.roots.fill_roots.Goals.{then-is_element+then-table-v-eq0, then-is_element+else-table-v-eq0, else-is_element}
 use Rattle.solver.proofs.roots.fill_roots.Goals as goal
 
-pub loop-next-preserved-then-table-v-eq0 : goal.loop-next-preserved-then-table-v-eq0
-loop-next-preserved-then-table-v-eq0 c =
-    let power = c.pow_mod-v.ensures.value in let below = c.pow_mod-v.ensures.below in (
+pub loop-r-preserved : goal.loop-r-preserved
+loop-r-preserved c =
+    let h = c.args.h in
+    let roots = c.loop-r.invariant.1 in (
       omega arith,
-      roots_here c.args.h c.loop-next.next c.loop-next.table c.loop-next.invariant.1 _ power below
-          (omega (arith, c.requires.0.small_modulus c.requires.1))
-          (sym c.is_element.ensures ∙ c.if-is_element.true) (omega arith),
+      elim c.if-is_element.branch [
+        | then-is_element+then-table-v-eq0 w ↦
+            rw w.table-is (roots_here h _ _ roots _ w.pow_mod-v.ensures.value w.pow_mod-v.ensures.below
+            (omega (arith, c.requires.0.small_modulus c.requires.1))
+            (sym c.is_element.ensures ∙ w.if-is_element.true) w.if-table-v-eq0.true)
+        | then-is_element+else-table-v-eq0 w ↦
+            rw w.table-is (roots_kept h _ _ roots _ w.pow_mod-v.ensures.value w.if-table-v-eq0.false)
+        | else-is_element w ↦ rw w.table-is (roots_on h _ _ roots (sym c.is_element.ensures ∙ w.if-is_element.false))
+      ],
     )
-
-pub loop-next-preserved-else-table-v-eq0 : goal.loop-next-preserved-else-table-v-eq0
-loop-next-preserved-else-table-v-eq0 c = (
-  omega arith,
-  roots_kept c.args.h c.loop-next.next c.loop-next.table c.loop-next.invariant.1 _
-      c.pow_mod-v.ensures.value c.if-table-v-eq0.false,
-)
-
-pub loop-next-preserved : goal.loop-next-preserved
-loop-next-preserved c = (
-  omega arith,
-  roots_on c.args.h c.loop-next.next c.loop-next.table c.loop-next.invariant.1
-      (sym c.is_element.ensures ∙ c.if-is_element.false),
-)

@@ -1,5 +1,4 @@
 use mathlib.Core.Path.{◌≡◌, refl}
-use Prim.Native.Nat.{◌-◌}
 use native.Mathlib.Omega.{arith}
 use Rattle.straus.proofs.Tables.{crossed_start, crossed_more, crossed_choices}
 use Rattle.straus.proofs.choices.choices.Goals as goal
@@ -9,7 +8,7 @@ loop-d-init c = (omega arith, crossed_start _ _ _ _ _ _ refl refl refl refl refl
 
 pub loop-d-preserved : goal.loop-d-preserved
 loop-d-preserved c =
-    (omega arith, crossed_more _ c.loop-d.invariant.1 (omega arith) c.mul_four.ensures)
+    (omega arith, crossed_more _ c.loop-d.invariant.1 (omega arith) c.mul.ensures)
 
 pub returns : goal.returns
 returns c =

@@ -8,7 +8,7 @@ use Rattle.straus.proofs.choices.multi_pow_eight.Goals as goal
 pub loop-k-init : goal.loop-k-init
 loop-k-init c =
     let (short, holds) = c.bit_length-k.ensures in
-    (short, λ columns lows highs. four_start _ _ _ _ _ _ c.largest.ensures holds)
+    (short, λ columns lows highs. four_start _ _ _ _ _ _ c.largest.ensures holds c.splat-values.ensures)
 
 pub loop-k-preserved : goal.loop-k-preserved
 loop-k-preserved c =
@@ -17,7 +17,7 @@ loop-k-preserved c =
       λ columns lows highs.
           four_turn _ _ _ _ (rw one_less at (c.loop-k.invariant.1 columns lows highs))
           (choices_turn _ _ _ _ columns _ _ _ _ _ _ _ lows highs c.digit.ensures c.digit-in-loop-k.ensures
-          c.mul_four-square.ensures c.mul_four-half.ensures c.mul_four-values.ensures),
+          c.mul-square.ensures c.mul-half.ensures c.mul-values.ensures),
     )
 
 pub returns : goal.returns

@@ -4,4 +4,4 @@ use Rattle.straus.proofs.Tables.{pairs_are}
 use Rattle.straus.proofs.choices.pairs.Goals as goal
 
 pub returns : goal.returns
-returns c = pairs_are _ _ _ _ c.mul_four-both.ensures
+returns c = pairs_are _ _ _ _ _ c.splat.ensures c.mul.ensures

@@ -1,13 +1,8 @@
 -- `tables::table::flat` meets its contract. The invariant: the first k places hold the first k numbers of the rows.
--- The measure: how many numbers are left.
 -- Assumes nothing.
-use Prim.Native.Nat.{◌-◌}
 use Rattle.lists.proofs.Filling.{Filled}
 use Rattle.tables.specs.Flat.{flat_at}
 use Rattle.tables.proofs.table.flat.Given as goal
 
 abbrev pub invariant-loop-k : goal.invariant-loop-k
 invariant-loop-k l = Filled l.initial.numbers 64 (flat_at l.rows) l.numbers l.k
-
-abbrev pub decreases-loop-k : goal.decreases-loop-k
-decreases-loop-k l = 64 - l.k

@@ -1,13 +1,8 @@
 -- `tables::table::square` meets its contract. The invariant: the first i places hold the first i rows.
--- The measure: how many rows are left.
 -- Assumes nothing.
-use Prim.Native.Nat.{◌-◌}
 use Rattle.lists.proofs.Filling.{Filled}
 use Rattle.tables.specs.Flat.{square_row}
 use Rattle.tables.proofs.table.square.Given as goal
 
 abbrev pub invariant-loop-i : goal.invariant-loop-i
 invariant-loop-i l = Filled l.initial.rows 8 (square_row l.entries) l.rows l.i
-
-abbrev pub decreases-loop-i : goal.decreases-loop-i
-decreases-loop-i l = 8 - l.i

@@ -4,9 +4,9 @@
 use mathlib.Core.Path.{◌≡◌, sym}
 use mathlib.Core.List.{[]}
 use Rattle.lists.specs.Places.{zeros8}
-use Rattle.sigma.specs.Instance.{instance_with}
 use Rattle.formats.proofs.LongFiles.{loads_short}
-use Rattle.instance.proofs.Answers.{answer_refused, answer_header, answer_few, answer_valid, answer_call}
+use Rattle.instance.specs.Values.{values_of}
+use Rattle.instance.proofs.SheetLoads.{loaded_call, refused_number}
 use Rattle.watches.specs.Watch.{watch_after, watch_round}
 use Rattle.watches.specs.declared.Watched.{Watched}
 use Rattle.watch.specs.Told.{told_of}
@@ -18,15 +18,11 @@ use Rattle.watch.proofs.calls.hear.Goals.{After-hear_loaded-told}
 abbrev on_values : After-hear_loaded-told → Watched
 on_values c =
     let args = c.args in
-    let loaded = c.load-loaded.result in
-    watch_after [] args.sheet.now (instance_with loaded.header c.loaded_entries-entries.result loaded.statement) args.watch
-    args.round
+    watch_after [] args.sheet.now (values_of c.in-Ok.loaded) args.watch args.round
 
 -- what is told is of that answer
 told_on_values : (c : After-hear_loaded-told) → c.hear_loaded-told.result ≡ told_of (on_values c)
-told_on_values c =
-    let w = c.args.watch in
-    c.hear_loaded-told.ensures _ w.sheet w.length (c.is_watched-watched.ensures w.rounds w.count)
+told_on_values c = c.hear_loaded-told.ensures _ c.is_watched-watched.ensures
 
 -- and that answer is the call's
 called : (c : After-hear_loaded-told) {answer : Watched} → answer ≡ on_values c
@@ -34,33 +30,22 @@ called : (c : After-hear_loaded-told) {answer : Watched} → answer ≡ on_value
 unfolding watch_round
 called c =
     let args = c.args in
-    answer_call _ _ c.load-loaded.ensures c.if-refusal-ne0.false
+    loaded_call _ c.in-Ok.ensures.number c.in-Ok.ensures.values
     (λ before inst none. watch_after_clear args.sheet.now args.watch args.round before inst none)
-    c.loaded_entries-entries.ensures
 
-pub returns-then-refusal-ne0 : goal.returns-then-refusal-ne0
+pub returns-in-Err : goal.returns-in-Err
 unfolding watch_round zeros8
-returns-then-refusal-ne0 c =
-    let (number, some) = answer_refused _ _ c.load-loaded.ensures c.if-refusal-ne0.true in
-    rw number (sym (watch_after_refused _ _ _ _ _ some))
-
-pub loaded_entries-entries-requires-clause-loads : goal.loaded_entries-entries-requires-clause-loads
-loaded_entries-entries-requires-clause-loads c = (answer_header _ _ c.load-loaded.ensures c.if-refusal-ne0.false).0
-
-pub loaded_entries-entries-requires-clause-header : goal.loaded_entries-entries-requires-clause-header
-loaded_entries-entries-requires-clause-header c = (answer_header _ _ c.load-loaded.ensures c.if-refusal-ne0.false).1
+returns-in-Err c =
+    let (number, some) = refused_number _ c.in-Err.refusal c.in-Err.ensures.number in
+    rw (c.number.ensures, number) (sym (watch_after_refused _ _ _ _ _ some))
 
 pub is_watched-watched-requires : goal.is_watched-watched-requires
-is_watched-watched-requires c =
-    loads_short _ (answer_header _ _ c.load-loaded.ensures c.if-refusal-ne0.false).0
-
-pub hear_loaded-told-requires : goal.hear_loaded-told-requires
-hear_loaded-told-requires c =
-    answer_valid _ _ c.load-loaded.ensures c.if-refusal-ne0.false c.loaded_entries-entries.ensures
+is_watched-watched-requires c = loads_short _ (sym c.in-Ok.ensures.number)
 
 pub padded-requires : goal.padded-requires
 padded-requires c =
-    answer_few _ _ c.load-loaded.ensures c.if-refusal-ne0.false
+    let table = c.in-Ok.loaded.valid.table in
+    (table.few_rows, table.few_columns)
 
 pub returns-in-Accepted : goal.returns-in-Accepted
 returns-in-Accepted c =

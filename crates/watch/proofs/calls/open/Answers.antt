@@ -1,19 +1,18 @@
 -- `watch::calls::open` meets its contract: a refused sheet's number is the answer, else the watch holds the sheet's bytes.
 -- Assumes nothing.
+use mathlib.Core.Path.{sym}
 use Rattle.formats.proofs.LongFiles.{loads_short}
-use Rattle.instance.proofs.Answers.{answer_refused, answer_header}
+use Rattle.instance.proofs.SheetLoads.{refused_number}
 use Rattle.watch.proofs.Opening.{open_refused, open_clear}
 use Rattle.watch.proofs.calls.open.Goals as goal
 
-pub returns-then-refusal-ne0 : goal.returns-then-refusal-ne0
-returns-then-refusal-ne0 c =
-    let (number, some) = answer_refused _ _ c.load-loaded.ensures c.if-refusal-ne0.true in
-    open_refused _ number some c.fresh.ensures
+pub returns-in-Err : goal.returns-in-Err
+returns-in-Err c =
+    let (number, some) = refused_number _ c.in-Err.refusal c.in-Err.ensures.number in
+    rw c.number.ensures (open_refused _ number some c.fresh-in-Err.ensures)
 
 pub held_bytes-requires : goal.held_bytes-requires
-held_bytes-requires c = loads_short _ (answer_header _ _ c.load-loaded.ensures c.if-refusal-ne0.false).0
+held_bytes-requires c = loads_short _ (sym c.in-Ok.ensures.number)
 
-pub returns : goal.returns
-returns c =
-    open_clear _ (answer_header _ _ c.load-loaded.ensures c.if-refusal-ne0.false).0 c.held_bytes.ensures
-    c.fresh-2.ensures
+pub returns-in-Ok : goal.returns-in-Ok
+returns-in-Ok c = open_clear _ (sym c.in-Ok.ensures.number) c.held_bytes.ensures c.fresh.ensures

@@ -1,17 +1,13 @@
-use Prim.Native.Nat.{◌-◌}
-use mathlib.Core.Path.{refl, ap, ◌∙◌}
+-- `writer::slices::eight_of` meets its contract.
+-- Assumes nothing.
+use mathlib.Core.Path.{◌∙◌, ap}
 use native.Mathlib.Omega.{arith}
-use Rattle.lists.specs.Places.{places, pad8}
-use Rattle.lists.proofs.Filling.{filled_start, filled_turn, filled_eight}
-use Rattle.lists.proofs.Places.{places_whole}
+use lib.ListN.{length}
+use Rattle.lists.specs.Places.{pad8}
+use Rattle.lists.proofs.Filling.{copied_eight}
 use Rattle.writer.proofs.slices.eight_of.Goals as goal
 
-pub loop-i-init : goal.loop-i-init
-loop-i-init c = filled_start (omega arith)
-
-pub loop-i-preserved : goal.loop-i-preserved
-loop-i-preserved c = filled_turn c.loop-i.invariant (omega arith) refl
-
 pub returns : goal.returns
-unfolding places
-returns c = filled_eight c.loop-i.invariant (omega arith) ∙ ap (λ l. pad8 0 l) (places_whole _ _ refl)
+returns c =
+    let copied = c.copy_from_slice.ensures.after in
+    copied_eight 0 _ _ (ap length copied) (omega arith) ∙ ap (pad8 0) copied

@@ -1,0 +1,2 @@
+-- The kinds of lines.
+pub mod Kinds

@@ -1,2 +1,0 @@
--- The entries of Peggy's list.
-pub mod Entries

@@ -1,0 +1,2 @@
+-- Definitions of the refusals' numbers, and of results.
+pub mod Number

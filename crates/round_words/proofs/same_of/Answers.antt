@@ -1,0 +1,23 @@
+-- `round_words::same_of` meets its contract: a refused sheet's number is passed on, else the commitments are compared.
+-- Assumes nothing.
+use Rattle.std.proofs.lemmas.Result.{err_from_is_err_and}
+use Rattle.formats.specs.SameCommitment.{comparing, same_commitment}
+use Rattle.formats.specs.Sheet.{header_of}
+use Rattle.instance.proofs.SheetLoads.{on_fields, on_refused}
+use Rattle.round_words.proofs.same_of.Goals as goal
+
+pub returns-in_err-values : goal.returns-in_err-values
+unfolding same_commitment comparing
+returns-in_err-values c =
+    let args = c.args in
+    let passed_on = err_from_is_err_and c.from_residual.result c.from_residual.ensures.1 in
+    rw (passed_on.1, passed_on.2)
+    (on_refused _ c.in_err-values.field-0.0 c.in_err-values.ensures.number
+    (comparing (header_of args.sheet.now) args.file.now args.i args.j))
+
+pub returns : goal.returns
+unfolding same_commitment
+returns c =
+    let args = c.args in
+    on_fields _ c.in_ok-values.ensures.number c.in_ok-values.ensures.values
+    (λ h. comparing h args.file.now args.i args.j) c.same_in.ensures

@@ -1,0 +1,2 @@
+-- What comparing gives, as the record that crosses.
+pub mod Results

@@ -1,0 +1,2 @@
+-- What the calls on Vic's session answer.
+pub mod Steps
