@@ -14,7 +14,6 @@
  *
  * The archive needs memcpy and memset, and nothing else. It allocates nothing and keeps nothing between calls, so calls may run
  * in several threads at once.
- * A call that takes a sheet uses some 11 KiB of the stack for a table of primes.
  *
  * Sessions. A box keeps a session for each run of the protocol, and gives its address to every call. The box Peggy, for example:
  *
