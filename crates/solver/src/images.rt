@@ -28,7 +28,7 @@ pub fn first_match(table: &[u32; 32768], count: u32, rows: usize, expected: [u32
 {
     for k in 0..count {
         let start = k as usize * rows;
-        if table[start..start + rows] == expected[..rows] {
+        if (0..rows).all(|i| table[start + i] == expected[i]) {
             return Some(k);
         }
     }

@@ -1,31 +1,40 @@
-use Prim.Native.Nat.{◌*◌, ◌+◌, ◌-◌, ◌≤◌}
-use mathlib.Core.Path.{◌≡◌, sym, ◌∙◌}
+use Prim.Native.Nat.{◌*◌}
+use mathlib.Core.Path.{◌≡◌, refl, sym, ◌∙◌}
 use native.Mathlib.Omega.{arith}
+use Rattle.std.proofs.Common.{rules, tests}
+use Rattle.std.proofs.lemmas.Iterator.{YieldsList-from_range, cases_from_all}
 use Rattle.numbers.proofs.Search.{find_to_end, find_to_here, find_to_on, find_to_start}
-use Rattle.solver.specs.Match.{first_match}
+use Rattle.solver.specs.Match.{first_match, rows_agree}
 use Rattle.solver.proofs.Found.{found_here, found_none}
-use Rattle.solver.proofs.ImageRows.{image_room, rows_equal, rows_other}
+use Rattle.solver.proofs.ImageRows.{SameRow, rows_told}
+use Rattle.solver.proofs.images.first_match.Goals.{After-all}
 use Rattle.solver.proofs.images.first_match.Goals as goal
 
 pub loop-k-init : goal.loop-k-init
 unfolding first_match
 loop-k-init c = (find_to_start _ _, omega arith)
 
-pub returns-then-eq : goal.returns-then-eq
-returns-then-eq c =
-    let at = c.loop-k in
+-- the answer on the rows of candidate k
+told : (c : After-all)
+    → c.all.result ≡ rows_agree c.args.table.now (c.loop-k.k * c.args.rows) c.args.rows c.args.expected
+told c =
     let a = c.args in
-    let rows : at.k * a.rows + a.rows - at.k * a.rows ≡ a.rows = omega arith in
+    let start = c.loop-k.k * a.rows in
+    rows_told a.table.now a.expected start a.rows _
+    (cases_from_all _ _ _ (SameRow a.table.now a.expected start a.rows) (λ i. ¬ SameRow a.table.now a.expected start a.rows i)
+    c.all.ensures.ran (YieldsList-from_range 0 a.rows a.rows refl (omega arith))
+    (λ x q k. search (rules, tests)) (λ x q k. search (rules, tests)))
+
+pub returns-then-all : goal.returns-then-all
+returns-then-all c =
+    let at = c.loop-k in
     found_here c.loop-k-test.true
-    (sym (find_to_here _ at.k _ c.loop-k-test.true (rows_equal _ _ _ _ _ rows (sym c.if-eq.true ∙ c.eq.ensures))) ∙ at.invariant.0)
+    (sym (find_to_here _ at.k _ c.loop-k-test.true (sym (told (goal.at.returns-then-all c).After-all) ∙ c.if-all.true)) ∙ at.invariant.0)
 
 pub loop-k-preserved : goal.loop-k-preserved
 loop-k-preserved c =
     let at = c.loop-k in
-    let a = c.args in
-    let rows : at.k * a.rows + a.rows - at.k * a.rows ≡ a.rows = omega arith in
-    let room : at.k * a.rows + a.rows ≤ 32768 = image_room at.k a.count a.rows c.loop-k-test.true c.requires.1 in
-    (find_to_on _ at.k _ c.loop-k-test.true (rows_other a.table.now a.expected _ _ _ rows (omega arith) (omega arith) (sym c.if-eq.false ∙ c.eq.ensures)) ∙ at.invariant.0, omega arith)
+    (find_to_on _ at.k _ c.loop-k-test.true (sym (told (goal.at.loop-k-preserved c).After-all) ∙ c.if-all.false) ∙ at.invariant.0, omega arith)
 
 pub returns : goal.returns
 returns c =

@@ -1,4 +1,4 @@
--- `solver::roots::fill_roots` meets its contract. The invariant: each place holds the smallest root among the numbers below next.
+-- `solver::roots::fill_roots` meets its contract. The invariant: each place holds the smallest root among the numbers below r.
 -- Assumes nothing.
 use Prim.Native.Nat.{◌≤◌}
 use Rattle.solver.specs.Prepared.{Roots}
