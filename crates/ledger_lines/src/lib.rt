@@ -10,4 +10,4 @@ mod values; // values.rt: a line's commitment, and the product statement's entri
 pub use asked::{bad_challenge, bad_elements, bad_kind, bad_response, not_above, some_high_slot};
 pub use kinds::Kind;
 pub use shared::{product_header, test_base};
-pub use values::{line_commitment, product_entries};
+pub use values::{line_commitment, product_entries, product_of_two};

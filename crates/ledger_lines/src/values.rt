@@ -1,11 +1,27 @@
 // The commitment of a line, and the entries of the product statement.
 // That the modulus is above 0 is a clause and no type: C hands in a `Base` of any numbers.
-ghost use Rattle.std.specs.Prelude.{◌≡◌, ℕ, ◌<◌};
+ghost use Rattle.std.specs.Prelude.{◌≡◌, ℕ, ◌*◌, ◌%◌, ◌<◌, get_or};
 ghost use Rattle.ledgers.specs.Ledger.{line_commitment, product_of};
 
 use crate::kinds::Kind;
 use ledgers::{Base, Line};
 use modular::mul_mod;
+
+// The numbers of two lines of those that are lent, multiplied modulo m.
+fn product_in(numbers: &[u32; 64], first: u32, second: u32, m: u32) -> u32
+    requires { (first < 64) × (second < 64) × (0 < m) }
+    ensures { result ≡ get_or numbers.now first 0 * get_or numbers.now second 0 % m }
+{
+    mul_mod(numbers[first as usize], numbers[second as usize], m)
+}
+
+// The numbers of two lines, multiplied modulo m.
+pub fn product_of_two(numbers: [u32; 64], first: u32, second: u32, m: u32) -> u32
+    requires { (first < 64) × (second < 64) × (0 < m) }
+    ensures { result ≡ get_or numbers first 0 * get_or numbers second 0 % m }
+{
+    product_in(&numbers, first, second, m)
+}
 
 // The commitment of a line, of those of the lines above it: two of these multiplied for a sum, else its own.
 pub fn line_commitment(m: u32, above: &[u32; 64], line: &Line) -> u32
@@ -14,7 +30,7 @@ pub fn line_commitment(m: u32, above: &[u32; 64], line: &Line) -> u32
     ensures { result ≡ line_commitment m above.now line.now }
 {
     match Kind::try_from(line.kind) {
-        Ok(Kind::Sum) => mul_mod(above[line.first as usize], above[line.second as usize], m),
+        Ok(Kind::Sum) => product_in(above, line.first, line.second, m),
         _ => line.commitment,
     }
 }

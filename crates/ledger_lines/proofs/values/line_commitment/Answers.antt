@@ -8,19 +8,16 @@ use Rattle.ledger_lines.proofs.KindOf.{kind_number, no_kind, other_number}
 use Rattle.ledger_lines.proofs.values.line_commitment.Goals as goal
 use Rattle.ledger_lines.proofs.values.line_commitment.Goals.{in_default-via-in-Ok+in_default, in_default-via-in_default}
 
-pub bounds-above-line : goal.bounds-above-line
-bounds-above-line c =
-    (c.requires.names (kind_number c.try_from.ensures c.in-Ok-Sum.is c.in-Ok-Sum.field-0-is)).0
-
-pub bounds-above-line-in-Ok-Sum : goal.bounds-above-line-in-Ok-Sum
-bounds-above-line-in-Ok-Sum c =
-    (c.requires.names (kind_number c.try_from.ensures c.in-Ok-Sum.is c.in-Ok-Sum.field-0-is)).1
+pub product_in-requires : goal.product_in-requires
+product_in-requires c =
+    let (first, second) = c.requires.names (kind_number c.try_from.ensures c.in-Ok-Sum.is c.in-Ok-Sum.field-0-is) in
+    (first, second, c.requires.modulus)
 
 pub returns-in-Ok-Sum : goal.returns-in-Ok-Sum
 unfolding line_commitment
 returns-in-Ok-Sum c =
     rw (eq-eqb c.args.line.now.kind 2 (kind_number c.try_from.ensures c.in-Ok-Sum.is c.in-Ok-Sum.field-0-is))
-    c.mul_mod.ensures.value
+    c.product_in.ensures
 
 pub returns-in_default : goal.returns-in_default
 unfolding line_commitment
