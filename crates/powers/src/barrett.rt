@@ -38,12 +38,19 @@ impl Barrett {
         }
     }
 
+    // The reciprocal of the modulus: how often the modulus goes into 2^64 - 1.
+    pub fn reciprocal(self) -> u64
+        ensures { result ≡ reciprocal_of self.modulus }
+    {
+        self.reciprocal
+    }
+
     // The product of a and b by the modulus. The quotient that the reciprocal gives is right or one too small.
     pub fn mul(self, a: u32, b: u32) -> u32
         ensures { result ≡ a * b % self.modulus }
     {
         let product = a as u64 * b as u64;
-        let quotient = high_product(product, self.reciprocal);
+        let quotient = high_product(product, self.reciprocal());
         let rest = product - quotient * self.modulus as u64;
         if rest >= self.modulus as u64 {
             return (rest - self.modulus as u64) as u32;

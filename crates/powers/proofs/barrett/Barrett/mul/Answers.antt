@@ -8,7 +8,7 @@ use Rattle.powers.proofs.barrett.Barrett.mul.Goals as goal
 
 pub overflow_sub-rest : goal.overflow_sub-rest
 overflow_sub-rest c =
-    (product_reduces _ _ _ c.ranges.a.fits c.ranges.b.fits c.args.self.some c.args.self.exact c.high_product-quotient.ensures).low
+    (product_reduces _ _ _ c.ranges.a.fits c.ranges.b.fits c.args.self.some c.reciprocal.ensures c.high_product-quotient.ensures).low
 
 pub overflow_mul-rest : goal.overflow_mul-rest
 overflow_mul-rest c =
@@ -16,7 +16,7 @@ overflow_mul-rest c =
 
 pub returns-then-rest-self : goal.returns-then-rest-self
 returns-then-rest-self c =
-    (product_reduces _ _ _ c.ranges.a.fits c.ranges.b.fits c.args.self.some c.args.self.exact
+    (product_reduces _ _ _ c.ranges.a.fits c.ranges.b.fits c.args.self.some c.reciprocal.ensures
     c.high_product-quotient.ensures).corrected c.if-rest-self.true
 
 pub overflow_cast-result-then-rest-self : goal.overflow_cast-result-then-rest-self
@@ -25,5 +25,5 @@ overflow_cast-result-then-rest-self c =
 
 pub returns : goal.returns
 returns c =
-    (product_reduces _ _ _ c.ranges.a.fits c.ranges.b.fits c.args.self.some c.args.self.exact
+    (product_reduces _ _ _ c.ranges.a.fits c.ranges.b.fits c.args.self.some c.reciprocal.ensures
     c.high_product-quotient.ensures).done c.if-rest-self.false
