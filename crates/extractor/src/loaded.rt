@@ -1,5 +1,4 @@
 // Extracting a witness from two rounds on loaded values (01, "A round"; refusals 14 to 16 of both rounds, then 18 to 20).
-// These read fixed fields alone, so they take a `Header` with its bounds, and not a whole `Sheet`.
 ghost use Rattle.std.specs.Prelude.{◌≡◌, List, ℕ, ◌≤◌, ◌<◌, pos, neg_ℤ};
 ghost use Rattle.lists.specs.Places.{pad8};
 ghost use Rattle.numbers.specs.Inverse.{inverse};
@@ -21,7 +20,8 @@ use refusals::Refusal;
 use types::{Header, Round, Verdict};
 
 // Tests two rounds, which are refused with 14 to 16, 18 or 19. Each of 14 to 16 is asked of both rounds before the next; 18 is for
-// commitments that differ, 19 for equal challenges.
+// commitments that differ, 19 for equal challenges. It reads fixed fields alone, so it takes a `Header` with its bounds, and not a
+// whole `Sheet`.
 fn test_pair(h: Header, first: Round, second: Round) -> Result<(), Refusal>
     requires { (0 < h.modulus) × (h.rows ≤ 8) × (h.columns ≤ 8) }
     ensures { (entries : List (List ℕ)) (statement : List ℕ)

@@ -1,6 +1,5 @@
 // The text of the game (02, card 12): for the commitment of a round file's round 0, each challenge that has an accepting
 // response, with the smallest one.
-// These read fixed fields alone, so they take a `Header` with its bounds, and not a whole `Sheet`.
 #![tactic(auto)]
 
 ghost use Rattle.std.specs.Prelude.{ℕ, ◌≤◌, ◌<◌, false, List, [], ◌∷◌, ◌≡◌, IfOk, length, take};
@@ -27,7 +26,7 @@ use types::Header;
 pub const LONGEST: usize = 720896;
 
 // Tests the commitment of a round of a sheet that loads: its values are group elements (refusal 14), and then the sheet is not too
-// large for the game (31).
+// large for the game (31). It reads fixed fields alone, so it takes a `Header` with its bounds, and not a whole `Sheet`.
 fn test_game(h: Header, t: [u32; 8]) -> Result<(), Refusal>
     requires { (0 < h.modulus) × (h.rows ≤ 8) }
     ensures { refused_with result ≡ lowest ((14 when some_non_element h h.rows t) ∷ (31 when bad_game h) ∷ []) }

@@ -1,6 +1,5 @@
 // Committing and responding in the OR proof on two sheets that have loaded (02, card 4; refusals 15 to 17 and 21). What a call brings
 // is tested before the session.
-// These read fixed fields alone, so they take a `Header` with its bounds, and not a whole `Sheet`.
 // A side is a number, as C hands it in: any but 0 is side 1.
 ghost use Rattle.std.specs.Prelude.{List, ◌≡◌, ℕ};
 ghost use Rattle.rules.specs.Call.{answer, number_of};
@@ -19,7 +18,8 @@ use refusals::Refusal;
 use types::{Header, ProverPhase};
 
 // Tests what committing is given, which is refused with 15 for a simulated challenge of K or more, 16 for a slot of the nonce or of
-// the simulated response that is no domain slot of its sheet, 21 in any state but New.
+// the simulated response that is no domain slot of its sheet, 21 in any state but New. It reads fixed fields alone, so it takes two
+// `Header`s with their bounds, and not two whole `Sheet`s.
 fn test_commit(
     first: Header,
     second: Header,

@@ -1,5 +1,4 @@
 // Judging a round and simulating a commitment on loaded values (01, "A round"; refusals 14 to 16).
-// The bounds of fixed fields are clauses and no type, since a `Sheet` would ask more of callers.
 ghost use Rattle.std.specs.Prelude.{◌≡◌, List, ℕ, ◌≤◌, ◌<◌};
 ghost use Rattle.lists.specs.Places.{pad8, places};
 ghost use Rattle.rules.specs.Call.{number_of};
@@ -19,7 +18,7 @@ use refusals::Refusal;
 use types::{Header, Round, Verdict};
 
 // Tests a round, which is refused with 14 for a commitment value that is no group element, 15 for a challenge of K or more, 16 for a
-// response slot that is no domain slot.
+// response slot that is no domain slot. The bounds of fixed fields are clauses and no type, since a `Sheet` would ask more of callers.
 pub fn test_round(
     h: Header,
     commitment: [u32; 8],

@@ -1,5 +1,5 @@
 // Committing on a sheet's bytes. A refused call hands back the session as it was handed in, beside zeros. The session is a large
-// struct: the call on what it holds is handed no memory, and the session that is handed back is made of its parts.
+// struct: the call on what it holds is handed no memory, and a session that has committed is made of its parts.
 // C reads the answers, so a refusal stands in them as a number.
 ghost use Rattle.std.specs.Prelude.{◌≡◌};
 ghost use Rattle.runs.specs.Prover.{commit};
