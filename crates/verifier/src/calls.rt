@@ -31,7 +31,7 @@ fn with_commitment(
     ensures { taken session result ≡ take_commitment sheet.now session commitment }
 {
     let loaded = Sheet::load(sheet)?;
-    take_commitment_loaded(&loaded, session, commitment)
+    take_commitment_loaded(loaded.header, session, commitment)
 }
 
 // Brings a commitment, which leads from Waiting to Holding, or is refused with 2 to 11, 14 or 21.
@@ -46,7 +46,7 @@ fn with_challenge(sheet: &[u8], session: Verifier, challenge: u32) -> Result<Ver
     ensures { taken session result ≡ take_challenge sheet.now session challenge }
 {
     let loaded = Sheet::load(sheet)?;
-    take_challenge_loaded(&loaded, session, challenge)
+    take_challenge_loaded(loaded.header, session, challenge)
 }
 
 // Brings a challenge, which leads from Holding to Asked, or is refused with 2 to 11, 15 or 21.

@@ -1,8 +1,10 @@
 // The calls on Vic's session for a loaded sheet, and their tests, which refuse with 14 to 16 for what a call brings, then with 21 for the
-// session.
-ghost use Rattle.std.specs.Prelude.{◌≡◌};
+// session. A commitment and a challenge are taken by the fixed fields alone, since these calls read neither entries nor statement.
+// The bounds of fixed fields are clauses and no type, since a `Sheet` would ask more of callers.
+ghost use Rattle.std.specs.Prelude.{◌≡◌, List, ℕ, ◌≤◌, ◌<◌};
 ghost use Rattle.lists.specs.Places.{places};
 ghost use Rattle.rules.specs.Call.{answer, number_of};
+ghost use Rattle.sigma.specs.Instance.{instance_with};
 ghost use Rattle.sigma.specs.Round.{bad_commitment};
 ghost use Rattle.refusals.specs.Number.{refused_with};
 ghost use Rattle.instance.specs.Values.{values_of};
@@ -14,21 +16,26 @@ use image::verdict;
 use instance::Sheet;
 use modular::{some_non_coordinate, some_non_element};
 use refusals::Refusal;
-use types::{Verifier, VerifierPhase, VerifierVerdict};
+use types::{Header, Verifier, VerifierPhase, VerifierVerdict};
 
 // Whether a commitment, read in s places, has a value that is no group element.
-fn bad_commitment(sheet: &Sheet, commitment: [u32; 8]) -> bool
-    ensures { result ≡ bad_commitment (values_of sheet.now) (places sheet.now.header.rows commitment) }
+fn bad_commitment(h: Header, commitment: [u32; 8]) -> bool
+    requires modulus { 0 < h.modulus }
+    requires rows { h.rows ≤ 8 }
+    ensures { (entries : List (List ℕ)) (statement : List ℕ)
+        → result ≡ bad_commitment (instance_with h entries statement) (places h.rows commitment) }
 {
-    let h = sheet.header;
     some_non_element(h, commitment, h.rows as usize)
 }
 
 // Tests a commitment, which is refused with 14 for a value that is no group element, 21 for a session that is not Waiting.
-fn test_commitment(sheet: &Sheet, session: Verifier, commitment: [u32; 8]) -> Result<(), Refusal>
-    ensures { refused_with result ≡ number_of (taking_commitment (values_of sheet.now) session commitment) }
+fn test_commitment(h: Header, session: Verifier, commitment: [u32; 8]) -> Result<(), Refusal>
+    requires modulus { 0 < h.modulus }
+    requires rows { h.rows ≤ 8 }
+    ensures { (entries : List (List ℕ)) (statement : List ℕ)
+        → refused_with result ≡ number_of (taking_commitment (instance_with h entries statement) session commitment) }
 {
-    if bad_commitment(sheet, commitment) {
+    if bad_commitment(h, commitment) {
         return Err(Refusal::Commitment);
     }
     let phase = session.phase;
@@ -40,10 +47,13 @@ fn test_commitment(sheet: &Sheet, session: Verifier, commitment: [u32; 8]) -> Re
 
 // Tests a challenge, which is refused with 15 for one of K or more, 21 for a session that is not Holding or whose commitment has a
 // value that is no group element.
-fn test_challenge(sheet: &Sheet, session: Verifier, challenge: u32) -> Result<(), Refusal>
-    ensures { refused_with result ≡ number_of (taking_challenge (values_of sheet.now) session challenge) }
+fn test_challenge(h: Header, session: Verifier, challenge: u32) -> Result<(), Refusal>
+    requires modulus { 0 < h.modulus }
+    requires rows { h.rows ≤ 8 }
+    ensures { (entries : List (List ℕ)) (statement : List ℕ)
+        → refused_with result ≡ number_of (taking_challenge (instance_with h entries statement) session challenge) }
 {
-    if challenge >= sheet.header.challenges {
+    if challenge >= h.challenges {
         return Err(Refusal::Challenge);
     }
     let phase = session.phase;
@@ -51,7 +61,7 @@ fn test_challenge(sheet: &Sheet, session: Verifier, challenge: u32) -> Result<()
         return Err(Refusal::Session);
     };
     let held = session.commitment;
-    if bad_commitment(sheet, held) {
+    if bad_commitment(h, held) {
         return Err(Refusal::Session);
     }
     Ok(())
@@ -59,10 +69,13 @@ fn test_challenge(sheet: &Sheet, session: Verifier, challenge: u32) -> Result<()
 
 // Tests a response, which is refused with 16 for a slot that is no domain slot, 21 for a session that is not Asked, whose commitment
 // has a value that is no group element or whose challenge is K or more.
-fn test_response(sheet: &Sheet, session: Verifier, response: [u32; 8]) -> Result<(), Refusal>
-    ensures { refused_with result ≡ number_of (taking_response (values_of sheet.now) session response) }
+fn test_response(h: Header, session: Verifier, response: [u32; 8]) -> Result<(), Refusal>
+    requires modulus { 0 < h.modulus }
+    requires rows { h.rows ≤ 8 }
+    requires columns { h.columns ≤ 8 }
+    ensures { (entries : List (List ℕ)) (statement : List ℕ)
+        → refused_with result ≡ number_of (taking_response (instance_with h entries statement) session response) }
 {
-    let h = sheet.header;
     if some_non_coordinate(h, response, h.columns as usize) {
         return Err(Refusal::Slot);
     }
@@ -71,10 +84,10 @@ fn test_response(sheet: &Sheet, session: Verifier, response: [u32; 8]) -> Result
         return Err(Refusal::Session);
     };
     let held = session.commitment;
-    if bad_commitment(sheet, held) {
+    if bad_commitment(h, held) {
         return Err(Refusal::Session);
     }
-    if session.challenge >= sheet.header.challenges {
+    if session.challenge >= h.challenges {
         return Err(Refusal::Session);
     }
     Ok(())
@@ -82,15 +95,18 @@ fn test_response(sheet: &Sheet, session: Verifier, response: [u32; 8]) -> Result
 
 // Brings a commitment: its s places are stored, and a Waiting session is Holding; the challenge that it holds is kept.
 pub fn take_commitment_loaded(
-    sheet: &Sheet,
+    h: Header,
     session: Verifier,
     commitment: [u32; 8],
 ) -> Result<Verifier, Refusal>
-    ensures { taken session result ≡ answer (taking_commitment (values_of sheet.now) session commitment) }
+    requires modulus { 0 < h.modulus }
+    requires rows { h.rows ≤ 8 }
+    ensures { (entries : List (List ℕ)) (statement : List ℕ)
+        → taken session result ≡ answer (taking_commitment (instance_with h entries statement) session commitment) }
 {
-    test_commitment(sheet, session, commitment)?;
+    test_commitment(h, session, commitment)?;
     Ok(Verifier {
-        commitment: first_places(commitment, sheet.header.rows as usize),
+        commitment: first_places(commitment, h.rows as usize),
         challenge: session.challenge,
         phase: VerifierPhase::Holding,
     })
@@ -98,13 +114,16 @@ pub fn take_commitment_loaded(
 
 // Brings a challenge: it is stored, and a Holding session is Asked; the commitment that it holds is kept in all eight places.
 pub fn take_challenge_loaded(
-    sheet: &Sheet,
+    h: Header,
     session: Verifier,
     challenge: u32,
 ) -> Result<Verifier, Refusal>
-    ensures { taken session result ≡ answer (taking_challenge (values_of sheet.now) session challenge) }
+    requires modulus { 0 < h.modulus }
+    requires rows { h.rows ≤ 8 }
+    ensures { (entries : List (List ℕ)) (statement : List ℕ)
+        → taken session result ≡ answer (taking_challenge (instance_with h entries statement) session challenge) }
 {
-    test_challenge(sheet, session, challenge)?;
+    test_challenge(h, session, challenge)?;
     let commitment = session.commitment;
     Ok(Verifier {
         commitment,
@@ -122,7 +141,7 @@ pub fn take_response_loaded(
 ) -> Result<VerifierVerdict, Refusal>
     ensures { judged session result ≡ answer (taking_response (values_of sheet.now) session response) }
 {
-    test_response(sheet, session, response)?;
+    test_response(sheet.header, session, response)?;
     let commitment = session.commitment;
     let challenge = session.challenge;
     Ok(VerifierVerdict {

@@ -16,4 +16,4 @@ unfolding take_challenge
 returns c =
     let args = c.args in
     let told = c.in_ok-loaded.ensures in
-    on_loaded _ told.number told.values (λ inst. taking_challenge inst args.session args.challenge) c.take_challenge_loaded.ensures
+    on_loaded _ told.number told.values (λ inst. taking_challenge inst args.session args.challenge) (c.take_challenge_loaded.ensures _ _)

@@ -16,4 +16,4 @@ unfolding take_commitment
 returns c =
     let args = c.args in
     let told = c.in_ok-loaded.ensures in
-    on_loaded _ told.number told.values (λ inst. taking_commitment inst args.session args.commitment) c.take_commitment_loaded.ensures
+    on_loaded _ told.number told.values (λ inst. taking_commitment inst args.session args.commitment) (c.take_commitment_loaded.ensures _ _)

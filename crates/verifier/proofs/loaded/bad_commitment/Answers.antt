@@ -5,4 +5,4 @@ use Rattle.image.proofs.Tested.{commitment_read}
 use Rattle.verifier.proofs.loaded.bad_commitment.Goals as goal
 
 pub returns : goal.returns
-returns c = c.some_non_element.ensures ∙ sym (commitment_read _ _)
+returns c = λ entries statement. c.some_non_element.ensures ∙ sym (commitment_read _ _)

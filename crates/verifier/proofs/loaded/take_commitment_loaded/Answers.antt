@@ -7,12 +7,12 @@ use Rattle.verifier.proofs.loaded.take_commitment_loaded.Goals as goal
 
 pub returns-in_err-test_commitment : goal.returns-in_err-test_commitment
 unfolding taking_commitment
-returns-in_err-test_commitment c =
+returns-in_err-test_commitment c = λ entries statement.
     let passed_on = err_from_is_err_and c.from_residual.result c.from_residual.ensures.1 in
     rw (passed_on.1, passed_on.2)
-    (call_refused (taking_commitment _ _ _) c.in_err-test_commitment.field-0.0 c.in_err-test_commitment.ensures)
+    (call_refused (taking_commitment _ _ _) c.in_err-test_commitment.field-0.0 (c.in_err-test_commitment.ensures entries statement))
 
 pub returns : goal.returns
 unfolding taking_commitment
-returns c =
-    rw c.first_places.ensures (call_answered (taking_commitment _ _ _) c.in_ok-test_commitment.ensures)
+returns c = λ entries statement.
+    rw c.first_places.ensures (call_answered (taking_commitment _ _ _) (c.in_ok-test_commitment.ensures entries statement))

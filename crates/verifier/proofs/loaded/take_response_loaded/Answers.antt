@@ -10,9 +10,9 @@ unfolding taking_response
 returns-in_err-test_response c =
     let passed_on = err_from_is_err_and c.from_residual.result c.from_residual.ensures.1 in
     rw (passed_on.1, passed_on.2)
-    (call_refused (taking_response _ _ _) c.in_err-test_response.field-0.0 c.in_err-test_response.ensures)
+    (call_refused (taking_response _ _ _) c.in_err-test_response.field-0.0 (c.in_err-test_response.ensures _ _))
 
 pub returns : goal.returns
 unfolding taking_response
 returns c =
-    rw c.verdict.ensures (call_answered (taking_response _ _ _) c.in_ok-test_response.ensures)
+    rw c.verdict.ensures (call_answered (taking_response _ _ _) (c.in_ok-test_response.ensures _ _))

@@ -12,19 +12,19 @@ use Rattle.verifier.proofs.loaded.test_commitment.Goals as goal
 
 pub returns-then-bad_commitment : goal.returns-then-bad_commitment
 unfolding taking_commitment number_of
-returns-then-bad_commitment c =
-    sym (stop 14 _ (sym c.bad_commitment.ensures ∙ c.if-bad_commitment.true))
+returns-then-bad_commitment c = λ entries statement.
+    sym (stop 14 _ (sym (c.bad_commitment.ensures entries statement) ∙ c.if-bad_commitment.true))
 
 pub returns-in_default : goal.returns-in_default
 unfolding taking_commitment number_of
-returns-in_default c =
-    sym (pass 14 _ (sym c.bad_commitment.ensures ∙ c.if-bad_commitment.false)
+returns-in_default c = λ entries statement.
+    sym (pass 14 _ (sym (c.bad_commitment.ensures entries statement) ∙ c.if-bad_commitment.false)
     ∙ stop 21 _ (not_waiting _ c.in_default.not-Waiting))
 
 pub returns : goal.returns
 unfolding taking_commitment number_of
-returns c =
+returns c = λ entries statement.
     sym (lowest_clear _ (
-      sym c.bad_commitment.ensures ∙ c.if-bad_commitment.false,
+      sym (c.bad_commitment.ensures entries statement) ∙ c.if-bad_commitment.false,
       ((says_passes (says_verifier Waiting _)).1 c.in-Waiting.is, tt),
     ))
