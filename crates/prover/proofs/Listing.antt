@@ -1,4 +1,4 @@
--- The number by the list of answered commitments: 32, 33 or 0.
+-- The number by the list of answered commitments: 32, 33 or 0. Of the memory a response reads nothing else.
 -- Assumes nothing.
 use Prim.Native.Nat.{ℕ, zero, suc, ◌<◌, ◌≤◌, min}
 use mathlib.Core.Path.{◌≡◌, sym, ap, ◌∙◌}
@@ -15,10 +15,14 @@ use borrow.Author.Tests.{le-leb, lt-leb}
 use Rattle.types.specs.declared.Memory.{Memory}
 use Rattle.numbers.specs.Search.{any}
 use Rattle.numbers.proofs.Search.{any_start, any_suc}
+use Rattle.rules.specs.Call.{number_of}
 use Rattle.rules.specs.Rule.{lowest}
-use Rattle.rules.proofs.Lowest.{pass, stop, lowest_clear}
+use Rattle.rules.proofs.Lowest.{pass, stop, lowest_behind, lowest_clear}
+use Rattle.sigma.specs.Instance.{Instance}
 use Rattle.runs.specs.Memory.{is_full, is_listed, listed_at}
-use Rattle.prover.specs.Parts.{list_rules}
+use Rattle.runs.specs.Prover.{prover_in, responding, unfit_prover}
+use Rattle.prover.specs.declared.Held.{Held}
+use Rattle.prover.specs.Parts.{list_rules, prover_with}
 use Rattle.prover.specs.Entries.{is_entry}
 
 -- a search of the first entries is a search of their places
@@ -53,3 +57,11 @@ module _ (m : Memory) (t : List ℕ) where
     pub barred_none : found ≡ false → m.count < 64 → 0 ≡ lowest (list_rules m t)
     unfolding list_rules is_full
     barred_none other room = sym (lowest_clear _ (sym same ∙ other, (lt-leb 64 m.count room, tt)))
+
+-- memories whose lists give one number refuse a response with one number
+pub responding_alike : (inst : Instance) (held : Held) (c : ℕ) (witness : List ℕ) (m other : Memory)
+    → lowest (list_rules m held.commitment) ≡ lowest (list_rules other held.commitment)
+    → number_of (responding inst (prover_with held m) c witness) ≡ number_of (responding inst (prover_with held other) c witness)
+unfolding number_of responding prover_in unfit_prover list_rules
+responding_alike inst held c witness m other same =
+    lowest_behind (take 4 (responding inst (prover_with held m) c witness).refusals) (list_rules m held.commitment) (list_rules other held.commitment) same

@@ -4,10 +4,11 @@ ghost use Rattle.std.specs.Prelude.{List, ◌≡◌, ℕ, ◌≤◌, ◌<◌};
 ghost use Rattle.types.specs.declared.Memory.{Memory};
 ghost use Rattle.refusals.specs.Number.{refused_with};
 ghost use Rattle.rules.specs.Call.{answer, number_of};
+ghost use Rattle.rules.specs.Rule.{lowest};
 ghost use Rattle.runs.specs.Prover.{committing, unfit_prover, responding};
 ghost use Rattle.sigma.specs.Instance.{instance_with};
 ghost use Rattle.instance.specs.Values.{values_of};
-ghost use Rattle.prover.specs.Parts.{answered_step, committed_step, prover_with};
+ghost use Rattle.prover.specs.Parts.{answered_step, committed_step, list_rules, prover_with};
 
 use crate::list::test_list;
 use crate::{Committing, Held};
@@ -99,7 +100,7 @@ fn test_respond(
 }
 
 // The response of a session to a challenge, with a witness. Refused with 15 to 17, with 21 if the session is not Committed or holds
-// what does not fit, or by the list with 32 or 33.
+// what does not fit, or by the list with 32 or 33. The answer is that on every memory whose list gives the same number.
 pub fn respond_loaded(
     sheet: &Sheet,
     held: Held,
@@ -107,8 +108,10 @@ pub fn respond_loaded(
     challenge: u32,
     witness: [u32; 8],
 ) -> Result<[u32; 8], Refusal>
-    ensures { answered_step (prover_with held memory.now) result
+    ensures answer { answered_step (prover_with held memory.now) result
         ≡ answer (responding (values_of sheet.now) (prover_with held memory.now) challenge witness) }
+    ensures alike { (m : Memory) → lowest (list_rules m held.commitment) ≡ lowest (list_rules memory.now held.commitment)
+        → answered_step (prover_with held m) result ≡ answer (responding (values_of sheet.now) (prover_with held m) challenge witness) }
 {
     test_respond(sheet, held, memory, challenge, witness)?;
     let nonce = held.nonce;

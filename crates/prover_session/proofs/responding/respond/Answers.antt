@@ -22,7 +22,7 @@ told : (c : In-Ok) →
     answered_step (prover_of args.session) (Ok c.in-Ok.values)
     ≡ respond args.sheet.now (prover_of args.session) args.challenge args.witness
 unfolding prover_of
-told c = rw (sym c.prover_phase.ensures) c.in-Ok.ensures
+told c = rw (sym c.prover_phase.ensures) c.in-Ok.ensures.answer
 
 -- and there is room in the list
 room : (c : In-Ok) → c.args.session.memory.count < 64
@@ -44,4 +44,4 @@ unfolding answered_step prover_of zeros8
 returns-in-Err c =
     rw c.number.ensures
     (parts_refused _ (prover_of c.args.session) c.in-Err.refusal
-    (rw (sym c.prover_phase.ensures) c.in-Err.ensures))
+    (rw (sym c.prover_phase.ensures) c.in-Err.ensures.answer))
