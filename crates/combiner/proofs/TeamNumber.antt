@@ -98,10 +98,6 @@ module _ (inst : Instance) (count : ℕ) (images : List (List ℕ)) where
         pub parts_bad : parts ≡ true → number ≡ lowest (team_rules inst count images ++ rest)
         parts_bad bad = sym (passed ∙ stop number _ bad)
 
-        -- then 28
-        pub product_bad : parts ≡ false → whole ≡ true → 28 ≡ lowest (team_rules inst count images ++ rest)
-        product_bad good bad = sym (passed ∙ pass number _ good ∙ stop 28 _ bad)
-
-        -- and then nothing
-        pub all_right : parts ≡ false → whole ≡ false → 0 ≡ lowest (team_rules inst count images ++ rest)
-        all_right good right = sym (passed ∙ lowest_clear rest (good, (right, tt)))
+        -- then that of the test of the product, 28 or nothing
+        pub product_tested : {m : ℕ} → parts ≡ false → m ≡ lowest ((28 when whole) ∷ []) → m ≡ lowest (team_rules inst count images ++ rest)
+        product_tested good is_last = is_last ∙ sym (passed ∙ pass number _ good)

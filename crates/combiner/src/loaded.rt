@@ -7,7 +7,7 @@ ghost use Rattle.products.specs.Team.{bad_team, joining, multiplying};
 
 use crate::joining::{join_all, multiply_all};
 use crate::parts::{some_non_coordinate_part, some_non_element_part};
-use crate::testing::test_team;
+use crate::testing::{test_images, test_product};
 use instance::Sheet;
 use refusals::Refusal;
 
@@ -22,8 +22,11 @@ pub fn multiply_loaded(
         → computed result ≡ answer (multiplying (values_of sheet.now) (length images.now) images.now parts.now) }
 {
     let h = sheet.header;
-    let bad = some_non_element_part(h, parts);
-    test_team(sheet, images, bad, Refusal::Commitment)?;
+    test_images(sheet, images)?;
+    if some_non_element_part(h, parts) {
+        return Err(Refusal::Commitment);
+    }
+    test_product(sheet, images)?;
     Ok(multiply_all(h, parts))
 }
 
@@ -39,7 +42,10 @@ pub fn join_loaded(
         → computed result ≡ answer (joining (values_of sheet.now) (length images.now) images.now parts.now) }
 {
     let h = sheet.header;
-    let bad = some_non_coordinate_part(h, parts);
-    test_team(sheet, images, bad, Refusal::Slot)?;
+    test_images(sheet, images)?;
+    if some_non_coordinate_part(h, parts) {
+        return Err(Refusal::Slot);
+    }
+    test_product(sheet, images)?;
     Ok(join_all(h, parts))
 }

@@ -1,11 +1,11 @@
 // The tests of a team (02, card 6): 27 between the two steps of testing the sheet, 2 to 9 and 10 and 11; and on loaded values 11 for
-// the images, then 14 or 16, then 28.
-ghost use Rattle.std.specs.Prelude.{◌≡◌, Bool, false, List, [], ◌∷◌, ◌++◌, ℕ, ◌≤◌, ◌<◌, length, IfOk};
+// the images, and 28 for their product. The tests of the parts, 14 or 16, come between these two.
+ghost use Rattle.std.specs.Prelude.{◌≡◌, false, List, [], ◌∷◌, ◌++◌, ℕ, ◌≤◌, ◌<◌, length, IfOk};
 ghost use Rattle.rules.specs.Rule.{◌when◌, lowest};
 ghost use Rattle.sigma.specs.Admission.{element_rules};
 ghost use Rattle.formats.specs.Load.{shape_rules};
 ghost use Rattle.formats.specs.Sheet.{instance_of};
-ghost use Rattle.refusals.specs.Number.{number, refused_with};
+ghost use Rattle.refusals.specs.Number.{refused_with};
 ghost use Rattle.instance.specs.Values.{values_of};
 ghost use Rattle.products.specs.Team.{bad_product, bad_team, team_rules};
 
@@ -47,6 +47,17 @@ pub fn load_sized(sheet: &[u8], count: u32) -> Result<Sheet, Refusal>
     }
 }
 
+// Tests the players' images, which is refused with 11 for a value that is no group element.
+pub fn test_images(sheet: &Sheet, images: &[[u32; 8]]) -> Result<(), Refusal>
+    ensures { bad_team (length images.now) ≡ false
+        → refused_with result ≡ lowest (team_rules (values_of sheet.now) (length images.now) images.now) }
+{
+    if some_non_element_part(sheet.header, images) {
+        return Err(Refusal::Statement);
+    }
+    Ok(())
+}
+
 // Whether the players' images do not multiply to the statement, in some row.
 fn bad_product(sheet: &Sheet, images: &[[u32; 8]]) -> bool
     ensures { result ≡ bad_product (values_of sheet.now) (length images.now) images.now }
@@ -55,24 +66,10 @@ fn bad_product(sheet: &Sheet, images: &[[u32; 8]]) -> bool
     differ(multiply_all(h, images), sheet.statement, h.rows as usize)
 }
 
-// Tests what the players bring, which is refused with 11 for a value of any player's image, then with the refusal of the parts where
-// some part is bad, then with 28 for images that do not multiply to the statement.
-pub fn test_team(
-    sheet: &Sheet,
-    images: &[[u32; 8]],
-    bad: bool,
-    refusal: Refusal,
-) -> Result<(), Refusal>
-    ensures { bad_team (length images.now) ≡ false → refused_with result
-        ≡ lowest (team_rules (values_of sheet.now) (length images.now) images.now ++ (number refusal when bad)
-        ∷ (28 when bad_product (values_of sheet.now) (length images.now) images.now) ∷ []) }
+// Tests the product of the players' images, which is refused with 28 where it is not the statement.
+pub fn test_product(sheet: &Sheet, images: &[[u32; 8]]) -> Result<(), Refusal>
+    ensures { refused_with result ≡ lowest ((28 when bad_product (values_of sheet.now) (length images.now) images.now) ∷ []) }
 {
-    if some_non_element_part(sheet.header, images) {
-        return Err(Refusal::Statement);
-    }
-    if bad {
-        return Err(refusal);
-    }
     if bad_product(sheet, images) {
         return Err(Refusal::Image);
     }

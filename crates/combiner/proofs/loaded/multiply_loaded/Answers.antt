@@ -1,37 +1,51 @@
 -- `combiner::loaded::multiply_loaded` meets its contract: the tests decide, else what is computed of the parts is the answer.
 -- Assumes nothing.
-use mathlib.Core.Path.{◌∙◌}
+use mathlib.Core.Path.{refl, sym, ◌∙◌}
 use native.Mathlib.Omega.{arith}
 use lib.ListN.{length}
 use Rattle.std.proofs.lemmas.Result.{err_from_is_err_and}
 use Rattle.rules.specs.Call.{number_of}
 use Rattle.sigma.specs.Round.{bad_commitment}
-use Rattle.sigma.proofs.Valid.{valid_modulus}
-use Rattle.refusals.proofs.Positive.{call_answered, call_refused}
+use Rattle.refusals.specs.declared.Refusal.TheVariants.{Commitment}
+use Rattle.refusals.proofs.Positive.{call_answered, call_refused, number_positive}
 use Rattle.products.specs.Team.{multiplying}
 use Rattle.combiner.specs.Parts.{non_element_part}
+use Rattle.combiner.proofs.TeamNumber.{parts_bad, product_tested, team_first}
 use Rattle.combiner.proofs.loaded.multiply_loaded.Goals as goal
 
-pub returns-in_err-test_team : goal.returns-in_err-test_team
-unfolding multiplying number_of bad_commitment non_element_part
-returns-in_err-test_team c = λ team.
+pub returns-in_err-test_images : goal.returns-in_err-test_images
+unfolding multiplying number_of
+returns-in_err-test_images c = λ team.
     let images = c.args.images.now in
     let passed_on = err_from_is_err_and c.from_residual.result c.from_residual.ensures.1 in
-    let bad = rw c.requires at c.some_non_element_part-bad.ensures in
+    let refusal = c.in_err-test_images.field-0.0 in
     rw (passed_on.1, passed_on.2)
-    (call_refused (multiplying _ (length images) images c.args.parts.now) c.in_err-test_team.field-0.0
-    (rw bad at (c.in_err-test_team.ensures team)))
+    (call_refused (multiplying _ (length images) images c.args.parts.now) refusal
+    (team_first _ _ _ 14 _ _ (c.in_err-test_images.ensures team) (λ e. omega (arith, e, number_positive refusal))))
+
+pub returns-then-some_non_element_part : goal.returns-then-some_non_element_part
+unfolding multiplying number_of bad_commitment non_element_part
+returns-then-some_non_element_part c = λ team.
+    let images = c.args.images.now in
+    let bad = rw c.requires at (sym c.some_non_element_part.ensures ∙ c.if-some_non_element_part.true) in
+    call_refused (multiplying _ (length images) images c.args.parts.now) Commitment
+    (parts_bad _ _ _ 14 _ _ (c.in_ok-test_images.ensures team) refl bad)
+
+pub returns-in_err-test_product : goal.returns-in_err-test_product
+unfolding multiplying number_of bad_commitment non_element_part
+returns-in_err-test_product c = λ team.
+    let images = c.args.images.now in
+    let passed_on = err_from_is_err_and c.from_residual-in_err-test_product.result c.from_residual-in_err-test_product.ensures.1 in
+    let good = rw c.requires at (sym c.some_non_element_part.ensures ∙ c.if-some_non_element_part.false) in
+    rw (passed_on.1, passed_on.2)
+    (call_refused (multiplying _ (length images) images c.args.parts.now) c.in_err-test_product.field-0.0
+    (product_tested _ _ _ 14 _ _ (c.in_ok-test_images.ensures team) refl good c.in_err-test_product.ensures))
 
 pub returns : goal.returns
 unfolding multiplying number_of bad_commitment non_element_part
 returns c = λ team.
     let images = c.args.images.now in
-    let bad = rw c.requires at c.some_non_element_part-bad.ensures in
+    let good = rw c.requires at (sym c.some_non_element_part.ensures ∙ c.if-some_non_element_part.false) in
     (λ i. record { refusal = 0; values = rw c.requires at (c.multiply_all.ensures) i })
-    ∙ call_answered (multiplying _ (length images) images c.args.parts.now) (rw bad at (c.in_ok-test_team.ensures team))
-
-pub some_non_element_part-bad-requires : goal.some_non_element_part-bad-requires
-some_non_element_part-bad-requires c = let valid = c.args.sheet.now.valid in omega (arith, valid_modulus valid.table, valid.table.few_rows)
-
-pub multiply_all-requires : goal.multiply_all-requires
-multiply_all-requires c = let valid = c.args.sheet.now.valid in omega (arith, valid_modulus valid.table, valid.table.few_rows)
+    ∙ call_answered (multiplying _ (length images) images c.args.parts.now)
+    (product_tested _ _ _ 14 _ _ (c.in_ok-test_images.ensures team) refl good c.in_ok-test_product.ensures)
