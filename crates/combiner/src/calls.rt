@@ -1,6 +1,6 @@
 // The calls on a sheet's bytes (02, card 6): each loads the sheet. The number of a refused sheet or of the team's size is the
 // answer, else the tests of what the players bring follow.
-// The two calls are alike and stay two: a function over both would take what to compute and the number to refuse with, and say less.
+// The two calls are alike and stay two: a function over both would take what to compute and the refusal of a bad part, and say less.
 // C reads the answers, so a refusal stands in them as a number.
 ghost use Rattle.std.specs.Prelude.{◌≡◌};
 ghost use Rattle.refusals.specs.Number.{computed};

@@ -7,6 +7,6 @@ mod calls; // calls.rt: the calls on a sheet's bytes
 mod joining; // joining.rt: parts multiplied and joined, place by place
 mod loaded; // loaded.rt: multiplying and joining on a sheet's values
 mod parts; // parts.rt: the tests of all parts
-mod testing; // testing.rt: the tests after those of the sheet's shape
+mod testing; // testing.rt: loading a team's sheet, and the tests of what its players bring
 
 pub use calls::{commitment, response};

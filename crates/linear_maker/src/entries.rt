@@ -1,5 +1,5 @@
 // The entries that generators and coefficients give (02, card 10).
-// What the counts are is a clause and no type, since `make` alone calls these and tests it once.
+// What the counts are is a clause and no type, since `try_make` alone calls these and tests it once.
 ghost use Rattle.std.specs.Prelude.{◌<◌, [], ◌≡◌};
 ghost use Rattle.lists.specs.Places.{eight_by_eight};
 ghost use Rattle.linear_forms.specs.Linear.{linear_entry};

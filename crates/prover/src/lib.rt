@@ -4,7 +4,7 @@
 
 mod calls; // calls.rt: the calls on a sheet's bytes
 mod list; // list.rt: the list of answered commitments
-mod loaded; // loaded.rt: the same on loaded values
+mod loaded; // loaded.rt: the calls on loaded values
 
 pub use calls::{commit, respond};
 use types::ProverPhase;

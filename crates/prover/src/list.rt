@@ -30,7 +30,8 @@ fn is_listed(answered: &[Listed; 64], count: u32, commitment: [u32; 8]) -> bool
     some_entry(&answered[..looked_at], commitment)
 }
 
-// Tests the list: a commitment that is listed among the first 64 entries is refused with 32, a list of 64 or more with 33.
+// Tests the list: a commitment that is listed among the first count entries, 64 at most, is refused with 32, a list of 64 or more
+// with 33.
 pub fn test_list(memory: &Memory, commitment: [u32; 8]) -> Result<(), Refusal>
     ensures { refused_with result ≡ lowest (list_rules memory.now commitment) }
 {

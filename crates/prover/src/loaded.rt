@@ -20,7 +20,7 @@ use refusals::Refusal;
 use types::{Header, Memory, ProverPhase};
 
 // Tests whether a session may commit to a nonce, which is refused with 16 for a nonce slot that is no domain slot, 21 in any state
-// but New.
+// but New. It reads fixed fields alone, so it takes a `Header` with its bounds.
 fn test_commit(h: Header, held: Held, nonce: [u32; 8]) -> Result<(), Refusal>
     requires { (0 < h.modulus) × (h.columns ≤ 8) }
     ensures { (entries : List (List ℕ)) (statement : List ℕ) (m : Memory)

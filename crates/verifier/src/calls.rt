@@ -1,6 +1,6 @@
 // A new session, and the calls on a sheet's bytes (01, "Sessions"): each loads the sheet, and where that is refused the number
 // is the answer and the session comes back unchanged.
-// C reads the answers, so a refusal stands in them as a number.
+// The records are those that the laws speak of, in which a refusal is its number.
 ghost use Rattle.std.specs.Prelude.{◌≡◌};
 ghost use Rattle.runs.specs.Verifier.{new_verifier, take_commitment, take_challenge, take_response};
 ghost use Rattle.verifier.specs.Steps.{taken, judged};
