@@ -2,7 +2,7 @@
 -- Assumes nothing.
 use Rattle.std.specs.Prelude.{ℕ, Bool, cond, ◌||◌, List, [], ◌∷◌, Result, Ok, Err}
 use Rattle.types.specs.declared.Header.{Header}
-use Rattle.lists.specs.Places.{places, zeros8}
+use Rattle.lists.specs.Places.{places}
 use Rattle.rules.specs.Rule.{Rule, ◌when◌}
 use Rattle.sigma.specs.Image.{image}
 use Rattle.sigma.specs.Instance.{Instance, table_of}
@@ -12,7 +12,7 @@ use Rattle.refusals.specs.declared.Refusal.{Refusal}
 use Rattle.refusals.specs.Number.{number}
 use Rattle.disjunctions.specs.declared.OrProver.{OrProver}
 use Rattle.disjunctions.specs.declared.OrStep.{OrStep}
-use Rattle.disjunctions.specs.Prover.{other, own}
+use Rattle.disjunctions.specs.Prover.{other, own, refused_or}
 
 -- the commitment of a side: the image of the nonce where it is known, else the simulated commitment
 unfoldable pub side_commitment : Bool → Instance → List ℕ → ℕ → List ℕ → List ℕ
@@ -34,12 +34,7 @@ witness_rules i x =
     (16 when bad_coordinates i (places i.header.columns x)) ∷
     (17 when bad_witness i (places i.header.columns x)) ∷ []
 
--- what a refused call answers: the session as it was, and zeros beside the number
-abbrev pub refused_step : OrProver → Refusal → OrStep
-refused_step session refusal =
-    record { session = session; values0 = zeros8; values1 = zeros8; challenge0 = 0; refusal = number refusal }
-
 -- what a call answers: its step, or that of a refused call
 abbrev pub stepped : OrProver → Result OrStep Refusal → OrStep
 stepped session (Ok step) = step
-stepped session (Err refusal) = refused_step session refusal
+stepped session (Err refusal) = refused_or session (number refusal)

@@ -7,5 +7,5 @@ mod session; // session.rt: a new session, the answer of a call, a wiped session
 mod sides; // sides.rt: choosing by the side, and what each side commits and responds
 
 pub use held::{bad_slots, test_witness, unfit};
-pub use session::{drop_session, new, stepped, wiped};
+pub use session::{drop_session, new, refused, stepped, wiped};
 pub use sides::{own, side_commitment, side_response};

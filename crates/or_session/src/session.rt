@@ -2,16 +2,17 @@
 // session, and dropping.
 // The records are those that the laws speak of, in which a refusal is its number.
 ghost use Rattle.std.specs.Prelude.{◌≡◌};
+ghost use Rattle.lists.specs.Places.{zeros8};
 ghost use Rattle.disjunctions.specs.Prover.{drop_or, new_or_prover, wiped_or};
-ghost use Rattle.or_session.specs.Sides.{refused_step, stepped};
+ghost use Rattle.or_session.specs.Sides.{stepped};
 
 use disjunctions::{OrProver, OrStep};
 use refusals::Refusal;
 use types::ProverPhase;
 
 // The answer of a refused call: the number, the session as it was and zeros.
-fn refused(session: OrProver, refusal: Refusal) -> OrStep
-    ensures { result ≡ refused_step session refusal }
+pub fn refused(session: OrProver, number: u32) -> OrStep
+    ensures { result ≡ record { session = session; values0 = zeros8; values1 = zeros8; challenge0 = 0; refusal = number } }
 {
     let zeros = [0u32; 8];
     OrStep {
@@ -19,7 +20,7 @@ fn refused(session: OrProver, refusal: Refusal) -> OrStep
         values0: zeros,
         values1: zeros,
         challenge0: 0,
-        refusal: refusal.number(),
+        refusal: number,
     }
 }
 
@@ -29,7 +30,7 @@ pub fn stepped(session: OrProver, outcome: Result<OrStep, Refusal>) -> OrStep
 {
     match outcome {
         Ok(step) => step,
-        Err(refusal) => refused(session, refusal),
+        Err(refusal) => refused(session, refusal.number()),
     }
 }
 
@@ -81,6 +82,8 @@ pub fn drop_session(session: OrProver) -> OrStep
             challenge0: 0,
             refusal: 0,
         },
-        ProverPhase::Answered | ProverPhase::Dropped => refused(session, Refusal::Session),
+        ProverPhase::Answered | ProverPhase::Dropped => {
+            refused(session, Refusal::Session.number())
+        }
     }
 }

@@ -21,8 +21,24 @@ pub struct Pair {
     pub ghost one_count: { first.header.challenges ≡ second.header.challenges },
 }
 
+// Of two numbers the lower that is not 0.
+pub fn lower(a: u32, b: u32) -> u32
+    ensures { result ≡ lower_of a b }
+{
+    if a == 0 {
+        return b;
+    }
+    if b == 0 {
+        return a;
+    }
+    if b < a {
+        return b;
+    }
+    a
+}
+
 // Of two refusals the one with the lower number. By numbers, of which the clause speaks.
-fn lower(one: Refusal, other: Refusal) -> Refusal
+fn lower_refusal(one: Refusal, other: Refusal) -> Refusal
     ensures { number result ≡ lower_of (number one) (number other) }
 {
     if other.number() < one.number() {
@@ -47,7 +63,7 @@ pub fn both<A: Copy, B: Copy>(
         },
         Err(refusal) => match b {
             Ok(_) => Err(refusal),
-            Err(other) => Err(lower(refusal, other)),
+            Err(other) => Err(lower_refusal(refusal, other)),
         },
     }
 }

@@ -21,4 +21,5 @@ returns-in-New c =
 pub returns-in-Answered : goal.returns-in-Answered
 unfolding drop_or dropping_or number_of
 returns-in-Answered c =
-    step_refused (dropping_or _) (sym (stop 21 _ (not_started _ c.in-Answered.is))) (omega arith) c.refused.ensures
+    step_refused (dropping_or _) (sym (stop 21 _ (not_started _ c.in-Answered.is))) (omega arith)
+    (rw c.number.ensures at c.refused.ensures)
