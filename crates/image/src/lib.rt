@@ -14,6 +14,7 @@ use comparison::{compare, first_places, marked, verdict_of};
 use instance::Sheet;
 use modular::{mul_mod, pow_mod};
 use powers::{mul_powers, powers, side_by_side};
+pub use refusals::not_computed as refused;
 use straus::multi_powers;
 use types::{Header, Verdict};
 

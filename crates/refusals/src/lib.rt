@@ -7,7 +7,7 @@ mod records; // records.rt: a result as the record that crosses to other languag
 ghost use Rattle.std.specs.Prelude.{◌≡◌};
 ghost use Rattle.refusals.specs.Number.{number};
 
-pub use records::{computed, written};
+pub use records::{computed, not_computed, not_written, written};
 
 // Why a call is refused. The number of each is the one that 01 or 02 gives it.
 #[derive(Clone, Copy, PartialEq, Eq, Debug)]

@@ -16,6 +16,7 @@ ghost use Rattle.formats.specs.Encode.{encode};
 
 use crate::sheet::write_sheet;
 use instance::{sheet_length, test_elements, test_header};
+pub use refusals::not_written as refused;
 use refusals::{Refusal, written};
 pub use slices::eight_of;
 use types::{Header, Written};
