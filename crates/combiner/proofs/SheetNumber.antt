@@ -140,7 +140,12 @@ module _ (s : List ℕ) where
             (lowest_append_zero (shape_rules s) ((27 when bad_team count) ∷ element_rules (instance_of s)) tt tt).0 (sym number ∙ none) in
             (shape, (team, lowest_clear (element_rules (instance_of s)) elements))
 
-        -- so they are eight at most
+        -- so the sheet loads
+        pub sized_loads : load_refusal s ≡ 0
+        unfolding load_refusal load_rules
+        sized_loads = let (shape, (team, elements)) = sized_passes in behind_shape _ shape ∙ elements
+
+        -- and the players are eight at most
         pub sized_few : count ≤ 8
         sized_few = few_players count sized_passes.1.0
 

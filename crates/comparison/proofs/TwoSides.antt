@@ -32,6 +32,10 @@ module _ (n : ℕ) (xs ys : List ℕ) where
   differ_here i below other (within, kept) = sym (find_to_here _ i n below (ap not (ne_eqb _ _ other))) ∙ kept
 
   -- and so does the last place
-  pub differ_none : {i : ℕ} → n ≤ i → Agreed i → n ≡ first_difference n xs ys
-  differ_none {i} past (within, kept) =
+  pub differ_none : (i : ℕ) → n ≤ i → Agreed i → i ≡ first_difference n xs ys
+  differ_none i past (within, kept) = sym (find_to_end _ i n past) ∙ kept
+
+  -- which is n
+  pub differ_nowhere : {i : ℕ} → n ≤ i → Agreed i → n ≡ first_difference n xs ys
+  differ_nowhere {i} past (within, kept) =
       let all : n ≡ i = omega arith in all ∙ sym (find_to_end _ i n past) ∙ kept

@@ -75,9 +75,18 @@ word_stored w i vs l at =
     let width : w * i ≡ length before = sym (rw length_places at (length_bytes_of_each w (places i vs))) in
     rw (width, add-one i, bytes_of_each_places w i vs) (sets_sets l at before (bytes_of w (get_or vs i 0)))
 
+-- three stores, one for each byte of a mark
+pub mark_stored : (l mark : List ℕ) → length mark ≡ 3
+    → set (set (set l 0 (get_or mark 0 0)) 1 (get_or mark 1 0)) 2 (get_or mark 2 0) ≡ sets l 0 mark
+mark_stored l [] e = absurd (omega arith)
+mark_stored l (a ∷ []) e = absurd (omega arith)
+mark_stored l (a ∷ b ∷ []) e = absurd (omega arith)
+mark_stored l (a ∷ b ∷ c ∷ []) e = refl
+mark_stored l (a ∷ b ∷ c ∷ d ∷ mark) e = absurd (omega arith)
+
 -- a mark copied to the start
-pub mark_stored : (l mark m : List ℕ) → length mark ≡ 3 → 3 ≤ length l → m ≡ mark → m ++ drop 3 l ≡ sets l 0 mark
-mark_stored l mark m long room copied =
+pub mark_copied : (l mark m : List ℕ) → length mark ≡ 3 → 3 ≤ length l → m ≡ mark → m ++ drop 3 l ≡ sets l 0 mark
+mark_copied l mark m long room copied =
     rw (copied, sets-eq mark l 0 (omega arith)) (ap (λ (k : ℕ). mark ++ drop k l) {x = 3} {y = 0 + length mark} (omega arith))
 
 -- the search for a place that differs, among three

@@ -4,15 +4,17 @@
 use Prim.Native.Nat.{ℕ, ◌≤◌, ◌<◌}
 use mathlib.Core.Path.{◌≡◌, refl, sym, ap, ◌∙◌}
 use mathlib.Core.List.{List}
+use native.Mathlib.Omega.{arith}
+use lib.ListN.{length}
 use Rattle.types.specs.declared.Header.{Header}
 use Rattle.lists.specs.Places.{zeros8}
 use Rattle.rules.specs.Rule.{lowest}
-use Rattle.rules.proofs.Lowest.{lowest_earlier, lowest_later_zero}
+use Rattle.rules.proofs.Lowest.{lowest_earlier, lowest_later_zero, lowest_append_zero}
 use Rattle.sigma.specs.Admission.{header_rules, element_rules}
 use Rattle.sigma.specs.Instance.{instance_with}
 use Rattle.formats.specs.Sheet.{header_of, sheet_length, entries_of, statement_of, instance_of}
 use Rattle.formats.specs.Load.{shape_rules, load_rules, load_refusal, no_header, load}
-use Rattle.formats.proofs.Loads.{load_refused}
+use Rattle.formats.proofs.Loads.{sheet_long, load_refused}
 use Rattle.instance.specs.Shaped.{Shaped}
 use Rattle.instance.proofs.FixedFields.{header_passes}
 use Rattle.instance.proofs.ShapeNumber.{shape_passes}
@@ -22,6 +24,15 @@ module _ (s : List ℕ) where
   pub shape_first : 0 < lowest (shape_rules s) → lowest (shape_rules s) ≡ load_refusal s
   unfolding load_refusal load_rules
   shape_first refused = sym (lowest_earlier (shape_rules s) (element_rules (instance_of s)) refused)
+
+  -- a sheet that loads has the shape of one
+  pub load_shape : load_refusal s ≡ 0 → lowest (shape_rules s) ≡ 0
+  unfolding load_refusal load_rules shape_rules header_rules element_rules
+  load_shape e = ((lowest_append_zero (shape_rules s) (element_rules (instance_of s)) tt tt).0 e).0
+
+  -- a sheet that has the shape of one holds the fixed fields
+  pub shape_long : lowest (shape_rules s) ≡ 0 → 20 ≤ length s
+  shape_long passed = omega (arith, (shape_passes s passed).1, sheet_long (header_of s))
 
   module _ (h : Header) (same : h ≡ header_of s) (passed : lowest (shape_rules s) ≡ 0) where
     -- its fixed fields have a positive modulus and at most eight rows and columns

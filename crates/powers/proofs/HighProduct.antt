@@ -45,3 +45,14 @@ module _ (u v : ℕ) where
       ∙ ap (λ (n : ℕ). n / 18446744073709551616)
       (columns u₀ u₁ v₀ v₁ _ _ _ _ _ _ (div-add-mod' (u₀ * v₀) 4294967296) (div-add-mod' middle 4294967296) (div-add-mod' next 4294967296))
       ∙ digits_div (u₁ * v₁ + middle / 4294967296 + next / 4294967296) small)
+
+  -- the product of two halves fits 64 bits, with room for what is carried
+  pub halves_below : u < 18446744073709551616 → v < 18446744073709551616
+      → (u₀ * v₀ ≤ 18446744065119617025) × (u₁ * v₀ ≤ 18446744065119617025) × (u₀ * v₁ ≤ 18446744065119617025)
+      × (u₁ * v₁ ≤ 18446744065119617025)
+  halves_below u_fits v_fits = (
+    product_below _ _ (omega arith) (omega arith),
+    product_below _ _ (omega arith) (omega arith),
+    product_below _ _ (omega arith) (omega arith),
+    product_below _ _ (omega arith) (omega arith),
+  )

@@ -8,9 +8,23 @@ use Rattle.numbers.specs.Divisors.{NoDivisorBelow}
 use Rattle.prime_words.specs.Words.{last, product, inverse, Good}
 use Rattle.prime_words.proofs.Share.{share_above, pair_above, share_of_first, share_of_second, share_of_last}
 use Rattle.std.specs.Prelude.{None}
-use Rattle.prime_search.specs.Search.{OfWord, SharesAbove, Searched}
+use Rattle.prime_search.specs.Search.{OfWord, low, SharesAbove, Searched}
 use Rattle.prime_search.specs.declared.Five.{Five}
 use Rattle.prime_search.proofs.Passing.{quotient_falls, next_rises, walk_start, walk_on, walk_end}
+
+-- the shares, by the products that they are made of
+pub shares_of_products : (l v : ℕ) (n : Five) (most all four front back x y w z : ℕ)
+    → all ≡ low l v → four ≡ low all n.fifth → front ≡ low n.first n.second → back ≡ low n.third n.fourth
+    → x ≡ low four back → y ≡ low four front → w ≡ low all front → z ≡ low w back
+    → (most < low x n.second) × (most < low x n.first) → (most < low y n.fourth) × (most < low y n.third) → most < z
+    → SharesAbove l v n most
+shares_of_products l v n most all four front back x y w z is_all is_four is_front is_back is_x is_y is_w is_z of_x of_y of_z = record {
+  first = rw (sym is_all, sym is_four, sym is_back, sym is_x) of_x.0;
+  second = rw (sym is_all, sym is_four, sym is_back, sym is_x) of_x.1;
+  third = rw (sym is_all, sym is_four, sym is_front, sym is_y) of_y.0;
+  fourth = rw (sym is_all, sym is_four, sym is_front, sym is_y) of_y.1;
+  fifth = rw (sym is_all, sym is_front, sym is_w, sym is_back, sym is_z) of_z;
+}
 
 -- the product of a word's numbers
 product_of_five : (a e : ℕ) (n : Five) → OfWord a e n

@@ -1,7 +1,7 @@
 -- The number by the list of answered commitments: 32, 33 or 0. Of the memory a response reads nothing else.
 -- Assumes nothing.
 use Prim.Native.Nat.{ℕ, zero, suc, ◌<◌, ◌≤◌, min}
-use mathlib.Core.Path.{◌≡◌, sym, ap, ◌∙◌}
+use mathlib.Core.Path.{◌≡◌, refl, sym, ap, ◌∙◌}
 use mathlib.Core.Bool.{Bool, true, false, not, ◌||◌}
 use mathlib.Core.List.{List, []}
 use lib.ListN.{length, take, get_or}
@@ -57,6 +57,12 @@ module _ (m : Memory) (t : List ℕ) where
     pub barred_none : found ≡ false → m.count < 64 → 0 ≡ lowest (list_rules m t)
     unfolding list_rules is_full
     barred_none other room = sym (lowest_clear _ (sym same ∙ other, (lt-leb 64 m.count room, tt)))
+
+  -- an empty list bars nothing
+  pub barred_empty : m.count ≡ 0 → 0 ≡ lowest (list_rules m t)
+  barred_empty none =
+      let before = sym (any_start (is_entry m.answered t)) ∙ ap (λ (k : ℕ). any (min 64 k) (is_entry m.answered t)) (sym none) in
+      barred_none (listed_test before) refl (omega (arith, none))
 
 -- memories whose lists give one number refuse a response with one number
 pub responding_alike : (inst : Instance) (held : Held) (c : ℕ) (witness : List ℕ) (m other : Memory)

@@ -1,11 +1,13 @@
--- The candidates of each kind, and how many there are.
+-- The candidates of each kind: how many there are, and that counting them forms no number above their count.
 -- Assumes nothing.
-use Prim.Native.Nat.{ℕ, ◌^◌, ◌≤◌}
+use Prim.Native.Nat.{ℕ, ◌-◌, ◌*◌, ◌^◌, ◌<◌, ◌≤◌}
 use mathlib.Core.Path.{◌≡◌}
 use mathlib.Core.Logic.{◌≢◌}
 use mathlib.Core.List.{[], ◌∷◌}
+use native.Mathlib.Nat.{le-mul_of_pos_right, one-le-pow}
 use native.Mathlib.Omega.{arith}
 use Rattle.types.specs.declared.Header.{Header}
+use Rattle.powers.proofs.Bounded.{factor_more}
 use Rattle.sigma.proofs.ByKind.{by_kind, exponent_kind, root_kind}
 use Rattle.games.specs.Slots.{slots_of}
 use Rattle.games.specs.Text.{candidate, candidates}
@@ -37,3 +39,8 @@ module _ (h : Header) where
   count_few small =
       by_kind h (λ e. omega (arith, count_exponent e, small.few_choices e))
       (λ other. omega (arith, count_root other, small.small_modulus other))
+
+-- a product that has all of a power's factors but some has no more than the power
+pub factor_inside : (p q left whole : ℕ) → 0 < q → p * q ^ left ≡ whole → 0 < left → p * q ≤ whole
+factor_inside p q left whole some kept more =
+    omega (arith, factor_more p q left whole kept more, le-mul_of_pos_right (p * q) (one-le-pow (left - 1) q some))

@@ -1,26 +1,35 @@
 -- The bytes that a watch holds: a sheet's with zeros behind them, and compared with a sheet's.
 -- Assumes nothing.
 use Prim.Native.Nat.{ℕ, ◌-◌, ◌≤◌}
-use mathlib.Core.Path.{◌≡◌, sym, ◌∙◌}
+use mathlib.Core.Path.{◌≡◌, refl, sym, ap, ◌∙◌}
 use mathlib.Core.Logic.{◌≢◌}
 use mathlib.Core.List.{List, ◌++◌}
 use native.Mathlib.Omega.{arith}
 use borrow.Author.Tests.{ne_eqb}
 use lib.Dec.{eqb}
-use lib.ListN.{length, take, drop, replicate, length-take}
+use lib.ListN.{length, get_or, take, drop, replicate, length-take}
 use Rattle.std.proofs.Common.{Decides}
 use Rattle.std.proofs.lemmas.Bool.Decides.{same_from_decides}
 use Rattle.std.proofs.lemmas.List.{drop-replicate, get_or-take}
 use Rattle.lists.specs.Places.{places}
-use Rattle.lists.proofs.Places.{places_is}
+use Rattle.lists.proofs.Filling.{Filled, filled_copies}
+use Rattle.lists.proofs.Places.{places_is, places_whole}
 use Rattle.watches.specs.Watch.{is_watched}
 use Rattle.watches.proofs.Bytes.{says_watched}
 use Rattle.watches.specs.declared.Watch.{Watch}
 
+-- all numbers of a list stand in front of zeros
+pub held_whole : (m : ℕ) (xs : List ℕ) {l : List ℕ} {i : ℕ} → Filled (replicate m 0) (length xs) (λ j. get_or xs j 0) l i
+    → length xs ≤ i → l ≡ xs ++ replicate (m - length xs) 0
+unfolding places
+held_whole m xs filled past =
+    filled_copies 0 m (length xs) filled past ∙
+    ap (λ (ys : List ℕ). ys ++ replicate (m - length xs) 0) (places_whole (length xs) xs refl)
+
 -- a list stored at the front of zeros
-pub held_whole : (m : ℕ) (xs : List ℕ) {front : List ℕ} → front ≡ xs
+pub held_front : (m : ℕ) (xs : List ℕ) {front : List ℕ} → front ≡ xs
     → front ++ drop (length xs) (replicate m 0) ≡ xs ++ replicate (m - length xs) 0
-held_whole m xs is_front = rw (is_front, drop-replicate {X = ℕ} (length xs) m 0)
+held_front m xs is_front = rw (is_front, drop-replicate {X = ℕ} (length xs) m 0)
 
 -- the places that are read of a list are its first ones
 places_taken : (n : ℕ) (xs : List ℕ) → n ≤ length xs → places n xs ≡ take n xs
