@@ -1,6 +1,6 @@
 -- The records of a round file one by one: the test of their challenges, and one record more in the other version.
 -- Assumes nothing.
-use Prim.Native.Nat.{ℕ, suc, ◌+◌, ◌-◌, ◌<◌, ◌≤◌}
+use Prim.Native.Nat.{ℕ, suc, ◌+◌, ◌-◌, ◌*◌, ◌<◌, ◌≤◌}
 use mathlib.Core.Path.{◌≡◌, refl, sym, ap, ◌∙◌}
 use mathlib.Core.Bool.{Bool, true, false}
 use mathlib.Core.List.{List, [], ◌∷◌, ◌++◌, append-nil, flatten, map, map-append}
@@ -14,6 +14,7 @@ use lib.ListN.{length, take, drop}
 use lib.Seq.{length-sets, sets}
 use Rattle.types.specs.declared.Header.{Header}
 use Rattle.types.specs.declared.Round.{Round}
+use Rattle.encoding.specs.Bytes.{number_at}
 use Rattle.encoding.specs.Placed.{Placed}
 use Rattle.encoding.proofs.Placed.{placed_behind}
 use Rattle.encoding.proofs.Replaced.{part_replaced_front}
@@ -61,6 +62,12 @@ module _ (h : Header) (f : List ℕ) where
     -- a record lies inside its file
     pub record_there : IsRoundFile h f → k < count_field f → start + record_length from h ≤ length f
     record_there file inside = rw (is_start, is_from) (record_inside file k inside)
+
+    -- the test of its challenge
+    pub wide_tested : {version challenge : ℕ} {wide : Bool} → version ≡ other_version (file_version f)
+        → challenge ≡ number_at from f (start + 4 * h.rows) → wide ≡ wide_challenge version challenge → wide_at k ≡ wide
+    unfolding round_at
+    wide_tested is_version is_challenge tested = rw (tested, is_challenge, is_version, is_start, is_from)
 
     -- the values that are read of it
     pub round_read : {round : Round} → round ≡ round_at from h f start → round ≡ round_of k

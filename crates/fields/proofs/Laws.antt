@@ -1,7 +1,7 @@
 -- What the functions on fields leave to show, over plain values: a number and its bytes, one word more of a run, and the bytes of
 -- a mark.
 -- Assumes nothing.
-use Prim.Native.Nat.{ℕ, ◌+◌, ◌-◌, ◌*◌, ◌/◌, ◌%◌, ◌≤◌}
+use Prim.Native.Nat.{ℕ, ◌+◌, ◌-◌, ◌*◌, ◌/◌, ◌%◌, ◌^◌, ◌≤◌}
 use mathlib.Core.Path.{◌≡◌, refl, sym, ap, ap₂, ◌∙◌}
 use mathlib.Core.Bool.{Bool, true, false, not, ◌&&◌}
 use mathlib.Core.List.{List, [], ◌∷◌, ◌++◌, append_assoc}
@@ -19,7 +19,7 @@ use Rattle.numbers.specs.Search.{find, any}
 use Rattle.lists.specs.Places.{places}
 use Rattle.lists.proofs.Places.{length_places}
 use Rattle.encoding.specs.Bytes.{number_at, bytes_of, bytes_of_each}
-use Rattle.encoding.proofs.Bytes.{length_bytes_of, length_bytes_of_each, bytes_of_one, bytes_of_each_places}
+use Rattle.encoding.proofs.Bytes.{length_bytes_of, length_bytes_of_each, bytes_of_join, bytes_of_one, bytes_of_each_places}
 use Rattle.encoding.proofs.Replaced.{sets_sets}
 use Rattle.fields.specs.Mark.{has_mark}
 
@@ -36,6 +36,14 @@ number_four s at = rw (add-zero at) (omega arith)
 -- the byte of a number stored at an index
 pub byte_stored : (l : List ℕ) (i at v : ℕ) → i ≡ at → set l i (v % 256) ≡ sets l at (bytes_of 1 v)
 byte_stored l i at v e = rw (e, bytes_of_one)
+
+-- the upper bytes of a number stored, and then its lower ones straight behind, are the whole number stored
+pub field_stored : (a b v : ℕ) (l : List ℕ) (at : ℕ)
+    → sets (sets l at (bytes_of a (v / 256 ^ b))) (at + a) (bytes_of b v) ≡ sets l at (bytes_of (a + b) v)
+field_stored a b v l at =
+    let high = bytes_of a (v / 256 ^ b) in
+    let width : a ≡ length high = sym (length_bytes_of a (v / 256 ^ b)) in
+    ap (λ (n : ℕ). sets (sets l at high) (at + n) (bytes_of b v)) width ∙ rw bytes_of_join (sets_sets l at high (bytes_of b v))
 
 -- bytes copied into their part of a list are stored there
 part_stored : (l bytes m : List ℕ) (at : ℕ) → at + length bytes ≤ length l → m ≡ bytes

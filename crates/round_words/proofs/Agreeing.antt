@@ -5,6 +5,7 @@ use mathlib.Core.Path.{◌≡◌, sym, ◌∙◌}
 use mathlib.Core.Logic.{◌↔◌}
 use mathlib.Core.Bool.{Bool, true, false, not, not-eq-not}
 use mathlib.Core.List.{List}
+use native.Mathlib.Decide.{dec_lt}
 use native.Mathlib.Omega.{arith}
 use Rattle.std.proofs.Common.{zero-add}
 use Rattle.std.specs.Bool.{MatchBool}
@@ -57,3 +58,11 @@ module _ (f : List ℕ) (a b n : ℕ) (bytes : AllBytes f) where
   agree_told false (k, within, other) =
       let less : k < n = rw length-range_with_len at within in
       one_differs k less (rw (get_or-range_with_len 0 n k 0 less, zero-add) at (other 0))
+
+-- one word more that agrees
+pub words_on : (f : List ℕ) (a b n : ℕ) → WordsAgree f a b n → number_at 4 f (a + 4 * n) ≡ number_at 4 f (b + 4 * n)
+    → WordsAgree f a b (n + 1)
+words_on f a b n agree same k less = elim (dec_lt k n) [
+  | yes before ↦ agree k before
+  | no behind ↦ let e : k ≡ n = omega arith in rw e same
+]

@@ -1,16 +1,33 @@
--- Text in a slice: a word in one step, and a number digit by digit.
+-- Text in a slice: a word byte by byte and in one step, and a number digit by digit.
 -- Assumes nothing.
 use Prim.Native.Nat.{ℕ, ◌+◌, ◌-◌, ◌/◌, ◌%◌, ◌≤◌, ◌<◌}
-use mathlib.Core.Path.{◌≡◌, sym, ap, ◌∙◌}
+use mathlib.Core.Path.{◌≡◌, refl, sym, ap, ◌∙◌}
 use mathlib.Core.List.{List, [], ◌∷◌, ◌++◌, append_assoc}
+use native.Mathlib.Numerals.{add-one}
 use native.Mathlib.Omega.{arith}
-use lib.ListN.{length, drop, take}
-use lib.Seq.{sets, sets-eq, drop-drop, take_all}
+use lib.ListN.{length, get_or, take, drop, set}
+use lib.Seq.{sets, sets-eq, drop-drop, take_all, take-suc, length-take-le}
 use borrow.Rule.Slice.PartMut.{put_mid}
 use Rattle.encoding.specs.Placed.{Fitted, Placed}
 use Rattle.encoding.specs.Text.{decimal}
 use Rattle.encoding.proofs.Fitted.{fitted_as, fitted_then}
+use Rattle.encoding.proofs.Replaced.{sets_sets}
 use Rattle.encoding.proofs.Text.{decimal_small, decimal_large}
+
+-- the first i bytes of a word stored, and then the next straight behind, are the first i + 1 stored
+pub byte_stored : (l word : List ℕ) (at i : ℕ) → i < length word
+    → set (sets l at (take i word)) (at + i) (get_or word i 0) ≡ sets l at (take (i + 1) word)
+byte_stored l word at i h =
+    let size : length (take i word) ≡ i = length-take-le i word (omega arith) in
+    let next = get_or word i 0 in
+    rw (add-one i, take-suc word i 0 h)
+    (ap (λ (k : ℕ). sets (sets l at (take i word)) (at + k) (next ∷ [])) {y = length (take i word)} (omega arith)
+    ∙ sets_sets l at (take i word) (next ∷ []))
+
+-- all bytes of a word stored are the word placed
+pub word_placed : {l word m : List ℕ} {at i : ℕ} → m ≡ sets l at (take i word) → length word ≤ i
+    → Placed l at word m (at + length word)
+word_placed {word = word} {i = i} stored whole = record { stored = rw (take_all i word whole) at stored; behind = refl }
 
 -- a word copied into its part of a list is the word stored
 pub word_stored : (l word m : List ℕ) (at : ℕ) → at + length word ≤ length l → m ≡ word

@@ -1,22 +1,26 @@
--- The bytes that a watch holds: a sheet's with zeros behind them, and compared with a sheet's.
+-- The bytes that a watch holds: a sheet's with zeros behind them, and compared with a sheet's, place by place or as a whole.
 -- Assumes nothing.
-use Prim.Native.Nat.{ℕ, ◌-◌, ◌≤◌}
+use Prim.Native.Nat.{ℕ, ◌-◌, ◌≤◌, ◌<◌}
 use mathlib.Core.Path.{◌≡◌, refl, sym, ap, ◌∙◌}
+use mathlib.Core.Bool.{true, false}
 use mathlib.Core.Logic.{◌≢◌}
 use mathlib.Core.List.{List, ◌++◌}
 use native.Mathlib.Omega.{arith}
-use borrow.Author.Tests.{ne_eqb}
+use borrow.Author.Tests.{eq-eqb, ne_eqb, lt-ltb, le-ltb}
 use lib.Dec.{eqb}
 use lib.ListN.{length, get_or, take, drop, replicate, length-take}
 use Rattle.std.proofs.Common.{Decides}
 use Rattle.std.proofs.lemmas.Bool.Decides.{same_from_decides}
 use Rattle.std.proofs.lemmas.List.{drop-replicate, get_or-take}
+use Rattle.types.specs.declared.Round.{Round}
 use Rattle.lists.specs.Places.{places}
 use Rattle.lists.proofs.Filling.{Filled, filled_copies}
 use Rattle.lists.proofs.Places.{places_is, places_whole}
+use Rattle.sigma.specs.Comparison.{first_difference, differ}
 use Rattle.watches.specs.Watch.{is_watched}
 use Rattle.watches.proofs.Bytes.{says_watched}
 use Rattle.watches.specs.declared.Watch.{Watch}
+use Rattle.watch_parts.specs.Parts.{watch_with}
 
 -- all numbers of a list stand in front of zeros
 pub held_whole : (m : ℕ) (xs : List ℕ) {l : List ℕ} {i : ℕ} → Filled (replicate m 0) (length xs) (λ j. get_or xs j 0) l i
@@ -49,3 +53,15 @@ module _ (w : Watch) (sheet : List ℕ) where
       let says = says_watched w sheet in
       let read : places w.length w.sheet ≡ take w.length w.sheet = places_taken w.length w.sheet (omega arith) in
       same_from_decides r _ decides (λ t. sym (says.sound t) ∙ read, λ e. says.complete (read ∙ sym e))
+
+module _ (rounds : List Round) (held : List ℕ) (size count : ℕ) (sheet : List ℕ) where
+  module _ (same : size ≡ length sheet) (i : ℕ) (first : i ≡ first_difference (length sheet) held sheet) where
+    -- a byte that differs
+    pub other_byte : i < length sheet → false ≡ is_watched (watch_with rounds held size count) sheet
+    unfolding is_watched differ
+    other_byte below = rw (eq-eqb size (length sheet) same, ← first, lt-ltb i (length sheet) below)
+
+    -- none that does
+    pub same_bytes : length sheet ≤ i → true ≡ is_watched (watch_with rounds held size count) sheet
+    unfolding is_watched differ
+    same_bytes past = rw (eq-eqb size (length sheet) same, ← first, le-ltb i (length sheet) past)
