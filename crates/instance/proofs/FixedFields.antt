@@ -16,7 +16,7 @@ use Rattle.modular.proofs.FirstDivisor.{divisor_of_found, divisor_of_nothing}
 
 module _ (h : Header) where
   -- a K within its bounds is bad where the search finds a divisor
-  count_divided : {d : ℕ} → 2 ≤ h.challenges → h.challenges ≤ 65536 → divisor_of h.order h.challenges ≡ Some d
+  pub count_divided : {d : ℕ} → 2 ≤ h.challenges → h.challenges ≤ 65536 → divisor_of h.order h.challenges ≡ Some d
       → true ≡ bad_count h
   unfolding bad_count
   count_divided {d} low high found =
@@ -24,7 +24,7 @@ module _ (h : Header) where
       rw (le-ltb _ 2 low, le-ltb 65536 _ high, lt-ltb (first_divisor h.order h.challenges) h.challenges (omega arith))
 
   -- and good where it finds nothing
-  count_undivided : 2 ≤ h.challenges → h.challenges ≤ 65536 → divisor_of h.order h.challenges ≡ None
+  pub count_undivided : 2 ≤ h.challenges → h.challenges ≤ 65536 → divisor_of h.order h.challenges ≡ None
       → false ≡ bad_count h
   unfolding bad_count
   count_undivided low high nothing =

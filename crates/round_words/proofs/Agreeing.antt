@@ -37,11 +37,11 @@ module _ (f : List ℕ) (a b n : ℕ) (bytes : AllBytes f) where
       )
 
   -- where all agree, the answer is that nothing differs
-  all_agree : WordsAgree f a b n → true ≡ not (differ (4 * n) (drop a f) (drop b f))
+  pub all_agree : WordsAgree f a b n → true ≡ not (differ (4 * n) (drop a f) (drop b f))
   all_agree agree = rw (words_differ.1 agree)
 
   -- where one does not, it is that something does
-  one_differs : (k : ℕ) → k < n → ¬ SameAt f a b k
+  pub one_differs : (k : ℕ) → k < n → ¬ SameAt f a b k
       → false ≡ not (differ (4 * n) (drop a f) (drop b f))
   one_differs k less other =
       let some : differ (4 * n) (drop a f) (drop b f) ≡ true =
